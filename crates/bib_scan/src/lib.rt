@@ -1,0 +1,13 @@
+//! Reads `.bib` files without losing a byte. It knows bytes and the grammar, and not what a field means.
+//! It promises the one reading of a file with its places, or the first byte at which no file continues.
+#![tactic(auto)]
+
+mod fault;
+mod layout;
+mod reading;
+mod seq;
+
+pub use fault::ReadFault;
+pub use layout::Layout;
+pub use reading::{FILE_LIMIT, read};
+pub use seq::{Seq, Text};

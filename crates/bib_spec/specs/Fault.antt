@@ -1,0 +1,55 @@
+-- What is wrong where a text goes wrong: told by what might have stood there instead. (dialect)
+use Rattle.std.specs.Prelude.{ℕ, ◌≡◌, ◌+◌, ◌<◌, ◌≤◌, ◌++◌, ◌∷◌, [], length, take}
+use Rattle.bib_spec.specs.Bytes.{quote, comma, digit_one, equals_sign, letter_x, name_limit, file_limit}
+use Rattle.bib_spec.specs.Text.{Text}
+use Rattle.bib_spec.specs.Reading.{HasReading, HasReadingWithin, IsViable, IsHopeless}
+
+-- a kind of text, with names and keys of at most so many bytes
+abbrev pub TextKind : Type 1
+TextKind = ℕ → Text → Type 0
+
+-- such a text can go on with this byte at the place
+abbrev pub MayStand : TextKind → Text → ℕ → ℕ → Type 0
+MayStand IsSuch t place byte = IsViable (IsSuch name_limit) (take place t ++ byte ∷ [])
+
+-- such a text could go on with the byte at the place if names and keys could have one byte more
+abbrev pub IsOneTooLong : TextKind → Text → ℕ → Type 0
+IsOneTooLong IsSuch t place = IsViable (IsSuch (name_limit + 1)) (take (place + 1) t)
+
+-- the faults of reading, in the order of their numbers
+pub data ReadingFault : Type 0 where
+  Unended ExpectedName ExpectedEquals ExpectedCommaOrClose ExpectedValue UnbalancedBrace KeyTooLong : ReadingFault
+
+abbrev pub fault_number : ReadingFault → ℕ
+fault_number Unended = 1
+fault_number ExpectedName = 2
+fault_number ExpectedEquals = 3
+fault_number ExpectedCommaOrClose = 4
+fault_number ExpectedValue = 5
+fault_number UnbalancedBrace = 6
+fault_number KeyTooLong = 7
+
+-- what is wrong at the place where the text goes wrong
+pub data IsFaultAt (IsSuch : TextKind) (t : Text) (place : ℕ) : ReadingFault → Type 0 where
+  -- the text ends
+  unended : place ≡ length t → IsFaultAt IsSuch t place Unended
+  -- a name or key would go on
+  too_long : place < length t → IsOneTooLong IsSuch t place → IsFaultAt IsSuch t place KeyTooLong
+  -- a name could begin here, but no number
+  name : place < length t → MayStand IsSuch t place letter_x → (MayStand IsSuch t place digit_one → ⊥) → IsFaultAt IsSuch t place ExpectedName
+  -- an equals sign could stand here, but no value
+  equals : place < length t → (IsOneTooLong IsSuch t place → ⊥) → MayStand IsSuch t place equals_sign → (MayStand IsSuch t place quote → ⊥) → IsFaultAt IsSuch t place ExpectedEquals
+  -- a quoted part could begin here, but no row
+  value : place < length t → MayStand IsSuch t place quote → (MayStand IsSuch t place comma → ⊥) → IsFaultAt IsSuch t place ExpectedValue
+  -- a quoted part could end here, or go on with a comma
+  brace : place < length t → MayStand IsSuch t place quote → MayStand IsSuch t place comma → IsFaultAt IsSuch t place UnbalancedBrace
+  -- neither a name, nor an equals sign, nor a value could stand here
+  comma_or_close : place < length t → (IsOneTooLong IsSuch t place → ⊥) → (MayStand IsSuch t place equals_sign → ⊥) → (MayStand IsSuch t place quote → ⊥)
+      → (MayStand IsSuch t place letter_x → MayStand IsSuch t place digit_one) → IsFaultAt IsSuch t place ExpectedCommaOrClose
+
+-- Why the bytes are not read as a database: they are too long, or no such text, or memory ran out.
+pub data IsReadFault (bytes : Text) : ℕ → ℕ → Type 0 where
+  too_long : file_limit < length bytes → IsReadFault bytes 9 file_limit
+  no_reading : (fault : ReadingFault) → (place : ℕ) → length bytes ≤ file_limit → IsHopeless HasReading bytes place
+      → IsFaultAt HasReadingWithin bytes place fault → IsReadFault bytes (fault_number fault) place
+  no_memory : length bytes ≤ file_limit → IsReadFault bytes 10 0

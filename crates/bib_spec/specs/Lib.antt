@@ -1,0 +1,6 @@
+pub mod Bytes
+pub mod Text
+pub mod Clean
+pub mod Tree
+pub mod Reading
+pub mod Fault

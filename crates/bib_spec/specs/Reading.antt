@@ -1,0 +1,60 @@
+-- What it is to read a text as a database, and where a text without a reading goes wrong.
+use Rattle.std.specs.Prelude.{ℕ, ◌≡◌, ◌+◌, ◌<◌, ◌≤◌, List, ◌++◌, length, take, All}
+use Rattle.std.specs.List.{flat_map}
+use Rattle.bib_spec.specs.Bytes.{name_limit}
+use Rattle.bib_spec.specs.Text.{Text}
+use Rattle.bib_spec.specs.Clean.{IsClean, IsCleanTrail}
+use Rattle.bib_spec.specs.Tree.{Tree, Value, tree_bytes, value_bytes, is_comment, IsTree, IsValue}
+
+-- an item: a tree, and its trail, which is the text behind it
+pub record Item : Type 0 where
+  pub tree : Tree
+  pub trail : Text
+
+-- a file taken apart: the text before the first item, and the items (btxdoc 3)
+pub record Reading : Type 0 where
+  pub front : Text
+  pub items : List Item
+
+abbrev pub item_bytes : Item → Text
+item_bytes i = tree_bytes i.tree ++ i.trail
+
+-- the file: the front, and tree and trail of each item, joined
+abbrev pub bytes_of : Reading → Text
+bytes_of db = db.front ++ flat_map item_bytes db.items
+
+pub record IsItem (limit : ℕ) (i : Item) : Type 0 where
+  pub tree : IsTree limit i.tree
+  pub trail : IsCleanTrail (is_comment i.tree) i.trail
+
+-- db is what the file says, with names and keys of at most so many bytes
+pub record ReadsWithin (limit : ℕ) (file : Text) (db : Reading) : Type 0 where
+  pub bytes : bytes_of db ≡ file
+  pub front : IsClean db.front
+  pub items : All (IsItem limit) db.items
+
+-- db is what the file says
+abbrev pub Reads : Text → Reading → Type 0
+Reads = ReadsWithin name_limit
+
+-- the text is a file, with names and keys of at most so many bytes
+abbrev pub HasReadingWithin : ℕ → Text → Type 0
+HasReadingWithin limit t = (db : Reading) × ReadsWithin limit t db
+
+abbrev pub HasReading : Text → Type 0
+HasReading = HasReadingWithin name_limit
+
+-- the text is one value and nothing else, with names of at most so many bytes
+abbrev pub IsValueWithin : ℕ → Text → Type 0
+IsValueWithin limit t = (v : Value) × IsValue limit v × (value_bytes v ≡ t)
+
+-- some bytes can follow that make such a text
+abbrev pub IsViable : (Text → Type 0) → Text → Type 0
+IsViable IsSuch t = (more : Text) × IsSuch (t ++ more)
+
+-- The text is none such. Up to the place it can go on to one, and with the byte at the place, if there is one, it can't.
+pub record IsHopeless (IsSuch : Text → Type 0) (t : Text) (place : ℕ) : Type 0 where
+  pub fails : IsSuch t → ⊥
+  pub within : place ≤ length t
+  pub viable : IsViable IsSuch (take place t)
+  pub stuck : place < length t → IsViable IsSuch (take (place + 1) t) → ⊥
