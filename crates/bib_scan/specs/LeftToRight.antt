@@ -1,0 +1,201 @@
+-- No promise rests on this page: it retraces how the private functions read, from left to right, so that lemmas can
+-- lead from their code to `Reading`, which says what a text means. Each function here gives what it read and the text
+-- behind it, or stops at a fault.
+use Rattle.std.specs.Prelude.{ℕ, zero, suc, ◌≡◌, ◌+◌, ◌-◌, Bool, false, ◌&&◌, not, ◌==◌, nat_lt, List, [], ◌∷◌, ◌++◌, length, take, drop, codes, ⊤, Option, None, Some, Result, Ok, Err, if◌then◌else◌}
+use Rattle.std.specs.List.{prefix_len, take_while}
+use Rattle.std.specs.Char.{is_ascii_digit}
+use Rattle.bib_spec.specs.Bytes.{quote, hash, comma, equals_sign, open_brace, close_brace}
+use Rattle.bib_spec.specs.Text.{Text, is_space, is_name_byte, is_type_byte, same, after_run}
+use Rattle.bib_spec.specs.Clean.{begins_command}
+use Rattle.bib_spec.specs.Tree.{Part, Braced, Quoted, Digits, Macro, Delimiter, Brace, Paren, close_byte, goes_on_key}
+use Rattle.bib_spec.specs.Fault.{ReadingFault, Unended, ExpectedName, ExpectedEquals, ExpectedCommaOrClose, ExpectedValue, UnbalancedBrace, KeyTooLong}
+
+-- a fault, and the text from its place on
+pub record Halt : Type 0 where
+  pub fault : ReadingFault
+  pub rest : Text
+
+abbrev pub stop : ReadingFault → Text → Halt
+stop f t = record { fault = f; rest = t }
+
+-- the text ends, or something else stands where f says
+abbrev pub expected : ReadingFault → Text → Halt
+expected f [] = stop Unended []
+expected f (b ∷ t) = stop f (b ∷ t)
+
+-- what was read and the text behind it, or where reading stopped
+abbrev pub Read : Type 0 → Type 0
+Read A = Result (A × Text) Halt
+
+infixl 10 ◌>>=◌
+abbrev pub ◌>>=◌ : {A B : Type 0} → Result A Halt → (A → Result B Halt) → Result B Halt
+(Ok x) >>= f = f x
+(Err h) >>= f = Err h
+
+-- the same with this text in front of what was read
+abbrev pub with_front : Text → Read Text → Read Text
+with_front front read = read >>= λ x. Ok (front ++ x.0, x.1)
+
+-- the text before the brace that closes depth + 1 braces, and the text behind that brace
+unfoldable pub read_braced : ℕ → Text → Read Text
+read_braced depth [] = Err (stop Unended [])
+read_braced depth (b ∷ t) =
+    if b == open_brace then with_front (b ∷ []) (read_braced (suc depth) t)
+    else if b == close_brace then closing depth (read_braced (depth - 1) t)
+    else with_front (b ∷ []) (read_braced depth t)
+  where
+    closing : ℕ → Read Text → Read Text
+    closing zero later = Ok ([], t)
+    closing (suc d) later = with_front (b ∷ []) later
+
+-- the text before the quotation mark that ends the part, and the text behind that mark
+unfoldable pub read_quoted : ℕ → Text → Read Text
+read_quoted depth [] = Err (stop Unended [])
+read_quoted depth (b ∷ t) =
+    if b == open_brace then with_front (b ∷ []) (read_quoted (suc depth) t)
+    else if b == close_brace then closing depth (read_quoted (depth - 1) t)
+    else if b == quote && depth == 0 then Ok ([], t)
+    else with_front (b ∷ []) (read_quoted depth t)
+  where
+    closing : ℕ → Read Text → Read Text
+    closing zero later = Err (stop UnbalancedBrace (b ∷ t))
+    closing (suc d) later = with_front (b ∷ []) later
+
+-- a run of at most so many bytes of this class
+abbrev pub read_run : ℕ → (ℕ → Bool) → Text → Read Text
+read_run limit test t =
+    if nat_lt limit (prefix_len test t) then Err (stop KeyTooLong (drop limit t))
+    else Ok (take_while test t, after_run test t)
+
+-- the text begins with a name
+abbrev pub begins_name : Text → Bool
+begins_name [] = false
+begins_name (b ∷ t) = is_name_byte b && not (is_ascii_digit b)
+
+-- a field or macro name
+abbrev pub read_name : ℕ → Text → Read Text
+read_name limit t = if begins_name t then read_run limit is_name_byte t else Err (expected ExpectedName t)
+
+-- the text behind the equals sign
+abbrev pub read_equals : Text → Result Text Halt
+read_equals [] = Err (stop Unended [])
+read_equals (b ∷ t) = if b == equals_sign then Ok t else Err (stop ExpectedEquals (b ∷ t))
+
+-- a part of a value
+unfoldable pub read_part : ℕ → Text → Read Part
+read_part limit [] = Err (stop Unended [])
+read_part limit (b ∷ t) =
+    if b == open_brace then (read_braced 0 t >>= λ x. Ok (Braced x.0, x.1))
+    else if b == quote then (read_quoted 0 t >>= λ x. Ok (Quoted x.0, x.1))
+    else if is_ascii_digit b then Ok (Digits (take_while is_ascii_digit (b ∷ t)), after_run is_ascii_digit (b ∷ t))
+    else if is_name_byte b then (read_run limit is_name_byte (b ∷ t) >>= λ x. Ok (Macro x.0, x.1))
+    else Err (stop ExpectedValue (b ∷ t))
+
+-- the text behind a `#` and white space, where the text begins so
+abbrev pub past_hash : Text → Option Text
+past_hash [] = None
+past_hash (b ∷ t) = if b == hash then Some (after_run is_space t) else None
+
+abbrev pub go_on : {B : Type 0} → B → (Text → B) → Option Text → B
+go_on end more None = end
+go_on end more (Some u) = more u
+
+-- the text behind the further parts, of which there are at most so many
+unfoldable pub read_links : ℕ → ℕ → Text → Result Text Halt
+read_links limit zero t = Ok t
+read_links limit (suc n) t = go_on (Ok t) (λ u. read_part limit u >>= λ p. read_links limit n p.1) (past_hash (after_run is_space t))
+
+-- the text behind a value
+abbrev pub read_value_rest : ℕ → Text → Result Text Halt
+read_value_rest limit t = read_part limit t >>= λ first. read_links limit (length first.1) first.1
+
+-- a value's bytes
+abbrev pub read_value : ℕ → Text → Read Text
+read_value limit t = read_value_rest limit t >>= λ rest. Ok (take (length t - length rest) t, rest)
+
+-- the text behind white space, an assignment and its white space
+unfoldable pub read_row : ℕ → Text → Result Text Halt
+read_row limit t = do
+  named ← read_name limit (after_run is_space t)
+  u ← read_equals (after_run is_space named.1)
+  valued ← read_value limit (after_run is_space u)
+  Ok (after_run is_space valued.1)
+
+-- the text behind this byte, where the text begins with it
+abbrev pub past_byte : ℕ → Text → Option Text
+past_byte c [] = None
+past_byte c (b ∷ t) = if b == c then Some t else None
+
+-- the text behind a comma
+abbrev pub read_comma : Text → Result Text Halt
+read_comma [] = Err (stop Unended [])
+read_comma (b ∷ t) = if b == comma then Ok t else Err (stop ExpectedCommaOrClose (b ∷ t))
+
+-- the text behind the closing delimiter c
+abbrev pub read_close : ℕ → Text → Result Text Halt
+read_close c t = go_on (Err (expected ExpectedCommaOrClose t)) Ok (past_byte c t)
+
+-- The text behind an entry's rows, of which there are fewer than n, and its closing delimiter c.
+unfoldable pub read_rows : ℕ → ℕ → ℕ → Text → Result Text Halt
+read_rows limit zero c t = Err (expected ExpectedCommaOrClose t)
+read_rows limit (suc n) c t =
+    go_on (read_comma t >>= λ u. go_on (read_row limit u >>= λ rest. read_rows limit n c rest) Ok (past_byte c (after_run is_space u))) Ok (past_byte c t)
+
+-- enough turns
+abbrev pub read_all_rows : ℕ → ℕ → Text → Result Text Halt
+read_all_rows limit c t = read_rows limit (length t + 1) c t
+
+-- the text behind an entry, from behind its opening delimiter on
+unfoldable pub read_entry : ℕ → Delimiter → Text → Result Text Halt
+read_entry limit d t = do
+  key ← read_run limit (goes_on_key d) (after_run is_space t)
+  read_all_rows limit (close_byte d) (after_run is_space key.1)
+
+-- the delimiter with this opening byte
+abbrev pub delimiter_of : ℕ → Delimiter
+delimiter_of b = if b == open_brace then Brace else Paren
+
+-- the text behind a definition, from behind its opening delimiter on
+abbrev pub read_definition : ℕ → ℕ → Text → Result Text Halt
+read_definition limit c t = read_row limit t >>= read_close c
+
+-- the text behind a preamble, from behind its opening delimiter on
+abbrev pub read_preamble : ℕ → ℕ → Text → Result Text Halt
+read_preamble limit c t = read_value limit (after_run is_space t) >>= λ v. read_close c (after_run is_space v.1)
+
+-- the text behind the command of this type, from behind its type name and white space on
+unfoldable pub read_body : ℕ → Text → Text → Result Text Halt
+read_body limit type_name [] = Err (stop Unended [])
+read_body limit type_name (b ∷ t) =
+    if same type_name (codes "string") then read_definition limit (close_byte (delimiter_of b)) t
+    else if same type_name (codes "preamble") then read_preamble limit (close_byte (delimiter_of b)) t
+    else read_entry limit (delimiter_of b) t
+
+-- the text behind the command that begins here
+unfoldable pub read_command : ℕ → Text → Result Text Halt
+read_command limit [] = Err (stop Unended [])
+read_command limit (b ∷ t) =
+    let named = after_run is_space t in
+    let type_name = take_while is_type_byte named in
+    let behind = after_run is_type_byte named in
+    if same type_name (codes "comment") then Ok behind
+    else read_body limit type_name (after_run is_space behind)
+
+-- how many bytes stand before the next command
+unfoldable pub next_command : Text → ℕ
+next_command [] = 0
+next_command (b ∷ t) = if begins_command (b ∷ t) then 0 else next_command t + 1
+
+-- Where each command begins and ends in a text of so many bytes, of which t is the end, and t is
+-- empty or begins with a command. There are fewer than n.
+unfoldable pub read_commands : ℕ → ℕ → ℕ → Text → Result (List (ℕ × ℕ)) Halt
+read_commands limit total zero t = Ok []
+read_commands limit total (suc n) [] = Ok []
+read_commands limit total (suc n) (b ∷ t) = do
+  rest ← read_command limit (b ∷ t)
+  later ← read_commands limit total n (drop (next_command rest) rest)
+  Ok ((total - length (b ∷ t), total - length rest) ∷ later)
+
+-- the same of a whole text, whose front comes first
+abbrev pub read_all_commands : ℕ → Text → Result (List (ℕ × ℕ)) Halt
+read_all_commands limit t = read_commands limit (length t) (length t + 1) (drop (next_command t) t)
