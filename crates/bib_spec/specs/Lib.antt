@@ -4,3 +4,5 @@ pub mod Clean
 pub mod Tree
 pub mod Reading
 pub mod Fault
+pub mod Pieces
+pub mod History
