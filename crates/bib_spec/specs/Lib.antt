@@ -4,3 +4,7 @@ pub mod Clean
 pub mod Tree
 pub mod Reading
 pub mod Fault
+pub mod Texts
+pub mod Records
+pub mod MadeKeys
+pub mod Edits
