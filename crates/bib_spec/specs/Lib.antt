@@ -6,5 +6,7 @@ pub mod Reading
 pub mod Fault
 pub mod Texts
 pub mod Records
+pub mod Pieces
 pub mod MadeKeys
 pub mod Edits
+pub mod History
