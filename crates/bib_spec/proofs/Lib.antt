@@ -2,3 +2,4 @@ pub mod PieceLemmas
 pub mod WayBack
 pub mod Chunks
 pub mod HistoryLemmas
+pub mod StepLemmas

@@ -10,3 +10,4 @@ pub mod Pieces
 pub mod MadeKeys
 pub mod Edits
 pub mod History
+pub mod Steps

@@ -4,6 +4,7 @@
 
 mod histories;
 mod replacing;
+mod stepping;
 
 pub use histories::{
     each_move_leads_to_one_history, the_ends_are_reached, undo_and_redo_are_opposites,
@@ -12,3 +13,4 @@ pub use replacing::{
     bytes_outside_pieces_are_kept, pieces_of_chunks_lead_from_old_to_new,
     reversed_pieces_are_the_way_back,
 };
+pub use stepping::steps_move_as_the_history_does;
