@@ -2,3 +2,13 @@ pub mod PieceLemmas
 pub mod WayBack
 pub mod Chunks
 pub mod HistoryLemmas
+pub mod Names
+pub mod Places
+pub mod Keys
+pub mod Fields
+pub mod Rekeyed
+pub mod Counts
+pub mod CitedLists
+pub mod Accepted
+pub mod RenameKey
+pub mod FreeKeys
