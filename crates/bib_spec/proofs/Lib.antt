@@ -12,3 +12,8 @@ pub mod CitedLists
 pub mod Accepted
 pub mod RenameKey
 pub mod FreeKeys
+pub mod Regenerate
+pub mod Simulation
+pub mod InUse
+pub mod RenameMacro
+pub mod IntroduceMacro
