@@ -17,3 +17,7 @@ pub mod Simulation
 pub mod InUse
 pub mod RenameMacro
 pub mod IntroduceMacro
+pub mod Seen
+pub mod InlineMacro
+pub mod MacroLaws
+pub mod Balanced
