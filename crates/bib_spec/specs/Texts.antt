@@ -1,10 +1,10 @@
 -- What values say: macros, raw texts, field texts.
-use Rattle.std.specs.Prelude.{ℕ, ◌≡◌, ◌+◌, ◌≤◌, Bool, true, false, not, nat_lt, List, [], ◌∷◌, ◌++◌, length, take, Option, Some, None, is_none, unwrap_or, option_map, if◌then◌else◌, bytes_eq, codes, map, filter, find, fold, scan, zip}
-use Rattle.std.specs.List.{flat_map, list_any, join_with_byte}
+use Rattle.std.specs.Prelude.{ℕ, ◌≡◌, ◌+◌, ◌≤◌, Bool, true, false, not, nat_lt, List, [], ◌∷◌, ◌++◌, length, take, Option, Some, None, unwrap_or, option_map, if◌then◌else◌, bytes_eq, codes, map, filter, find, fold, scan, zip}
+use Rattle.std.specs.List.{flat_map, join_with_byte}
 use Rattle.bib_spec.specs.Bytes.{space, comma, equals_sign, file_limit}
-use Rattle.bib_spec.specs.Text.{Text, is_space, folded, same}
-use Rattle.bib_spec.specs.Tree.{Part, Braced, Quoted, Digits, Macro, Value, Assignment, Row, Tree, CommentTree, DefinitionTree, PreambleTree, EntryTree, row_bytes, opening_bytes, Entry}
-use Rattle.bib_spec.specs.Reading.{Item, Reading, item_bytes, bytes_of, Reads}
+use Rattle.bib_spec.specs.Text.{Text, is_space, folded}
+use Rattle.bib_spec.specs.Tree.{Part, Braced, Quoted, Digits, Macro, Value, Assignment, Row, Tree, CommentTree, DefinitionTree, PreambleTree, EntryTree, row_bytes, opening_bytes}
+use Rattle.bib_spec.specs.Reading.{Item, Reading, item_bytes, Reads}
 
 abbrev pub is_empty : Text → Bool
 is_empty [] = true
