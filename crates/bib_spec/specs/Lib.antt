@@ -9,4 +9,6 @@ pub mod Records
 pub mod Pieces
 pub mod MadeKeys
 pub mod Edits
+pub mod EditChunks
 pub mod History
+pub mod Laws

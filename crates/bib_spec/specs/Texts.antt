@@ -116,11 +116,15 @@ raw_texts_in macros tree = map (raw_text (macros_in macros tree)) (values_of tre
 abbrev pub bytes_before_value : Assignment → Text
 bytes_before_value a = a.name ++ (a.space_before_equals ++ equals_sign ∷ a.space_before_value)
 
+-- the bytes of a row before its value
+abbrev pub row_start : Row → Text
+row_start row = comma ∷ row.space_before_name ++ bytes_before_value row.assignment
+
 -- the places of the rows' values, where the first row begins at this place
 abbrev pub row_places : ℕ → List Row → List ℕ
 row_places at [] = []
 row_places at (row ∷ rows) =
-    (at + length (comma ∷ row.space_before_name ++ bytes_before_value row.assignment)) ∷ row_places (at + length (row_bytes row)) rows
+    (at + length (row_start row)) ∷ row_places (at + length (row_bytes row)) rows
 
 -- the places of an item's values in its body
 abbrev pub value_places : Tree → List ℕ
