@@ -5,3 +5,6 @@ pub mod HistoryLemmas
 pub mod Names
 pub mod Counts
 pub mod Places
+pub mod OneMore
+pub mod OtherEntries
+pub mod AddedBehind
