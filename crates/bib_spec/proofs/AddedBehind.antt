@@ -11,7 +11,9 @@ use Rattle.bib_spec.specs.Texts.{Macros, months, macros_after, gathered}
 use Rattle.bib_spec.specs.Records.{EntryTexts, Record, RecordField, texts_of, entry_in, preamble_in, entries_of, crossref_text, keys_of, first_named, entry_named, is_named, target_of, target, other_than, parent, own_fields, missing, unvisited, ancestors, ancestors_from, fields_at, with_inherited, record_of, expanded}
 use Rattle.bib_spec.specs.Edits.{NewEntry, KeyInUse, has_same, entry_of, item_of, add_many}
 use Rattle.bib_spec.specs.OtherLaws.{same_number, is_awaited, add_many_keeps_others}
-use Rattle.bib_spec.proofs.Places.{IsFirst, first_is, none_from, none_at, option_cases, within, length-keys}
+use Rattle.bib_spec.proofs.Places.{IsFirst, first_is, none_from, none_at}
+use Rattle.bib_spec.proofs.Keys.{option_cases}
+use Rattle.bib_spec.proofs.OneMore.{within, length-keys}
 use Rattle.bib_spec.proofs.OtherEntries.{unnamed_new}
 
 slice_get-append : {X : Type 0} (xs ys : List X) (n : ℕ) → n < length xs → slice_get (xs ++ ys) n ≡ slice_get xs n

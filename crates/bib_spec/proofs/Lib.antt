@@ -3,8 +3,15 @@ pub mod WayBack
 pub mod Chunks
 pub mod HistoryLemmas
 pub mod Names
-pub mod Counts
 pub mod Places
+pub mod Keys
+pub mod Fields
+pub mod Rekeyed
+pub mod Counts
+pub mod CitedLists
+pub mod Accepted
+pub mod RenameKey
+pub mod FreeKeys
 pub mod OneMore
 pub mod OtherEntries
 pub mod AddedBehind

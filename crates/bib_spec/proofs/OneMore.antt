@@ -1,13 +1,24 @@
 -- An entry more, which no other entry's crossref names.
-use Rattle.std.proofs.Common.{◌≡◌, ◌||◌, ◌≢◌, ℕ, zero, suc, ◌≤◌, ◌==◌, false, List, [], ◌∷◌, ◌++◌, Option, Some, None, option_map, insert, map, option_and_then, slice_get, length, ⊎_elim, refl, sym, ◌∙◌, ap, ap₂, arith, eqb-true, eq-eqb, not-suc-le-zero, le_of_suc-le-suc}
+use Rattle.std.proofs.Common.{◌≡◌, ◌||◌, ◌≢◌, ℕ, zero, suc, ◌<◌, ◌≤◌, ◌==◌, false, List, [], ◌∷◌, ◌++◌, Option, Some, None, option_map, insert, map, option_and_then, slice_get, length, ⊎_elim, refl, sym, ◌∙◌, ap, ap₂, arith, eqb-true, eq-eqb, zero-lt-suc, suc-le-suc, not-suc-le-zero, le_of_suc-le-suc}
 use Rattle.std.specs.List.{list_any}
 use Rattle.std.specs.Option.{option_map_or}
 use Rattle.std.proofs.lemmas.Bool.{cases_Bool, cond-true, cond-false}
+use Rattle.std.proofs.lemmas.Option.{none-some}
 use Rattle.bib_spec.specs.Text.{Text, folded}
 use Rattle.bib_spec.specs.Records.{EntryTexts, Record, RecordField, crossref_text, keys_of, first_named, entry_named, is_named, target_of, target, other_than, parent, own_fields, missing, unvisited, ancestors, ancestors_from, fields_at, with_inherited, record_of, expanded}
 use Rattle.bib_spec.specs.OtherLaws.{number_with_one_more}
 use Rattle.bib_spec.proofs.Names.{both_true}
-use Rattle.bib_spec.proofs.Places.{option_cases, length-keys}
+use Rattle.bib_spec.proofs.Keys.{option_cases}
+
+-- an element's place is one of the list
+pub within : {X : Type 0} (xs : List X) (n : ℕ) (x : X) → slice_get xs n ≡ Some x → n < length xs
+within [] n x e = absurd (none-some x e)
+within (y ∷ ys) zero x e = zero-lt-suc (length ys)
+within (y ∷ ys) (suc n) x e = suc-le-suc (within ys n x e)
+
+pub length-keys : (entries : List EntryTexts) → length (keys_of entries) ≡ length entries
+length-keys [] = refl
+length-keys (entry ∷ entries) = ap suc (length-keys entries)
 
 -- ---- an element more
 

@@ -1,18 +1,21 @@
 -- Removing an entry and adding one: the two databases have the same entries but one.
-use Rattle.std.proofs.Common.{◌≡◌, ℕ, zero, suc, ◌≤◌, ◌<◌, ◌==◌, true, false, not, List, [], ◌∷◌, ◌++◌, Some, None, is_none, option_map, option_and_then, slice_get, insert, filter_map, length, take, ⊎_elim, refl, sym, ◌∙◌, ap, subst, arith, add-one, zero-le, suc-le-suc, not-suc-le-zero, le_of_suc-le-suc, ne_eqb}
-use Rattle.std.specs.List.{list_any, cons_option}
+use Rattle.std.proofs.Common.{◌≡◌, ℕ, zero, suc, ◌≤◌, ◌==◌, true, false, not, List, [], ◌∷◌, ◌++◌, Some, None, option_map, option_and_then, slice_get, insert, length, take, ⊎_elim, refl, sym, ◌∙◌, ap, subst, arith, add-one, zero-le, suc-le-suc, not-suc-le-zero, le_of_suc-le-suc, ne_eqb}
+use Rattle.std.specs.List.{list_any}
 use Rattle.std.proofs.lemmas.Bool.{cases_Bool, cond-true, cond-false, both_ways, and_parts, and_from, and_right, or_parts, false_from_ne_true}
 use Rattle.std.proofs.lemmas.Option.{none-some, same_Some}
 use Rattle.bib_spec.specs.Text.{Text, folded, same}
 use Rattle.bib_spec.specs.Tree.{Tree, Entry, CommentTree, DefinitionTree, PreambleTree, EntryTree}
 use Rattle.bib_spec.specs.Reading.{Item, Reading}
 use Rattle.bib_spec.specs.Texts.{Macros, months, raw_text, macros_after, is_empty, gathered}
-use Rattle.bib_spec.specs.Records.{EntryTexts, texts_of, entry_in, preamble_in, entries_of, preambles_of, crossref_text, keys_of, first_named, entry_named, is_named, target_of, target, other_than, parent, dangling_text, expanded}
+use Rattle.bib_spec.specs.Records.{EntryTexts, texts_of, entry_in, preamble_in, entries_of, preambles_of, crossref_text, keys_of, first_named, entry_named, is_named, target_of, target, other_than, parent, expanded}
 use Rattle.bib_spec.specs.Edits.{NotFound, Ambiguous, KeyInUse, Referred, BadPosition, holders, without_first, is_entry, remove_entry, add_entry, item_of, entry_of}
 use Rattle.bib_spec.specs.OtherLaws.{number_with_one_more, entries_before, KeepsOthers, remove_entry_keeps_others, is_awaited, add_entry_keeps_others}
 use Rattle.bib_spec.proofs.Names.{same-true, true-same}
-use Rattle.bib_spec.proofs.Places.{IsFirst, first_is, none_is, none_at, suc_some, option_cases, length-keys, only}
-use Rattle.bib_spec.proofs.OneMore.{slice_get-insert, slice_get-insert_same, length-insert, keys-insert, more_other, parent_more, expanded_more}
+use Rattle.bib_spec.proofs.Places.{IsFirst, first_is, none_is, none_at, suc_some}
+use Rattle.bib_spec.proofs.Keys.{option_cases}
+use Rattle.bib_spec.proofs.Accepted.{there_once, dangling_among}
+use Rattle.bib_spec.proofs.RenameKey.{only}
+use Rattle.bib_spec.proofs.OneMore.{length-keys, slice_get-insert, slice_get-insert_same, length-insert, keys-insert, more_other, parent_more, expanded_more}
 
 -- the entries of `more` are those of `fewer` with one put in at i
 pub record IsOneMore (i : ℕ) (key : Text) (fewer more : List EntryTexts) : Type 0 where
@@ -146,13 +149,9 @@ module _ (key : Text) (db : Reading) (once : holders key db ≡ 1) (unreferred :
   remove_keeps : (i : ℕ) × (entry_named (entries_of db) key ≡ Some i) × KeepsOthers (number_with_one_more i) 1 (remove_entry key db) db
   remove_keeps = (the_one.0, the_one.1, keeps_others the_one.0 taken.0 (remove_entry key db) db taken.2 unnamed (sym (preambles_removed key months db.front db.items)))
 
--- neither missing nor there twice
-pub once_from : (n : ℕ) → (n ≡ 0 → ⊥) → (1 < n → ⊥) → n ≡ 1
-once_from n missing twice = omega (arith, missing, twice)
-
 pub remove_entry-keeps_others : remove_entry_keeps_others
 remove_entry-keeps_others key_base db key accepted =
-    remove_keeps key db (once_from (holders key db) (accepted NotFound) (accepted Ambiguous)) (λ n m named refers. accepted Referred (n, m, named, refers))
+    remove_keeps key db (there_once (holders key db) (accepted NotFound) (accepted Ambiguous)) (λ n m named refers. accepted Referred (n, m, named, refers))
 
 -- ---- adding
 
@@ -185,29 +184,13 @@ preambles_added m zero item e items is = ap (λ t. preamble_in m t ++ gathered p
 preambles_added m (suc place) item e [] is = ap (λ t. preamble_in m t ++ []) is
 preambles_added m (suc place) item e (first ∷ items) is = ap (λ l. preamble_in m first.tree ++ l) (preambles_added (macros_after m first.tree) place item e items is)
 
--- a text that names no entry is a dangling one
-dangles : (entries : List EntryTexts) (all : List EntryTexts) (n : ℕ) (entry : EntryTexts) (text : Text) (key : Text) →
-    slice_get all n ≡ Some entry → dangling_text entries entry ≡ Some text →
-    list_any (same key) (filter_map (dangling_text entries) all) ≡ false → same key text ≡ false
-dangles entries [] n entry text key at is none = absurd (none-some entry at)
-dangles entries (first ∷ all) zero entry text key at is none = ⊎_elim
-    (λ o. absurd (none-some text (sym o ∙ ap (dangling_text entries) (same_Some first entry at) ∙ is)))
-    (λ o.
-    let e : dangling_text entries first ≡ Some text = ap (dangling_text entries) (same_Some first entry at) ∙ is in
-    (or_parts (same key text) _ (sym (ap (λ d. list_any (same key) (cons_option d (filter_map (dangling_text entries) all))) e) ∙ none)).0)
-    (option_cases (dangling_text entries first))
-dangles entries (first ∷ all) (suc n) entry text key at is none = ⊎_elim
-    (λ o. dangles entries all n entry text key at is (sym (ap (λ d. list_any (same key) (cons_option d (filter_map (dangling_text entries) all))) o) ∙ none))
-    (λ o. dangles entries all n entry text key at is (or_parts (same key o.0) _ (sym (ap (λ d. list_any (same key) (cons_option d (filter_map (dangling_text entries) all))) o.1) ∙ none)).1)
-    (option_cases (dangling_text entries first))
-
 -- a new key that no dangling crossref waits for is named by no crossref
 pub unnamed_new : (key : Text) (db : Reading) → list_any (same key) (keys_of (entries_of db)) ≡ false → is_awaited db key ≡ false → IsUnnamed key (entries_of db)
 unnamed_new key db unused unawaited n entry text at says = ⊎_elim
     (λ none.
     let no_target : target_of (entries_of db) entry ≡ None = ap (option_and_then (entry_named (entries_of db))) says ∙ none in
     and_right (not (is_empty key)) (same key text)
-    (dangles (entries_of db) (entries_of db) n entry text key at (cond-true (is_none (target_of (entries_of db) entry)) (crossref_text entry) None (ap is_none no_target) ∙ says) unawaited))
+    (dangling_among (entries_of db) (entries_of db) n entry text key at no_target says unawaited))
     (λ some.
     let first : IsFirst text (keys_of (entries_of db)) some.0 = first_is text (keys_of (entries_of db)) some.0 some.1 in
     let unlike : same key first.key ≡ false = none_at (same key) (keys_of (entries_of db)) unused some.0 first.key first.stands in

@@ -1,35 +1,18 @@
 -- Elements by their place, and the first key that a text names.
-use Rattle.std.proofs.Common.{◌≡◌, ℕ, zero, suc, ◌<◌, Bool, true, false, cond, not, ◌&&◌, List, [], ◌∷◌, Option, Some, None, option_map, slice_get, length, count_by, ◌⊎◌, inl, inr, ⊎_elim, refl, sym, ◌∙◌, ap, ap₂, subst, arith, zero-lt-suc, suc-le-suc, not-suc-le-zero, le_of_suc-le-suc}
+use Rattle.std.proofs.Common.{◌≡◌, ℕ, zero, suc, ◌<◌, Bool, true, false, cond, not, ◌&&◌, List, [], ◌∷◌, Option, Some, None, option_map, slice_get, ⊎_elim, refl, sym, ◌∙◌, ap, ap₂, subst, zero-lt-suc, suc-le-suc, not-suc-le-zero, le_of_suc-le-suc}
 use Rattle.std.specs.List.{list_any}
-use Rattle.std.proofs.lemmas.Bool.{cases_Bool, cond-true, cond-false, both_ways, false_from_ne_true, or_parts}
+use Rattle.std.proofs.lemmas.Bool.{cases_Bool, cond-true, cond-false, false_from_ne_true, or_parts}
 use Rattle.std.proofs.lemmas.Option.{same_Some, none-some}
 use Rattle.bib_spec.specs.Text.{Text, folded}
 use Rattle.bib_spec.specs.Texts.{is_empty}
-use Rattle.bib_spec.specs.Records.{EntryTexts, keys_of, first_named, is_named}
+use Rattle.bib_spec.specs.Records.{first_named, is_named}
 use Rattle.bib_spec.proofs.Names.{same_of}
-use Rattle.bib_spec.proofs.Counts.{count-yes, count-no, uncounted}
-
-pub option_cases : {A : Type 0} (o : Option A) → (o ≡ None) ⊎ ((x : A) × (o ≡ Some x))
-option_cases None = inl refl
-option_cases (Some x) = inr (x, refl)
 
 -- what no element passes, no element at a place passes
 pub none_at : {X : Type 0} (p : X → Bool) (xs : List X) → list_any p xs ≡ false → (n : ℕ) (x : X) → slice_get xs n ≡ Some x → p x ≡ false
 none_at p [] h n x e = absurd (none-some x e)
 none_at p (y ∷ ys) h zero x e = ap p (sym (same_Some y x e)) ∙ (or_parts (p y) (list_any p ys) h).0
 none_at p (y ∷ ys) h (suc n) x e = none_at p ys (or_parts (p y) (list_any p ys) h).1 n x e
-
--- an element's place is one of the list
-pub within : {X : Type 0} (xs : List X) (n : ℕ) (x : X) → slice_get xs n ≡ Some x → n < length xs
-within [] n x e = absurd (none-some x e)
-within (y ∷ ys) zero x e = zero-lt-suc (length ys)
-within (y ∷ ys) (suc n) x e = suc-le-suc (within ys n x e)
-
-pub length-keys : (entries : List EntryTexts) → length (keys_of entries) ≡ length entries
-length-keys [] = refl
-length-keys (entry ∷ entries) = ap suc (length-keys entries)
-
--- ---- the first key that a text names
 
 -- the text names the key at m, and none before it
 pub record IsFirst (text : Text) (keys : List Text) (m : ℕ) : Type 0 where
@@ -89,22 +72,3 @@ pub first_named_same : (a b : Text) (keys : List Text) → folded a ≡ folded b
 first_named_same a b [] e = refl
 first_named_same a b (k ∷ ks) e =
     ap₂ (λ t r. cond t (Some 0) (option_map suc r)) (ap (λ s. not (is_empty k) && s) (same_of k a k b refl e)) (first_named_same a b ks e)
-
--- the place of the one key that is named
-pub only : (text : Text) (keys : List Text) → count_by (is_named text) keys ≡ 1 →
-    (m : ℕ) × (first_named text keys ≡ Some m) × ((j : ℕ) (key : Text) → slice_get keys j ≡ Some key → is_named text key ≡ true → j ≡ m)
-only text [] h = absurd (omega (arith, h))
-only text (k ∷ ks) h = ⊎_elim
-    (λ e. (zero, cond-true (is_named text k) (Some zero) (option_map suc (first_named text ks)) e, at_head e))
-    (λ e. let rest = only text ks (sym (count-no (is_named text) k ks e) ∙ h) in
-    (suc rest.0, cond-false (is_named text k) (Some zero) (option_map suc (first_named text ks)) e ∙ ap (option_map suc) rest.1, behind_head e rest.0 rest.2))
-    (cases_Bool (is_named text k))
-  where
-    at_head : is_named text k ≡ true → (j : ℕ) (key : Text) → slice_get (k ∷ ks) j ≡ Some key → is_named text key ≡ true → j ≡ zero
-    at_head e zero key s t = refl
-    at_head e (suc j) key s t = absurd (both_ways (is_named text key) (uncounted (is_named text) ks (let c = count-yes (is_named text) k ks e in omega (arith, c, h)) j key s) t)
-
-    behind_head : is_named text k ≡ false → (m : ℕ) → ((j : ℕ) (key : Text) → slice_get ks j ≡ Some key → is_named text key ≡ true → j ≡ m) →
-        (j : ℕ) (key : Text) → slice_get (k ∷ ks) j ≡ Some key → is_named text key ≡ true → j ≡ suc m
-    behind_head e m rest zero key s t = absurd (both_ways (is_named text key) (ap (is_named text) (sym (same_Some k key s)) ∙ e) t)
-    behind_head e m rest (suc j) key s t = ap suc (rest j key s t)

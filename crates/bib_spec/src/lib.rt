@@ -4,12 +4,14 @@
 
 mod histories;
 mod other_entries;
+mod renaming;
 mod replacing;
 
 pub use histories::{
     each_move_leads_to_one_history, the_ends_are_reached, undo_and_redo_are_opposites,
 };
 pub use other_entries::other_entries_are_kept;
+pub use renaming::renaming_a_key_keeps_the_rest;
 pub use replacing::{
     bytes_outside_pieces_are_kept, pieces_of_chunks_lead_from_old_to_new,
     reversed_pieces_are_the_way_back,
