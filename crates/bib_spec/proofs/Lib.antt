@@ -21,3 +21,6 @@ pub mod Seen
 pub mod InlineMacro
 pub mod MacroLaws
 pub mod Balanced
+pub mod OneMore
+pub mod OtherEntries
+pub mod AddedBehind

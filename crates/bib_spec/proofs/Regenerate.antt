@@ -20,6 +20,7 @@ use Rattle.bib_spec.proofs.Rekeyed.{entry_with, entries_with, entries_rekeyed, k
 use Rattle.bib_spec.proofs.CitedLists.{rekeying_keeps}
 use Rattle.bib_spec.proofs.RenameKey.{field_text-key, new_key_parts}
 use Rattle.bib_spec.proofs.Accepted.{dangling_among}
+use Rattle.bib_spec.proofs.OneMore.{length-keys}
 use Rattle.bib_spec.proofs.FreeKeys.{free_key_free, lower_letters}
 use mathlib.Core.List.{reverse-cons}
 
@@ -27,10 +28,6 @@ slice_get_none : {X : Type 0} (xs : List X) (n : ℕ) → slice_get xs n ≡ Non
 slice_get_none [] n e = omega arith
 slice_get_none (x ∷ xs) zero e = absurd (none-some x (sym e))
 slice_get_none (x ∷ xs) (suc n) e = let h = slice_get_none xs n e in omega arith
-
-pub length-keys : (entries : List EntryTexts) → length (keys_of entries) ≡ length entries
-length-keys [] = refl
-length-keys (entry ∷ entries) = ap suc (length-keys entries)
 
 free-is : (taken : List Text) (base : Text) → free_key taken base ≡ (free_key_free taken base).key
 free-is taken base = ap (λ o. unwrap_or o base) (free_key_free taken base).is

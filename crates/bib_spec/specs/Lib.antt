@@ -12,3 +12,4 @@ pub mod Edits
 pub mod EditChunks
 pub mod History
 pub mod Laws
+pub mod OtherLaws
