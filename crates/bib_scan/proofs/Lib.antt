@@ -5,3 +5,7 @@ pub mod RunLaws
 pub mod BraceLaws
 pub mod PartLaws
 pub mod ValueLaws
+pub mod RowLaws
+pub mod CommandLemmas
+pub mod CommandLaws
+pub mod CleanLaws
