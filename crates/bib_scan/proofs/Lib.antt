@@ -11,3 +11,4 @@ pub mod CommandLaws
 pub mod CleanLaws
 pub mod AgainLaws
 pub mod TreeAgainLaws
+pub mod ReadingLaws
