@@ -12,3 +12,5 @@ pub mod CleanLaws
 pub mod AgainLaws
 pub mod TreeAgainLaws
 pub mod ReadingLaws
+pub mod UniqueLaws
+pub mod OneReading
