@@ -1,2 +1,3 @@
 pub mod LeftToRight
 pub mod Layout
+pub mod Code
