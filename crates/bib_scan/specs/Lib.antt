@@ -1,3 +1,4 @@
 pub mod LeftToRight
 pub mod Layout
 pub mod Code
+pub mod PartView

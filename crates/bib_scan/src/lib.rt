@@ -9,6 +9,7 @@ mod reading;
 mod run;
 mod seq;
 mod text;
+mod value;
 
 pub use fault::ReadFault;
 pub use layout::Layout;
