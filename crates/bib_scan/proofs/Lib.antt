@@ -14,3 +14,4 @@ pub mod TreeAgainLaws
 pub mod ReadingLaws
 pub mod UniqueLaws
 pub mod OneReading
+pub mod RowsLemmas

@@ -2,3 +2,4 @@ pub mod LeftToRight
 pub mod Layout
 pub mod Code
 pub mod PartView
+pub mod DelimiterView

@@ -2,9 +2,11 @@
 //! It promises the one reading of a file with its places, or the first byte at which no file continues.
 #![tactic(auto)]
 
+mod body;
 mod class;
 mod fault;
 mod layout;
+mod opening;
 mod reading;
 mod run;
 mod seq;
@@ -16,3 +18,4 @@ pub use layout::Layout;
 pub use reading::{FILE_LIMIT, read};
 pub use seq::{Seq, Text};
 pub use text::{NAME_LIMIT, is_name, same_folded};
+pub use value::Part;
