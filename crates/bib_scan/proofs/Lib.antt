@@ -15,3 +15,5 @@ pub mod ReadingLaws
 pub mod UniqueLaws
 pub mod OneReading
 pub mod RowsLemmas
+pub mod LayoutLemmas
+pub mod LayoutLaws
