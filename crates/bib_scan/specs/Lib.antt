@@ -3,3 +3,4 @@ pub mod Layout
 pub mod Code
 pub mod PartView
 pub mod DelimiterView
+pub mod Laws

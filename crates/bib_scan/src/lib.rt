@@ -5,6 +5,7 @@
 mod body;
 mod class;
 mod fault;
+mod laws;
 mod layout;
 mod opening;
 mod reading;
@@ -14,6 +15,7 @@ mod text;
 mod value;
 
 pub use fault::ReadFault;
+pub use laws::one_reading;
 pub use layout::Layout;
 pub use reading::{FILE_LIMIT, read};
 pub use seq::{Seq, Text};

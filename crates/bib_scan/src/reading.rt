@@ -2,10 +2,10 @@
 
 ghost use Rattle.std.specs.Prelude.{◌≡◌, ◌≤◌, ◌<◌, ◌⊎◌, ◌↔◌, length, IfOk, IfErr, IsErrAnd};
 ghost use Rattle.bib_spec.specs.Bytes.{name_limit, file_limit};
-ghost use Rattle.bib_spec.specs.Reading.{Reading, Reads, HasReading};
+ghost use Rattle.bib_spec.specs.Reading.{HasReading};
 ghost use Rattle.bib_scan.specs.LeftToRight.{read_all_commands};
 ghost use Rattle.bib_scan.specs.Code.{GivesUnlessMemory};
-ghost use Rattle.bib_scan.specs.Layout.{places_of};
+ghost use Rattle.bib_scan.specs.Layout.{IsLayoutOf};
 
 use crate::body::past_command;
 use crate::fault::{ReadFault, Refusal};
@@ -19,7 +19,7 @@ pub const FILE_LIMIT: usize = 16_777_216;
 
 /// The layout of the one reading of a file.
 pub fn read(alloc: Global, bytes: &[u8]) -> Result<Layout, ReadFault>
-    ensures found { IfOk result (λ layout. (length bytes.now ≤ file_limit) × ((db : Reading) × Reads bytes.now db × (layout ≡ places_of db))) }
+    ensures found { IfOk result (λ layout. (length bytes.now ≤ file_limit) × IsLayoutOf bytes.now layout) }
     // Only a file without a reading is refused with 1 to 7.
     ensures refused { IfErr result (λ fault. fault.kind < 8 → HasReading bytes.now → ⊥) }
     ensures kinds { IfErr result (λ fault. ((1 ≤ fault.kind) × (fault.kind ≤ 7)) ⊎ ((fault.kind ≡ 9) ⊎ (fault.kind ≡ 10))) }
