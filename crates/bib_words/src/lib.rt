@@ -1,0 +1,7 @@
+//! The words of a command, read off the command line. It knows which commands there are and how many words each
+//! takes, and not what a command does. It promises to tell a command from other words.
+#![tactic(auto)]
+
+mod commands;
+
+pub use commands::Command;
