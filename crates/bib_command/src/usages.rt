@@ -5,6 +5,7 @@ ghost use Rattle.clap.specs.Words.{kind_of};
 ghost use Rattle.bib_command.specs.Usage.{IsUsageOf, no_memory};
 
 use bib_scan::Text;
+use bib_words::status;
 use clap::error::ErrorKind;
 use std::alloc::Global;
 
@@ -23,7 +24,11 @@ pub fn usage_of(alloc: Global, error: &clap::Error) -> Usage
     if error.kind() == ErrorKind::OutOfMemory {
         return no_memory(alloc);
     }
-    let status = if error.use_stderr() { 2 } else { 0 };
+    let status = if error.use_stderr() {
+        status::COMMAND_LINE
+    } else {
+        status::DONE
+    };
     match error.to_string(alloc) {
         Ok(text) => Usage {
             text: Text::from_vec(text.into_bytes()),
@@ -39,6 +44,6 @@ pub fn no_memory(alloc: Global) -> Usage
 {
     Usage {
         text: Text::from_vec(Vec::new(alloc)),
-        status: 4,
+        status: status::MEMORY,
     }
 }

@@ -4,10 +4,10 @@ ghost use Rattle.std.specs.Prelude.{◌≡◌, [], IfOk};
 ghost use Rattle.bib_run.specs.Outcome.{outcome_of, answer_of};
 
 use bib_scan::Text;
+use bib_words::status;
 use std::alloc::Global;
 
-/// What the program has to write besides the output, and how it ends: 0 done, 1 refused, 3 a read or write fault,
-/// 4 want of memory.
+/// What the program has to write besides the output, and the status in which it ends.
 #[derive(Drop)]
 pub struct Outcome {
     pub file: Option<Text>,
@@ -41,7 +41,7 @@ pub fn done(alloc: Global, output: Text) -> Answer
 {
     Answer {
         output,
-        outcome: outcome_of(Text::from_vec(Vec::new(alloc)), 0),
+        outcome: outcome_of(Text::from_vec(Vec::new(alloc)), status::DONE),
     }
 }
 
@@ -51,6 +51,6 @@ pub fn refused(alloc: Global, message: Text) -> Answer
 {
     Answer {
         output: Text::from_vec(Vec::new(alloc)),
-        outcome: outcome_of(message, 1),
+        outcome: outcome_of(message, status::REFUSED),
     }
 }

@@ -15,15 +15,9 @@ use crate::sink::write_whole;
 use crate::source::{SourceFault, read_up_to};
 use crate::{Outcome, Tap};
 use bib_scan::{FILE_LIMIT, Text};
-use bib_words::Command;
+use bib_words::{Command, status};
 use std::alloc::{AllocError, Global};
 use std::io::{Read, Write};
-
-/// The status of a read or write fault.
-const FAULT: u8 = 3;
-
-/// The status of want of memory.
-const MEMORY: u8 = 4;
 
 /// Runs a command over its file, its journal, its input and its output. It reads the file to its end or to one byte
 /// past the limit, and takes some three times the memory of the file. Calls that are interrupted are made again, up
@@ -64,7 +58,7 @@ fn perform<F: Read, W: Write>(
 {
     match try_perform(alloc, command, file, out) {
         Ok(outcome) => outcome,
-        Err(AllocError) => outcome_of(Text::from_vec(Vec::new(alloc)), MEMORY),
+        Err(AllocError) => outcome_of(Text::from_vec(Vec::new(alloc)), status::MEMORY),
     }
 }
 
@@ -99,7 +93,7 @@ fn try_perform<F: Read, W: Write>(
 fn fault(alloc: Global, line: &[u8]) -> Result<Outcome, AllocError>
     ensures { IfOk result (λ outcome. outcome ≡ outcome_of line.now 3) }
 {
-    Ok(outcome_of(Text::from_vec(Vec::from_slice(alloc, line)?), FAULT))
+    Ok(outcome_of(Text::from_vec(Vec::from_slice(alloc, line)?), status::FAULT))
 }
 
 /// The command's answer to the bytes of its file.

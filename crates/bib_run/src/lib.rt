@@ -13,4 +13,5 @@ mod taps;
 
 pub use answers::Outcome;
 pub use engine::run;
+pub use messages::{READ_FAULT, WRITE_FAULT};
 pub use taps::Tap;
