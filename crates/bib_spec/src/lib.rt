@@ -1,3 +1,14 @@
 //! What a `.bib` file is and means, in definitions: the page that a reader has to believe. There is no
 //! code here, only functions that do nothing and carry the laws about the definitions.
 #![tactic(auto)]
+
+mod histories;
+mod replacing;
+
+pub use histories::{
+    each_move_leads_to_one_history, the_ends_are_reached, undo_and_redo_are_opposites,
+};
+pub use replacing::{
+    bytes_outside_pieces_are_kept, pieces_of_chunks_lead_from_old_to_new,
+    reversed_pieces_are_the_way_back,
+};

@@ -1,0 +1,4 @@
+pub mod PieceLemmas
+pub mod WayBack
+pub mod Chunks
+pub mod HistoryLemmas
