@@ -3,3 +3,8 @@
 
 #[cfg(test)]
 mod reading;
+mod command_lines;
+#[cfg(test)]
+mod fakes;
+#[cfg(test)]
+mod running;
