@@ -2,12 +2,15 @@
 //! It promises the one reading of a file with its places, or the first byte at which no file continues.
 #![tactic(auto)]
 
+mod class;
 mod fault;
 mod layout;
 mod reading;
 mod seq;
+mod text;
 
 pub use fault::ReadFault;
 pub use layout::Layout;
 pub use reading::{FILE_LIMIT, read};
 pub use seq::{Seq, Text};
+pub use text::{NAME_LIMIT, is_balanced, is_key, is_name, is_type, same_folded};
