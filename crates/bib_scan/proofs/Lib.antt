@@ -1,1 +1,2 @@
-mod BalanceLaws
+pub mod BalanceLaws
+pub mod OpeningLemmas

@@ -5,12 +5,14 @@
 mod class;
 mod fault;
 mod layout;
+mod opening;
 mod reading;
 mod seq;
 mod text;
 
 pub use fault::ReadFault;
 pub use layout::Layout;
+pub use opening::is_clean_trail;
 pub use reading::{FILE_LIMIT, read};
 pub use seq::{Seq, Text};
 pub use text::{NAME_LIMIT, is_balanced, is_key, is_name, is_type, same_folded};
