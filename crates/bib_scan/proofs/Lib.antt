@@ -1,2 +1,13 @@
 pub mod BalanceLaws
 pub mod OpeningLemmas
+pub mod BraceLemmas
+pub mod ScanInvariant
+pub mod ValueLemmas
+pub mod RunLaws
+pub mod BraceLaws
+pub mod PartLaws
+pub mod ValueLaws
+pub mod RowLaws
+pub mod CommandLemmas
+pub mod CommandLaws
+pub mod CleanLaws

@@ -1,4 +1,4 @@
-use Rattle.bib_scan.proofs.OpeningLemmas.{next_found, next_past, next_is, next_end}
+use Rattle.bib_scan.proofs.CommandLemmas.{next_found, next_past, next_is, next_end}
 use Rattle.bib_scan.proofs.opening.next_command.Goals as goal
 
 pub loop-found-preserved : goal.loop-found-preserved

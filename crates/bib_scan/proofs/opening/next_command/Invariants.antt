@@ -1,5 +1,5 @@
 use Rattle.std.proofs.Common.{◌-◌, length}
-use Rattle.bib_scan.proofs.OpeningLemmas.{NoneUpTo}
+use Rattle.bib_scan.proofs.CommandLemmas.{NoneUpTo}
 use Rattle.bib_scan.proofs.opening.next_command.Given as goal
 
 abbrev pub invariant-loop-found : goal.invariant-loop-found
