@@ -3,6 +3,7 @@
 #![tactic(auto)]
 
 mod class;
+mod delimiter;
 mod fault;
 mod layout;
 mod opening;
