@@ -13,3 +13,5 @@ pub mod CommandLaws
 pub mod CleanLaws
 pub mod AgainLaws
 pub mod TreeAgainLaws
+pub mod FieldLaws
+pub mod HeadLaws

@@ -1,2 +1,4 @@
 pub mod LeftToRight
 pub mod DelimiterView
+pub mod View
+pub mod FieldsLeft

@@ -10,6 +10,7 @@ mod opening;
 mod reading;
 mod seq;
 mod text;
+mod view;
 
 pub use fault::ReadFault;
 pub use layout::Layout;
@@ -17,3 +18,4 @@ pub use opening::is_clean_trail;
 pub use reading::{FILE_LIMIT, read};
 pub use seq::{Seq, Text};
 pub use text::{NAME_LIMIT, is_balanced, is_key, is_name, is_type, same_folded};
+pub use view::{ItemView, Kind};
