@@ -140,3 +140,20 @@ view_again (CommentTree h) trail is = comment_view h trail is
 view_again (DefinitionTree d) trail is = definition_view d trail is
 view_again (PreambleTree p) trail is = preamble_view p trail is
 view_again (EntryTree e) trail is = entry_view e trail is
+
+-- ---- what the code finds
+
+-- the head, kind and opening of a body lead to the view of its item
+pub view_found : (body trail : Text) (head : Text × Text) (k : Kind) (opened : Delimiter × Text) (t : Tree) → head ≡ read_head body → k ≡ kind_named head.0 → opened ≡ read_opening (after_run is_space head.1) → IsTree name_limit t → tree_bytes t ≡ body → view_behind body trail head.0 k opened ≡ view_of (record { tree = t; trail = trail })
+view_found body trail head k opened t head_is k_is opened_is is whole =
+    ap (λ (j : Kind). view_behind body trail head.0 j opened) k_is
+    ∙ ap (λ (q : Delimiter × Text). view_behind body trail head.0 (kind_named head.0) q) opened_is
+    ∙ ap (λ (x : Text × Text). view_behind body trail x.0 (kind_named x.0) (read_opening (after_run is_space x.1))) head_is
+    ∙ ap (λ (b : Text). read_view b trail) (sym whole) ∙ view_again t trail is
+
+-- an item that is no entry has no key
+pub plain_view : (body trail type_name : Text) (k : Kind) (opened : Delimiter × Text) → (k ≡ kind.Entry → ⊥) → view_behind body trail type_name k opened ≡ record { kind = k; body = body; trail = trail; type_name = type_name; key = []; key_at = 0; fields = all_fields_left k (length body) opened.1 }
+plain_view body trail type_name kind.Entry opened other = absurd (other refl)
+plain_view body trail type_name kind.Macro opened other = refl
+plain_view body trail type_name kind.Preamble opened other = refl
+plain_view body trail type_name kind.Comment opened other = refl

@@ -15,3 +15,7 @@ pub mod AgainLaws
 pub mod TreeAgainLaws
 pub mod FieldLaws
 pub mod HeadLaws
+pub mod ReadingLaws
+pub mod UniqueLaws
+pub mod OneReading
+pub mod RowsLemmas

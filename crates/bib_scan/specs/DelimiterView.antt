@@ -1,6 +1,6 @@
--- The delimiters of the code as those of the grammar.
-use Rattle.bib_scan.specs.declared.delimiter.Delimiter.{Delimiter}
-use Rattle.bib_scan.specs.declared.delimiter.Delimiter.TheVariants as code
+-- A delimiter of the code, as one of the grammar.
+use Rattle.bib_scan.specs.declared.opening.Delimiter.{Delimiter}
+use Rattle.bib_scan.specs.declared.opening.Delimiter.TheVariants as code
 use Rattle.bib_spec.specs.Tree as tree
 
 abbrev pub delimiter_view : Delimiter → tree.Delimiter

@@ -1,9 +1,9 @@
-//! Classes of one byte.
+//! Classes of bytes.
 
 ghost use Rattle.std.specs.Prelude.{◌≡◌};
 ghost use Rattle.bib_spec.specs.Text.{is_space, is_name_byte, is_type_byte, is_new_key_byte};
 
-/// Whether the byte is white space: space, tab, LF or CR. (dialect)
+/// Whether the byte is white space.
 #[tactic(auto, unfolding(bib_spec::specs::Text::is_space))]
 pub(crate) fn is_space(byte: u8) -> bool
     ensures { result ≡ is_space byte }
@@ -11,7 +11,7 @@ pub(crate) fn is_space(byte: u8) -> bool
     matches!(byte, b' ' | b'\t' | b'\n' | b'\r')
 }
 
-/// Whether the byte may stand in a name. (dialect)
+/// Whether the byte may stand in a name.
 #[tactic(auto, unfolding(bib_spec::specs::Text::is_name_byte))]
 pub(crate) fn is_name_byte(byte: u8) -> bool
     ensures { result ≡ is_name_byte byte }
@@ -23,14 +23,14 @@ pub(crate) fn is_name_byte(byte: u8) -> bool
         )
 }
 
-/// Whether the byte may stand in a type name. (dialect)
+/// Whether the byte may stand in a type name.
 pub(crate) fn is_type_byte(byte: u8) -> bool
     ensures { result ≡ is_type_byte byte }
 {
     is_name_byte(byte) && byte != b'@'
 }
 
-/// Whether the byte may stand in a key that an edit writes. (dialect)
+/// Whether the byte may stand in a key that an edit writes.
 #[tactic(auto, unfolding(bib_spec::specs::Text::is_new_key_byte))]
 pub(crate) fn is_new_key_byte(byte: u8) -> bool
     ensures { result ≡ is_new_key_byte byte }

@@ -2,14 +2,16 @@
 //! It promises the one reading of a file with its places, or the first byte at which no file continues.
 #![tactic(auto)]
 
+mod body;
 mod class;
-mod delimiter;
 mod fault;
 mod layout;
 mod opening;
 mod reading;
+mod run;
 mod seq;
 mod text;
+mod value;
 mod view;
 
 pub use fault::ReadFault;
@@ -18,4 +20,5 @@ pub use opening::is_clean_trail;
 pub use reading::{FILE_LIMIT, read};
 pub use seq::{Seq, Text};
 pub use text::{NAME_LIMIT, is_balanced, is_key, is_name, is_type, same_folded};
+pub use value::Part;
 pub use view::{ItemView, Kind};

@@ -6,8 +6,10 @@ ghost use Rattle.bib_scan.specs.FieldsLeft.{read_head, read_opening};
 ghost use Rattle.bib_scan.specs.DelimiterView.{delimiter_view};
 ghost use Rattle.bib_spec.specs.Tree.{Tree, IsTree, tree_bytes};
 
-use crate::delimiter::Delimiter;
-use crate::text::{same_folded, split_space, split_type_name};
+use crate::body::key_len;
+use crate::opening::Delimiter;
+use crate::run::{past_space, split_type_name};
+use crate::text::same_folded;
 use std::marker::Model;
 
 /// The kinds of items.
@@ -81,10 +83,10 @@ impl<'a> ItemView<'a> {
         ensures item { (tree : Tree) → IsTree name_limit tree → tree_bytes tree ≡ body.now → result ≡ view_of (record { tree = tree; trail = trail.now }) }
     {
         let (type_name, behind_type) = split_head(body);
-        let (delimiter, inside) = split_opening(split_space(behind_type).1);
+        let (delimiter, inside) = split_opening(past_space(behind_type));
         match Kind::named(type_name) {
             Kind::Entry => {
-                let (key, behind_key) = inside.split_at(delimiter.key_len(inside));
+                let (key, behind_key) = inside.split_at(key_len(delimiter, inside));
                 ItemView {
                     kind: Kind::Entry,
                     body,
@@ -92,7 +94,7 @@ impl<'a> ItemView<'a> {
                     type_name,
                     key,
                     key_at: body.len() - inside.len(),
-                    rows: split_space(behind_key).1,
+                    rows: past_space(behind_key),
                 }
             }
             kind => ItemView {
@@ -163,7 +165,7 @@ fn split_head(body: &[u8]) -> (&[u8], &[u8])
     ensures within { length result.1.now ≤ length body.now }
 {
     match body {
-        [_, after @ ..] => split_type_name(split_space(after).1),
+        [_, after @ ..] => split_type_name(past_space(after)),
         [] => (body, body),
     }
 }
@@ -174,7 +176,7 @@ fn split_opening(text: &[u8]) -> (Delimiter, &[u8])
     ensures within { length result.1.now ≤ length text.now }
 {
     match text {
-        [first, inside @ ..] => (Delimiter::of(*first), split_space(inside).1),
+        [first, inside @ ..] => (Delimiter::of(*first), past_space(inside)),
         [] => (Delimiter::Brace, text),
     }
 }
