@@ -84,7 +84,7 @@ rows_fields_again (r ∷ rs) (suc n) total c before tail x all space close room 
     let start : total - length (44 ∷ (r.space_before_name ++ named)) ≡ length before = omega (arith, whole, ap (λ (u : Text). length (before ++ u)) shape, length-append before (44 ∷ (r.space_before_name ++ named))) in
     let skipped : after_run is_space (r.space_before_name ++ named) ≡ named = skip_space r.space_before_name named ok.space_before_name (name_stands name_limit r.assignment.name _ ok.assignment.name) in
     let read : read_assignment total (length before) named ≡ Ok (field_behind (length before) front r.assignment, rest) =
-        subst (λ (u : Text). total ≡ length (front ++ assignment_inside r.assignment u) → read_assignment total (length before) (assignment_inside r.assignment u) ≡ Ok (field_behind (length before) front r.assignment, u)) (sym begin.3) (assignment_again total (length before) front r.assignment begin.0 begin.1 ok.assignment begin.2) whole_is in
+    subst (λ (u : Text). total ≡ length (front ++ assignment_inside r.assignment u) → read_assignment total (length before) (assignment_inside r.assignment u) ≡ Ok (field_behind (length before) front r.assignment, u)) (sym begin.3) (assignment_again total (length before) front r.assignment begin.0 begin.1 ok.assignment begin.2) whole_is in
     let found : first_field kind.Entry total (44 ∷ (r.space_before_name ++ named)) ≡ Some (field_behind (length before) front r.assignment, rest) = rw (start, skipped, read) refl in
     let later = rows_fields_again rs n total c (before ++ row_bytes r) tail x (All-tail (IsRow name_limit) r rs all) space close (omega arith) (whole ∙ ap (λ (u : Text). length (before ++ u)) (append_assoc (row_bytes r) (flat_map row_bytes rs) (last_comma_bytes tail ++ c ∷ x)) ∙ ap (length {A = ℕ}) (sym (append_assoc before (row_bytes r) rest))) in
     ap (fields_left (suc n) kind.Entry total) shape

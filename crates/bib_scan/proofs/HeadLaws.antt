@@ -111,18 +111,18 @@ entry_view e trail is =
     let inside_stands : Stands inside = subst Stands (sym begin.3) (not_from_false _ begin.2.no_space) in
     let behind : Text = behind_key_bytes e in
     let shape : behind ≡ e.space_behind_key ++ inside =
-        append_assoc (e.space_behind_key ++ flat_map row_bytes e.rows) (last_comma_bytes e.last_comma) (c ∷ []) ∙ append_assoc e.space_behind_key (flat_map row_bytes e.rows) (last_comma_bytes e.last_comma ++ c ∷ []) in
+    append_assoc (e.space_behind_key ++ flat_map row_bytes e.rows) (last_comma_bytes e.last_comma) (c ∷ []) ∙ append_assoc e.space_behind_key (flat_map row_bytes e.rows) (last_comma_bytes e.last_comma ++ c ∷ []) in
     let u : Text = e.key ++ behind in
     let stands : Stands u = key_stands d e.key behind is.key (λ none. subst Stands (sym (shape ∙ ap (λ (v : Text). v ++ inside) (is.empty_key none))) inside_stands) in
     let whole : body ≡ front ++ u = append_assoc front e.key behind in
     let read = opened_again body trail e.opening u kind.Entry is.opening stands (entry_named e.opening.head.type_name is.type_name) whole in
     let key : take_while (goes_on_key d) u ≡ e.key = run_front (goes_on_key d) e.key behind is.key is.key_ends in
     let behind_key : after_run is_space (after_run (goes_on_key d) u) ≡ inside =
-        ap (after_run is_space) (run_rest (goes_on_key d) e.key behind is.key is.key_ends ∙ shape) ∙ skip_space e.space_behind_key inside is.space_behind_key inside_stands in
+    ap (after_run is_space) (run_rest (goes_on_key d) e.key behind is.key is.key_ends ∙ shape) ∙ skip_space e.space_behind_key inside is.space_behind_key inside_stands in
     let key_at : length body - length u ≡ length front = omega (arith, ap (length {A = ℕ}) whole, length-append front u) in
     let before : Text = front ++ e.key ++ e.space_behind_key in
     let total : length body ≡ length (before ++ inside) =
-        ap (length {A = ℕ}) (whole ∙ ap (λ (v : Text). front ++ (e.key ++ v)) shape ∙ sym (append_assoc (front ++ e.key) e.space_behind_key inside ∙ append_assoc front e.key _)) in
+    ap (length {A = ℕ}) (whole ∙ ap (λ (v : Text). front ++ (e.key ++ v)) shape ∙ sym (append_assoc (front ++ e.key) e.space_behind_key inside ∙ append_assoc front e.key _)) in
     let room : length e.rows ≤ length inside = omega (arith, rows_len e.rows, length-append (flat_map row_bytes e.rows) (last_comma_bytes e.last_comma ++ c ∷ [])) in
     let fields = ap (all_fields_left kind.Entry (length body)) behind_key ∙ rows_fields_again e.rows (length inside) (length body) c before e.last_comma [] is.rows is.last_comma (closes d) room total in
     read ∙ (λ i. record {

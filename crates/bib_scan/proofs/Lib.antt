@@ -19,3 +19,4 @@ pub mod ReadingLaws
 pub mod UniqueLaws
 pub mod OneReading
 pub mod RowsLemmas
+pub mod StepLaws

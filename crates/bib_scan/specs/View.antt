@@ -5,6 +5,7 @@ use Rattle.bib_spec.specs.Text.{Text}
 use Rattle.bib_spec.specs.Tree as tree
 use Rattle.bib_spec.specs.Tree.{Tree, CommentTree, DefinitionTree, PreambleTree, EntryTree, Row, value_bytes, row_bytes, opening_bytes, tree_bytes}
 use Rattle.bib_spec.specs.Reading.{Item}
+use Rattle.bib_scan.specs.declared.fields.FieldView.{FieldView}
 use Rattle.bib_scan.specs.declared.view.Kind.{Kind}
 use Rattle.bib_scan.specs.declared.view.Kind.TheVariants as kind
 
@@ -94,3 +95,7 @@ view_of item = record {
 -- the same view, with another trail
 abbrev pub with_trail : View → Text → View
 with_trail v trail = record v { trail = trail }
+
+-- what is seen of a field of the code
+abbrev pub field_seen : FieldView → Field
+field_seen f = record { name = f.name.now; value = f.value.now; start = f.start; name_at = f.name_at; value_at = f.value_at }

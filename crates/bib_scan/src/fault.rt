@@ -1,7 +1,6 @@
 //! Why a text is not read, and where reading it stopped.
 
 ghost use Rattle.std.specs.Prelude.{◌≡◌, None, Some, if◌then◌else◌, ◌==◌};
-
 ghost use Rattle.bib_spec.specs.Fault.{fault_number};
 ghost use Rattle.bib_scan.specs.LeftToRight.{expected};
 ghost use Rattle.bib_scan.specs.Code.{fault_of, halt_of};

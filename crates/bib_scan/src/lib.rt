@@ -5,6 +5,7 @@
 mod body;
 mod class;
 mod fault;
+mod fields;
 mod layout;
 mod opening;
 mod reading;
@@ -15,6 +16,7 @@ mod value;
 mod view;
 
 pub use fault::ReadFault;
+pub use fields::{FieldView, Fields};
 pub use layout::Layout;
 pub use opening::is_clean_trail;
 pub use reading::{FILE_LIMIT, read};

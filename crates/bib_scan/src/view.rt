@@ -7,6 +7,7 @@ ghost use Rattle.bib_scan.specs.DelimiterView.{delimiter_view};
 ghost use Rattle.bib_spec.specs.Tree.{Tree, IsTree, tree_bytes};
 
 use crate::body::key_len;
+use crate::fields::Fields;
 use crate::opening::Delimiter;
 use crate::run::{past_space, split_type_name};
 use crate::text::same_folded;
@@ -22,7 +23,7 @@ pub enum Kind {
 }
 
 impl Kind {
-    ghost use Rattle.bib_scan.specs.FieldsLeft.{kind_named};
+    ghost use Rattle.bib_scan.specs.FieldsLeft.{kind_named, kind_behind};
 
     /// The kind of item that has this type.
     fn named(type_name: &[u8]) -> Self
@@ -36,6 +37,16 @@ impl Kind {
             Kind::Preamble
         } else {
             Kind::Entry
+        }
+    }
+
+    /// Which kind of item has the fields behind the first: only an entry has more than one.
+    pub(crate) fn behind_field(self) -> Self
+        ensures { result ≡ kind_behind self }
+    {
+        match self {
+            Kind::Entry => Kind::Entry,
+            Kind::Macro | Kind::Preamble | Kind::Comment => Kind::Comment,
         }
     }
 }
@@ -61,13 +72,13 @@ impl<'a> Model for ItemView<'a> {
     ghost Value = { View };
 
     ghost view = { λ v. record {
-        kind = v.kind;
-        body = v.body.now;
-        trail = v.trail.now;
-        type_name = v.type_name.now;
-        key = v.key.now;
-        key_at = v.key_at;
-        fields = all_fields_left v.kind (length v.body.now) v.rows.now;
+      kind = v.kind;
+      body = v.body.now;
+      trail = v.trail.now;
+      type_name = v.type_name.now;
+      key = v.key.now;
+      key_at = v.key_at;
+      fields = all_fields_left v.kind (length v.body.now) v.rows.now;
     } };
 
     ghost invariant = { λ v. length v.rows.now ≤ length v.body.now };
@@ -149,6 +160,13 @@ impl<'a> ItemView<'a> {
         ensures { result ≡ self.now.key_at }
     {
         self.key_at
+    }
+
+    /// The item's fields in their order, read as they are asked for.
+    pub fn fields(&self) -> Fields<'a>
+        ensures { result ≡ self.now.fields }
+    {
+        Fields::from_rest(self.kind, self.body.len(), self.rows)
     }
 
     /// The same item with another trail.

@@ -16,7 +16,7 @@ returns-in-Entry c =
     let d = delimiter_view c.split_opening-delimiter.result.0 in
     let key : c.split_at.result.0.now ≡ take_while (goes_on_key d) inside = c.split_at.ensures.front ∙ ap (λ (n : ℕ). take n inside) c.key_len.ensures.len in
     let rows : c.past_space-in-Entry.result.now ≡ after_run is_space (after_run (goes_on_key d) inside) =
-        c.past_space-in-Entry.ensures.rest ∙ ap (after_run is_space) (c.split_at.ensures.back ∙ ap (λ (n : ℕ). drop n inside) c.key_len.ensures.len) in
+    c.past_space-in-Entry.ensures.rest ∙ ap (after_run is_space) (c.split_at.ensures.back ∙ ap (λ (n : ℕ). drop n inside) c.key_len.ensures.len) in
     let opened = c.split_opening-delimiter.ensures.parts ∙ ap read_opening c.past_space.ensures.rest in
     record {
       item = λ tree is whole. (λ i. record {
