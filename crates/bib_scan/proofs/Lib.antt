@@ -20,3 +20,5 @@ pub mod UniqueLaws
 pub mod OneReading
 pub mod RowsLemmas
 pub mod StepLaws
+pub mod LayoutLemmas
+pub mod LayoutLaws

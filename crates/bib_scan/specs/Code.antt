@@ -1,5 +1,5 @@
 -- Values of the code, as values of the definitions.
-use Rattle.std.specs.Prelude.{ℕ, ◌≡◌, ⊤, Result, Ok, Err}
+use Rattle.std.specs.Prelude.{◌≡◌, ⊤, Result, Ok, Err}
 use Rattle.bib_scan.specs.declared.fault.Fault.{Fault}
 use Rattle.bib_scan.specs.declared.fault.Fault.TheVariants as code
 use Rattle.bib_scan.specs.declared.fault.Stop.{Stop}

@@ -10,6 +10,9 @@ pub record Places : Type 0 where
   pub front_len : ℕ
   pub items : List Span
 
+abbrev pub placed : ℕ → List Span → Places
+placed front_len items = record { front_len = front_len; items = items }
+
 -- item n begins behind the front and the first n items
 abbrev pub start_of : Reading → ℕ → ℕ
 start_of db n = length db.front + length (flat_map item_bytes (take n db.items))
@@ -22,4 +25,4 @@ span_of db numbered = record {
 }
 
 abbrev pub places_of : Reading → Places
-places_of db = record { front_len = length db.front; items = map (span_of db) (enumerate_from 0 db.items) }
+places_of db = placed (length db.front) (map (span_of db) (enumerate_from 0 db.items))

@@ -5,3 +5,4 @@ pub mod FieldsLeft
 pub mod Layout
 pub mod Code
 pub mod PartView
+pub mod DelimiterView
