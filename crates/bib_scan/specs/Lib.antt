@@ -5,4 +5,3 @@ pub mod FieldsLeft
 pub mod Layout
 pub mod Code
 pub mod PartView
-pub mod DelimiterView
