@@ -22,3 +22,5 @@ pub mod RowsLemmas
 pub mod StepLaws
 pub mod LayoutLemmas
 pub mod LayoutLaws
+pub mod TakenApart
+pub mod PartsLemmas

@@ -5,3 +5,5 @@ pub mod FieldsLeft
 pub mod Layout
 pub mod Code
 pub mod PartView
+pub mod ValueParts
+pub mod PartsLeft
