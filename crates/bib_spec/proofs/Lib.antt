@@ -15,3 +15,5 @@ pub mod FreeKeys
 pub mod OneMore
 pub mod OtherEntries
 pub mod AddedBehind
+pub mod KeptTrees
+pub mod UntouchedItems
