@@ -1,11 +1,11 @@
 -- A tree in which a change of names and parts finds nothing to change.
-use Rattle.std.proofs.Common.{◌≡◌, Bool, true, false, ◌||◌, List, [], ◌∷◌, Option, None, unwrap_or, map, refl, ap, ap₂}
+use Rattle.std.proofs.Common.{◌≡◌, Bool, false, List, [], ◌∷◌, Option, None, unwrap_or, map, refl, ap, ap₂}
 use Rattle.std.specs.Prelude.{⊤}
 use Rattle.std.specs.List.{list_any}
 use Rattle.std.proofs.lemmas.Bool.{or_parts}
 use Rattle.bib_spec.specs.Text.{Text}
 use Rattle.bib_spec.specs.Tree.{Part, Link, Value, Assignment, Row, Definition, Preamble, Entry, Tree, CommentTree, DefinitionTree, PreambleTree, EntryTree}
-use Rattle.bib_spec.specs.Texts.{parts_of, values_of}
+use Rattle.bib_spec.specs.Texts.{parts_of}
 use Rattle.bib_spec.specs.Edits.{changed, link_with, value_with, assignment_with, row_with, tree_with, leaving, any_part}
 
 -- the tree's defined name, if it has one, is left

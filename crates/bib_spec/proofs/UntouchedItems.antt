@@ -1,5 +1,5 @@
 -- The items that an edit leaves stand in the new file with their trees, and behind their trails that of a neighbour that goes.
-use Rattle.std.proofs.Common.{◌≡◌, ◌≢◌, ◌||◌, ◌&&◌, ◌==◌, ℕ, zero, suc, ◌+◌, ◌-◌, ◌<◌, ◌≤◌, Bool, true, false, not, List, [], ◌∷◌, ◌++◌, Option, Some, None, is_some, unwrap_or, if◌then◌else◌, option_map, option_and_then, insert, find, map, slice_get, length, take, count_by, scan, ⊎_elim, refl, sym, ◌∙◌, ap, ap₂, subst, arith, append-nil, add-zero, add-one, length-append, eqb-true, eq-eqb, ne_eqb, zero-lt-suc, suc-le-suc, le_of_suc-le-suc, not-suc-le-zero}
+use Rattle.std.proofs.Common.{◌≡◌, ◌≢◌, ◌||◌, ◌&&◌, ◌==◌, ℕ, zero, suc, ◌+◌, ◌-◌, ◌<◌, ◌≤◌, Bool, true, false, List, [], ◌∷◌, ◌++◌, Option, Some, None, is_some, unwrap_or, if◌then◌else◌, option_map, option_and_then, insert, find, map, slice_get, length, take, count_by, ⊎_elim, refl, sym, ◌∙◌, ap, ap₂, subst, arith, append-nil, add-zero, eqb-true, eq-eqb, ne_eqb, zero-lt-suc, suc-le-suc, le_of_suc-le-suc}
 use Rattle.std.specs.List.{list_any}
 use Rattle.std.specs.Option.{option_map_or}
 use Rattle.std.proofs.lemmas.Bool.{cases_Bool, cond-true, cond-false, or_parts, both_ways}
@@ -9,15 +9,17 @@ use Rattle.bib_spec.specs.Tree.{Part, Braced, Quoted, Digits, Macro, Entry, Tree
 use Rattle.bib_spec.specs.Reading.{Item, Reading}
 use Rattle.bib_spec.specs.Texts.{Macros, months, macros_after, gathered}
 use Rattle.bib_spec.specs.Records.{EntryTexts, Record, entry_in, entries_of, keys_of, is_named, entry_named, target}
-use Rattle.bib_spec.specs.Edits.{NewEntry, Edit, SetField, DropField, AddEntry, RemoveEntry, MoveEntry, RenameKey, RenameMacro, InlineMacro, IntroduceMacro, RegenerateKeys, AddMany, NotFound, Ambiguous, BadPosition, IsAccepted, edited, leaving, tree_with, item_with, items_with, defines, uses, holds, any_part, is_entry, from_first, with_first_tree, without_first, of_entry, entry_with_field, entry_without_field, in_line, item_of, with_item, remove_entry, next_number, tree_with_keys, item_with_keys, items_with_keys, with_crossref, key_for, name_renamed, use_renamed, use_inlined, uses_inlined, text_of_macro, definition_of, part_introduced, introduced, holders, last_place}
+use Rattle.bib_spec.specs.Edits.{SetField, DropField, AddEntry, RemoveEntry, MoveEntry, RenameKey, RenameMacro, InlineMacro, IntroduceMacro, RegenerateKeys, AddMany, NotFound, Ambiguous, BadPosition, IsAccepted, edited, leaving, item_with, items_with, defines, uses, holds, any_part, is_entry, from_first, with_first_tree, without_first, of_entry, entry_with_field, entry_without_field, in_line, item_of, with_item, remove_entry, next_number, tree_with_keys, item_with_keys, items_with_keys, with_crossref, key_for, name_renamed, use_renamed, use_inlined, uses_inlined, text_of_macro, part_introduced, introduced, holders, last_place}
+use Rattle.bib_spec.specs.MadeKeys.{new_keys}
 use Rattle.bib_spec.specs.Laws.{is_behind, is_reached}
-use Rattle.bib_spec.specs.OtherLaws.{number_with_one_more, number_with_one_less, entries_before, passes, number_of_first, is_first, is_gone, is_any_entry, is_or_names, is_changed, new_number, gained, StandsAt, KeepsItems, untouched_items_stay, moved_entry_stays}
+use Rattle.bib_spec.specs.OtherLaws.{number_with_one_more, number_with_one_less, entries_before, passes, number_of_first, is_first, is_any_entry, is_or_names, is_changed, gained, StandsAt, KeepsItems, untouched_items_stay, moved_entry_stays}
 use Rattle.bib_spec.proofs.Names.{both_true}
 use Rattle.bib_spec.proofs.Counts.{count-no}
 use Rattle.bib_spec.proofs.Keys.{option_cases}
 use Rattle.bib_spec.proofs.Accepted.{there_once}
 use Rattle.bib_spec.proofs.RenameKey.{only}
 use Rattle.bib_spec.proofs.OneMore.{slice_get-insert, slice_get-insert_same, within}
+use Rattle.bib_spec.proofs.AddedBehind.{slice_get-append}
 use Rattle.bib_spec.proofs.KeptTrees.{IsNameLeft, leaving-leaves, tree-left}
 
 -- ---- numbers
@@ -267,3 +269,250 @@ removed_item key db n item stays at = record {
   trail_is = refl;
   tree_is = λ _. refl;
 }
+
+-- ---- a macro written out
+
+inlined_leaves : (name text : Text) (part : Part) → uses name part ≡ false → use_inlined name text part ≡ None
+inlined_leaves name text (Macro used) h = cond-false (same used name) (Some (Braced text)) None h
+inlined_leaves name text (Braced t) h = refl
+inlined_leaves name text (Quoted t) h = refl
+inlined_leaves name text (Digits t) h = refl
+
+abbrev with_uses_inlined : Text → Text → List Item → List Item
+with_uses_inlined name text items = from_first (defines name) (uses_inlined name text) items
+
+abbrev by_inlining : Bool → Text → Text → Item → List Item → List Item
+by_inlining b name text first items = if b then first ∷ items_with leaving (use_inlined name text) items else first ∷ with_uses_inlined name text items
+
+inlined_at : (name text : Text) (items : List Item) (n : ℕ) (item : Item) → slice_get items n ≡ Some item →
+    StandsAt (with_uses_inlined name text items) n (is_behind name items n && passes (any_part (uses name)) items n) item.tree item.trail
+inlined_at name text [] n item at = absurd (none-some item at)
+inlined_at name text (first ∷ items) zero item at = by_test (defines name first.tree)
+  where
+    by_test : (b : Bool) → StandsAt (by_inlining b name text first items) zero false item.tree item.trail
+    by_test true = stands (by_inlining true name text first items) zero false item item at refl (λ _. refl)
+    by_test false = stands (by_inlining false name text first items) zero false item item at refl (λ _. refl)
+inlined_at name text (first ∷ items) (suc n) item at = by_test (inlined_at name text items n item at) (defines name first.tree)
+  where
+    by_test : StandsAt (with_uses_inlined name text items) n (is_behind name items n && passes (any_part (uses name)) items n) item.tree item.trail →
+        (b : Bool) → StandsAt (by_inlining b name text first items) (suc n) ((b || is_behind name items n) && passes (any_part (uses name)) items n) item.tree item.trail
+    by_test rest true =
+        let it = with_at leaving (use_inlined name text) (uses name) (inlined_leaves name text) items n (passes (any_part (uses name)) items n) item at
+        (λ e. (leaving-leaves item.tree, sym (passes-at (any_part (uses name)) items n item at) ∙ e)) in
+        record { item = it.item; at = it.at; trail_is = it.trail_is; tree_is = it.tree_is }
+    by_test rest false = record { item = rest.item; at = rest.at; trail_is = rest.trail_is; tree_is = rest.tree_is }
+
+-- the definition stands where it stood
+inlined-first : (name text : Text) (items : List Item) → number_of_first (defines name) (with_uses_inlined name text items) ≡ number_of_first (defines name) items
+inlined-first name text [] = refl
+inlined-first name text (first ∷ items) = ⊎_elim
+    (λ e. ap (number_of_first (defines name)) (cond-true (defines name first.tree) (first ∷ items_with leaving (use_inlined name text) items) (first ∷ with_uses_inlined name text items) e)
+    ∙ cond-true (defines name first.tree) 0 (suc (number_of_first (defines name) (items_with leaving (use_inlined name text) items))) e
+    ∙ sym (cond-true (defines name first.tree) 0 (suc (number_of_first (defines name) items)) e))
+    (λ e. ap (number_of_first (defines name)) (cond-false (defines name first.tree) (first ∷ items_with leaving (use_inlined name text) items) (first ∷ with_uses_inlined name text items) e)
+    ∙ cond-false (defines name first.tree) 0 (suc (number_of_first (defines name) (with_uses_inlined name text items))) e
+    ∙ ap suc (inlined-first name text items)
+    ∙ sym (cond-false (defines name first.tree) 0 (suc (number_of_first (defines name) items)) e))
+    (cases_Bool (defines name first.tree))
+
+abbrev trail_of : Option Item → Text
+trail_of o = option_map_or (λ (i : Item). i.trail) o []
+
+option_map-trail : (f : Item → Item) → ((item : Item) → (f item).trail ≡ item.trail) → (o : Option Item) → trail_of (option_map f o) ≡ trail_of o
+option_map-trail f same None = refl
+option_map-trail f same (Some item) = same item
+
+-- the trails are what they were
+inlined-trail : (name text : Text) (items : List Item) (n : ℕ) → trail_of (slice_get (with_uses_inlined name text items) n) ≡ trail_of (slice_get items n)
+inlined-trail name text [] n = refl
+inlined-trail name text (first ∷ items) zero = by_test (defines name first.tree)
+  where
+    by_test : (b : Bool) → trail_of (slice_get (by_inlining b name text first items) zero) ≡ first.trail
+    by_test true = refl
+    by_test false = refl
+inlined-trail name text (first ∷ items) (suc n) = by_test (inlined-trail name text items n) (defines name first.tree)
+  where
+    by_test : trail_of (slice_get (with_uses_inlined name text items) n) ≡ trail_of (slice_get items n) →
+        (b : Bool) → trail_of (slice_get (by_inlining b name text first items) (suc n)) ≡ trail_of (slice_get items n)
+    by_test rest true = ap trail_of (slice_get-map (item_with leaving (use_inlined name text)) items n) ∙ option_map-trail (item_with leaving (use_inlined name text)) (λ item. refl) (slice_get items n)
+    by_test rest false = rest
+
+-- what goes with the definition is what went before
+inlined-gained : (name text : Text) (items : List Item) (n : ℕ) →
+    gained (is_first (defines name) (with_uses_inlined name text items)) (with_uses_inlined name text items) n ≡ gained (is_first (defines name) items) items n
+inlined-gained name text items n =
+    ap₂ (λ (i : ℕ) (trail : Text). if i == n then trail else []) (inlined-first name text items) (inlined-trail name text items n)
+
+inlined_item : (name text front : Text) (items : List Item) (n : ℕ) (item : Item) → is_first (defines name) items n ≡ false → slice_get items n ≡ Some item →
+    StandsAt (without_first (defines name) front (with_uses_inlined name text items)).items (number_with_one_less (number_of_first (defines name) items) n)
+    (is_behind name items n && passes (any_part (uses name)) items n) item.tree (item.trail ++ gained (is_first (defines name) items) items (suc n))
+inlined_item name text front items n item stays at =
+    let new : List Item = with_uses_inlined name text items in
+    let changed = inlined_at name text items n item at in
+    let stays' : is_first (defines name) new n ≡ false = ap (λ i. i == n) (inlined-first name text items) ∙ stays in
+    record {
+      item = record changed.item { trail = changed.item.trail ++ gained (is_first (defines name) new) new (suc n) };
+      at = ap (λ i. slice_get (without_first (defines name) front new).items (number_with_one_less i n)) (sym (inlined-first name text items))
+          ∙ removed_at (defines name) front new n changed.item stays' changed.at;
+      trail_is = ap₂ ◌++◌ changed.trail_is (inlined-gained name text items (suc n));
+      tree_is = changed.tree_is;
+    }
+
+-- ---- a macro introduced
+
+introduced_at : (name text : Text) (items : List Item) (n : ℕ) (item : Item) → slice_get items n ≡ Some item →
+    StandsAt (from_first (any_part (holds text)) (introduced name text) items) (number_with_one_more (number_of_first (any_part (holds text)) items) n)
+    (passes (any_part (holds text)) items n) item.tree item.trail
+introduced_at name text [] n item at = absurd (none-some item at)
+introduced_at name text (first ∷ items) n item at = by_test (λ n at. introduced_at name text items n item at) (any_part (holds text) first.tree) n at
+  where
+    by_test : ((n : ℕ) → slice_get items n ≡ Some item →
+        StandsAt (from_first (any_part (holds text)) (introduced name text) items) (number_with_one_more (number_of_first (any_part (holds text)) items) n)
+        (passes (any_part (holds text)) items n) item.tree item.trail) →
+        (b : Bool) (n : ℕ) → slice_get (first ∷ items) n ≡ Some item →
+        StandsAt (if b then introduced name text (first ∷ items) else first ∷ from_first (any_part (holds text)) (introduced name text) items)
+        (number_with_one_more (if b then 0 else suc (number_of_first (any_part (holds text)) items)) n) (passes (any_part (holds text)) (first ∷ items) n) item.tree item.trail
+    by_test behind true n at =
+        let it = with_at leaving (part_introduced name text) (holds text) (λ part h. cond-false (holds text part) (Some (Macro name)) None h) (first ∷ items) n (passes (any_part (holds text)) (first ∷ items) n) item at
+        (λ e. (leaving-leaves item.tree, sym (passes-at (any_part (holds text)) (first ∷ items) n item at) ∙ e)) in
+        record { item = it.item; at = it.at; trail_is = it.trail_is; tree_is = it.tree_is }
+    by_test behind false zero at = let is = same_Some first item at in record {
+      item = first;
+      at = refl;
+      trail_is = ap (λ (i : Item). i.trail) is;
+      tree_is = λ _. ap (λ (i : Item). i.tree) is;
+    }
+    by_test behind false (suc n) at = let rest = behind n at in record { item = rest.item; at = rest.at; trail_is = rest.trail_is; tree_is = rest.tree_is }
+
+-- ---- an item put in
+
+put_in : (place : ℕ) (item : Item) (db : Reading) → place ≤ length db.items → KeepsItems (λ n. false) (λ n. false) (number_with_one_more place) db (with_item place item db)
+put_in place item db within_items = record {
+  front = sym (append-nil db.front);
+  items = λ n other _ at. stands_alone (insert db.items place item) (number_with_one_more place n) false other [] refl
+      (stands (insert db.items place item) (number_with_one_more place n) false other other (slice_get-insert db.items place item within_items n ∙ at) refl (λ _. refl));
+  order = λ n m _ _ h _. more-order place n m h;
+}
+
+-- ---- an entry moved
+
+-- what is counted is found
+none_counted : (key : Text) (m : Macros) (tree : Tree) (rest : List EntryTexts) → is_entry key tree ≡ false →
+    count_by (is_named key) (keys_of (entry_in m tree ++ rest)) ≡ count_by (is_named key) (keys_of rest)
+none_counted key m (EntryTree e) rest h = count-no (is_named key) e.key (keys_of rest) h
+none_counted key m (CommentTree c) rest h = refl
+none_counted key m (DefinitionTree d) rest h = refl
+none_counted key m (PreambleTree p) rest h = refl
+
+none_found : (key : Text) (m : Macros) (items : List Item) → find (λ item. is_entry key item.tree) items ≡ None → count_by (is_named key) (keys_of (gathered entry_in m items)) ≡ 0
+none_found key m [] e = refl
+none_found key m (first ∷ items) e = ⊎_elim
+    (λ t. absurd (none-some first (sym e ∙ cond-true (is_entry key first.tree) (Some first) (find (λ item. is_entry key item.tree) items) t)))
+    (λ t. none_counted key m first.tree (gathered entry_in (macros_after m first.tree) items) t
+    ∙ none_found key (macros_after m first.tree) items (sym (cond-false (is_entry key first.tree) (Some first) (find (λ item. is_entry key item.tree) items) t) ∙ e))
+    (cases_Bool (is_entry key first.tree))
+
+length-removed : (test : Tree → Bool) (front : Text) (items : List Item) (found : Item) → find (λ item. test item.tree) items ≡ Some found → suc (length (without_first test front items).items) ≡ length items
+length-removed test front [] found e = absurd (none-some found e)
+length-removed test front (first ∷ items) found e = by_test (length-removed test first.trail items found) (test first.tree) e
+  where
+    by_test : (find (λ item. test item.tree) items ≡ Some found → suc (length (without_first test first.trail items).items) ≡ length items) →
+        (b : Bool) → (if b then Some first else find (λ item. test item.tree) items) ≡ Some found → suc (length (without_by b front first items (without_first test first.trail items)).items) ≡ suc (length items)
+    by_test behind true e = refl
+    by_test behind false e = ap suc (behind e)
+
+-- the item that is moved, and the place that it goes to
+pub record IsMove (key : Text) (place : ℕ) (db : Reading) : Type 0 where
+  pub moved : Item
+  pub found : find (λ item. is_entry key item.tree) db.items ≡ Some moved
+  pub within : place ≤ length (remove_entry key db).items
+
+move_of : (key_base : Record → Text) (db : Reading) (key : Text) (place : ℕ) → IsAccepted key_base db (MoveEntry key place) → IsMove key place db
+move_of key_base db key place accepted = ⊎_elim
+    (λ none. absurd (accepted NotFound (none_found key months db.items none)))
+    (λ some.
+    let named = only key (keys_of (entries_of db)) (there_once (holders key db) (accepted NotFound) (accepted Ambiguous)) in
+    let last : last_place db (MoveEntry key place) ≡ length db.items - 1 = ap (λ o. if is_some o then length db.items - 1 else length db.items) named.1 in
+    let high = accepted BadPosition in
+    let fewer = length-removed (is_entry key) db.front db.items some.0 some.1 in
+    record { moved = some.0; found = some.1; within = omega (arith, last, high, fewer) })
+    (option_cases (find (λ item. is_entry key item.tree) db.items))
+
+moved-is : (key_base : Record → Text) (db : Reading) (key : Text) (place : ℕ) (move : IsMove key place db) →
+    edited key_base db (MoveEntry key place) ≡ with_item place (in_line move.moved.tree) (remove_entry key db)
+moved-is key_base db key place move = ap (λ o. option_map_or (λ (item : Item). with_item place (in_line item.tree) (remove_entry key db)) o db) move.found
+
+pub moved_entry-stays : moved_entry_stays
+moved_entry-stays key_base db key place accepted =
+    let move = move_of key_base db key place accepted in (
+      move.moved,
+      move.found,
+      ap (λ (new : Reading). slice_get new.items place) (moved-is key_base db key place move)
+          ∙ slice_get-insert_same (remove_entry key db).items place (in_line move.moved.tree) move.within,
+    )
+
+-- ---- all edits
+
+removal : (key : Text) (db : Reading) →
+    KeepsItems (is_first (is_entry key) db.items) (λ n. false) (number_with_one_less (number_of_first (is_entry key) db.items)) db (remove_entry key db)
+removal key db = record {
+  front = gained_front (is_entry key) db.front db.items;
+  items = λ n item stays at. removed_item key db n item stays at;
+  order = λ n m p q h _. removal-order (is_entry key) db.items n m p q h;
+}
+
+removal_and_place : (db : Reading) (key : Text) (place : ℕ) (it : IsMove key place db) →
+    KeepsItems (is_first (is_entry key) db.items) (λ n. false) (λ n. number_with_one_more place (number_with_one_less (number_of_first (is_entry key) db.items) n)) db
+    (with_item place (in_line it.moved.tree) (remove_entry key db))
+removal_and_place db key place it = record {
+  front = gained_front (is_entry key) db.front db.items;
+  items = λ n item stays at. let rest = removed_item key db n item stays at in record {
+    item = rest.item;
+    at = slice_get-insert (remove_entry key db).items place (in_line it.moved.tree) it.within (number_with_one_less (number_of_first (is_entry key) db.items) n) ∙ rest.at;
+    trail_is = rest.trail_is;
+    tree_is = rest.tree_is;
+  };
+  order = λ n m p q h _. more-order place (number_with_one_less (number_of_first (is_entry key) db.items) n) (number_with_one_less (number_of_first (is_entry key) db.items) m)
+      (removal-order (is_entry key) db.items n m p q h);
+}
+
+pub untouched_items-stay : untouched_items_stay
+untouched_items-stay key_base db (SetField key name value) accepted =
+    in_place (is_changed db (SetField key name value)) db (edited key_base db (SetField key name value)) refl
+    (λ n item at. changed_at (is_entry key) (of_entry (entry_with_field name value)) db.items n item at)
+untouched_items-stay key_base db (DropField key name) accepted =
+    in_place (is_changed db (DropField key name)) db (edited key_base db (DropField key name)) refl
+    (λ n item at. changed_at (is_entry key) (of_entry (entry_without_field name)) db.items n item at)
+untouched_items-stay key_base db (AddEntry place new) accepted = let high = accepted BadPosition in put_in place (item_of new) db (omega (arith, high))
+untouched_items-stay key_base db (RemoveEntry key) accepted = removal key db
+untouched_items-stay key_base db (MoveEntry key place) accepted =
+    let it = move_of key_base db key place accepted in
+    subst (λ (new : Reading). KeepsItems (is_first (is_entry key) db.items) (λ n. false) (λ n. number_with_one_more place (number_with_one_less (number_of_first (is_entry key) db.items) n)) db new)
+    (sym (moved-is key_base db key place it)) (removal_and_place db key place it)
+untouched_items-stay key_base db (RenameKey from to) accepted =
+    in_place (is_changed db (RenameKey from to)) db (edited key_base db (RenameKey from to)) refl
+    (λ n item at. keys_at (key_for (entry_named (entries_of db) from) to) db n (is_changed db (RenameKey from to) n) item at
+    (λ e. keyed_tree (key_for (entry_named (entries_of db) from) to) (entries_of db) (entries_before n db) item.tree
+    (λ entry. not_keyed (entries_of db) (entry_named (entries_of db) from) to (entries_before n db)
+    (ap (λ b. b && is_or_names (entries_of db) (entry_named (entries_of db) from) (entries_before n db)) (sym (passes-at is_any_entry db.items n item at ∙ entry)) ∙ e))))
+untouched_items-stay key_base db (RenameMacro from to) accepted =
+    in_place (is_changed db (RenameMacro from to)) db (edited key_base db (RenameMacro from to)) refl (λ n item at. renamed_at from to db.items n item at)
+untouched_items-stay key_base db (InlineMacro name) accepted = record {
+  front = gained_front (defines name) db.front (with_uses_inlined name (text_of_macro name db) db.items)
+      ∙ ap (λ t. db.front ++ t) (inlined-gained name (text_of_macro name db) db.items 0);
+  items = λ n item stays at. inlined_item name (text_of_macro name db) db.front db.items n item stays at;
+  order = λ n m p q h _. removal-order (defines name) db.items n m p q h;
+}
+untouched_items-stay key_base db (IntroduceMacro name text) accepted = record {
+  front = sym (append-nil db.front);
+  items = λ n item _ at. stands_alone (edited key_base db (IntroduceMacro name text)).items (number_with_one_more (number_of_first (any_part (holds text)) db.items) n)
+      (passes (any_part (holds text)) db.items n) item [] refl (introduced_at name text db.items n item at);
+  order = λ n m _ _ h _. more-order (number_of_first (any_part (holds text)) db.items) n m h;
+}
+untouched_items-stay key_base db (RegenerateKeys depth) accepted =
+    in_place (is_changed db (RegenerateKeys depth)) db (edited key_base db (RegenerateKeys depth)) refl
+    (λ n item at. keys_at (slice_get (new_keys key_base depth (entries_of db))) db n (is_changed db (RegenerateKeys depth) n) item at
+    (λ e. no_entry item.tree (sym (passes-at is_any_entry db.items n item at) ∙ e) (slice_get (new_keys key_base depth (entries_of db))) (entries_of db) (entries_before n db)))
+untouched_items-stay key_base db (AddMany news) accepted =
+    in_place (is_changed db (AddMany news)) db (edited key_base db (AddMany news)) refl
+    (λ n item at. stands (db.items ++ map item_of news) n false item item (slice_get-append db.items (map item_of news) n (within db.items n item at) ∙ at) refl (λ _. refl))

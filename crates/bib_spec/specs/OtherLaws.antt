@@ -1,5 +1,5 @@
 -- What the edits keep beside what they are asked for: the other entries, and the bytes of the items that they do not touch.
-use Rattle.std.specs.Prelude.{◌≡◌, ◌<◌, ◌+◌, ℕ, zero, suc, Bool, true, false, not, ◌&&◌, ◌||◌, ◌==◌, List, ◌++◌, [], ◌∷◌, Option, Some, None, if◌then◌else◌, option_map, slice_get, length, take, find}
+use Rattle.std.specs.Prelude.{◌≡◌, ◌<◌, ◌+◌, ℕ, zero, suc, Bool, true, false, ◌&&◌, ◌||◌, ◌==◌, List, ◌++◌, [], ◌∷◌, Option, Some, None, if◌then◌else◌, option_map, slice_get, length, take, find}
 use Rattle.std.specs.List.{list_any}
 use Rattle.std.specs.Option.{option_map_or}
 use Rattle.bib_spec.specs.Text.{Text, same}

@@ -6,6 +6,7 @@ mod histories;
 mod other_entries;
 mod renaming;
 mod replacing;
+mod untouched_items;
 
 pub use histories::{
     each_move_leads_to_one_history, the_ends_are_reached, undo_and_redo_are_opposites,
@@ -16,3 +17,4 @@ pub use replacing::{
     bytes_outside_pieces_are_kept, pieces_of_chunks_lead_from_old_to_new,
     reversed_pieces_are_the_way_back,
 };
+pub use untouched_items::untouched_items_keep_their_bytes;
