@@ -24,3 +24,4 @@ pub mod Balanced
 pub mod OneMore
 pub mod OtherEntries
 pub mod AddedBehind
+pub mod ExampleFacts
