@@ -13,3 +13,4 @@ pub mod EditChunks
 pub mod History
 pub mod Laws
 pub mod OtherLaws
+pub mod Examples
