@@ -5,3 +5,5 @@ pub mod RunLaws
 pub mod BraceLaws
 pub mod PartLaws
 pub mod ValueLaws
+pub mod LocalLaws
+pub mod LocalParts
