@@ -1,3 +1,7 @@
+pub mod LocalLaws
+pub mod LocalParts
+pub mod LocalRows
+pub mod MendLaws
 pub mod BraceLemmas
 pub mod ScanInvariant
 pub mod ValueLemmas
@@ -5,5 +9,7 @@ pub mod RunLaws
 pub mod BraceLaws
 pub mod PartLaws
 pub mod ValueLaws
-pub mod LocalLaws
-pub mod LocalParts
+pub mod RowLaws
+pub mod CommandLemmas
+pub mod CommandLaws
+pub mod CleanLaws

@@ -5,7 +5,8 @@ use Rattle.std.proofs.lemmas.List.Sums.{AllPass-from_list_all, list_all-from_All
 use Rattle.std.proofs.lemmas.List.Elements.{All-head}
 use Rattle.std.specs.List.{prefix_len, take_while, AllPass}
 use Rattle.std.specs.Char.{is_ascii_digit}
-use Rattle.bib_spec.specs.Text.{Text, is_name_within, is_name_byte, does_not_begin_with, after_run}
+use Rattle.bib_spec.specs.Bytes.{name_limit}
+use Rattle.bib_spec.specs.Text.{Text, is_name_within, is_type_name, is_name_byte, is_type_byte, does_not_begin_with, after_run}
 use Rattle.bib_spec.specs.Tree.{Part, Braced, Quoted, Digits, Macro, part_bytes, IsPart}
 use Rattle.bib_scan.specs.LeftToRight.{Read, read_braced, read_quoted, read_run, begins_name, read_name, read_part, ◌>>=◌}
 use Rattle.bib_scan.proofs.RunLaws.{bind_ok, chosen, ok_same, not_ok, limited_ok, limited_again, run_split, run_passes, run_front, run_rest}
@@ -35,6 +36,13 @@ name_parts limit t is =
 pub name_from : (limit : ℕ) (t : Text) → Name limit t → is_name_within limit t ≡ true
 unfolding is_name_within
 name_from limit t n = and_from _ _ (and_from _ _ (and_from _ _ (lt-ltb _ _ n.some) (le-leb _ _ n.short)) n.first) (list_all-from_AllPass is_name_byte t n.bytes)
+
+-- a type name is a name, all of whose bytes are of type names
+pub type_name_parts : (t : Text) → is_type_name t ≡ true → (is_name_within name_limit t ≡ true) × AllPass is_type_byte t
+type_name_parts t is = let parts = and_parts _ _ is in (parts.0, AllPass-from_list_all is_type_byte t parts.1)
+
+pub type_name_from : (t : Text) → is_name_within name_limit t ≡ true → AllPass is_type_byte t → is_type_name t ≡ true
+type_name_from t named all = and_from _ _ named (list_all-from_AllPass is_type_byte t all)
 
 -- a text that begins with a name has a run of name bytes, and the run begins with no digit
 pub begins_parts : (t u r : Text) → begins_name t ≡ true → t ≡ u ++ r → does_not_begin_with is_name_byte r ≡ true → (0 < length u) × (does_not_begin_with is_ascii_digit u ≡ true)
