@@ -13,3 +13,5 @@ pub mod RowLaws
 pub mod CommandLemmas
 pub mod CommandLaws
 pub mod CleanLaws
+pub mod AgainLaws
+pub mod TreeAgainLaws
