@@ -2,6 +2,7 @@ pub mod LocalLaws
 pub mod LocalParts
 pub mod LocalRows
 pub mod MendLaws
+pub mod TellLaws
 pub mod BraceLemmas
 pub mod ScanInvariant
 pub mod ValueLemmas
