@@ -1,5 +1,5 @@
 -- Steps of the readers of braced and quoted text.
-use Rattle.std.proofs.Common.{◌≡◌, ℕ, zero, suc, ◌+◌, ◌-◌, ◌<◌, ◌≤◌, Bool, true, false, ◌||◌, eqb, [], ◌∷◌, ◌++◌, length, get_or, take, drop, refl, sym, ap, subst, ◌∙◌, arith, append_assoc, append-nil, add-one, inl, inr, Ok, Err, None, Some}
+use Rattle.std.proofs.Common.{◌≡◌, ℕ, zero, suc, ◌+◌, ◌-◌, ◌<◌, ◌≤◌, Bool, true, false, ◌||◌, eqb, List, [], ◌∷◌, ◌++◌, length, get_or, take, drop, refl, sym, ap, subst, ◌∙◌, arith, append_assoc, append-nil, add-one, inl, inr, Ok, Err, None, Some}
 use Rattle.std.proofs.lemmas.List.{drop-drop, drop-take, take-take, get_or-drop, length-drop, drop_more, take_more, drop_all, take-append-drop}
 use Rattle.std.proofs.lemmas.Bool.{or_parts, or_cases, false_from_ne_true, and_right, eqb-true, eq-eqb, ne_eqb, cond-true}
 use Rattle.memchr.specs.Find.{IsFirstByte, is_byte2, is_byte3}
@@ -26,7 +26,7 @@ take_run test F takes (suc n) (b ∷ t) le none =
     let later = take_run test F takes n t (omega arith) (λ k lt. none (suc k) (omega arith)) in
     takes b t (none 0 (omega arith)) ∙ ap (with_front (b ∷ [])) later ∙ with_front-append (b ∷ []) (take n t) (F (drop n t))
 
-pub take-more : (n m : ℕ) (t : Text) → take n t ++ take m (drop n t) ≡ take (n + m) t
+pub take-more : {X : Type 0} → (n m : ℕ) (t : List X) → take n t ++ take m (drop n t) ≡ take (n + m) t
 take-more n m t =
     let whole = take-append-drop n (take (n + m) t) in
     let front : take n (take (n + m) t) ≡ take n t = take-take n (n + m) t (omega arith) in

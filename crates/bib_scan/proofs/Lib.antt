@@ -16,3 +16,6 @@ pub mod CommandLaws
 pub mod CleanLaws
 pub mod AgainLaws
 pub mod TreeAgainLaws
+pub mod ReadingLaws
+pub mod UniqueLaws
+pub mod OneReading
