@@ -2,6 +2,9 @@ pub mod LocalLaws
 pub mod LocalParts
 pub mod LocalRows
 pub mod MendLaws
+pub mod LongerNames
+pub mod MendRows
+pub mod MendTrees
 pub mod TellLaws
 pub mod BraceLemmas
 pub mod ScanInvariant

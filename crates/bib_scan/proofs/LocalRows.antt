@@ -6,7 +6,7 @@ use Rattle.bib_spec.specs.Fault.{ExpectedEquals, ExpectedCommaOrClose}
 use Rattle.bib_spec.specs.Text.{Text, is_space, after_run}
 use Rattle.bib_spec.specs.Tree.{Part, part_bytes, row_bytes, Delimiter, close_byte, goes_on_key}
 use Rattle.bib_scan.specs.LeftToRight.{Read, Halt, stop, expected, read_run, read_name, read_equals, read_part, past_hash, go_on, read_links, read_value_rest, read_value, read_row, past_byte, read_comma, read_close, read_rows, read_all_rows, read_entry, read_definition, read_preamble, ◌>>=◌}
-use Rattle.bib_scan.proofs.RunLaws.{run_stops}
+use Rattle.bib_scan.proofs.RunLaws.{not_ok, run_stops}
 use Rattle.bib_scan.proofs.PartLaws.{part_ok}
 use Rattle.bib_scan.proofs.ValueLaws.{joined_ok, skip_space}
 use Rattle.bib_scan.proofs.RowLaws.{comma_ok, row_ok, row_shape}
@@ -26,6 +26,10 @@ skip t = Ok (tt, after_run is_space t)
 
 pub local_skip : Local skip
 local_skip = local_bind (run is_space) (λ s u. Ok (tt, u)) (local_run is_space) (λ s. local_ok tt)
+
+pub fault_of : (m : Result Text Halt) (h : Halt) → (m >>= ready) ≡ Err h → m ≡ Err h
+fault_of (Ok x) h is = absurd (not_ok (tt, x) h _ is refl)
+fault_of (Err k) h is = let same : k ≡ h = cc in ap (λ (j : Halt). Err j) same
 
 bind_assoc : {A B C : Type 0} (m : Result A Halt) (f : A → Result B Halt) (g : B → Result C Halt) → ((m >>= f) >>= g) ≡ (m >>= λ x. f x >>= g)
 bind_assoc (Ok x) f g = refl
