@@ -3,6 +3,7 @@ pub mod LocalParts
 pub mod LocalRows
 pub mod MendLaws
 pub mod LongerNames
+pub mod StopLaws
 pub mod MendRows
 pub mod MendTrees
 pub mod TellLaws
