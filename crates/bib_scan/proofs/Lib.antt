@@ -4,6 +4,7 @@ pub mod LocalRows
 pub mod MendLaws
 pub mod LongerNames
 pub mod StopLaws
+pub mod PlaceLaws
 pub mod MendRows
 pub mod MendTrees
 pub mod TellLaws
