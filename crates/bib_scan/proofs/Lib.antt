@@ -5,6 +5,7 @@ pub mod MendLaws
 pub mod LongerNames
 pub mod StopLaws
 pub mod PlaceLaws
+pub mod HopelessLaws
 pub mod MendRows
 pub mod MendTrees
 pub mod TellLaws
