@@ -1,6 +1,6 @@
 -- What a reader does where another byte stands in place of the first one that it stopped at, and nothing behind it.
 -- Each fault is told by some bytes that it passes and some that it stops at.
-use Rattle.std.proofs.Common.{◌≡◌, ℕ, ◌+◌, ◌≤◌, Bool, true, false, cond, [], ◌∷◌, ◌++◌, length, refl, sym, ap, subst, ◌∙◌, arith, append_assoc, append-nil, inl, inr, ◌⊎◌, Result, Ok, Err}
+use Rattle.std.proofs.Common.{◌≡◌, ℕ, ◌+◌, ◌<◌, ◌≤◌, Bool, true, false, cond, [], ◌∷◌, ◌++◌, length, refl, sym, ap, subst, ◌∙◌, arith, append_assoc, append-nil, inl, inr, ◌⊎◌, Result, Ok, Err}
 use Rattle.std.proofs.lemmas.List.{length-append, append_cancel_right}
 use Rattle.std.proofs.lemmas.Bool.{cond-true, cond-false, both_ways}
 use Rattle.bib_spec.specs.Fault.{ReadingFault, Unended, ExpectedName, ExpectedEquals, ExpectedCommaOrClose, ExpectedValue, UnbalancedBrace, KeyTooLong}
@@ -181,50 +181,92 @@ module _ {A B : Type 0} (p : Text → Read A) (f : A → Text → Read B) where
   digit_both local a u1 (inr (inl s)) later = inl (subst (λ (u : Text). Stopped Both u 120) (sym (append-nil u1)) (stopped_first u1 120 s))
   digit_both local a u1 (inr (inr e)) later = inr (subst (λ (u : Text). Past Both u 49) (sym (append-nil u1)) (past_first local u1 49 e))
 
-  tell_second : (F G : ℕ → Type 0) (t : Text) (a : A) (r : Text) (h : Halt) → p t ≡ Ok (a, r) → LocalAt p t (Ok (a, r)) → ((a : A) → Local (f a)) → Keeps p F → Digits p → TellsAt (f a) (λ d. F d × G d) r h → TellsAt Both G t h
-  tell_second F G t a r h is l local keeps digits m = record {
+  -- where the second reader stopped, and the first reads what stands before it with each byte that is tried
+  tell_moved : (G H : ℕ → Type 0) (t : Text) (a : A) (r : Text) (h : Halt) → (l : LocalAt p t (Ok (a, r))) → (m : TellsAt (f a) H r h) → ((d : ℕ) → Tries h.fault d → p (l.front ++ (m.front ++ d ∷ [])) ≡ Ok (a, m.front ++ d ∷ []))
+      → (DigitToo (f a) m.front → DigitToo Both (l.front ++ m.front)) → (l.front ++ m.front ≡ [] → (d : ℕ) → Tries h.fault d → G d) → TellsAt Both G t h
+  tell_moved G H t a r h l m first digit starts = record {
     front = l.front ++ m.front;
     split = l.split ∙ ap (λ (u : Text). l.front ++ u) m.split ∙ sym (append_assoc l.front m.front h.rest);
     end = m.end;
-    passed = λ d ok. past_second a l.front m.front d (first m.front refl d (inl ok)) (m.passed d ok);
-    blocked = λ d ok. stopped_second a l.front m.front d (first m.front refl d (inr ok)) (m.blocked d ok);
-    digit = λ asks. digit m.front refl (m.digit asks);
-    starts = λ none d ok. (m.starts (second_nil l.front m.front none) d ok).1;
+    passed = λ d ok. past_second a l.front m.front d (first d (inl ok)) (m.passed d ok);
+    blocked = λ d ok. stopped_second a l.front m.front d (first d (inr ok)) (m.blocked d ok);
+    digit = λ asks. digit (m.digit asks);
+    starts = starts;
   }
+
+  -- the second reader stopped behind its first byte
+  pub tell_later : (G H : ℕ → Type 0) (t : Text) (a : A) (r : Text) (h : Halt) → LocalAt p t (Ok (a, r)) → (m : TellsAt (f a) H r h) → (m.front ≡ [] → ⊥) → TellsAt Both G t h
+  tell_later G H t a r h l m some = tell_moved G H t a r h l m (λ d ok. first m.front refl d) (digit m.front refl) (λ none. absurd (some (second_nil l.front m.front none)))
     where
       second_nil : (u v : Text) → u ++ v ≡ [] → v ≡ []
       second_nil [] v e = e
       second_nil (b ∷ u) v e = cc
 
-      first : (v : Text) → m.front ≡ v → (d : ℕ) → Tries h.fault d → p (l.front ++ (v ++ d ∷ [])) ≡ Ok (a, v ++ d ∷ [])
-      first [] e d ok = keeps t a r l.front is l.split d (m.starts e d ok).0
-      first (b ∷ v) e d ok = read_again t a r l b v h.rest (d ∷ []) (m.split ∙ ap (λ (u : Text). u ++ h.rest) e)
+      first : (v : Text) → m.front ≡ v → (d : ℕ) → p (l.front ++ (v ++ d ∷ [])) ≡ Ok (a, v ++ d ∷ [])
+      first [] e d = absurd (some e)
+      first (b ∷ v) e d = read_again t a r l b v h.rest (d ∷ []) (m.split ∙ ap (λ (u : Text). u ++ h.rest) e)
 
-      digit : (v : Text) → m.front ≡ v → DigitToo (f a) m.front → DigitToo Both (l.front ++ m.front)
-      digit [] e too = subst (λ (v : Text). DigitToo Both (l.front ++ v)) (sym e) (digit_both local a l.front (digits t a r l.front is l.split) (subst (DigitToo (f a)) e too))
-      digit (b ∷ v) e too = subst (λ (v : Text). DigitToo Both (l.front ++ v)) (sym e) (digit_second a l.front (b ∷ v) (λ d. read_again t a r l b v h.rest (d ∷ []) (m.split ∙ ap (λ (u : Text). u ++ h.rest) e)) (subst (DigitToo (f a)) e too))
+      digit : (v : Text) → m.front ≡ v → DigitToo (f a) v → DigitToo Both (l.front ++ v)
+      digit v e too = digit_second a l.front v (first v e) too
+
+  -- the second reader stopped at once
+  tell_now : (G H : ℕ → Type 0) (t : Text) (a : A) (r : Text) (h : Halt) → (l : LocalAt p t (Ok (a, r))) → ((a : A) → Local (f a)) → (m : TellsAt (f a) H r h) → m.front ≡ [] → ((d : ℕ) → Tries h.fault d → Leaves p a l.front d) → TakesDigit p a l.front → (l.front ≡ [] → (d : ℕ) → Tries h.fault d → G d) → TellsAt Both G t h
+  tell_now G H t a r h l local m none leaves takes starts =
+      tell_moved G H t a r h l m
+      (λ d ok. subst (λ (v : Text). p (l.front ++ (v ++ d ∷ [])) ≡ Ok (a, v ++ d ∷ [])) (sym none) (leaves d ok))
+      (λ too. subst (λ (v : Text). DigitToo Both (l.front ++ v)) (sym none) (digit_both local a l.front takes (subst (DigitToo (f a)) none too)))
+      (λ gone. starts (sym (append-nil l.front) ∙ subst (λ (v : Text). l.front ++ v ≡ []) none gone))
+
+  some_or_none : (v : Text) → (v ≡ []) ⊎ (v ≡ [] → ⊥)
+  some_or_none [] = inl refl
+  some_or_none (b ∷ v) = inr (λ e. cc)
+
+  tell_second : (F G : ℕ → Type 0) (t : Text) (a : A) (r : Text) (h : Halt) → p t ≡ Ok (a, r) → LocalAt p t (Ok (a, r)) → ((a : A) → Local (f a)) → Keeps p F → Digits p → TellsAt (f a) (λ d. F d × G d) r h → TellsAt Both G t h
+  tell_second F G t a r h is l local keeps digits m =
+      elim (some_or_none m.front) [
+        | inl none ↦ tell_now G (λ d. F d × G d) t a r h l local m none (λ d ok. keeps t a r l.front is l.split d (m.starts none d ok).0) (digits t a r l.front is l.split) (λ gone d ok. (m.starts none d ok).1)
+        | inr some ↦ tell_later G (λ d. F d × G d) t a r h l m some
+      ]
+
+  -- the same where the first reader takes a byte at least
+  tell_second_some : (F G : ℕ → Type 0) (t : Text) (a : A) (r : Text) (h : Halt) → length r < length t → p t ≡ Ok (a, r) → LocalAt p t (Ok (a, r)) → ((a : A) → Local (f a)) → Keeps p F → Digits p → TellsAt (f a) F r h → TellsAt Both G t h
+  tell_second_some F G t a r h less is l local keeps digits m =
+      elim (some_or_none m.front) [
+        | inl none ↦ tell_now G F t a r h l local m none (λ d ok. keeps t a r l.front is l.split d (m.starts none d ok)) (digits t a r l.front is l.split) (λ gone. absurd (taken l gone))
+        | inr some ↦ tell_later G F t a r h l m some
+      ]
+    where
+      taken : (l : LocalAt p t (Ok (a, r))) → l.front ≡ [] → ⊥
+      taken l gone = omega (arith, ap (length {A = ℕ}) l.split, length-append l.front r, ap (length {A = ℕ}) gone)
+
+  tell_first : (G : ℕ → Type 0) (t : Text) (h : Halt) → ((a : A) → Local (f a)) → TellsAt p G t h → TellsAt Both G t h
+  tell_first G t h local m = record {
+    front = m.front;
+    split = m.split;
+    end = m.end;
+    passed = λ d ok. past_first local m.front d (m.passed d ok);
+    blocked = λ d ok. stopped_first m.front d (m.blocked d ok);
+    digit = λ asks. either m.front (m.digit asks);
+    starts = m.starts;
+  }
+    where
+      either : (u : Text) → DigitToo p u → DigitToo Both u
+      either u (inl s) = inl (stopped_first u 120 s)
+      either u (inr e) = inr (past_first local u 49 e)
 
   pub tell_bind : (F G : ℕ → Type 0) → Local p → ((a : A) → Local (f a)) → Keeps p F → Digits p → Tells p G → ((a : A) → Tells (f a) (λ d. F d × G d)) → Tells Both G
   tell_bind F G lp lf keeps digits first second t h = go (p t) refl
     where
       go : (m : Read A) → p t ≡ m → (m >>= λ x. f x.0 x.1) ≡ Err h → TellsAt Both G t h
       go (Ok x) is e = tell_second F G t x.0 x.1 h is (subst (LocalAt p t) is (lp t)) lf keeps digits (second x.0 x.1 h e)
-      go (Err k) is e =
-          let same : k ≡ h = err_is {A = B × Text} k h (Err k) refl e in
-          let m : TellsAt p G t h = first t h (is ∙ ap (λ (j : Halt). Err j) same) in
-          record {
-            front = m.front;
-            split = m.split;
-            end = m.end;
-            passed = λ d ok. past_first lf m.front d (m.passed d ok);
-            blocked = λ d ok. stopped_first m.front d (m.blocked d ok);
-            digit = λ asks. either m.front (m.digit asks);
-            starts = m.starts;
-          }
-        where
-          either : (u : Text) → DigitToo p u → DigitToo Both u
-          either u (inl s) = inl (stopped_first u 120 s)
-          either u (inr e) = inr (past_first lf u 49 e)
+      go (Err k) is e = tell_first G t h lf (first t h (is ∙ ap (λ (j : Halt). Err j) (err_is {A = B × Text} k h (Err k) refl e)))
+
+  pub tell_bind_some : (F G : ℕ → Type 0) → ((t : Text) (a : A) (r : Text) → p t ≡ Ok (a, r) → length r < length t) → Local p → ((a : A) → Local (f a)) → Keeps p F → Digits p → Tells p G → ((a : A) → Tells (f a) F) → Tells Both G
+  tell_bind_some F G takes lp lf keeps digits first second t h = go (p t) refl
+    where
+      go : (m : Read A) → p t ≡ m → (m >>= λ x. f x.0 x.1) ≡ Err h → TellsAt Both G t h
+      go (Ok x) is e = tell_second_some F G t x.0 x.1 h (takes t x.0 x.1 is) is (subst (LocalAt p t) is (lp t)) lf keeps digits (second x.0 x.1 h e)
+      go (Err k) is e = tell_first G t h lf (first t h (is ∙ ap (λ (j : Halt). Err j) (err_is {A = B × Text} k h (Err k) refl e)))
 
   digits_both : ((a : A) → Local (f a)) → (a : A) (b : B) (u1 : Text) → TakesDigit p a u1 → TakesDigit (f a) b [] → TakesDigit Both b (u1 ++ [])
   digits_both local a b u1 (inl l) (inl m) = inl (leaves_second a b u1 [] 120 l.0 m.0, leaves_second a b u1 [] 49 l.1 m.1)
