@@ -6,6 +6,7 @@ pub mod LongerNames
 pub mod StopLaws
 pub mod PlaceLaws
 pub mod HopelessLaws
+pub mod TellParts
 pub mod MendRows
 pub mod MendTrees
 pub mod TellLaws

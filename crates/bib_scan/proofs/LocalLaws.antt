@@ -113,7 +113,7 @@ local_run test t = record {
       ∙ ap (λ (u : Text). Ok (take_while test t, u)) (run_rest test (take_while test t) (c ∷ w) (run_passes test t) ends);
 }
 
-run_beyond : (test : ℕ → Bool) (u : Text) (c : ℕ) (w : Text) → AllPass test u → test c ≡ true → length u < prefix_len test (u ++ c ∷ w)
+pub run_beyond : (test : ℕ → Bool) (u : Text) (c : ℕ) (w : Text) → AllPass test u → test c ≡ true → length u < prefix_len test (u ++ c ∷ w)
 run_beyond test [] c w all is = rw is (omega arith)
 run_beyond test (b ∷ u) c w all is =
     let later = run_beyond test u c w (All-tail (λ (x : ℕ). test x ≡ true) b u all) is in

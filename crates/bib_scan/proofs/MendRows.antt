@@ -129,10 +129,10 @@ one_part limit = (omega arith, All-cons (λ (x : ℕ). is_ascii_digit x ≡ true
 pub default_part : (limit : ℕ) → Default (read_part limit) (49 ∷ []) AfterPart
 default_part limit r after = (Digits (49 ∷ []), part_again limit (Digits (49 ∷ [])) r (one_part limit) after)
 
-abbrev as_part : (Text → Part) → Text × Text → Read Part
+abbrev pub as_part : (Text → Part) → Text × Text → Read Part
 as_part make x = Ok (make x.0, x.1)
 
-inner_err : (make : Text → Part) (c : Read Text) (h : Halt) → (c >>= as_part make) ≡ Err h → c ≡ Err h
+pub inner_err : (make : Text → Part) (c : Read Text) (h : Halt) → (c >>= as_part make) ≡ Err h → c ≡ Err h
 inner_err make (Ok x) h e = absurd (not_ok (make x.0, x.1) h _ e refl)
 inner_err make (Err k) h e = ap (λ (j : Halt). Err j) (err_is {A = Part × Text} k h _ refl e)
 
