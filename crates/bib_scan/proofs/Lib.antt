@@ -26,3 +26,6 @@ pub mod TreeAgainLaws
 pub mod ReadingLaws
 pub mod UniqueLaws
 pub mod OneReading
+pub mod RowsLemmas
+pub mod LayoutLemmas
+pub mod LayoutLaws

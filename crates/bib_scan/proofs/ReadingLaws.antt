@@ -10,7 +10,7 @@ use Rattle.bib_spec.specs.Clean.{begins_command}
 use Rattle.bib_spec.specs.Tree.{Tree, CommentTree, DefinitionTree, PreambleTree, EntryTree, tree_bytes}
 use Rattle.bib_spec.specs.Reading.{Item, Reading, item_bytes, bytes_of, IsItem, ReadsWithin}
 use Rattle.bib_scan.specs.declared.layout.Span.{Span}
-use Rattle.bib_scan.specs.Layout.{Places, start_of, span_of, places_of}
+use Rattle.bib_scan.specs.Layout.{start_of, span_of, placed, places_of}
 use Rattle.bib_scan.specs.LeftToRight.{Halt, span, read_command, next_command, read_commands, read_all_commands, ◌>>=◌}
 use Rattle.bib_scan.proofs.BraceLemmas.{take-more}
 use Rattle.bib_scan.proofs.CommandLemmas.{next_here, next_none}
@@ -43,7 +43,8 @@ abbrev pub spans_from : ℕ → List Item → List Span
 spans_from at [] = []
 spans_from at (i ∷ items) = span at (at + length (tree_bytes i.tree)) ∷ spans_from (at + length (item_bytes i)) items
 
-start_more : (db : Reading) (n : ℕ) (i : Item) (items : List Item) → drop n db.items ≡ i ∷ items → start_of db (n + 1) ≡ start_of db n + length (item_bytes i)
+-- the next item begins behind this one
+pub start_more : (db : Reading) (n : ℕ) (i : Item) (items : List Item) → drop n db.items ≡ i ∷ items → start_of db (n + 1) ≡ start_of db n + length (item_bytes i)
 start_more db n i items is =
     let one : take (n + 1) db.items ≡ take n db.items ++ i ∷ [] = sym (take-more n 1 db.items) ∙ ap (λ (u : List Item). take n db.items ++ take 1 u) is in
     let bytes = ap (λ (u : List Item). length (flat_map item_bytes u)) one ∙ ap (length {A = ℕ}) (flat_map-append item_bytes (take n db.items) (i ∷ [])) in
@@ -116,9 +117,6 @@ next_within : (t : Text) → next_command t ≤ length t
 unfolding next_command
 next_within [] = omega arith
 next_within (b ∷ t) = elim (cases_Bool (begins_command (b ∷ t))) [ inl here ↦ omega (arith, next_here (b ∷ t) here) | inr none ↦ omega (arith, next_none b t none, next_within t) ]
-
-abbrev pub placed : ℕ → List Span → Places
-placed front_len items = record { front_len = front_len; items = items }
 
 -- what is read is a reading
 pub reading_of : (limit : ℕ) (t : Text) (spans : List Span) → read_all_commands limit t ≡ Ok spans → (db : Reading) × ReadsWithin limit t db × (placed (next_command t) spans ≡ places_of db)
