@@ -1,5 +1,17 @@
 pub mod BalanceLaws
 pub mod OpeningLemmas
+pub mod LocalLaws
+pub mod LocalParts
+pub mod LocalRows
+pub mod MendLaws
+pub mod LongerNames
+pub mod StopLaws
+pub mod PlaceLaws
+pub mod HopelessLaws
+pub mod TellParts
+pub mod MendRows
+pub mod MendTrees
+pub mod TellLaws
 pub mod BraceLemmas
 pub mod ScanInvariant
 pub mod ValueLemmas

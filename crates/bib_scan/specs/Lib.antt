@@ -7,3 +7,5 @@ pub mod Code
 pub mod PartView
 pub mod ValueParts
 pub mod PartsLeft
+pub mod DelimiterView
+pub mod Laws

@@ -6,6 +6,7 @@ mod body;
 mod class;
 mod fault;
 mod fields;
+mod laws;
 mod layout;
 mod opening;
 mod parts;
@@ -18,6 +19,7 @@ mod view;
 
 pub use fault::ReadFault;
 pub use fields::{FieldView, Fields};
+pub use laws::{clean_before_sign, one_reading};
 pub use layout::Layout;
 pub use opening::is_clean_trail;
 pub use parts::{Parts, read_value};
