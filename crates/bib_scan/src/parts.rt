@@ -77,11 +77,12 @@ impl Model for Parts {
 impl Parts {
     ghost use Rattle.std.specs.Prelude.{◌≡◌, ◌<◌, length, map, slice_get, Some};
     ghost use Rattle.bib_spec.specs.Tree.{Value, IsValue, value_bytes};
-    ghost use Rattle.bib_scan.specs.ValueParts.{parts_of, IsPartsOf, span_start};
+    ghost use Rattle.bib_scan.specs.ValueParts.{parts_of, spans_of, span_start, IsPartsOf};
 
     /// How many parts there are, which is at least 1.
     pub fn len(&self) -> usize
-        ensures { result ≡ length self.now }
+        ensures count { result ≡ length self.now }
+        ensures parts { (v : Value) → self.now ≡ spans_of v → result ≡ length (parts_of v) }
     {
         self.spans.len()
     }
