@@ -7,3 +7,4 @@ mod command_lines;
 mod fakes;
 #[cfg(test)]
 mod running;
+mod reading;
