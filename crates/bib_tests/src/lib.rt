@@ -6,5 +6,6 @@ mod command_lines;
 #[cfg(test)]
 mod fakes;
 #[cfg(test)]
-mod running;
 mod reading;
+#[cfg(test)]
+mod running;
