@@ -27,3 +27,4 @@ pub mod AddedBehind
 pub mod KeptTrees
 pub mod UntouchedItems
 pub mod ExampleFacts
+pub mod AcceptedExamples
