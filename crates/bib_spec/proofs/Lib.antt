@@ -25,3 +25,5 @@ pub mod OneMore
 pub mod OtherEntries
 pub mod AddedBehind
 pub mod ExampleFacts
+pub mod TreeChunks
+pub mod EditFiles
