@@ -8,6 +8,7 @@ mod macros;
 mod other_entries;
 mod renaming;
 mod replacing;
+mod untouched_items;
 
 pub use examples::{
     a_macro_is_read_where_it_stands,
@@ -47,3 +48,4 @@ pub use replacing::{
     pieces_of_chunks_lead_from_old_to_new,
     reversed_pieces_are_the_way_back,
 };
+pub use untouched_items::untouched_items_keep_their_bytes;
