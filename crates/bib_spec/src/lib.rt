@@ -33,7 +33,8 @@ pub use renaming::{
     renaming_a_macro_keeps_the_rest,
 };
 pub use replacing::{
-    bytes_outside_pieces_are_kept, pieces_of_chunks_lead_from_old_to_new,
+    bytes_outside_pieces_are_kept, chunks_of_an_edit_are_the_files,
+    pieces_of_chunks_lead_from_old_to_new,
     reversed_pieces_are_the_way_back,
 };
 pub use untouched_items::untouched_items_keep_their_bytes;
