@@ -28,3 +28,6 @@ pub mod AddedBehind
 pub mod KeptTrees
 pub mod UntouchedItems
 pub mod ExampleFacts
+pub mod AcceptedExamples
+pub mod TreeChunks
+pub mod EditFiles

@@ -1,15 +1,16 @@
 -- Small files, and what the definitions say of them, byte by byte; and the least file that goes wrong without each
 -- condition of an edit.
-use Rattle.std.specs.Prelude.{◌≡◌, ℕ, ◌-◌, true, false, List, [], ◌∷◌, ◌++◌, Some, None, unwrap_or, if◌then◌else◌, length, take, drop, codes, map, find, bytes_eq}
+use Rattle.std.specs.Prelude.{◌≡◌, ℕ, ◌-◌, true, false, List, [], ◌∷◌, ◌++◌, Some, None, unwrap_or, if◌then◌else◌, length, take, drop, slice_get, codes, map, find, bytes_eq}
 use Rattle.std.specs.List.{last_or}
 use Rattle.std.specs.Option.{option_map_or}
 use Rattle.bib_spec.specs.Text.{Text}
 use Rattle.bib_spec.specs.Tree.{Part, Braced, Quoted, Digits, Macro, Value, Row, Delimiter, Brace, Paren, Opening, CommentTree, DefinitionTree, EntryTree}
 use Rattle.bib_spec.specs.Reading.{Item, Reading, bytes_of}
 use Rattle.bib_spec.specs.Texts.{is_empty, words, seen}
-use Rattle.bib_spec.specs.Records.{Record, entries_of, keys_of, is_repeated, parent, expanded, listed, unknown}
+use Rattle.bib_spec.specs.Records.{Record, entries_of, keys_of, dangling_texts, is_repeated, parent, expanded, listed, unknown}
 use Rattle.bib_spec.specs.Pieces.{Piece}
-use Rattle.bib_spec.specs.Edits.{NewEntry, Edit, SetField, DropField, AddEntry, RemoveEntry, MoveEntry, RenameKey, RenameMacro, InlineMacro, IntroduceMacro, RegenerateKeys, edited, Refuses, BadKey, BadName, BadValue, BadPosition, NotFound, Ambiguous, KeyInUse, NameInUse, Referred, WouldMerge}
+use Rattle.bib_spec.specs.MadeKeys.{free_key, IsKeyBase}
+use Rattle.bib_spec.specs.Edits.{NewEntry, Edit, SetField, DropField, AddEntry, RemoveEntry, MoveEntry, RenameKey, RenameMacro, InlineMacro, IntroduceMacro, RegenerateKeys, AddMany, edited, Refuses, IsAccepted, BadKey, BadName, BadValue, BadPosition, NotFound, Ambiguous, KeyInUse, NameInUse, Referred, WouldMerge}
 use Rattle.bib_spec.specs.EditChunks.{pieces_of}
 
 -- ---- writing small files
@@ -282,6 +283,17 @@ pub record JoinedTextStaysText : Type 0 where
   pub comment : bytes_of comment_before ≡ codes "@comment@misc{k}s"
   pub no_other_name : Refuses author_year WouldMerge comment_before (RemoveEntry (codes "k"))
 
+abbrev pub texts_between : Reading
+texts_between = record { front = codes "abc"; items = entry (codes "misc") (codes "k") [] (codes "s") ∷ entry (codes "misc") (codes "l") [] (codes "t") ∷ [] }
+
+-- the text behind a removed item joins the text before it: the front, or another item's trail
+pub record TrailJoinsTextBefore : Type 0 where
+  pub bytes : bytes_of texts_between ≡ codes "abc@misc{k}s@misc{l}t"
+  pub first : file_after texts_between (RemoveEntry (codes "k")) ≡ codes "abcs@misc{l}t"
+  pub front : (edited author_year texts_between (RemoveEntry (codes "k"))).front ≡ codes "abcs"
+  pub second : file_after texts_between (RemoveEntry (codes "l")) ≡ codes "abc@misc{k}st"
+  pub trails : map (λ item. item.trail) (edited author_year texts_between (RemoveEntry (codes "l"))).items ≡ codes "st" ∷ []
+
 -- ---- crossrefs
 
 abbrev pub title : Text → Row
@@ -351,6 +363,7 @@ pub record MadeKeysSwap : Type 0 where
   pub bytes : bytes_of swapped ≡ codes "@misc{Lam86, author = {Donald E. Knuth}, year = 1984}\n@misc{Knu84, author = {Leslie Lamport}, year = 1986, crossref = {lam86}}\n"
   pub made : file_after swapped (RegenerateKeys 1) ≡ codes "@misc{Knu84, author = {Donald E. Knuth}, year = 1984}\n@misc{Lam86, author = {Leslie Lamport}, year = 1986, crossref = {Knu84}}\n"
   pub places : map (λ p. p.place) (pieces swapped (RegenerateKeys 1)) ≡ 6 ∷ 60 ∷ 118 ∷ []
+  pub again : file_after (edited author_year swapped (RegenerateKeys 1)) (RegenerateKeys 1) ≡ file_after swapped (RegenerateKeys 1)
   pub parent : parent (entries_of (edited author_year swapped (RegenerateKeys 1))) 1 ≡ Some 0
 
 abbrev pub years : Reading
@@ -364,6 +377,7 @@ years = file (
 pub record MadeKeysDiffer : Type 0 where
   pub bytes : bytes_of years ≡ codes "@misc{,year=1999}@misc{x,year=1999}@misc{c,year=2000,crossref={anon99A}}"
   pub made : file_after years (RegenerateKeys 1) ≡ codes "@misc{anon99,year=1999}@misc{anon99b,year=1999}@misc{anon00,year=2000,crossref={anon99A}}"
+  pub free : free_key (keys_of (entries_of years) ++ dangling_texts (entries_of years)) (codes "x") ≡ codes "xa"
 
 abbrev pub chain : Reading
 chain = file (
@@ -419,6 +433,52 @@ pub record RepeatedKeyTakesChildren : Type 0 where
   pub refused : Refuses author_year Ambiguous repeated (RemoveEntry (codes "a"))
   pub after : parent (entries_of (edited author_year repeated (RemoveEntry (codes "a")))) 1 ≡ Some 0
 
+abbrev pub family : Reading
+family = file (misc (codes "a") (tight (codes "t") (only (Digits (codes "1"))) ∷ []) ∷ misc (codes "b") (cites (codes "a") ∷ []) ∷ [])
+
+-- an entry whose parent goes loses what it inherits
+pub record RemovedParentLeavesChildren : Type 0 where
+  pub bytes : bytes_of family ≡ codes "@misc{a,t=1}@misc{b, crossref = {a}}"
+  pub before : fields_of 1 family 1 ≡ (codes "t", codes "1") ∷ []
+  pub refused : Refuses author_year Referred family (RemoveEntry (codes "a"))
+  pub after : fields_of 1 (edited author_year family (RemoveEntry (codes "a"))) 0 ≡ []
+
+abbrev pub capital_a : NewEntry
+capital_a = record { kind_name = codes "misc"; key = codes "A"; fields = [] }
+
+-- an entry that is put before the one with its key takes that one's children
+pub record AddedKeyTakesChildren : Type 0 where
+  pub before : parent (entries_of family) 1 ≡ Some 0
+  pub refused : Refuses author_year KeyInUse family (AddEntry 0 capital_a)
+  pub after : parent (entries_of (edited author_year family (AddEntry 0 capital_a))) 2 ≡ Some 0
+  pub after_fields : fields_of 1 (edited author_year family (AddEntry 0 capital_a)) 2 ≡ []
+
+-- a moved entry does not stand at a place that is too high
+pub record HighPlaceIsNotReached : Type 0 where
+  pub refused : Refuses author_year BadPosition two_lines (MoveEntry (codes "a") 2)
+  pub after : slice_get (edited author_year two_lines (MoveEntry (codes "a") 2)).items 2 ≡ None
+
+-- a base that reads the key, and one that is no key
+abbrev pub key_and_a : Record → Text
+key_and_a r = r.key ++ codes "a"
+
+abbrev pub two_words : Record → Text
+two_words r = codes "x  y"
+
+abbrev pub one_word : Record → Text
+one_word r = codes "x"
+
+abbrev pub one_key : Reading
+one_key = file (misc (codes "k") [] ∷ [])
+
+-- made keys change again where their base reads the key, and lose their children where it is no key
+pub record KeyBaseIsNeeded : Type 0 where
+  pub once : bytes_of (edited key_and_a one_key (RegenerateKeys 1)) ≡ codes "@misc{ka}"
+  pub again : bytes_of (edited key_and_a (edited key_and_a one_key (RegenerateKeys 1)) (RegenerateKeys 1)) ≡ codes "@misc{kaa}"
+  pub before : parent (entries_of family) 1 ≡ Some 0
+  pub after : parent (entries_of (edited two_words family (RegenerateKeys 1))) 1 ≡ None
+  pub is_there : IsKeyBase one_word
+
 abbrev pub undefined_use : Reading
 undefined_use = file (string (codes "m") (only (Braced (codes "1"))) ∷ misc (codes "k") (tight (codes "t") (only (Macro (codes "n"))) ∷ []) ∷ [])
 
@@ -451,3 +511,20 @@ pub record MacroDefinedTwiceHasTwoTexts : Type 0 where
 pub record StarCitesAll : Type 0 where
   pub before : listed (entries_of three) (codes "b" ∷ []) 1 ≡ 1 ∷ []
   pub after : listed (entries_of (edited author_year three (RenameKey (codes "b") (codes "*")))) (codes "*" ∷ []) 1 ≡ 0 ∷ 1 ∷ 2 ∷ []
+
+-- ---- edits that are accepted
+
+-- Each law is about edits that are accepted: here is one of each kind.
+pub record EditsAreAccepted : Type 0 where
+  pub set : IsAccepted author_year one_field (SetField (codes "a") (codes "y") (only (Digits (codes "2"))))
+  pub dropped : IsAccepted author_year one_field (DropField (codes "a") (codes "T"))
+  pub added : IsAccepted author_year waiting (AddEntry 0 z)
+  pub removed : IsAccepted author_year waiting (RemoveEntry (codes "a"))
+  pub moved : IsAccepted author_year two_lines (MoveEntry (codes "a") 1)
+  pub key_renamed : IsAccepted author_year named_by_macro (RenameKey (codes "conf95") (codes "icc"))
+  pub macro_renamed : IsAccepted author_year overridden_month (RenameMacro (codes "jan") (codes "j"))
+  pub macro_respelled : IsAccepted author_year overridden_month (RenameMacro (codes "jan") (codes "JAN"))
+  pub macro_inlined : IsAccepted author_year quoting (InlineMacro (codes "m"))
+  pub macro_introduced : IsAccepted author_year same_text_twice (IntroduceMacro (codes "m") (codes "x"))
+  pub keys_made : IsAccepted author_year swapped (RegenerateKeys 1)
+  pub many_added : IsAccepted author_year family (AddMany (z ∷ []))

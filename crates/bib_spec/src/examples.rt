@@ -1,6 +1,6 @@
 //! What the definitions say of small files, and what goes wrong without each condition of an edit.
 
-ghost use Rattle.bib_spec.specs.Examples.{MacroIsReadWhereItStands, MonthIsOverridden, MacroIsInlinedAsText, TextGetsName, UseBeforeDefinitionIsLeft, FieldIsSetAndDropped, FirstCounts, EntriesAreAddedAndMoved, JoinedTextStaysText, ParentIsCitedWithChildren, CrossrefOfPartsIsRenamed, RecordInheritsAlongChain, MadeKeysSwap, MadeKeysDiffer, MadeKeysReadTheChain, DanglingCrossrefFindsKey, KeyInUseTakesChildren, SpacedKeyLosesChildren, RepeatedKeyTakesChildren, NameInUseGivesText, MacroDefinedTwiceHasTwoTexts, StarCitesAll};
+ghost use Rattle.bib_spec.specs.Examples.{MacroIsReadWhereItStands, MonthIsOverridden, MacroIsInlinedAsText, TextGetsName, UseBeforeDefinitionIsLeft, FieldIsSetAndDropped, FirstCounts, EntriesAreAddedAndMoved, JoinedTextStaysText, TrailJoinsTextBefore, ParentIsCitedWithChildren, CrossrefOfPartsIsRenamed, RecordInheritsAlongChain, MadeKeysSwap, MadeKeysDiffer, MadeKeysReadTheChain, DanglingCrossrefFindsKey, KeyInUseTakesChildren, SpacedKeyLosesChildren, RepeatedKeyTakesChildren, RemovedParentLeavesChildren, AddedKeyTakesChildren, HighPlaceIsNotReached, KeyBaseIsNeeded, NameInUseGivesText, MacroDefinedTwiceHasTwoTexts, StarCitesAll, EditsAreAccepted};
 
 /// A use sees the last definition before it, and a month where there is none.
 pub fn a_macro_is_read_where_it_stands()
@@ -45,6 +45,11 @@ pub fn entries_are_added_and_moved()
 /// A removal whose joined text would begin a command is refused.
 pub fn joined_text_stays_text()
     ensures { JoinedTextStaysText }
+{}
+
+/// The text behind a removed item joins the text before it.
+pub fn a_trail_joins_the_text_before()
+    ensures { TrailJoinsTextBefore }
 {}
 
 /// A parent is listed once enough of its children are, and gives them what they lack.
@@ -97,6 +102,26 @@ pub fn a_repeated_key_takes_children()
     ensures { RepeatedKeyTakesChildren }
 {}
 
+/// Without its condition, the removal of a parent takes what its children inherit.
+pub fn a_removed_parent_leaves_children()
+    ensures { RemovedParentLeavesChildren }
+{}
+
+/// Without its condition, an entry with a key in use takes the children of the entry that has it.
+pub fn an_added_key_takes_children()
+    ensures { AddedKeyTakesChildren }
+{}
+
+/// Without its condition, a moved entry does not stand at the place that was asked for.
+pub fn a_high_place_is_not_reached()
+    ensures { HighPlaceIsNotReached }
+{}
+
+/// Without the conditions on their base, made keys change again, or lose their children.
+pub fn a_key_base_is_needed()
+    ensures { KeyBaseIsNeeded }
+{}
+
 /// Without its condition, a new name that is in use gives a text to what gave none.
 pub fn a_name_in_use_gives_text()
     ensures { NameInUseGivesText }
@@ -110,4 +135,9 @@ pub fn a_macro_defined_twice_has_two_texts()
 /// A key may be `*`, which by itself cites all entries.
 pub fn a_star_cites_all()
     ensures { StarCitesAll }
+{}
+
+/// Each edit is accepted somewhere, so that the laws are about something.
+pub fn edits_are_accepted()
+    ensures { EditsAreAccepted }
 {}

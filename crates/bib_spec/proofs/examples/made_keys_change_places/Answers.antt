@@ -5,4 +5,4 @@ use Rattle.bib_spec.proofs.examples.made_keys_change_places.Goals as goal
 
 pub returns : goal.returns
 unfolding months field_text is_space is_name_byte is_new_key_byte is_name_within is_new_key
-returns c = record { bytes = refl; made = refl; places = refl; parent = refl }
+returns c = record { bytes = refl; made = refl; places = refl; again = refl; parent = refl }
