@@ -5,7 +5,6 @@ pub mod FieldsLeft
 pub mod Layout
 pub mod Code
 pub mod PartView
-pub mod DelimiterView
 pub mod Laws
 pub mod ValueParts
 pub mod PartsLeft

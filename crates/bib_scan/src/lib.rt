@@ -5,8 +5,8 @@
 mod body;
 mod class;
 mod fault;
-mod laws;
 mod fields;
+mod laws;
 mod layout;
 mod opening;
 mod parts;
@@ -18,7 +18,6 @@ mod value;
 mod view;
 
 pub use fault::ReadFault;
-pub use laws::one_reading;
 pub use fields::{FieldView, Fields};
 pub use laws::{clean_before_sign, one_reading};
 pub use layout::Layout;

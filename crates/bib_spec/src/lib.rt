@@ -21,13 +21,6 @@ pub use examples::{
     a_text_gets_a_name, a_trail_joins_the_text_before, a_use_before_the_definition_is_left,
     an_added_key_takes_children, edits_are_accepted, entries_are_added_and_moved,
     joined_text_stays_text, made_keys_change_places, made_keys_differ, made_keys_read_the_chain,
-    a_key_in_use_takes_children, a_key_with_spaces_loses_children,
-    a_macro_defined_twice_has_two_texts, a_macro_is_inlined_as_text,
-    a_macro_is_read_where_it_stands, a_month_is_overridden, a_name_in_use_gives_text,
-    a_parent_is_cited_with_its_children, a_record_inherits_along_a_chain,
-    a_repeated_key_takes_children, a_star_cites_all, a_text_gets_a_name,
-    a_use_before_the_definition_is_left, entries_are_added_and_moved, joined_text_stays_text,
-    made_keys_change_places, made_keys_differ, made_keys_read_the_chain,
     the_first_of_a_name_counts,
 };
 pub use histories::{
