@@ -7,6 +7,7 @@ pub mod StopLaws
 pub mod PlaceLaws
 pub mod HopelessLaws
 pub mod TellParts
+pub mod TellRows
 pub mod MendRows
 pub mod MendTrees
 pub mod TellLaws

@@ -41,7 +41,7 @@ mend_close c G start t h is = record { front = []; split = close_err c t h is; e
 close_after : (c : ℕ) (r : Text) → Close c → AfterRow (c ∷ r)
 close_after c r close = record { first = c; others = r; ends = close.ends; is = refl }
 
-resumes_row : (limit : ℕ) → Resumes (plain (read_row limit)) AfterRow
+pub resumes_row : (limit : ℕ) → Resumes (plain (read_row limit)) AfterRow
 resumes_row limit t a r is u s split after =
     let one = bind_ok (read_row limit t) ready (a, r) is in
     let same = ok_same {A = Unit {0} × Text} (tt, one.0) (a, r) _ refl one.2 in
@@ -53,7 +53,7 @@ resumes_row limit t a r is u s split after =
     let read : read_row limit (row_inside w.0 s) ≡ Ok s = subst (λ (x : Text). read_row limit (row_inside w.0 x) ≡ Ok x) (sym after.is) (row_again limit w.0 after.first after.others w.1 after.ends) in
     ap (plain (read_row limit)) inside ∙ ap (λ (m : Result Text Halt). m >>= ready) read
 
-resumes_value : (limit : ℕ) → Resumes (value_gap limit) AfterRow
+pub resumes_value : (limit : ℕ) → Resumes (value_gap limit) AfterRow
 resumes_value limit t a r is u s split after =
     let one = bind_ok (read_value limit t) (λ v. skip v.1) (a, r) is in
     let rest : after_run is_space one.0.1 ≡ r = ap (λ (y : Unit {0} × Text). y.1) (ok_same {A = Unit {0} × Text} (tt, after_run is_space one.0.1) (a, r) _ refl one.2) in
