@@ -8,6 +8,7 @@ pub mod PlaceLaws
 pub mod HopelessLaws
 pub mod TellParts
 pub mod TellRows
+pub mod TellTrees
 pub mod MendRows
 pub mod MendTrees
 pub mod TellLaws

@@ -16,7 +16,7 @@ use Rattle.bib_scan.proofs.AgainLaws.{Close, row_again, rows_inside, rows_again,
 use Rattle.bib_scan.proofs.TreeAgainLaws.{closes, closing_again, rows_len}
 use Rattle.bib_scan.proofs.UniqueLaws.{tail_same, AfterRow, after_value, after_row_stands}
 use Rattle.bib_scan.proofs.LocalLaws.{run, local_run, local_limited}
-use Rattle.bib_scan.proofs.LocalRows.{plain, ready, fault_of, skip, local_row, value_gap, local_value}
+use Rattle.bib_scan.proofs.LocalRows.{plain, ready, fault_of, skip, local_row, value_gap, local_value, definition_is, value_close, preamble_is}
 use Rattle.bib_scan.proofs.MendLaws.{MendAt, Mends, Resumes, Default, mend_bind, mend_same, err_is, Always}
 use Rattle.bib_scan.proofs.MendRows.{mend_run, resumes_run, mend_limited, resumes_limited, mend_value, default_value, mend_row}
 
@@ -67,16 +67,9 @@ resumes_value limit t a r is u s split after =
     ∙ ap (λ (m : Read Text). m >>= λ y. skip y.1) (value_again limit v.0 (space ++ s) v.1 behind.part behind.no_hash)
     ∙ ap (λ (x : Text). Ok (tt, x)) (skip_space space s ok (after_row_stands s after))
 
-bind_assoc2 : (m : Result Text Halt) (f : Text → Result Text Halt) → ((m >>= f) >>= ready) ≡ (m >>= ready >>= λ r. plain f r.1)
-bind_assoc2 (Ok x) f = refl
-bind_assoc2 (Err h) f = refl
-
 pub mend_definition : (limit : ℕ) (some : 0 < limit) (c : ℕ) → Close c → Mends (plain (read_definition limit c)) Always Always
-mend_definition limit some c close = mend_same (plain (read_definition limit c)) (λ t. plain (read_row limit) t >>= λ r. plain (read_close c) r.1) Always Always (λ t. bind_assoc2 (read_row limit t) (read_close c))
+mend_definition limit some c close = mend_same (plain (read_definition limit c)) (λ t. plain (read_row limit) t >>= λ r. plain (read_close c) r.1) Always Always (definition_is limit c)
     (mend_bind (plain (read_row limit)) (λ r u. plain (read_close c) u) AfterRow Always AfterRow Always (c ∷ []) (local_row limit) (resumes_row limit) (mend_row limit some Always (λ s. tt)) (λ r. mend_close c (λ s. AfterRow s × Always s) (λ s. (close_after c s close, tt))) (λ r. default_close c) (λ r ok. close_after c r close))
-
-abbrev value_close : ℕ → ℕ → Text → Read (Unit {0})
-value_close limit c t = value_gap limit t >>= λ v. plain (read_close c) v.1
 
 one_stands : (s : Text) → Stands (49 ∷ s)
 unfolding is_space
@@ -91,12 +84,8 @@ default_value_close limit c close r ok =
     let d = default_close c r tt in
     (d.0, ap (λ (m : Read (Unit {0})). m >>= λ v. plain (read_close c) v.1) v.1 ∙ d.1)
 
-bind_value : (m : Read Text) (f : Text → Result Text Halt) → ((m >>= λ v. f (after_run is_space v.1)) >>= ready) ≡ ((m >>= λ v. skip v.1) >>= λ v. plain f v.1)
-bind_value (Ok x) f = refl
-bind_value (Err h) f = refl
-
 pub mend_preamble : (limit : ℕ) (some : 0 < limit) (c : ℕ) → Close c → Mends (plain (read_preamble limit c)) Always Always
-mend_preamble limit some c close = mend_same (plain (read_preamble limit c)) (λ t. run is_space t >>= λ a. value_close limit c a.1) Always Always (λ t. bind_value (read_value limit (after_run is_space t)) (read_close c))
+mend_preamble limit some c close = mend_same (plain (read_preamble limit c)) (λ t. run is_space t >>= λ a. value_close limit c a.1) Always Always (preamble_is limit c)
     (mend_bind (run is_space) (λ a u. value_close limit c u) Always Always Stands Always (49 ∷ c ∷ []) (local_run is_space) (resumes_run is_space) (mend_run is_space Always Always)
     (λ a. mend_bind (value_gap limit) (λ v u. plain (read_close c) u) AfterRow Always AfterRow (λ s. Stands s × Always s) (c ∷ []) (local_value limit) (resumes_value limit) (mend_value limit some (λ s. Stands s × Always s) (λ s. (one_stands s, tt))) (λ v. mend_close c (λ s. AfterRow s × (Stands s × Always s)) (λ s. (close_after c s close, (close_stands c s close, tt)))) (λ v. default_close c) (λ r ok. close_after c r close))
     (λ a. default_value_close limit c close) (λ r ok. tt))

@@ -22,7 +22,7 @@ use Rattle.bib_scan.proofs.TellParts.{told, told_end, keeps_run, tell_run, tell_
 -- ---- the bytes that are tried
 
 -- none is white space, or `#`
-tried_space : (d : ℕ) → IsTried d → is_space d ≡ false
+pub tried_space : (d : ℕ) → IsTried d → is_space d ≡ false
 unfolding is_space
 tried_space d the_letter = refl
 tried_space d the_digit = refl
@@ -34,7 +34,7 @@ tries_tried : (f : ReadingFault) (d : ℕ) → Tries f d → IsTried d
 tries_tried f d (inl ok) = passes_tried f d ok
 tries_tried f d (inr ok) = blocks_tried f d ok
 
-tries_space : (f : ReadingFault) (d : ℕ) → Tries f d → is_space d ≡ false
+pub tries_space : (f : ReadingFault) (d : ℕ) → Tries f d → is_space d ≡ false
 tries_space f d ok = tried_space d (tries_tried f d ok)
 
 letter_space : is_space 120 ≡ false
@@ -55,7 +55,7 @@ digits_space p local digits = digits_bind (run is_space) (λ s u. p u) (local_ru
 
 -- ---- values
 
-keeps_ready : Keeps ready (λ d. Unit {0})
+pub keeps_ready : Keeps ready (λ d. Unit {0})
 keeps_ready t a r u is split d ok =
     let rest : t ≡ r = ap (λ (y : Unit {0} × Text). y.1) (ok_same {A = Unit {0} × Text} (tt, t) (a, r) (ready t) refl is) in
     let none : u ≡ [] = append_cancel_right u [] r (sym split ∙ rest) in
@@ -64,7 +64,7 @@ keeps_ready t a r u is split d ok =
 digits_ready : Digits ready
 digits_ready = digits_of ready (λ d. Unit {0}) keeps_ready tt tt
 
-tell_ready : (G : ℕ → Type 0) → Tells ready G
+pub tell_ready : (G : ℕ → Type 0) → Tells ready G
 tell_ready G t h is = absurd (not_ok (tt, t) h (ready t) is refl)
 
 equals_breaks : (d : ℕ) → Tries ExpectedEquals d → is_name_byte d ≡ false
@@ -72,7 +72,7 @@ unfolding is_name_byte
 equals_breaks d (inl is) = subst (λ (n : ℕ). is_name_byte n ≡ false) (sym is) refl
 equals_breaks d (inr is) = subst (λ (n : ℕ). is_name_byte n ≡ false) (sym is) refl
 
-close_ends : (d : ℕ) → Tries ExpectedCommaOrClose d → EndsRow d
+pub close_ends : (d : ℕ) → Tries ExpectedCommaOrClose d → EndsRow d
 unfolding is_name_byte is_space
 close_ends d (inl is) = absurd is
 close_ends d (inr (inl is)) = subst EndsRow (sym is) (record { breaks = record { name = refl; digit = refl }; no_space = refl; no_hash = refl })
@@ -94,7 +94,7 @@ local_part_links limit n = local_bind (read_part limit) (λ p u. links_gap limit
 local_link : (limit n : ℕ) → Local (link_inside limit n)
 local_link limit n = local_bind (run is_space) (λ s u. part_links limit n u) (local_run is_space) (λ s. local_part_links limit n)
 
-tried_hash : (d : ℕ) → IsTried d → first_is (λ b. eqb b 35) (d ∷ []) ≡ false
+pub tried_hash : (d : ℕ) → IsTried d → first_is (λ b. eqb b 35) (d ∷ []) ≡ false
 tried_hash d the_letter = refl
 tried_hash d the_digit = refl
 tried_hash d the_sign = refl
