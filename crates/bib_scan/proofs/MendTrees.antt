@@ -151,7 +151,7 @@ comma_err (b ∷ t) h is = go (eqb b 44) is
     go true e = absurd (not_ok t h _ e refl)
     go false e = ap (λ (k : Halt). k.rest) (err_is {A = Text} (stop ExpectedCommaOrClose (b ∷ t)) h _ refl e)
 
-all_again : (limit : ℕ) (c : ℕ) (rs : List Row) (tail : Option Text) (x u : Text) → Close c → All (IsRow limit) rs → IsLastComma tail → u ≡ rows_inside c rs tail x → plain (read_all_rows limit c) u ≡ Ok (tt, x)
+pub all_again : (limit : ℕ) (c : ℕ) (rs : List Row) (tail : Option Text) (x u : Text) → Close c → All (IsRow limit) rs → IsLastComma tail → u ≡ rows_inside c rs tail x → plain (read_all_rows limit c) u ≡ Ok (tt, x)
 all_again limit c rs tail x u close all space is =
     let room : length rs < length (rows_inside c rs tail x) + 1 = omega (arith, rows_len rs, length-append (flat_map row_bytes rs) (last_comma_bytes tail ++ c ∷ x)) in
     ap (plain (read_all_rows limit c)) is ∙ ap (λ (m : Result Text Halt). m >>= ready) (rows_again limit rs (length (rows_inside c rs tail x) + 1) c tail x all space close room)
@@ -211,7 +211,7 @@ unfolding is_space
 comma_key Brace s = refl
 comma_key Paren s = refl
 
-abbrev space_rows : ℕ → ℕ → Text → Read (Unit {0})
+abbrev pub space_rows : ℕ → ℕ → Text → Read (Unit {0})
 space_rows limit c t = run is_space t >>= λ b. plain (read_all_rows limit c) b.1
 
 default_all_rows : (limit : ℕ) (c : ℕ) → Close c → Default (plain (read_all_rows limit c)) (44 ∷ c ∷ []) Always
@@ -224,7 +224,7 @@ default_space_rows limit c close r ok = default_all_rows limit c close r ok
 mend_space_rows : (limit : ℕ) (some : 0 < limit) (c : ℕ) (G : Text → Type 0) → Close c → ((s : Text) → G (44 ∷ s)) → Mends (space_rows limit c) Always G
 mend_space_rows limit some c G close start = mend_bind (run is_space) (λ b u. plain (read_all_rows limit c) u) Always Always Stands G (44 ∷ c ∷ []) (local_run is_space) (resumes_run is_space) (mend_run is_space Always G) (λ b. mend_all_rows limit some c (λ s. Stands s × G s) close (λ s. (comma_stands s, start s))) (λ b. default_all_rows limit c close) (λ r ok. tt)
 
-abbrev key_rows : ℕ → Delimiter → Text → Read (Unit {0})
+abbrev pub key_rows : ℕ → Delimiter → Text → Read (Unit {0})
 key_rows limit d t = read_run limit (goes_on_key d) t >>= λ k. space_rows limit (close_byte d) k.1
 
 default_key_rows : (limit : ℕ) (d : Delimiter) → Default (key_rows limit d) (44 ∷ close_byte d ∷ []) Always
@@ -237,7 +237,7 @@ mend_key_rows limit some d G start =
     let c = close_byte d in
     mend_bind (read_run limit (goes_on_key d)) (λ k u. space_rows limit c u) (λ s. does_not_begin_with (goes_on_key d) s ≡ true) Always (λ s. does_not_begin_with (goes_on_key d) s ≡ true) G (44 ∷ c ∷ []) (local_limited limit (goes_on_key d)) (resumes_limited limit (goes_on_key d)) (mend_limited limit some (goes_on_key d) G) (λ k. mend_space_rows limit some c (λ s. (does_not_begin_with (goes_on_key d) s ≡ true) × G s) (closes d) (λ s. (comma_key d s, start s))) (λ k. default_space_rows limit c (closes d)) (λ r ok. comma_key d (c ∷ r))
 
-entry_bind : (limit : ℕ) (m : Read Text) (c : ℕ) → ((m >>= λ k. read_all_rows limit c (after_run is_space k.1)) >>= ready) ≡ (m >>= λ k. space_rows limit c k.1)
+pub entry_bind : (limit : ℕ) (m : Read Text) (c : ℕ) → ((m >>= λ k. read_all_rows limit c (after_run is_space k.1)) >>= ready) ≡ (m >>= λ k. space_rows limit c k.1)
 entry_bind limit (Ok x) c = refl
 entry_bind limit (Err h) c = refl
 

@@ -132,6 +132,10 @@ keeps_of p P F resumes allowed t a r u is split d ok = resumes t a r is u (d ∷
 pub digits_of : {A : Type 0} (p : Text → Read A) (F : ℕ → Type 0) → Keeps p F → F 120 → F 49 → Digits p
 digits_of p F keeps letter digit t a r u is split = inl (keeps t a r u is split 120 letter, keeps t a r u is split 49 digit)
 
+pub some_or_none : (v : Text) → (v ≡ []) ⊎ (v ≡ [] → ⊥)
+some_or_none [] = inl refl
+some_or_none (b ∷ v) = inr (λ e. cc)
+
 -- ---- readers in a row
 
 nothing_left : {A : Type 0} (p : Text → Read A) → Local p → rest_of (p []) ≡ []
@@ -217,10 +221,6 @@ module _ {A B : Type 0} (p : Text → Read A) (f : A → Text → Read B) where
       (λ d ok. subst (λ (v : Text). p (l.front ++ (v ++ d ∷ [])) ≡ Ok (a, v ++ d ∷ [])) (sym none) (leaves d ok))
       (λ too. subst (λ (v : Text). DigitToo Both (l.front ++ v)) (sym none) (digit_both local a l.front takes (subst (DigitToo (f a)) none too)))
       (λ gone. starts (sym (append-nil l.front) ∙ subst (λ (v : Text). l.front ++ v ≡ []) none gone))
-
-  some_or_none : (v : Text) → (v ≡ []) ⊎ (v ≡ [] → ⊥)
-  some_or_none [] = inl refl
-  some_or_none (b ∷ v) = inr (λ e. cc)
 
   tell_second : (F G : ℕ → Type 0) (t : Text) (a : A) (r : Text) (h : Halt) → p t ≡ Ok (a, r) → LocalAt p t (Ok (a, r)) → ((a : A) → Local (f a)) → Keeps p F → Digits p → TellsAt (f a) (λ d. F d × G d) r h → TellsAt Both G t h
   tell_second F G t a r h is l local keeps digits m =
