@@ -9,6 +9,7 @@ pub mod HopelessLaws
 pub mod TellParts
 pub mod TellRows
 pub mod TellTrees
+pub mod WidenLaws
 pub mod MendRows
 pub mod MendTrees
 pub mod TellLaws

@@ -149,7 +149,7 @@ module _ {A B : Type 0} (p : Text → Read A) (f : A → Text → Read B) where
   abbrev pub Both : Text → Read B
   Both t = p t >>= λ x. f x.0 x.1
 
-  past_first : ((a : A) → Local (f a)) → (u : Text) (d : ℕ) → Past p u d → Past Both u d
+  pub past_first : ((a : A) → Local (f a)) → (u : Text) (d : ℕ) → Past p u d → Past Both u d
   past_first local u d past = go (p (u ++ d ∷ [])) past
     where
       go : (m : Read A) → rest_of m ≡ [] → rest_of (m >>= λ x. f x.0 x.1) ≡ []
@@ -163,7 +163,7 @@ module _ {A B : Type 0} (p : Text → Read A) (f : A → Text → Read B) where
   goes_on : (a : A) (u1 u2 w : Text) → p (u1 ++ (u2 ++ w)) ≡ Ok (a, u2 ++ w) → Both ((u1 ++ u2) ++ w) ≡ f a (u2 ++ w)
   goes_on a u1 u2 w is = ap Both (append_assoc u1 u2 w) ∙ ap (λ (m : Read A). m >>= λ x. f x.0 x.1) is
 
-  past_second : (a : A) (u1 u2 : Text) (d : ℕ) → p (u1 ++ (u2 ++ d ∷ [])) ≡ Ok (a, u2 ++ d ∷ []) → Past (f a) u2 d → Past Both (u1 ++ u2) d
+  pub past_second : (a : A) (u1 u2 : Text) (d : ℕ) → p (u1 ++ (u2 ++ d ∷ [])) ≡ Ok (a, u2 ++ d ∷ []) → Past (f a) u2 d → Past Both (u1 ++ u2) d
   past_second a u1 u2 d is past = ap rest_of (goes_on a u1 u2 (d ∷ []) is) ∙ past
 
   stopped_second : (a : A) (u1 u2 : Text) (d : ℕ) → p (u1 ++ (u2 ++ d ∷ [])) ≡ Ok (a, u2 ++ d ∷ []) → Stopped (f a) u2 d → Stopped Both (u1 ++ u2) d
