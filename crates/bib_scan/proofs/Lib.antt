@@ -10,6 +10,7 @@ pub mod TellParts
 pub mod TellRows
 pub mod TellTrees
 pub mod WidenLaws
+pub mod WidenTrees
 pub mod MendRows
 pub mod MendTrees
 pub mod TellLaws

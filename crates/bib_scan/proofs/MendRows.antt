@@ -1,7 +1,7 @@
 -- What can stand where the reading of a value or a row stops.
-use Rattle.std.proofs.Common.{◌≡◌, ℕ, zero, suc, ◌<◌, Bool, true, false, cond, eqb, ltb, [], ◌∷◌, ◌++◌, length, take, drop, refl, sym, ap, subst, ◌∙◌, arith, append_assoc, inl, inr, Ok, Err}
-use Rattle.std.proofs.lemmas.List.{append_cancel_right, length-append, take-append-drop, take-take, length-take-le}
-use Rattle.std.proofs.lemmas.List.Sums.{prefix_len-le-length}
+use Rattle.std.proofs.Common.{◌≡◌, ℕ, zero, suc, ◌<◌, Bool, true, false, cond, eqb, ltb, [], ◌∷◌, ◌++◌, length, get_or, take, drop, refl, sym, ap, subst, ◌∙◌, arith, append_assoc, inl, inr, Ok, Err}
+use Rattle.std.proofs.lemmas.List.{append_cancel_right, length-append, get_or-drop, take-append-drop, take-take, length-take-le}
+use Rattle.std.proofs.lemmas.List.Sums.{prefix_len_passes, prefix_len-le-length}
 use Rattle.std.proofs.lemmas.List.Elements.{All-nil, All-cons, All-take}
 use Rattle.std.proofs.lemmas.Bool.{ltb-true, and_parts, eqb-true, cond-false, not_from_false, and_from}
 use Rattle.std.specs.List.{prefix_len, take_while, flat_map, AllPass}
@@ -41,6 +41,8 @@ pub record TooLong (limit : ℕ) (test : ℕ → Bool) (t : Text) (h : Halt) : T
   pub split : t ≡ front ++ h.rest
   pub passes : AllPass test front
   pub len : length front ≡ limit
+  pub next : (c : ℕ) (v : Text) → h.rest ≡ c ∷ v → test c ≡ true
+  pub fault : KeyTooLong ≡ h.fault
 
 pub too_long : (limit : ℕ) (test : ℕ → Bool) (t : Text) (h : Halt) → read_run limit test t ≡ Err h → TooLong limit test t h
 too_long limit test t h is =
@@ -54,9 +56,14 @@ too_long limit test t h is =
             split = sym (take-append-drop limit t) ∙ ap (λ (k : Halt). take limit t ++ k.rest) e;
             passes = subst (AllPass test) (take-take limit (prefix_len test t) t (omega arith)) (All-take (λ (x : ℕ). test x ≡ true) limit (take_while test t) (run_passes test t));
             len = length-take-le limit t (omega arith);
+            fault = ap (λ (k : Halt). k.fault) e;
+            next = λ c v rest. subst (λ (b : ℕ). test b ≡ true) (here (ap (λ (k : Halt). k.rest) e ∙ rest)) (prefix_len_passes test t limit 0 more);
           }
       | inr short ↦ absurd (not_ok _ h _ short.1 refl)
     ]
+  where
+    here : {c : ℕ} {v : Text} → drop limit t ≡ c ∷ v → get_or t limit 0 ≡ c
+    here {c} {v} e = ap (λ (n : ℕ). get_or t n 0) (omega arith) ∙ sym (get_or-drop limit t 0 0) ∙ ap (λ (s : Text). get_or s 0 0) e
 
 not_empty : (limit : ℕ) (some : 0 < limit) (u : Text) → length u ≡ limit → u ≡ [] → ⊥
 not_empty limit some u len none = omega (arith, ap (length {A = ℕ}) none)
