@@ -78,20 +78,17 @@ close_ends d (inl is) = absurd is
 close_ends d (inr (inl is)) = subst EndsRow (sym is) (record { breaks = record { name = refl; digit = refl }; no_space = refl; no_hash = refl })
 close_ends d (inr (inr is)) = subst EndsRow (sym is) (record { breaks = record { name = refl; digit = refl }; no_space = refl; no_hash = refl })
 
-is_hash : Text → Bool
-is_hash = first_is (λ b. eqb b 35)
-
 -- behind `#`
-abbrev link_inside : ℕ → ℕ → Text → Read (Unit {0})
+abbrev pub link_inside : ℕ → ℕ → Text → Read (Unit {0})
 link_inside limit n u = run is_space u >>= λ y. read_part limit y.1 >>= λ p. links_gap limit n p.1
 
-abbrev part_links : ℕ → ℕ → Text → Read (Unit {0})
+abbrev pub part_links : ℕ → ℕ → Text → Read (Unit {0})
 part_links limit n u = read_part limit u >>= λ p. links_gap limit n p.1
 
-local_part_links : (limit n : ℕ) → Local (part_links limit n)
+pub local_part_links : (limit n : ℕ) → Local (part_links limit n)
 local_part_links limit n = local_bind (read_part limit) (λ p u. links_gap limit n u) (local_part limit) (λ p. local_links limit n)
 
-local_link : (limit n : ℕ) → Local (link_inside limit n)
+pub local_link : (limit n : ℕ) → Local (link_inside limit n)
 local_link limit n = local_bind (run is_space) (λ s u. part_links limit n u) (local_run is_space) (λ s. local_part_links limit n)
 
 pub tried_hash : (d : ℕ) → IsTried d → first_is (λ b. eqb b 35) (d ∷ []) ≡ false
@@ -139,16 +136,16 @@ keeps_value limit = keeps_of (value_gap limit) AfterRow EndsRow (resumes_value l
 
 -- ---- rows
 
-local_row_value : (limit : ℕ) → Local (row_value limit)
+pub local_row_value : (limit : ℕ) → Local (row_value limit)
 local_row_value limit = local_bind (run is_space) (λ s u. value_gap limit u) (local_run is_space) (λ s. local_value limit)
 
-local_sign_value : (limit : ℕ) → Local (sign_value limit)
+pub local_sign_value : (limit : ℕ) → Local (sign_value limit)
 local_sign_value limit = local_bind (plain read_equals) (λ e u. row_value limit u) local_equals (λ e. local_row_value limit)
 
-local_row_sign : (limit : ℕ) → Local (row_sign limit)
+pub local_row_sign : (limit : ℕ) → Local (row_sign limit)
 local_row_sign limit = local_bind (run is_space) (λ s u. sign_value limit u) (local_run is_space) (λ s. local_sign_value limit)
 
-local_named_row : (limit : ℕ) → Local (named_row limit)
+pub local_named_row : (limit : ℕ) → Local (named_row limit)
 local_named_row limit = local_bind (read_name limit) (λ n u. row_sign limit u) (local_name limit) (λ n. local_row_sign limit)
 
 sign_passes : (d : ℕ) → Passes ExpectedEquals d → Past (plain read_equals) [] d

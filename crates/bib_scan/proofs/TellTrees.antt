@@ -108,16 +108,16 @@ rows_blocks : (limit c d : ℕ) → Stopped (rows_read limit 0 c) [] d
 unfolding read_rows
 rows_blocks limit c d = (ExpectedCommaOrClose, refl)
 
-abbrev row_rows : ℕ → ℕ → ℕ → Text → Read (Unit {0})
+abbrev pub row_rows : ℕ → ℕ → ℕ → Text → Read (Unit {0})
 row_rows limit n c s = plain (read_row limit) s >>= λ r. rows_read limit n c r.1
 
-local_row_rows : (limit n c : ℕ) → Local (row_rows limit n c)
+pub local_row_rows : (limit n c : ℕ) → Local (row_rows limit n c)
 local_row_rows limit n c = local_bind (plain (read_row limit)) (λ r u. rows_read limit n c u) (local_row limit) (λ r. local_rows limit n c)
 
-local_after : (limit n c : ℕ) → Local (after_comma limit n c)
+pub local_after : (limit n c : ℕ) → Local (after_comma limit n c)
 local_after limit n c = local_cond (first_is (λ b. eqb b c)) (behind_first ready) (row_rows limit n c) (λ b t u. refl) (local_behind ready (local_ok tt)) (local_row_rows limit n c)
 
-local_gap : (limit n c : ℕ) → Local (λ t. run is_space t >>= λ s. after_comma limit n c s.1)
+pub local_gap : (limit n c : ℕ) → Local (λ t. run is_space t >>= λ s. after_comma limit n c s.1)
 local_gap limit n c = local_bind (run is_space) (λ s u. after_comma limit n c u) (local_run is_space) (λ s. local_after limit n c)
 
 pub tell_rows : (limit : ℕ) (some : 0 < limit) (n c : ℕ) (G : ℕ → Type 0) → Untried c → ((d : ℕ) → Tries ExpectedCommaOrClose d → G d) → Tells (rows_read limit n c) G
@@ -195,7 +195,7 @@ key_moves limit d b v h ends is =
       | inr (inr close) ↦ absurd (close_moves limit d v h (ap (λ (n : ℕ). space_rows limit (close_byte d) (n ∷ v)) (sym close) ∙ is))
     ]
 
-local_space_rows : (limit c : ℕ) → Local (space_rows limit c)
+pub local_space_rows : (limit c : ℕ) → Local (space_rows limit c)
 local_space_rows limit c = local_bind (run is_space) (λ s u. plain (read_all_rows limit c) u) (local_run is_space) (λ s. local_all_rows limit c)
 
 tell_space_rows : (limit : ℕ) (some : 0 < limit) (c : ℕ) → Untried c → Tells (space_rows limit c) (λ d. Unit {0})
