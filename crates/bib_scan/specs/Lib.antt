@@ -7,5 +7,4 @@ pub mod Code
 pub mod PartView
 pub mod ValueParts
 pub mod PartsLeft
-pub mod DelimiterView
 pub mod Laws
