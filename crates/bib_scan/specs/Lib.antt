@@ -8,3 +8,4 @@ pub mod PartView
 pub mod Laws
 pub mod ValueParts
 pub mod PartsLeft
+pub mod Laws
