@@ -1,7 +1,7 @@
 -- A file that is refused goes wrong where reading stops, and nowhere else.
-use Rattle.std.proofs.Common.{◌≡◌, ℕ, ◌+◌, ◌-◌, ◌<◌, false, [], ◌∷◌, ◌++◌, length, take, refl, sym, ap, subst, ◌∙◌, arith, append_assoc, append-nil, inl, inr, Result, Ok, Err}
+use Rattle.std.proofs.Common.{◌≡◌, ℕ, ◌+◌, ◌-◌, ◌<◌, ◌≤◌, Bool, true, false, [], ◌∷◌, ◌++◌, length, take, refl, sym, ap, subst, ◌∙◌, arith, append_assoc, append-nil, inl, inr, Result, Ok, Err}
 use Rattle.std.proofs.lemmas.Bool.{cases_Bool, or_from, not_from_false}
-use Rattle.std.proofs.lemmas.List.{append_cancel_right}
+use Rattle.std.proofs.lemmas.List.{length-append, append_cancel_right}
 use Rattle.std.specs.Prelude.{codes}
 use Rattle.bib_spec.specs.Text.{Text, same}
 use Rattle.bib_spec.specs.Tree.{Delimiter, close_byte}
@@ -15,7 +15,7 @@ use Rattle.bib_scan.proofs.LocalLaws.{LocalAt, Local}
 use Rattle.bib_scan.proofs.LocalRows.{plain, ready, fault_of, local_entry, local_definition, local_preamble}
 use Rattle.bib_scan.proofs.MendLaws.{Mends, Always}
 use Rattle.bib_scan.proofs.MendTrees.{mend_definition, mend_preamble, mend_entry}
-use Rattle.bib_scan.proofs.StopLaws.{inside, file_stop}
+use Rattle.bib_scan.proofs.StopLaws.{inside, FileStop, file_stop}
 use Rattle.bib_scan.proofs.PlaceLaws.{front_cut, front_more}
 
 -- what holds of the three readers of what stands behind an opening delimiter holds of each command's

@@ -1,3 +1,5 @@
+pub mod BalanceLaws
+pub mod OpeningLemmas
 pub mod LocalLaws
 pub mod LocalParts
 pub mod LocalRows
@@ -23,9 +25,14 @@ pub mod CommandLaws
 pub mod CleanLaws
 pub mod AgainLaws
 pub mod TreeAgainLaws
+pub mod FieldLaws
+pub mod HeadLaws
 pub mod ReadingLaws
 pub mod UniqueLaws
 pub mod OneReading
 pub mod RowsLemmas
+pub mod StepLaws
 pub mod LayoutLemmas
 pub mod LayoutLaws
+pub mod TakenApart
+pub mod PartsLemmas

@@ -8,10 +8,10 @@ use Rattle.std.specs.Prelude.{codes}
 use Rattle.std.specs.List.{take_while, flat_map, All}
 use Rattle.bib_spec.specs.Text.{Text, is_space, is_type_byte, same, after_run}
 use Rattle.bib_spec.specs.Clean.{begins_command, opens_body, IsClean}
-use Rattle.bib_spec.specs.Tree.{Head, Delimiter, Tree, open_byte, head_bytes, tree_bytes, IsHead, IsTree, IsOpening}
-use Rattle.bib_spec.specs.Reading.{Item, Reading, item_bytes, IsItem, HasReadingWithin}
+use Rattle.bib_spec.specs.Tree.{Head, Delimiter, Tree, open_byte, head_bytes, tree_bytes, is_comment, IsHead, IsTree, IsOpening}
+use Rattle.bib_spec.specs.Reading.{Item, Reading, item_bytes, bytes_of, IsItem, HasReadingWithin}
 use Rattle.bib_scan.specs.declared.layout.Span.{Span}
-use Rattle.bib_scan.specs.LeftToRight.{Halt, span, delimiter_of, read_body, read_command, next_command, read_commands, read_all_commands, ◌>>=◌}
+use Rattle.bib_scan.specs.LeftToRight.{Halt, stop, span, delimiter_of, read_body, read_command, next_command, read_commands, read_all_commands, ◌>>=◌}
 use Rattle.bib_scan.proofs.RunLaws.{chosen, not_ok, run_split, run_passes}
 use Rattle.bib_scan.proofs.PartLaws.{type_name_from}
 use Rattle.bib_scan.proofs.ValueLaws.{space_split}

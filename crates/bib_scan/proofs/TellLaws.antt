@@ -1,13 +1,13 @@
 -- What a reader does where another byte stands in place of the first one that it stopped at, and nothing behind it.
 -- Each fault is told by some bytes that it passes and some that it stops at.
-use Rattle.std.proofs.Common.{◌≡◌, ℕ, ◌+◌, ◌<◌, ◌≤◌, Bool, true, false, cond, [], ◌∷◌, ◌++◌, length, refl, sym, ap, subst, ◌∙◌, arith, append_assoc, append-nil, inl, inr, ◌⊎◌, Ok, Err}
+use Rattle.std.proofs.Common.{◌≡◌, ℕ, ◌+◌, ◌<◌, ◌≤◌, Bool, true, false, cond, [], ◌∷◌, ◌++◌, length, refl, sym, ap, subst, ◌∙◌, arith, append_assoc, append-nil, inl, inr, ◌⊎◌, Result, Ok, Err}
 use Rattle.std.proofs.lemmas.List.{length-append, append_cancel_right}
-use Rattle.std.proofs.lemmas.Bool.{cond-true, cond-false}
+use Rattle.std.proofs.lemmas.Bool.{cond-true, cond-false, both_ways}
 use Rattle.bib_spec.specs.Fault.{ReadingFault, Unended, ExpectedName, ExpectedEquals, ExpectedCommaOrClose, ExpectedValue, UnbalancedBrace, KeyTooLong}
 use Rattle.bib_spec.specs.Text.{Text}
 use Rattle.bib_scan.specs.LeftToRight.{Read, Halt, stop, ◌>>=◌}
 use Rattle.bib_scan.proofs.RunLaws.{not_ok}
-use Rattle.bib_scan.proofs.LocalLaws.{rest_of, LocalAt, Local}
+use Rattle.bib_scan.proofs.LocalLaws.{rest_of, with_rest, LocalAt, Local, behind_first}
 use Rattle.bib_scan.proofs.MendLaws.{Resumes, err_is}
 
 -- behind u the reader goes on past the byte d
