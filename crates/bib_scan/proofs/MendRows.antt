@@ -99,7 +99,6 @@ x_byte = refl
 pub x_name : (limit : ℕ) (some : 0 < limit) → is_name_within limit (120 ∷ []) ≡ true
 x_name limit some = name_from limit (120 ∷ []) (record { some = omega arith; short = omega arith; first = refl; bytes = All-cons (λ (x : ℕ). is_name_byte x ≡ true) 120 [] x_byte (All-nil (λ (x : ℕ). is_name_byte x ≡ true)) })
 
-
 pub mend_name : (limit : ℕ) (some : 0 < limit) (F : Text → Type 0) → ((s : Text) → F (120 ∷ s)) → Mends (read_name limit) (λ s. does_not_begin_with is_name_byte s ≡ true) F
 mend_name limit some F start t h is =
     elim (chosen (begins_name t) _ _ _ is) [
