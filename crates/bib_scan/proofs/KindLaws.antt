@@ -1,19 +1,19 @@
 -- The fault at which reading stops is what is wrong there.
-use Rattle.std.proofs.Common.{◌≡◌, ℕ, suc, ◌+◌, ◌-◌, ◌<◌, ◌≤◌, [], ◌∷◌, ◌++◌, length, take, refl, sym, ap, subst, ◌∙◌, arith, append_assoc, append-nil, inl, inr, ◌⊎◌, Result, Ok, Err}
+use Rattle.std.proofs.Common.{◌≡◌, ℕ, suc, ◌+◌, ◌-◌, ◌<◌, ◌≤◌, false, [], ◌∷◌, ◌++◌, length, take, refl, sym, ap, subst, ◌∙◌, arith, append_assoc, append-nil, inl, inr, ◌⊎◌, Result, Ok, Err}
 use Rattle.std.proofs.lemmas.List.{length-append, append_cancel_right}
 use Rattle.std.specs.Prelude.{codes}
-use Rattle.bib_spec.specs.Bytes.{quote, comma, digit_one, equals_sign, letter_x, name_limit}
+use Rattle.bib_spec.specs.Bytes.{digit_one, letter_x, name_limit, file_limit}
 use Rattle.bib_spec.specs.Text.{Text, same}
 use Rattle.bib_spec.specs.Tree.{Delimiter, close_byte}
 use Rattle.bib_spec.specs.Reading.{HasReadingWithin, IsViable}
-use Rattle.bib_spec.specs.Fault.{TextKind, MayStand, IsOneTooLong, IsFaultAt, ReadingFault, Unended, ExpectedName, ExpectedEquals, ExpectedCommaOrClose, ExpectedValue, UnbalancedBrace, KeyTooLong}
+use Rattle.bib_spec.specs.Fault.{TextKind, MayStand, IsOneTooLong, IsFaultAt, IsReadFault, fault_number, ReadingFault, Unended, ExpectedName, ExpectedEquals, ExpectedCommaOrClose, ExpectedValue, UnbalancedBrace, KeyTooLong}
 use Rattle.bib_spec.specs.Fault as fault
 use Rattle.bib_scan.specs.LeftToRight.{Read, Halt, stop, read_all_commands, ◌>>=◌}
 use Rattle.bib_scan.proofs.LocalLaws.{rest_of}
 use Rattle.bib_scan.proofs.LocalRows.{plain, ready, fault_of}
 use Rattle.bib_scan.proofs.PlaceLaws.{front_cut, front_more}
 use Rattle.bib_scan.proofs.StopLaws.{inside, FileStop, file_stop}
-use Rattle.bib_scan.proofs.HopelessLaws.{of_inside, StopsAt, stops_at, no_fault}
+use Rattle.bib_scan.proofs.HopelessLaws.{of_inside, stuck_at, viable_at, hopeless}
 use Rattle.bib_scan.proofs.TellLaws.{Passes, Blocks, AsksDigit, IsEnd, DigitToo, Past, Stopped, TellsAt, Tells}
 use Rattle.bib_scan.proofs.TellTrees.{close_untried, tell_definition, tell_preamble, tell_entry}
 use Rattle.bib_scan.proofs.WidenLaws.{IsLong, IsShort, Widens}
@@ -73,3 +73,70 @@ module _ (IsSuch : TextKind) (t : Text) where
   fault_at UnbalancedBrace (c ∷ v) s = fault.brace (low UnbalancedBrace c v s) (not_too_long UnbalancedBrace c v s short) (passes UnbalancedBrace c v s 34 (inl refl)) (passes UnbalancedBrace c v s 44 (inr refl))
   fault_at KeyTooLong [] s = absurd (s.end refl)
   fault_at KeyTooLong (c ∷ v) s = fault.too_long (low KeyTooLong c v s) (one_too_long KeyTooLong c v s tt)
+
+-- ---- files
+
+tell_inside : (limit : ℕ) (some : 0 < limit) (type_name : Text) (d : Delimiter) → same type_name (codes "comment") ≡ false → Tells (plain (inside limit type_name d)) (λ d. Unit {0})
+tell_inside limit some type_name d no_comment = of_inside (λ p. Tells (plain (p limit)) (λ d. Unit {0})) type_name d no_comment (tell_definition limit some (close_byte d) (close_untried d)) (tell_preamble limit (close_byte d) (close_untried d)) (tell_entry limit some d)
+
+widen_inside : (limit : ℕ) (type_name : Text) (d : Delimiter) → same type_name (codes "comment") ≡ false → Widens (plain (inside limit type_name d)) (plain (inside (suc limit) type_name d))
+widen_inside limit type_name d no_comment = of_inside (λ p. Widens (plain (p limit)) (plain (p (suc limit)))) type_name d no_comment (widen_definition limit (close_byte d)) (widen_preamble limit (close_byte d)) (widen_entry limit d)
+
+module _ (limit : ℕ) (t : Text) (h : Halt) (file : FileStop limit t h) where
+  abbrev reader : ℕ → Text → Result Text Halt
+  reader m = inside m file.type_name file.delimiter
+
+  -- what stands behind is read to its end: the whole is a front of a file
+  past_viable : (m : ℕ) → limit ≤ m → 0 < m → (s : Text) → rest_of (plain (reader m) s) ≡ [] → IsViable (HasReadingWithin m) (file.before ++ s)
+  past_viable m longer some s past = go (reader m s) refl past
+    where
+      go : (x : Result Text Halt) → reader m s ≡ x → rest_of (x >>= ready) ≡ [] → IsViable (HasReadingWithin m) (file.before ++ s)
+      go (Ok r) is none = ([], subst (HasReadingWithin m) (sym (append-nil (file.before ++ s))) (file.reads m longer s (is ∙ ap (λ (u : Text). Ok u) none)))
+      go (Err k) is none = viable_at m some (file.before ++ s) k (file.stops m longer s k is) none
+
+  -- the reader stops at d: the whole with d is no front of a file
+  stopped_stuck : (m : ℕ) → limit ≤ m → 0 < m → (u : Text) (d : ℕ) → Stopped (plain (reader m)) u d → IsViable (HasReadingWithin m) ((file.before ++ u) ++ d ∷ []) → ⊥
+  stopped_stuck m longer some u d s viable =
+      let whole : (file.before ++ u) ++ d ∷ [] ≡ file.before ++ (u ++ d ∷ []) = append_assoc file.before u (d ∷ []) in
+      let is : read_all_commands m (file.before ++ (u ++ d ∷ [])) ≡ Err (stop s.0 (d ∷ [])) = file.stops m longer (u ++ d ∷ []) (stop s.0 (d ∷ [])) (fault_of _ _ s.1) in
+      stuck_at m some (file.before ++ (u ++ d ∷ [])) (file.before ++ u) (stop s.0 (d ∷ [])) d [] is (sym whole) refl viable
+
+  past_at : (m : ℕ) → limit ≤ m → 0 < m → (u : Text) (d : ℕ) → Past (plain (reader m)) u d → IsViable (HasReadingWithin m) ((file.before ++ u) ++ d ∷ [])
+  past_at m longer some u d past = subst (IsViable (HasReadingWithin m)) (sym (append_assoc file.before u (d ∷ []))) (past_viable m longer some (u ++ d ∷ []) past)
+
+pub file_wrong : (t : Text) (h : Halt) → read_all_commands name_limit t ≡ Err h → GoesWrong HasReadingWithin t h.fault h.rest
+file_wrong t h is =
+    let file = file_stop name_limit t h is in
+    let p = inside name_limit file.type_name file.delimiter in
+    let some : 0 < 255 = omega arith in
+    let same_limit : 255 ≤ 255 = omega arith in
+    let longer : 255 ≤ 256 = omega arith in
+    let some_more : 0 < 256 = omega arith in
+    let stopped : plain p file.behind ≡ Err h = ap (λ (m : Result Text Halt). m >>= ready) file.stopped in
+    let m : TellsAt (plain p) (λ d. Unit {0}) file.behind h = tell_inside name_limit some file.type_name file.delimiter file.no_comment file.behind h stopped in
+    let w = widen_inside name_limit file.type_name file.delimiter file.no_comment in
+    let split : t ≡ (file.before ++ m.front) ++ h.rest = file.split ∙ ap (λ (u : Text). file.before ++ u) m.split ∙ sym (append_assoc file.before m.front h.rest) in
+    record {
+      front = file.before ++ m.front;
+      split = split;
+      end = m.end;
+      passed = λ d ok. past_at name_limit t h file 255 same_limit some m.front d (m.passed d ok);
+      blocked = λ d ok. stopped_stuck name_limit t h file 255 same_limit some m.front d (m.blocked d ok);
+      digit = λ asks. digit file m.front (m.digit asks);
+      long = λ c v rest is_long. past_at name_limit t h file 256 longer some_more m.front c (w.long file.behind m.front h c v stopped is_long m.split rest);
+      short = λ c v rest is_short.
+          let read : read_all_commands 256 t ≡ Err h = ap (read_all_commands 256) file.split ∙ file.stops 256 longer file.behind h (fault_of _ _ (w.same file.behind h stopped is_short)) in
+          stuck_at 256 some_more t (file.before ++ m.front) h c v read split rest;
+    }
+  where
+    digit : (file : FileStop name_limit t h) (u : Text) → DigitToo (plain (inside name_limit file.type_name file.delimiter)) u → IsViable (HasReadingWithin name_limit) ((file.before ++ u) ++ letter_x ∷ []) → IsViable (HasReadingWithin name_limit) ((file.before ++ u) ++ digit_one ∷ [])
+    digit file u (inl s) viable = absurd (stopped_stuck name_limit t h file 255 (omega arith) (omega arith) u 120 s viable)
+    digit file u (inr e) viable = past_at name_limit t h file 255 (omega arith) (omega arith) u 49 e
+
+-- The fault at which the reading of a file stops is what is wrong at its place.
+pub file_fault : (t : Text) (h : Halt) → read_all_commands name_limit t ≡ Err h → IsFaultAt HasReadingWithin t (length t - length h.rest) h.fault
+file_fault t h is = fault_at HasReadingWithin t h.fault h.rest (file_wrong t h is)
+
+-- why a file is not read
+pub read_fault : (t : Text) (h : Halt) → length t ≤ file_limit → read_all_commands name_limit t ≡ Err h → IsReadFault t (fault_number h.fault) (length t - length h.rest)
+read_fault t h fits is = fault.no_reading h.fault (length t - length h.rest) fits (hopeless name_limit (omega arith) t h is) (file_fault t h is)
