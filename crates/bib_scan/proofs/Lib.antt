@@ -13,6 +13,7 @@ pub mod TellRows
 pub mod TellTrees
 pub mod WidenLaws
 pub mod WidenTrees
+pub mod KindLaws
 pub mod MendRows
 pub mod MendTrees
 pub mod TellLaws
