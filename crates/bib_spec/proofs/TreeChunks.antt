@@ -10,7 +10,7 @@ use Rattle.bib_spec.specs.Reading.{Item, item_bytes}
 use Rattle.bib_spec.specs.Texts.{row_start}
 use Rattle.bib_spec.specs.Pieces.{Chunk, Kept, Replaced, old_of, new_of}
 use Rattle.bib_spec.specs.Edits.{changed, tree_with, items_with}
-use Rattle.bib_spec.specs.EditChunks.{token, part_token, link_chunks, value_chunks, assignment_chunks, row_chunks, behind_rows, entry_chunks, tree_chunks, item_chunks, items_chunks, kept_item, kept_items, kept_rows}
+use Rattle.bib_spec.specs.EditChunks.{token, part_token, link_chunks, value_chunks, assignment_chunks, row_chunks, behind_rows, entry_chunks, tree_chunks, item_chunks, items_chunks, kept_items, kept_rows}
 
 -- a chunk's bytes, before or afterwards
 abbrev pub chunk_text : Bool → Chunk → Text
