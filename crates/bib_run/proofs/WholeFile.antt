@@ -53,13 +53,13 @@ source_bytes most (Some told) (Some rest) v r =
 -- a file that is too long is refused as its front is that has one byte past the limit
 IsReadFault-long : (bytes : Text) (kind place : ℕ) → file_limit < length bytes → IsReadFault (take (file_limit + 1) bytes) kind place → IsReadFault bytes kind place
 IsReadFault-long bytes kind place long (too_long over) = too_long long
-IsReadFault-long bytes kind place long (no_reading fault p within hopeless at) = absurd (omega (arith, long, within, length-take-le (file_limit + 1) bytes (omega (arith, long))))
+IsReadFault-long bytes kind place long (no_reading fault at within hopeless wrong) = absurd (omega (arith, long, within, length-take-le (file_limit + 1) bytes (omega (arith, long))))
 IsReadFault-long bytes kind place long (no_memory within) = absurd (omega (arith, long, within, length-take-le (file_limit + 1) bytes (omega (arith, long))))
 
 IsCatAnswer-long : (bytes : Text) (answer : Answer) → file_limit < length bytes
     → IsCatAnswer (take (file_limit + 1) bytes) answer → IsCatAnswer bytes answer
 IsCatAnswer-long bytes answer long (copied within reads) = absurd (omega (arith, long, within, length-take-le (file_limit + 1) bytes (omega (arith, long))))
-IsCatAnswer-long bytes answer long (refused kind place met fault) = refused kind place met (IsReadFault-long bytes kind place long fault)
+IsCatAnswer-long bytes answer long (refused kind place other fault) = refused kind place other (IsReadFault-long bytes kind place long fault)
 
 IsAnswer-long : (command : Command) (bytes : Text) (answer : Answer) → file_limit < length bytes
     → IsAnswer command (take (file_limit + 1) bytes) answer → IsAnswer command bytes answer

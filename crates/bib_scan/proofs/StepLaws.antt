@@ -1,11 +1,11 @@
 -- One field after another: what is left behind the first.
-use Rattle.std.proofs.Common.{◌≡◌, ℕ, zero, suc, Bool, ◌-◌, ◌<◌, ◌≤◌, List, [], ◌∷◌, ◌++◌, length, refl, sym, ap, subst, ◌∙◌, arith, Option, None, Some, Result, Ok, Err}
+use Rattle.std.proofs.Common.{◌≡◌, ℕ, zero, suc, Bool, ◌-◌, ◌<◌, ◌≤◌, List, [], ◌∷◌, length, refl, sym, ap, ◌∙◌, arith, Option, None, Some, Result, Ok, Err}
 use Rattle.std.proofs.lemmas.List.{length-append, length-drop}
 use Rattle.std.specs.List.{prefix_len}
 use Rattle.std.specs.Result.{result_ok}
 use Rattle.bib_spec.specs.Bytes.{name_limit}
 use Rattle.bib_spec.specs.Text.{Text, is_space, after_run}
-use Rattle.bib_scan.specs.LeftToRight.{Halt, Read, ◌>>=◌, read_name, read_equals, read_value, read_comma}
+use Rattle.bib_scan.specs.LeftToRight.{Halt, read_name, read_equals, read_value, read_comma}
 use Rattle.bib_scan.specs.View.{Field}
 use Rattle.bib_scan.specs.FieldsLeft.{read_assignment, first_field, first_and_others, kind_behind, fields_left, all_fields_left}
 use Rattle.bib_scan.specs.declared.view.Kind.{Kind}

@@ -91,6 +91,7 @@ impl<'a> ItemView<'a> {
     /// The view of the item with this body and trail. The body is read up to its fields, in time of that
     /// length.
     pub fn of(body: &'a [u8], trail: &'a [u8]) -> Self
+        ensures slices { (result.body ≡ body.now) × (result.trail ≡ trail.now) }
         ensures item { (tree : Tree) → IsTree name_limit tree → tree_bytes tree ≡ body.now → result ≡ view_of (record { tree = tree; trail = trail.now }) }
     {
         let (type_name, behind_type) = split_head(body);

@@ -11,5 +11,5 @@ returns-in-Ok c =
 pub returns : goal.returns
 returns c =
     let met : c.in-Err.fault.kind ≢ 10 = search rules in
-    let fault : IsReadFault c.args.file.items c.in-Err.fault.kind c.in-Err.fault.place = rw (← c.as_slice.ensures.value) c.in-Err.ensures.fault in
-    rw (c.refused.ensures, c.in_ok-refusal_line-in-Err-2.ensures) (refused c.in-Err.fault.kind c.in-Err.fault.place met fault)
+    let why : IsReadFault c.args.file.items c.in-Err.fault.kind c.in-Err.fault.place = rw (← c.as_slice.ensures.value) c.in-Err.ensures.fault in
+    rw (c.refused.ensures, c.in_ok-refusal_line-in-Err-2.ensures) (refused c.in-Err.fault.kind c.in-Err.fault.place met why)
