@@ -20,8 +20,8 @@ use std::alloc::{AllocError, Global};
 use std::io::{Read, Write};
 
 /// Runs a command over its file, its journal, its input and its output. It reads the file to its end or to one byte
-/// past the limit, and takes some three times the memory of the file. Calls that are interrupted are made again, up
-/// to 100 times on each tap.
+/// past the limit, and keeps it in memory once, beside two places for each item. Calls that are interrupted are made
+/// again, up to 100 times on each tap. Memory is refused only before anything is written.
 pub fn run<F: Read, J: Read, I: Read, W: Write>(
     alloc: Global,
     command: &Command,
