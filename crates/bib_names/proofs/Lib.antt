@@ -1,0 +1,10 @@
+pub mod BoolLemmas
+pub mod BraceLemmas
+pub mod TrimLemmas
+pub mod PlaceLemmas
+pub mod NameListLemmas
+pub mod WordLemmas
+pub mod CommaLemmas
+pub mod SpecialLemmas
+pub mod CaseLemmas
+pub mod CharLemmas

@@ -1,0 +1,23 @@
+//! Names of persons, the templates that print them, and labels.
+//!
+//! Knows names, templates and labels, from texts and records alone. Does not know files or edits.
+//! Promises: the parts of a name and their places; the printed text; the label.
+#![tactic(auto)]
+
+mod braces;
+mod case;
+mod fault;
+mod name;
+mod name_list;
+mod record;
+mod special;
+mod template;
+mod text;
+mod word;
+
+pub use fault::NameFault;
+pub use name::{Name, split_name};
+pub use name_list::split_names;
+pub use record::Record;
+pub use template::Template;
+pub use word::Word;
