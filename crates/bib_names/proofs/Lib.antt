@@ -8,3 +8,4 @@ pub mod CommaLemmas
 pub mod SpecialLemmas
 pub mod CaseLemmas
 pub mod CharLemmas
+pub mod TemplateLaws

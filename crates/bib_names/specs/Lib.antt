@@ -10,6 +10,7 @@ pub mod Words
 pub mod Name
 pub mod FirstComma
 pub mod Template
+pub mod TemplateReading
 
 -- Printing
 -- Label

@@ -1,6 +1,6 @@
 -- Templates, and how they are spelled.
-use Rattle.std.specs.Prelude.{ℕ, ◌&&◌, not, Bool, [], ◌∷◌, ◌++◌, Option, None, Some, ⊤}
-use Rattle.std.specs.List.{flat_map, AllPass, AllByRecursion}
+use Rattle.std.specs.Prelude.{ℕ, ◌≡◌, ◌&&◌, not, Bool, true, [], ◌∷◌, ◌++◌, Option, None, Some}
+use Rattle.std.specs.List.{flat_map, list_all, AllByRecursion}
 use Rattle.std.specs.Char.{is_ascii_alphabetic}
 use Rattle.bib_spec.specs.Bytes.{open_brace, close_brace}
 use Rattle.bib_spec.specs.Text.{Text}
@@ -47,18 +47,22 @@ group_bytes g = open_brace ∷ group_inside g
 abbrev pub spelling : Template → Text
 spelling t = t.front ++ flat_map group_bytes t.groups
 
-abbrev pub IsBetween : Option Text → Type 0
-IsBetween None = ⊤
-IsBetween (Some between) = AllPass is_no_brace between
+abbrev pub is_between : Option Text → Bool
+is_between None = true
+is_between (Some between) = list_all is_no_brace between
 
 -- no brace and no letter stands beside the letters, no brace between words and none behind the group (dialect)
 pub record IsGroup (g : Group) : Type 0 where
-  pub pre : AllPass is_ornament g.pre
-  pub between : IsBetween g.between
-  pub post : AllPass is_ornament g.post
-  pub trail : AllPass is_no_brace g.trail
+  pub pre : list_all is_ornament g.pre ≡ true
+  pub between : is_between g.between ≡ true
+  pub post : list_all is_ornament g.post ≡ true
+  pub trail : list_all is_no_brace g.trail ≡ true
 
 -- the grammar of templates (dialect)
 pub record IsTemplate (t : Template) : Type 0 where
-  pub front : AllPass is_no_brace t.front
+  pub front : list_all is_no_brace t.front ≡ true
   pub groups : AllByRecursion IsGroup t.groups
+
+-- no bytes spell two templates
+abbrev pub OneTemplate : Type 0
+OneTemplate = (s t : Template) → IsTemplate s → IsTemplate t → spelling s ≡ spelling t → s ≡ t

@@ -19,5 +19,5 @@ pub use fault::NameFault;
 pub use name::{Name, split_name};
 pub use name_list::split_names;
 pub use record::Record;
-pub use template::Template;
+pub use template::{Template, one_template};
 pub use word::Word;
