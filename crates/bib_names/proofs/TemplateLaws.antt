@@ -8,14 +8,13 @@ use Rattle.std.proofs.lemmas.Bool.{eqb-true, ne_eqb}
 use Rattle.std.proofs.lemmas.Grind.{flat_map-append}
 use Rattle.std.proofs.Math.Seq.{take-append_seam, drop-append_seam}
 use Rattle.bib_spec.specs.Text.{Text, does_not_begin_with, after_run}
-use Rattle.bib_names.specs.Template.{is_no_brace, is_ornament, letter_of, letters_of, between_bytes, group_inside, group_bytes, spelling, is_between, IsGroup, IsTemplate, OneTemplate}
+use Rattle.bib_names.specs.Template.{Pattern, is_no_brace, is_ornament, letter_of, letters_of, between_bytes, group_inside, group_bytes, spelling, is_between, IsGroup, IsTemplate, OneTemplate}
 use Rattle.bib_names.specs.TemplateReading.{after_byte, part_named, form_at, letters_at, between_inside, between_at, group_closed, group_after_between, group_after_letters, group_after, group_at}
 use Rattle.bib_names.specs.declared.template.Part.{Part}
 use Rattle.bib_names.specs.declared.template.Part.TheVariants.{First, Von, Last, Jr}
 use Rattle.bib_names.specs.declared.template.Form.{Form}
 use Rattle.bib_names.specs.declared.template.Form.TheVariants.{Initials, Words}
 use Rattle.bib_names.specs.declared.template.Group.{Group}
-use Rattle.bib_names.specs.declared.template.Template.{Template}
 use Rattle.bib_names.proofs.BoolLemmas.{both}
 
 -- ---- longest runs of bytes
@@ -287,7 +286,7 @@ pub record IsReadSoFar (bytes front : Text) (groups : List Group) (rest : Text) 
   pub spelled : bytes ≡ front ++ (flat_map group_bytes groups ++ rest)
   pub plain : list_all is_no_brace front ≡ true
   pub sound : AllByRecursion IsGroup groups
-  pub only : (t : Template) → IsTemplate t → bytes ≡ spelling t → (more : List Group) × (t ≡ record { front = front; groups = groups ++ more }) × AllByRecursion IsGroup more × (rest ≡ flat_map group_bytes more)
+  pub only : (t : Pattern) → IsTemplate t → bytes ≡ spelling t → (more : List Group) × (t ≡ record { front = front; groups = groups ++ more }) × AllByRecursion IsGroup more × (rest ≡ flat_map group_bytes more)
 
 pub read_front : (bytes : Text) → IsReadSoFar bytes (take_while is_no_brace bytes) [] (after_run is_no_brace bytes)
 read_front bytes = record {
@@ -335,7 +334,7 @@ read_more bytes front groups inside g behind far is =
     some_same p q e = cc
 
 -- no group stands where one must
-pub read_stuck : (bytes front : Text) (groups : List Group) (inside : Text) → IsReadSoFar bytes front groups (123 ∷ inside) → group_at inside ≡ None → (t : Template) → IsTemplate t → bytes ≡ spelling t → ⊥
+pub read_stuck : (bytes front : Text) (groups : List Group) (inside : Text) → IsReadSoFar bytes front groups (123 ∷ inside) → group_at inside ≡ None → (t : Pattern) → IsTemplate t → bytes ≡ spelling t → ⊥
 read_stuck bytes front groups inside far none t is e =
     let told = far.only t is e in
     let first = first_found inside told.0 told.2 told.3 in
@@ -345,7 +344,7 @@ read_stuck bytes front groups inside far none t is e =
     some_none p e = absurd (cc)
 
 -- bytes are left that begin no group
-pub read_left : (bytes front : Text) (groups : List Group) (rest : Text) → IsReadSoFar bytes front groups rest → after_byte 123 rest ≡ None → (rest ≡ [] → ⊥) → (t : Template) → IsTemplate t → bytes ≡ spelling t → ⊥
+pub read_left : (bytes front : Text) (groups : List Group) (rest : Text) → IsReadSoFar bytes front groups rest → after_byte 123 rest ≡ None → (rest ≡ [] → ⊥) → (t : Pattern) → IsTemplate t → bytes ≡ spelling t → ⊥
 read_left bytes front groups rest far none some t is e =
     let told = far.only t is e in go told.0 told.3
   where
@@ -385,8 +384,8 @@ one_groups (g ∷ gs) (h ∷ hs) all also e =
 
 pub one_template : OneTemplate
 one_template s t is also e =
-    let front_of = λ (u : Template) (k : IsTemplate u). run_front is_no_brace u.front (flat_map group_bytes u.groups) k.front (groups_stop u.groups) in
-    let rest_of = λ (u : Template) (k : IsTemplate u). run_behind is_no_brace u.front (flat_map group_bytes u.groups) k.front (groups_stop u.groups) in
+    let front_of = λ (u : Pattern) (k : IsTemplate u). run_front is_no_brace u.front (flat_map group_bytes u.groups) k.front (groups_stop u.groups) in
+    let rest_of = λ (u : Pattern) (k : IsTemplate u). run_behind is_no_brace u.front (flat_map group_bytes u.groups) k.front (groups_stop u.groups) in
     let front = sym (front_of s is) ∙ ap (take_while is_no_brace) e ∙ front_of t also in
     let rest = sym (rest_of s is) ∙ ap (after_run is_no_brace) e ∙ rest_of t also in
     let groups = one_groups s.groups t.groups is.groups also.groups rest in

@@ -11,6 +11,4 @@ pub mod Name
 pub mod FirstComma
 pub mod Template
 pub mod TemplateReading
-
--- Printing
--- Label
+pub mod Printing

@@ -1,5 +1,5 @@
 -- Templates, and how they are spelled.
-use Rattle.std.specs.Prelude.{ℕ, ◌≡◌, ◌&&◌, not, Bool, true, [], ◌∷◌, ◌++◌, Option, None, Some}
+use Rattle.std.specs.Prelude.{ℕ, ◌≡◌, ◌&&◌, not, Bool, true, List, [], ◌∷◌, ◌++◌, Option, None, Some}
 use Rattle.std.specs.List.{flat_map, list_all, AllByRecursion}
 use Rattle.std.specs.Char.{is_ascii_alphabetic}
 use Rattle.bib_spec.specs.Bytes.{open_brace, close_brace}
@@ -10,7 +10,11 @@ use Rattle.bib_names.specs.declared.template.Part.TheVariants.{First, Von, Last,
 use Rattle.bib_names.specs.declared.template.Form.{Form}
 use Rattle.bib_names.specs.declared.template.Form.TheVariants.{Initials, Words}
 use Rattle.bib_names.specs.declared.template.Group.{Group}
-use Rattle.bib_names.specs.declared.template.Template.{Template}
+
+-- a template: the text before the first group, and groups, each with the text behind it
+pub record Pattern : Type 0 where
+  pub front : Text
+  pub groups : List Group
 
 -- what may stand outside of groups, and between words
 abbrev pub is_no_brace : ℕ → Bool
@@ -44,7 +48,7 @@ abbrev pub group_bytes : Group → Text
 group_bytes g = open_brace ∷ group_inside g
 
 -- the bytes of a template: the text before the first group, and each group with the text behind it
-abbrev pub spelling : Template → Text
+abbrev pub spelling : Pattern → Text
 spelling t = t.front ++ flat_map group_bytes t.groups
 
 abbrev pub is_between : Option Text → Bool
@@ -59,10 +63,10 @@ pub record IsGroup (g : Group) : Type 0 where
   pub trail : list_all is_no_brace g.trail ≡ true
 
 -- the grammar of templates (dialect)
-pub record IsTemplate (t : Template) : Type 0 where
+pub record IsTemplate (t : Pattern) : Type 0 where
   pub front : list_all is_no_brace t.front ≡ true
   pub groups : AllByRecursion IsGroup t.groups
 
 -- no bytes spell two templates
 abbrev pub OneTemplate : Type 0
-OneTemplate = (s t : Template) → IsTemplate s → IsTemplate t → spelling s ≡ spelling t → s ≡ t
+OneTemplate = (s t : Pattern) → IsTemplate s → IsTemplate t → spelling s ≡ spelling t → s ≡ t

@@ -7,8 +7,10 @@
 mod braces;
 mod case;
 mod fault;
+mod initial;
 mod name;
 mod name_list;
+mod printing;
 mod record;
 mod special;
 mod template;

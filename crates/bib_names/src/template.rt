@@ -41,8 +41,17 @@ pub(crate) struct Group {
 /// How a name is printed: a text, and groups, each with the text behind it. (btxhak 5.4)
 #[derive(Debug, Drop)]
 pub struct Template {
-    pub(crate) front: Text,
-    pub(crate) groups: Seq<Group>,
+    alloc: Global,
+    front: Text,
+    groups: Seq<Group>,
+}
+
+impl Model for Template {
+    ghost use Rattle.bib_names.specs.Template.{Pattern};
+
+    ghost Value = { Pattern };
+
+    ghost view = { λ t. record { front = t.front; groups = t.groups } };
 }
 
 /// A group as it stands in a template's bytes.
@@ -214,8 +223,8 @@ fn owned_group(alloc: Global, group: &GroupText<'_>) -> Result<Group, AllocError
 }
 
 impl Template {
-    ghost use Rattle.bib_names.specs.Template.{IsTemplate, spelling};
-    ghost use Rattle.bib_names.specs.declared.template.Template.{Template as TemplateValue};
+    ghost use Rattle.std.specs.Prelude.{List};
+    ghost use Rattle.bib_names.specs.Template.{Pattern, IsTemplate, spelling};
 
     /// The template that the bytes spell: text, and groups `{pre letters post}` or `{pre letters{between}post}`, where
     /// the letters are one of `f ff v vv l ll j jj` (btxhak 5.4). Beside the letters stands no letter and no brace, and
@@ -224,7 +233,7 @@ impl Template {
     /// Bytes that spell no template are refused as 23, and a template for want of memory alone.
     pub fn read(alloc: Global, bytes: &[u8]) -> Result<Template, NameFault>
         ensures found { IfOk result (λ t. IsTemplate t × (bytes.now ≡ spelling t)) }
-        ensures refused { result ≡ Err NameFault.BadTemplate → (t : TemplateValue) → IsTemplate t → bytes.now ≡ spelling t → ⊥ }
+        ensures refused { result ≡ Err NameFault.BadTemplate → (t : Pattern) → IsTemplate t → bytes.now ≡ spelling t → ⊥ }
         ensures err { IfErr result (λ fault. (fault ≡ NameFault.BadTemplate) ⊎ (fault ≡ NameFault.Memory)) }
     {
         let (front, mut rest) = split_plain(bytes);
@@ -239,10 +248,37 @@ impl Template {
         if !rest.is_empty() {
             return Err(NameFault::BadTemplate);
         }
-        Ok(Template {
-            front: owned(alloc, front)?,
+        Ok(Template::of(alloc, owned(alloc, front)?, groups))
+    }
+
+    /// The template of this text and these groups.
+    pub(crate) fn of(alloc: Global, front: Text, groups: Vec<Group>) -> Template
+        ensures { result ≡ record { front = front; groups = groups.items } }
+    {
+        Template {
+            alloc,
+            front,
             groups: Seq::from_vec(groups),
-        })
+        }
+    }
+
+    /// The text before the first group.
+    pub(crate) fn front(&self) -> &[u8]
+        ensures { result.now ≡ self.now.front }
+    {
+        self.front.as_slice()
+    }
+
+    /// The groups, each with the text behind it.
+    pub(crate) fn groups(&self) -> &[Group]
+        ensures { result.now ≡ self.now.groups }
+    {
+        self.groups.as_slice()
+    }
+
+    /// The allocator of the call that made the template.
+    pub(crate) fn allocator(&self) -> Global {
+        self.alloc
     }
 }
 
