@@ -1,9 +1,90 @@
 //! Where everything stands in a file.
 
+ghost use Rattle.std.specs.Prelude.{◌≡◌};
+
+use crate::run::behind;
 use std::marker::Model;
+
+/// Where the body of an item lies: its first byte, and the first one behind it.
+#[derive(Clone, Copy, Debug, PartialEq, Eq)]
+pub(crate) struct Span {
+    pub start: usize,
+    pub end: usize,
+}
 
 /// Where the items of a file lie.
 #[derive(Drop)]
 pub struct Layout {
     front_len: usize,
+    items: Vec<Span>,
+}
+
+impl Model for Layout {
+    ghost use Rattle.bib_scan.specs.Layout.{Places};
+
+    ghost Value = { Places };
+
+    ghost view = { λ l. record { front_len = l.front_len; items = l.items.items } };
+}
+
+impl Layout {
+    ghost use Rattle.std.specs.Prelude.{◌≡◌, ◌<◌, length, slice_get, Some};
+    ghost use Rattle.bib_spec.specs.Tree.{tree_bytes};
+    ghost use Rattle.bib_spec.specs.Reading.{Reading, Item, Reads};
+    ghost use Rattle.bib_scan.specs.Layout.{places_of, placed, trail_end, IsLayoutOf};
+
+    /// The layout of a file whose front is so long, and whose items have their bodies there.
+    pub(crate) fn new(front_len: usize, items: Vec<Span>) -> Self
+        ensures { result ≡ placed front_len items.items }
+    {
+        Layout { front_len, items }
+    }
+
+    /// How many items the file has.
+    pub fn len(&self) -> usize
+        ensures count { result ≡ length self.now.items }
+        ensures items { (db : Reading) → self.now ≡ places_of db → result ≡ length db.items }
+    {
+        self.items.len()
+    }
+
+    /// The text before the first item.
+    pub fn front<'a>(&self, bytes: &'a [u8]) -> &'a [u8]
+        requires { IsLayoutOf bytes.now self.now }
+        ensures { (db : Reading) → Reads bytes.now db → result.now ≡ db.front }
+    {
+        bytes.split_at(self.front_len).0
+    }
+
+    /// The body of item n.
+    pub(crate) fn body<'a>(&self, bytes: &'a [u8], n: usize) -> &'a [u8]
+        requires layout { IsLayoutOf bytes.now self.now }
+        requires n_in_range { n < length self.now.items }
+        ensures { (db : Reading) (i : Item) → Reads bytes.now db → slice_get db.items n ≡ Some i → result.now ≡ tree_bytes i.tree }
+    {
+        let body = self.items[n];
+        behind(bytes, body.start).split_at(body.end - body.start).0
+    }
+
+    /// Where the trail of item n ends.
+    fn trail_end(&self, bytes: &[u8], n: usize) -> usize
+        requires { n < length self.now.items }
+        ensures { result ≡ trail_end bytes.now self.now n }
+    {
+        match self.items.get(n + 1) {
+            Some(next) => next.start,
+            None => bytes.len(),
+        }
+    }
+
+    /// The trail of item n, up to the next item or to the end of the file.
+    pub(crate) fn trail<'a>(&self, bytes: &'a [u8], n: usize) -> &'a [u8]
+        requires layout { IsLayoutOf bytes.now self.now }
+        requires n_in_range { n < length self.now.items }
+        ensures { (db : Reading) (i : Item) → Reads bytes.now db → slice_get db.items n ≡ Some i → result.now ≡ i.trail }
+    {
+        let body = self.items[n];
+        let end = self.trail_end(bytes, n);
+        behind(bytes, body.end).split_at(end - body.end).0
+    }
 }

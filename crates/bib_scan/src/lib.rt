@@ -2,12 +2,22 @@
 //! It promises the one reading of a file with its places, or the first byte at which no file continues.
 #![tactic(auto)]
 
+mod body;
+mod class;
 mod fault;
+mod laws;
 mod layout;
+mod opening;
 mod reading;
+mod run;
 mod seq;
+mod text;
+mod value;
 
 pub use fault::ReadFault;
+pub use laws::one_reading;
 pub use layout::Layout;
 pub use reading::{FILE_LIMIT, read};
 pub use seq::{Seq, Text};
+pub use text::{NAME_LIMIT, is_name, same_folded};
+pub use value::Part;

@@ -4,3 +4,13 @@ pub mod Clean
 pub mod Tree
 pub mod Reading
 pub mod Fault
+pub mod Texts
+pub mod Records
+pub mod Pieces
+pub mod MadeKeys
+pub mod Edits
+pub mod EditChunks
+pub mod History
+pub mod Steps
+pub mod Laws
+pub mod OtherLaws

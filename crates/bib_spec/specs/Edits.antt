@@ -1,0 +1,577 @@
+-- What each edit makes of a database, which stretches of the file it replaces, and when it is refused.
+use Rattle.std.specs.Prelude.{◌≡◌, ◌<◌, ◌⊎◌, ℕ, suc, ◌-◌, Bool, true, false, not, ◌&&◌, ◌||◌, ◌==◌, List, [], ◌∷◌, ◌++◌, Option, Some, None, is_some, unwrap_or, length, insert, if◌then◌else◌, bytes_eq, codes, map, find, scan, count_by, option_and_then, slice_get, All}
+use Rattle.std.specs.List.{flat_map, list_any, list_all}
+use Rattle.std.specs.Option.{option_map_or}
+use Rattle.bib_spec.specs.Bytes.{name_limit, file_limit, close_paren}
+use Rattle.bib_spec.specs.Text.{Text, folded, same, is_name, is_new_key}
+use Rattle.bib_spec.specs.Clean.{IsClean, IsCleanTrail}
+use Rattle.bib_spec.specs.Tree.{Part, Braced, Quoted, Digits, Macro, Link, Value, Assignment, Row, Brace, Definition, Entry, Tree, CommentTree, DefinitionTree, PreambleTree, EntryTree, is_comment, is_type, behind_key_bytes, IsValue, value_bytes, IsValue}
+use Rattle.bib_spec.specs.Reading.{Item, Reading, bytes_of, IsValueWithin}
+use Rattle.bib_spec.specs.Texts.{months, parts_of, values_of, seen, too_long_at}
+use Rattle.bib_spec.specs.Records.{EntryTexts, Record, entries_of, keys_of, crossref, has_name, is_named, entry_named, target, parent, dangling_texts}
+use Rattle.bib_spec.specs.MadeKeys.{new_keys}
+
+-- ---- edits
+
+-- an entry to be added: its type, its key, and its fields with their values
+pub record NewEntry : Type 0 where
+  pub kind_name : Text
+  pub key : Text
+  pub fields : List (Text × Value)
+
+-- What may be asked of a database. A key in it names the first entry that has it, folded.
+pub data Edit : Type 0 where
+  -- the field of this entry gets this value: key, field, value
+  SetField : Text → Text → Value → Edit
+  -- the field of this entry goes: key, field
+  DropField : Text → Text → Edit
+  -- the entry stands before this item
+  AddEntry : ℕ → NewEntry → Edit
+  -- the entry goes
+  RemoveEntry : Text → Edit
+  -- the entry goes, and then stands before this item of what remains
+  MoveEntry : Text → ℕ → Edit
+  -- the entry gets another key, and each crossref that names it names it by that: old key, new key
+  RenameKey : Text → Text → Edit
+  -- the macro gets another name, in its definition and in each use: old name, new name
+  RenameMacro : Text → Text → Edit
+  -- each use of the macro becomes its text, and its definition goes
+  InlineMacro : Text → Edit
+  -- each part that is the text becomes a use of a macro that is defined as it: name, text
+  IntroduceMacro : Text → Text → Edit
+  -- all entries get made keys, from their records at this depth
+  RegenerateKeys : ℕ → Edit
+  -- each entry in turn stands behind the last item
+  AddMany : List NewEntry → Edit
+
+-- The value is what the bytes say, if they say one, and else anything that has these bytes: an edit is asked for with
+-- bytes, and whether they are a value is judged with everything else.
+pub record Spells (t : Text) (v : Value) : Type 0 where
+  pub bytes : value_bytes v ≡ t
+  pub value : IsValueWithin name_limit t → IsValue name_limit v
+
+-- ---- changes of names and parts
+
+-- what a change makes of a thing: it leaves most
+abbrev pub changed : {X : Type 0} → (X → Option X) → X → X
+changed change x = unwrap_or (change x) x
+
+abbrev pub link_with : (Part → Option Part) → Link → Link
+link_with parts l = record l { part = changed parts l.part }
+
+abbrev pub value_with : (Part → Option Part) → Value → Value
+value_with parts v = record v { first = changed parts v.first; links = map (link_with parts) v.links }
+
+abbrev pub assignment_with : (Part → Option Part) → Assignment → Assignment
+assignment_with parts a = record a { value = value_with parts a.value }
+
+abbrev pub row_with : (Part → Option Part) → Row → Row
+row_with parts row = record row { assignment = assignment_with parts row.assignment }
+
+-- a tree with its defined name and its parts changed
+abbrev pub tree_with : (Text → Option Text) → (Part → Option Part) → Tree → Tree
+tree_with names parts (CommentTree h) = CommentTree h
+tree_with names parts (DefinitionTree d) =
+    let a : Assignment = assignment_with parts d.assignment in
+    DefinitionTree (record d { assignment = record a { name = changed names a.name } })
+tree_with names parts (PreambleTree p) = PreambleTree (record p { value = value_with parts p.value })
+tree_with names parts (EntryTree e) = EntryTree (record e { rows = map (row_with parts) e.rows })
+
+abbrev pub item_with : (Text → Option Text) → (Part → Option Part) → Item → Item
+item_with names parts item = record item { tree = tree_with names parts item.tree }
+
+abbrev pub items_with : (Text → Option Text) → (Part → Option Part) → List Item → List Item
+items_with names parts items = map (item_with names parts) items
+
+-- a change that leaves everything
+abbrev pub leaving : {X : Type 0} → X → Option X
+leaving x = None
+
+-- ---- what items hold
+
+-- the item defines the macro
+abbrev pub defines : Text → Tree → Bool
+defines name (DefinitionTree d) = same d.assignment.name name
+defines name (CommentTree h) = false
+defines name (PreambleTree p) = false
+defines name (EntryTree e) = false
+
+-- the part is the macro's name
+abbrev pub uses : Text → Part → Bool
+uses name (Macro used) = same used name
+uses name (Braced t) = false
+uses name (Quoted t) = false
+uses name (Digits t) = false
+
+-- the part is `{text}` or `"text"`
+abbrev pub holds : Text → Part → Bool
+holds text (Braced t) = bytes_eq t text
+holds text (Quoted t) = bytes_eq t text
+holds text (Digits t) = false
+holds text (Macro name) = false
+
+-- some part of the item passes the test
+abbrev pub any_part : (Part → Bool) → Tree → Bool
+any_part test tree = list_any (λ v. list_any test (parts_of v)) (values_of tree)
+
+-- the name is a month's, or defined or used anywhere
+abbrev pub is_in_use : Text → List Item → Bool
+is_in_use name items =
+    is_some (months (folded name)) || list_any (λ item. defines name item.tree || any_part (uses name) item.tree) items
+
+-- the item is an entry that the key names
+abbrev pub is_entry : Text → Tree → Bool
+is_entry key (EntryTree e) = is_named key e.key
+is_entry key (CommentTree h) = false
+is_entry key (DefinitionTree d) = false
+is_entry key (PreambleTree p) = false
+
+-- ---- the first item that passes a test
+
+-- the items as they are up to the first that passes the test, and changed from it on
+abbrev pub from_first : (Tree → Bool) → (List Item → List Item) → List Item → List Item
+from_first test change [] = []
+from_first test change (item ∷ items) = if test item.tree then change (item ∷ items) else item ∷ from_first test change items
+
+abbrev pub with_first_tree : (Tree → Tree) → List Item → List Item
+with_first_tree change [] = []
+with_first_tree change (item ∷ items) = record item { tree = change item.tree } ∷ items
+
+-- Without the first item that passes the test: its body goes, and its trail joins the text before it.
+abbrev pub without_first : (Tree → Bool) → Text → List Item → Reading
+without_first test front [] = record { front = front; items = [] }
+without_first test front (item ∷ items) =
+    let rest = without_first test item.trail items in
+    if test item.tree
+    then record { front = front ++ item.trail; items = items }
+    else record { front = front; items = record item { trail = rest.front } ∷ rest.items }
+
+-- ---- fields
+
+-- a row as an edit writes it: a line of its own, before this white space
+abbrev pub new_row : Text → Value → Text → Row
+new_row name value behind = record {
+  space_before_name = codes "\n  ";
+  assignment = record { name = name; space_before_equals = codes " "; space_before_value = codes " "; value = value; space_behind = behind };
+}
+
+abbrev pub row_before : Text → Row → Row
+row_before space row = record row { assignment = record row.assignment { space_behind = space } }
+
+abbrev pub row_to : Value → Row → Row
+row_to value row = record row { assignment = record row.assignment { value = value } }
+
+-- The white space before the rows, and the rows, of which the first of this name has the value; where there is none,
+-- a new row stands directly behind the last value, or behind the key.
+abbrev pub with_field : Text → Value → Text → List Row → Text × List Row
+with_field name value before [] = ([], new_row name value before ∷ [])
+with_field name value before (row ∷ rows) =
+    let rest = with_field name value row.assignment.space_behind rows in
+    if same row.assignment.name name then (before, row_to value row ∷ rows) else (before, row_before rest.0 row ∷ rest.1)
+
+-- The white space before the rows, and the rows without the first of this name: what goes is its comma up to the end of
+-- its value, so the white space behind it joins that before it.
+abbrev pub without_field : Text → Text → List Row → Text × List Row
+without_field name before [] = (before, [])
+without_field name before (row ∷ rows) =
+    let rest = without_field name row.assignment.space_behind rows in
+    if same row.assignment.name name then (before ++ row.assignment.space_behind, rows) else (before, row_before rest.0 row ∷ rest.1)
+
+abbrev pub entry_with_rows : Text × List Row → Entry → Entry
+entry_with_rows rows e = record e { space_behind_key = rows.0; rows = rows.1 }
+
+abbrev pub entry_with_field : Text → Value → Entry → Entry
+entry_with_field name value e = entry_with_rows (with_field name value e.space_behind_key e.rows) e
+
+abbrev pub entry_without_field : Text → Entry → Entry
+entry_without_field name e = entry_with_rows (without_field name e.space_behind_key e.rows) e
+
+-- a change of entries, as one of trees
+abbrev pub of_entry : (Entry → Entry) → Tree → Tree
+of_entry change (EntryTree e) = EntryTree (change e)
+of_entry change (CommentTree h) = CommentTree h
+of_entry change (DefinitionTree d) = DefinitionTree d
+of_entry change (PreambleTree p) = PreambleTree p
+
+-- the entry that the key names, changed
+abbrev pub with_entry : Text → (Entry → Entry) → Reading → Reading
+with_entry key change db = record db { items = from_first (is_entry key) (with_first_tree (of_entry change)) db.items }
+
+abbrev pub set_field : Text → Text → Value → Reading → Reading
+set_field key name value db = with_entry key (entry_with_field name value) db
+
+abbrev pub drop_field : Text → Text → Reading → Reading
+drop_field key name db = with_entry key (entry_without_field name) db
+
+-- ---- entries
+
+abbrev pub line_end : Text
+line_end = codes "\n"
+
+abbrev pub new_rows : List (Text × Value) → List Row
+new_rows [] = []
+new_rows (field ∷ []) = new_row field.0 field.1 line_end ∷ []
+new_rows (field ∷ next ∷ fields) = new_row field.0 field.1 [] ∷ new_rows (next ∷ fields)
+
+-- a new entry as it is written: `@type{key,`, each field in a line of its own, and `}` in a line of its own if there are fields
+abbrev pub entry_of : NewEntry → Entry
+entry_of new = record {
+  opening = record {
+    head = record { space_before_type = []; type_name = new.kind_name };
+    space_before_delimiter = [];
+    delimiter = Brace;
+    space_behind = [];
+  };
+  key = new.key;
+  space_behind_key = [];
+  rows = new_rows new.fields;
+  last_comma = None;
+}
+
+-- a tree in a line of its own
+abbrev pub in_line : Tree → Item
+in_line tree = record { tree = tree; trail = line_end }
+
+abbrev pub item_of : NewEntry → Item
+item_of new = in_line (EntryTree (entry_of new))
+
+abbrev pub with_item : ℕ → Item → Reading → Reading
+with_item place item db = record db { items = insert db.items place item }
+
+abbrev pub add_entry : ℕ → NewEntry → Reading → Reading
+add_entry place new db = with_item place (item_of new) db
+
+abbrev pub add_many : List NewEntry → Reading → Reading
+add_many news db = record db { items = db.items ++ map item_of news }
+
+abbrev pub remove_entry : Text → Reading → Reading
+remove_entry key db = without_first (is_entry key) db.front db.items
+
+abbrev pub move_entry : Text → ℕ → Reading → Reading
+move_entry key place db =
+    option_map_or (λ item. with_item place (in_line item.tree) (remove_entry key db)) (find (λ item. is_entry key item.tree) db.items) db
+
+-- ---- keys
+
+abbrev pub in_braces : Text → Value
+in_braces t = record { first = Braced t; links = [] }
+
+-- the first row of this name with another value
+abbrev pub with_value : Text → Value → List Row → List Row
+with_value name value [] = []
+with_value name value (row ∷ rows) = if same row.assignment.name name then row_to value row ∷ rows else row ∷ with_value name value rows
+
+-- the rows, where the effective crossref names its target by a new key, if the target gets one
+abbrev pub with_crossref : Option Text → List Row → List Row
+with_crossref None rows = rows
+with_crossref (Some key) rows = with_value crossref (in_braces key) rows
+
+-- the number of the next entry, behind a tree
+abbrev pub next_number : ℕ → Tree → ℕ
+next_number n (EntryTree e) = suc n
+next_number n (CommentTree h) = n
+next_number n (DefinitionTree d) = n
+next_number n (PreambleTree p) = n
+
+-- entry n with its new key, and its crossref by its target's new key, where there are such
+abbrev pub tree_with_keys : (ℕ → Option Text) → List EntryTexts → ℕ → Tree → Tree
+tree_with_keys new entries n (EntryTree e) =
+    EntryTree (record e { key = unwrap_or (new n) e.key; rows = with_crossref (option_and_then new (target entries n)) e.rows })
+tree_with_keys new entries n (CommentTree h) = CommentTree h
+tree_with_keys new entries n (DefinitionTree d) = DefinitionTree d
+tree_with_keys new entries n (PreambleTree p) = PreambleTree p
+
+abbrev pub item_with_keys : (ℕ → Option Text) → List EntryTexts → ℕ → Item → Item
+item_with_keys new entries n item = record item { tree = tree_with_keys new entries n item.tree }
+
+-- the items with their new keys, where the first entry among them has the number n
+abbrev pub items_with_keys : (ℕ → Option Text) → List EntryTexts → ℕ → List Item → List Item
+items_with_keys new entries n items = scan (λ n item. next_number n item.tree) (item_with_keys new entries) n items
+
+-- all entries with their new keys at once: entry n gets the key `new n`, where it gets one
+abbrev pub with_keys : (ℕ → Option Text) → Reading → Reading
+with_keys new db = record db { items = items_with_keys new (entries_of db) 0 db.items }
+
+-- the new key of the one entry that gets one
+abbrev pub key_for : Option ℕ → Text → ℕ → Option Text
+key_for None to n = None
+key_for (Some m) to n = if m == n then Some to else None
+
+abbrev pub rename_key : Text → Text → Reading → Reading
+rename_key from to db = with_keys (key_for (entry_named (entries_of db) from) to) db
+
+abbrev pub regenerate_keys : (Record → Text) → ℕ → Reading → Reading
+regenerate_keys key_base depth db = with_keys (slice_get (new_keys key_base depth (entries_of db))) db
+
+-- ---- macros
+
+abbrev pub name_renamed : Text → Text → Text → Option Text
+name_renamed from to name = if same name from then Some to else None
+
+abbrev pub use_renamed : Text → Text → Part → Option Part
+use_renamed from to (Macro name) = if same name from then Some (Macro to) else None
+use_renamed from to (Braced t) = None
+use_renamed from to (Quoted t) = None
+use_renamed from to (Digits t) = None
+
+-- from its definition on the macro has the new name: a use before it means a month, or nothing
+abbrev pub rename_macro : Text → Text → Reading → Reading
+rename_macro from to db = record db { items = from_first (defines from) (items_with (name_renamed from to) (use_renamed from to)) db.items }
+
+abbrev pub use_inlined : Text → Text → Part → Option Part
+use_inlined name text (Macro used) = if same used name then Some (Braced text) else None
+use_inlined name text (Braced t) = None
+use_inlined name text (Quoted t) = None
+use_inlined name text (Digits t) = None
+
+-- the items behind the first with each use of the macro replaced by the text in braces
+abbrev pub uses_inlined : Text → Text → List Item → List Item
+uses_inlined name text [] = []
+uses_inlined name text (item ∷ items) = item ∷ items_with leaving (use_inlined name text) items
+
+-- what the macro stands for behind its definition, or nothing
+abbrev pub text_of_macro : Text → Reading → Text
+text_of_macro name db = unwrap_or (seen db (length db.items) name) []
+
+-- the uses behind the definition are replaced, and the definition goes
+abbrev pub inline_macro : Text → Reading → Reading
+inline_macro name db =
+    without_first (defines name) db.front (from_first (defines name) (uses_inlined name (text_of_macro name db)) db.items)
+
+-- `@string{name = {text}}`
+abbrev pub definition_of : Text → Text → Definition
+definition_of name text = record {
+  opening = record {
+    head = record { space_before_type = []; type_name = codes "string" };
+    space_before_delimiter = [];
+    delimiter = Brace;
+    space_behind = [];
+  };
+  assignment = record { name = name; space_before_equals = codes " "; space_before_value = codes " "; value = in_braces text; space_behind = [] };
+}
+
+abbrev pub part_introduced : Text → Text → Part → Option Part
+part_introduced name text part = if holds text part then Some (Macro name) else None
+
+-- a definition, and behind it each part that is the text as a use of it
+abbrev pub introduced : Text → Text → List Item → List Item
+introduced name text items = in_line (DefinitionTree (definition_of name text)) ∷ items_with leaving (part_introduced name text) items
+
+-- the definition stands before the first item that has such a part
+abbrev pub introduce_macro : Text → Text → Reading → Reading
+introduce_macro name text db = record db { items = from_first (any_part (holds text)) (introduced name text) db.items }
+
+-- ---- what an edit makes
+
+-- The database after an edit. Made keys begin with `key_base` of the records.
+abbrev pub edited : (Record → Text) → Reading → Edit → Reading
+edited key_base db (SetField key name value) = set_field key name value db
+edited key_base db (DropField key name) = drop_field key name db
+edited key_base db (AddEntry place new) = add_entry place new db
+edited key_base db (RemoveEntry key) = remove_entry key db
+edited key_base db (MoveEntry key place) = move_entry key place db
+edited key_base db (RenameKey from to) = rename_key from to db
+edited key_base db (RenameMacro from to) = rename_macro from to db
+edited key_base db (InlineMacro name) = inline_macro name db
+edited key_base db (IntroduceMacro name text) = introduce_macro name text db
+edited key_base db (RegenerateKeys depth) = regenerate_keys key_base depth db
+edited key_base db (AddMany news) = add_many news db
+
+-- ---- what an edit is given
+
+-- its new keys
+abbrev pub given_keys : Edit → List Text
+given_keys (AddEntry place new) = new.key ∷ []
+given_keys (AddMany news) = map (λ new. new.key) news
+given_keys (RenameKey from to) = to ∷ []
+given_keys other = []
+
+abbrev pub field_names : NewEntry → List Text
+field_names new = map (λ field. field.0) new.fields
+
+abbrev pub field_values : NewEntry → List Value
+field_values new = map (λ field. field.1) new.fields
+
+-- its names of fields and macros, new ones or not
+abbrev pub given_names : Edit → List Text
+given_names (SetField key name value) = name ∷ []
+given_names (DropField key name) = name ∷ []
+given_names (AddEntry place new) = field_names new
+given_names (AddMany news) = flat_map field_names news
+given_names (RenameMacro from to) = from ∷ to ∷ []
+given_names (InlineMacro name) = name ∷ []
+given_names (IntroduceMacro name text) = name ∷ []
+given_names other = []
+
+-- its types of entries
+abbrev pub given_types : Edit → List Text
+given_types (AddEntry place new) = new.kind_name ∷ []
+given_types (AddMany news) = map (λ new. new.kind_name) news
+given_types other = []
+
+-- its values; a text that is introduced stands in braces
+abbrev pub given_values : Edit → List Value
+given_values (SetField key name value) = value ∷ []
+given_values (AddEntry place new) = field_values new
+given_values (AddMany news) = flat_map field_values news
+given_values (IntroduceMacro name text) = in_braces text ∷ []
+given_values other = []
+
+-- ---- what an edit addresses
+
+-- how many entries have the key
+abbrev pub holders : Text → Reading → ℕ
+holders key db = count_by (is_named key) (keys_of (entries_of db))
+
+-- how many fields of this name the entry has that the key names
+abbrev pub fields_named : Text → Text → Reading → ℕ
+fields_named key name db =
+    option_map_or (λ entry. count_by (has_name name) entry.fields) (option_and_then (slice_get (entries_of db)) (entry_named (entries_of db) key)) 0
+
+-- how many definitions the macro has
+abbrev pub definitions : Text → Reading → ℕ
+definitions name db = count_by (λ item. defines name item.tree) db.items
+
+-- the highest place before which an item can stand; a moved item is not counted
+abbrev pub last_place : Reading → Edit → ℕ
+last_place db (MoveEntry key place) = if is_some (entry_named (entries_of db) key) then length db.items - 1 else length db.items
+last_place db other = length db.items
+
+-- some key stands for an earlier one too, folded
+abbrev pub has_same : List Text → Bool
+has_same [] = false
+has_same (name ∷ names) = list_any (same name) names || has_same names
+
+-- the entry is another entry's target
+abbrev pub IsReferred : Text → List EntryTexts → Type 0
+IsReferred key entries = (n m : ℕ) × (entry_named entries key ≡ Some m) × (parent entries n ≡ Some m)
+
+-- no command begins in the text between the items
+pub record HasCleanTexts (db : Reading) : Type 0 where
+  pub front : IsClean db.front
+  pub trails : All (λ item. IsCleanTrail (is_comment item.tree) item.trail) db.items
+
+-- the closing parenthesis stands directly behind the key, so that it would be a byte of it
+abbrev pub ends_in_key : Entry → Bool
+ends_in_key e = bytes_eq (behind_key_bytes e) (close_paren ∷ [])
+
+abbrev pub tree_ends_in_key : Tree → Bool
+tree_ends_in_key (EntryTree e) = ends_in_key e
+tree_ends_in_key other = false
+
+-- ---- refusals
+
+-- why an edit is refused, in the order in which the reasons are tried
+pub data EditFault : Type 0 where
+  BadKey BadName BadValue BadPosition NotFound Ambiguous KeyInUse NameInUse Referred WouldMerge FileTooLong TextTooLong : EditFault
+
+-- the order of the reasons
+abbrev pub rank : EditFault → ℕ
+rank BadKey = 0
+rank BadName = 1
+rank BadValue = 2
+rank BadPosition = 3
+rank NotFound = 4
+rank Ambiguous = 5
+rank KeyInUse = 6
+rank NameInUse = 7
+rank Referred = 8
+rank WouldMerge = 9
+rank FileTooLong = 10
+rank TextTooLong = 11
+
+abbrev pub edit_fault_number : EditFault → ℕ
+edit_fault_number BadKey = 31
+edit_fault_number BadName = 32
+edit_fault_number BadValue = 33
+edit_fault_number BadPosition = 34
+edit_fault_number NotFound = 35
+edit_fault_number Ambiguous = 36
+edit_fault_number KeyInUse = 37
+edit_fault_number NameInUse = 38
+edit_fault_number Referred = 39
+edit_fault_number WouldMerge = 40
+edit_fault_number FileTooLong = 9
+edit_fault_number TextTooLong = 8
+
+-- the place that the edit names is too high
+abbrev pub IsPlaceTooHigh : Reading → Edit → Type 0
+IsPlaceTooHigh db (AddEntry place new) = last_place db (AddEntry place new) < place
+IsPlaceTooHigh db (MoveEntry key place) = last_place db (MoveEntry key place) < place
+IsPlaceTooHigh db other = ⊥
+
+-- what the edit addresses is not there; an empty key never is, and a month alone is no definition
+abbrev pub IsMissing : Reading → Edit → Type 0
+IsMissing db (SetField key name value) = holders key db ≡ 0
+IsMissing db (DropField key name) = fields_named key name db ≡ 0
+IsMissing db (RemoveEntry key) = holders key db ≡ 0
+IsMissing db (MoveEntry key place) = holders key db ≡ 0
+IsMissing db (RenameKey from to) = holders from db ≡ 0
+IsMissing db (RenameMacro from to) = definitions from db ≡ 0
+IsMissing db (InlineMacro name) = definitions name db ≡ 0
+IsMissing db (IntroduceMacro name text) = list_any (λ item. any_part (holds text) item.tree) db.items ≡ false
+IsMissing db other = ⊥
+
+-- what the edit addresses is there twice, or a new entry has a field twice
+abbrev pub IsAmbiguous : Reading → Edit → Type 0
+IsAmbiguous db (SetField key name value) = (1 < holders key db) ⊎ (1 < fields_named key name db)
+IsAmbiguous db (DropField key name) = (1 < holders key db) ⊎ (1 < fields_named key name db)
+IsAmbiguous db (AddEntry place new) = has_same (field_names new) ≡ true
+IsAmbiguous db (RemoveEntry key) = 1 < holders key db
+IsAmbiguous db (MoveEntry key place) = 1 < holders key db
+IsAmbiguous db (RenameKey from to) = 1 < holders from db
+IsAmbiguous db (RenameMacro from to) = 1 < definitions from db
+IsAmbiguous db (InlineMacro name) = 1 < definitions name db
+IsAmbiguous db (AddMany news) = list_any (λ new. has_same (field_names new)) news ≡ true
+IsAmbiguous db other = ⊥
+
+-- The new key is another entry's, or another new entry's, or the text of a dangling crossref; that last only for a key
+-- that is renamed, since an added entry may be what the crossref was waiting for.
+abbrev pub IsKeyInUse : Reading → Edit → Type 0
+IsKeyInUse db (AddEntry place new) = list_any (same new.key) (keys_of (entries_of db)) ≡ true
+IsKeyInUse db (AddMany news) =
+    (has_same (map (λ new. new.key) news) || list_any (λ new. list_any (same new.key) (keys_of (entries_of db))) news) ≡ true
+IsKeyInUse db (RenameKey from to) =
+    (list_any (λ key. same to key && not (is_named from key)) (keys_of (entries_of db)) || list_any (same to) (dangling_texts (entries_of db))) ≡ true
+IsKeyInUse db other = ⊥
+
+-- the new name of a macro is in use; a change of case alone is no new name
+abbrev pub IsNameInUse : Reading → Edit → Type 0
+IsNameInUse db (RenameMacro from to) = (not (same to from) && is_in_use to db.items) ≡ true
+IsNameInUse db (IntroduceMacro name text) = is_in_use name db.items ≡ true
+IsNameInUse db other = ⊥
+
+-- The text that a removal joins would begin a command or go on with a comment's type name; or a key would go on with
+-- the closing parenthesis.
+abbrev pub MergesText : Reading → Edit → Type 0
+MergesText db (DropField key name) =
+    option_map_or (λ item. tree_ends_in_key item.tree) (find (λ item. is_entry key item.tree) (drop_field key name db).items) false ≡ true
+MergesText db (RemoveEntry key) = HasCleanTexts (remove_entry key db) → ⊥
+MergesText db (MoveEntry key place) = HasCleanTexts (remove_entry key db) → ⊥
+MergesText db (InlineMacro name) = HasCleanTexts (inline_macro name db) → ⊥
+MergesText db other = ⊥
+
+-- The edit is refused for this reason. (dialect)
+abbrev pub Refuses : (Record → Text) → EditFault → Reading → Edit → Type 0
+Refuses key_base BadKey db e = list_all is_new_key (given_keys e) ≡ false
+Refuses key_base BadName db e = (list_all is_name (given_names e) && list_all is_type (given_types e)) ≡ false
+Refuses key_base BadValue db e = All (IsValue name_limit) (given_values e) → ⊥
+Refuses key_base BadPosition db e = IsPlaceTooHigh db e
+Refuses key_base NotFound db e = IsMissing db e
+Refuses key_base Ambiguous db e = IsAmbiguous db e
+Refuses key_base KeyInUse db e = IsKeyInUse db e
+Refuses key_base NameInUse db e = IsNameInUse db e
+Refuses key_base Referred db (RemoveEntry key) = IsReferred key (entries_of db)
+Refuses key_base Referred db other = ⊥
+Refuses key_base WouldMerge db e = MergesText db e
+Refuses key_base FileTooLong db e = file_limit < length (bytes_of (edited key_base db e))
+Refuses key_base TextTooLong db e = is_some (too_long_at (edited key_base db e)) ≡ true
+
+-- no reason refuses the edit
+abbrev pub IsAccepted : (Record → Text) → Reading → Edit → Type 0
+IsAccepted key_base db e = (fault : EditFault) → Refuses key_base fault db e → ⊥
+
+-- the reason refuses the edit, and none before it does
+pub record IsFirstRefusal (key_base : Record → Text) (db : Reading) (e : Edit) (fault : EditFault) : Type 0 where
+  pub holds : Refuses key_base fault db e
+  pub first : (other : EditFault) → rank other < rank fault → Refuses key_base other db e → ⊥

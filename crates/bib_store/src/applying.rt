@@ -1,0 +1,24 @@
+//! Replacing pieces of a text.
+
+ghost use Rattle.std.specs.Prelude.{◌≡◌, IfOk};
+ghost use Rattle.bib_spec.specs.Pieces.{Fit, applied};
+
+use crate::piece::Piece;
+use std::alloc::{AllocError, Global};
+
+/// The bytes with each piece's new bytes for its old.
+pub fn apply(alloc: Global, bytes: &[u8], pieces: &[Piece]) -> Result<Vec<u8>, AllocError>
+    requires { Fit pieces.now bytes.now }
+    ensures { IfOk result (λ text. text.items ≡ applied pieces.now bytes.now) }
+{
+    let mut out = Vec::new(alloc);
+    let mut end: usize = 0;
+    for piece in pieces {
+        let place = piece.place as usize;
+        out.extend_from_slice(&bytes[end..place])?;
+        out.extend_from_slice(piece.new.as_slice())?;
+        end = place + piece.old.as_slice().len();
+    }
+    out.extend_from_slice(&bytes[end..])?;
+    Ok(out)
+}

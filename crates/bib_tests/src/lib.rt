@@ -1,0 +1,10 @@
+//! Worked examples that cross crates, and what no contract says: that calls succeed with ample memory.
+#![tactic(auto)]
+
+#[cfg(test)]
+mod reading;
+mod command_lines;
+#[cfg(test)]
+mod fakes;
+#[cfg(test)]
+mod running;
