@@ -9,3 +9,4 @@ pub mod SpecialLemmas
 pub mod CaseLemmas
 pub mod CharLemmas
 pub mod TemplateLaws
+pub mod BalanceLaws

@@ -12,3 +12,4 @@ pub mod FirstComma
 pub mod Template
 pub mod TemplateReading
 pub mod Printing
+pub mod Label

@@ -8,6 +8,8 @@ mod braces;
 mod case;
 mod fault;
 mod initial;
+mod label;
+mod made_key;
 mod name;
 mod name_list;
 mod printing;
@@ -18,6 +20,8 @@ mod text;
 mod word;
 
 pub use fault::NameFault;
+pub use label::label_base;
+pub use made_key::{BASE_LIMIT, key_base, key_bases_are_keys};
 pub use name::{Name, split_name};
 pub use name_list::split_names;
 pub use record::Record;

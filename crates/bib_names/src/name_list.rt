@@ -9,8 +9,8 @@ ghost use Rattle.bib_names.specs.NameList.{is_and, is_cut, names_of};
 
 use crate::braces::Braces;
 use crate::fault::NameFault;
-use crate::text::{is_balanced, is_blank, is_space, same_folded, trimmed};
-use bib_scan::Seq;
+use crate::text::{is_balanced, is_blank, is_space, trimmed};
+use bib_scan::{Seq, same_folded};
 use std::alloc::{AllocError, Global};
 
 /// Whether the word `and` stands at the place, between white space.

@@ -2,7 +2,7 @@
 
 ghost use Rattle.std.specs.Prelude.{◌≡◌, ◌↔◌, ◌≤◌, ◌||◌, ◌==◌, IsTrue, not, length, drop, take};
 ghost use Rattle.std.specs.List.{prefix_len, list_all};
-ghost use Rattle.bib_spec.specs.Text.{is_space, same, after_run, IsBalanced};
+ghost use Rattle.bib_spec.specs.Text.{is_space, after_run, IsBalanced};
 ghost use Rattle.bib_names.specs.Marks.{is_separator, is_dropped_at_end, goes_on};
 ghost use Rattle.bib_names.specs.Trimming.{before_run, trimmed};
 ghost use Rattle.bib_names.specs.Name.{without_end};
@@ -59,13 +59,6 @@ pub(crate) fn is_balanced(text: &[u8]) -> bool
         }
     }
     depth == 0
-}
-
-/// Whether two texts are the same but for the case of ASCII letters. (btxdoc 3)
-pub(crate) fn same_folded(a: &[u8], b: &[u8]) -> bool
-    ensures { result ≡ same a.now b.now }
-{
-    a.eq_ignore_ascii_case(b)
 }
 
 /// How much white space the text begins with.
