@@ -2,9 +2,10 @@
 #![tactic(auto)]
 
 #[cfg(test)]
-mod reading;
 mod command_lines;
 #[cfg(test)]
 mod fakes;
+#[cfg(test)]
+mod reading;
 #[cfg(test)]
 mod running;
