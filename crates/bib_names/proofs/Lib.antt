@@ -10,3 +10,4 @@ pub mod CaseLemmas
 pub mod CharLemmas
 pub mod TemplateLaws
 pub mod BalanceLaws
+pub mod MadeKeyLaws

@@ -1,6 +1,7 @@
 //! The letters of a label and its base.
 
 ghost use Rattle.std.specs.Prelude.{◌≡◌, ◌≤◌, ◌<◌, ◌++◌, ◌∷◌, [], Some, None, IfOk, IfErr, length, map, filter, take};
+ghost use Rattle.std.specs.List.{flat_map};
 ghost use Rattle.std.specs.Char.{is_ascii_digit};
 ghost use Rattle.bib_names.specs.Label.{text_in, balances, listed_names, names_in, group, initials_template, last_template, print_of, initials_of, first_three, letters_of_one, ends_with_others, letters_of_many, letters_of_fields, or_anon, last_two, label_base};
 
@@ -113,7 +114,7 @@ fn first_three(alloc: Global, text: &[u8]) -> Result<Text, AllocError>
 {
     let mut out = Vec::new(alloc);
     let mut chars = Chars::of(text);
-    for _ in 0..3 {
+    for _ in 0..3_usize {
         let Some((character, rest)) = chars.next() else {
             return Ok(Seq::from_vec(out));
         };
@@ -136,16 +137,22 @@ fn letters_of_one(alloc: Global, name: &[u8]) -> Result<Text, AllocError>
     }
 }
 
+/// The prints of names, joined.
+fn prints_of(alloc: Global, template: &Template, names: &[&[u8]]) -> Result<Vec<u8>, AllocError>
+    ensures { IfOk result (λ t. t.items ≡ flat_map (print_of template.now) (map (λ n. n.now) names.now)) }
+{
+    let mut out = Vec::new(alloc);
+    for name in names {
+        out.extend_from_slice(print_of(alloc, template, name)?.as_slice())?;
+    }
+    Ok(out)
+}
+
 /// The prints of names by `{v{}}{l{}}`, joined.
 fn initials_of(alloc: Global, names: &[&[u8]]) -> Result<Vec<u8>, AllocError>
     ensures { IfOk result (λ t. t.items ≡ initials_of (map (λ n. n.now) names.now)) }
 {
-    let template = initials_template(alloc)?;
-    let mut out = Vec::new(alloc);
-    for name in names {
-        out.extend_from_slice(print_of(alloc, &template, name)?.as_slice())?;
-    }
-    Ok(out)
+    prints_of(alloc, &initials_template(alloc)?, names)
 }
 
 /// Whether the last name is `others`.

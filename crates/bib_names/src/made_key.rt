@@ -44,5 +44,4 @@ pub fn key_base(alloc: Global, entry: &Record) -> Result<Text, NameFault>
 /// Made keys have a base: it does not depend on the citation key, and it is a short key.
 pub fn key_bases_are_keys()
     ensures { IsKeyBase (λ r. key_base r.fields) }
-{
-}
+{}
