@@ -11,3 +11,4 @@ pub mod CharLemmas
 pub mod TemplateLaws
 pub mod BalanceLaws
 pub mod MadeKeyLaws
+pub mod LabelLaws

@@ -114,12 +114,15 @@ key_base fields = take base_limit (or_anon (filter is_ascii_alphanumeric (label_
 abbrev pub count_of : Text → List Text → ℕ
 count_of base bases = count_by (bytes_eq base) bases
 
--- The label of the n-th record: where its base stands more than once, the base and letters, a for the first of them, b
--- for the second and so on; else the base.
+-- the label of a base that stands so often in the list, and so often earlier: where it stands more than once, letters
+-- behind it, a for the first of them, b for the second and so on
+abbrev pub label_of : Text → ℕ → ℕ → Text
+label_of base count earlier = if nat_lt 1 count then candidate base (suc earlier) else base
+
+-- the label of the n-th record
 abbrev pub label_at : List Text → ℕ → Text
 label_at bases n =
-    let base = slice_index_or bases n [] in
-    if nat_lt 1 (count_of base bases) then candidate base (suc (count_of base (take n bases))) else base
+    let base = slice_index_or bases n [] in label_of base (count_of base bases) (count_of base (take n bases))
 
 -- the labels of records with these bases
 abbrev pub labels_of : List Text → List Text

@@ -13,3 +13,4 @@ pub mod Template
 pub mod TemplateReading
 pub mod Printing
 pub mod Label
+pub mod Counts
