@@ -1,6 +1,10 @@
 pub mod LeftToRight
+pub mod DelimiterView
+pub mod View
+pub mod FieldsLeft
 pub mod Layout
 pub mod Code
 pub mod PartView
-pub mod DelimiterView
 pub mod Laws
+pub mod ValueParts
+pub mod PartsLeft

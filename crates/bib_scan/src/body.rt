@@ -39,7 +39,7 @@ fn past_byte(byte: u8, text: &[u8]) -> Option<&[u8]>
 }
 
 /// The text behind a comma.
-fn past_comma(text: &[u8]) -> Result<&[u8], Stop<'_>>
+pub(crate) fn past_comma(text: &[u8]) -> Result<&[u8], Stop<'_>>
     ensures read { Gives (λ x. x.now) result (read_comma text.now) }
     ensures shorter { IfOk result (λ x. length x.now < length text.now) }
 {
@@ -61,7 +61,7 @@ fn past_close(close: u8, text: &[u8]) -> Result<&[u8], Stop<'_>>
 }
 
 /// How many bytes of a key the text begins with.
-fn key_len(delimiter: Delimiter, text: &[u8]) -> usize
+pub(crate) fn key_len(delimiter: Delimiter, text: &[u8]) -> usize
     ensures len { result ≡ prefix_len (goes_on_key (delimiter_view delimiter)) text.now }
     ensures within { result ≤ length text.now }
 {

@@ -12,7 +12,8 @@ pub(crate) struct Span {
     pub end: usize,
 }
 
-/// Where the items of a file lie.
+/// Where the front and the items of a file lie: places in bytes, from 0. Each of its views is a slice of the bytes
+/// that were read, and takes no time that grows with them.
 #[derive(Drop)]
 pub struct Layout {
     front_len: usize,

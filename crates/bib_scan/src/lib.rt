@@ -5,19 +5,26 @@
 mod body;
 mod class;
 mod fault;
+mod fields;
 mod laws;
 mod layout;
 mod opening;
+mod parts;
 mod reading;
 mod run;
 mod seq;
 mod text;
 mod value;
+mod view;
 
 pub use fault::ReadFault;
-pub use laws::one_reading;
+pub use fields::{FieldView, Fields};
+pub use laws::{clean_before_sign, one_reading};
 pub use layout::Layout;
+pub use opening::is_clean_trail;
+pub use parts::{Parts, read_value};
 pub use reading::{FILE_LIMIT, read};
 pub use seq::{Seq, Text};
-pub use text::{NAME_LIMIT, is_name, same_folded};
+pub use text::{NAME_LIMIT, is_balanced, is_key, is_name, is_type, same_folded};
 pub use value::Part;
+pub use view::{ItemView, Kind};

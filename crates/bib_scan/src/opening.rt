@@ -1,12 +1,13 @@
 //! Where an at-sign begins an item.
 
-ghost use Rattle.std.specs.Prelude.{◌≡◌, ◌≤◌, length};
-ghost use Rattle.bib_spec.specs.Clean.{begins_command, opens_body};
+ghost use Rattle.std.specs.Prelude.{◌≡◌, ◌↔◌, ◌≤◌, IsTrue, length};
+ghost use Rattle.bib_spec.specs.Text.{is_type_byte, does_not_begin_with};
+ghost use Rattle.bib_spec.specs.Clean.{begins_command, opens_body, IsClean, IsCleanTrail};
 ghost use Rattle.bib_scan.specs.LeftToRight.{next_command, delimiter_of};
 ghost use Rattle.bib_spec.specs.Tree.{close_byte, goes_on_key};
 ghost use Rattle.bib_scan.specs.DelimiterView.{delimiter_view};
 
-use crate::class::is_space;
+use crate::class::{is_space, is_type_byte};
 use crate::run::{behind, past_space, split_type_name};
 use crate::text::{is_name, same_folded};
 use memchr::memchr;
@@ -91,4 +92,29 @@ pub(crate) fn next_command(text: &[u8]) -> usize
         at = place + 1;
     }
     text.len()
+}
+
+/// Whether the text does not go on with a type name.
+fn begins_without_type_byte(text: &[u8]) -> bool
+    ensures { result ≡ does_not_begin_with is_type_byte text.now }
+{
+    match text {
+        [first, ..] => !is_type_byte(*first),
+        [] => true,
+    }
+}
+
+/// Whether no command begins in the text.
+fn is_clean(text: &[u8]) -> bool
+    ensures { IsTrue result ↔ IsClean text.now }
+{
+    next_command(text) == text.len()
+}
+
+/// Whether the text may follow an item's body: no command begins in it, and behind a comment it does not
+/// go on with the comment's type name. (dialect)
+pub fn is_clean_trail(after_comment: bool, bytes: &[u8]) -> bool
+    ensures { IsTrue result ↔ IsCleanTrail after_comment bytes.now }
+{
+    is_clean(bytes) && (!after_comment || begins_without_type_byte(bytes))
 }

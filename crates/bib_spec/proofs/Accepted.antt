@@ -1,5 +1,5 @@
 -- What an accepted edit gives, in the form that the laws use.
-use Rattle.std.proofs.Common.{◌≡◌, ◌<◌, ℕ, zero, suc, false, true, cond, ◌||◌, List, [], ◌∷◌, Some, None, is_none, slice_get, ⊎_elim, refl, sym, ◌∙◌, ap, ap₂, arith, filter_map}
+use Rattle.std.proofs.Common.{◌≡◌, ◌<◌, ℕ, zero, suc, false, cond, List, [], ◌∷◌, Some, None, is_none, slice_get, ⊎_elim, refl, sym, ◌∙◌, ap, ap₂, arith, filter_map}
 use Rattle.std.specs.List.{list_any, cons_option}
 use Rattle.std.proofs.lemmas.Bool.{or_parts}
 use Rattle.std.proofs.lemmas.Option.{none-some, same_Some}

@@ -16,7 +16,7 @@ use Rattle.bib_spec.proofs.Keys.{option_cases}
 use Rattle.bib_spec.proofs.OneMore.{within, length-keys}
 use Rattle.bib_spec.proofs.OtherEntries.{unnamed_new}
 
-slice_get-append : {X : Type 0} (xs ys : List X) (n : ℕ) → n < length xs → slice_get (xs ++ ys) n ≡ slice_get xs n
+pub slice_get-append : {X : Type 0} (xs ys : List X) (n : ℕ) → n < length xs → slice_get (xs ++ ys) n ≡ slice_get xs n
 slice_get-append [] ys n h = absurd (not-suc-le-zero h)
 slice_get-append (x ∷ xs) ys zero h = refl
 slice_get-append (x ∷ xs) ys (suc n) h = slice_get-append xs ys n (le_of_suc-le-suc h)

@@ -1,16 +1,16 @@
 -- What macros stand for balances, since the parts of a file do.
-use Rattle.std.proofs.Common.{◌≡◌, ◌≤◌, ◌<◌, ℕ, zero, suc, ◌+◌, ◌-◌, ◌==◌, nat_le, Bool, true, false, cond, List, [], ◌∷◌, ◌++◌, Option, Some, None, unwrap_or, option_map, length, take, count_by, find, All, ⊎_elim, refl, sym, ◌∙◌, ap, ap₂, subst, map, arith, length-append, suc-le-suc, zero-lt-suc, codes, ltb-true}
+use Rattle.std.proofs.Common.{◌≡◌, ◌≤◌, ◌<◌, ℕ, zero, suc, ◌+◌, ◌-◌, ◌==◌, nat_le, Bool, true, false, cond, List, [], ◌∷◌, ◌++◌, Option, Some, None, unwrap_or, option_map, length, take, count_by, find, All, ⊎_elim, refl, sym, ◌∙◌, ap, ap₂, subst, map, arith, suc-le-suc, zero-lt-suc}
 use Rattle.std.specs.List.{flat_map, list_any, AllByRecursion, AllPass}
 use Rattle.std.specs.Str.{bytes_eq}
 use Rattle.std.specs.Char.{is_ascii_digit}
-use Rattle.std.proofs.lemmas.Bool.{cases_Bool, cond-true, cond-false, or_parts, and_parts, ne_eqb, eqb-false, leb-true, or_from}
+use Rattle.std.proofs.lemmas.Bool.{cases_Bool, cond-true, cond-false, or_parts, and_parts, ne_eqb, leb-true}
 use Rattle.std.proofs.lemmas.Option.{none-some, same_Some}
 use Rattle.std.proofs.lemmas.List.{take_all}
 use Rattle.std.proofs.lemmas.List.Sums.{sum_by-append}
 use Rattle.bib_spec.specs.Bytes.{open_brace, close_brace, name_limit}
-use Rattle.bib_spec.specs.Text.{Text, folded, opened_before, closed_before, IsBalanced}
+use Rattle.bib_spec.specs.Text.{Text, folded, IsBalanced}
 use Rattle.bib_spec.specs.Tree.{Part, Braced, Quoted, Digits, Macro, Link, Value, Tree, CommentTree, DefinitionTree, PreambleTree, EntryTree, IsPart, IsLink, IsValue, IsTree}
-use Rattle.bib_spec.specs.Reading.{Item, IsItem, Reading}
+use Rattle.bib_spec.specs.Reading.{Item, IsItem}
 use Rattle.bib_spec.specs.Texts.{Macros, updated, month_names, months, part_text, raw_text, macros_in, macros_after, macros_at}
 use Rattle.bib_spec.specs.Laws.{macros_balance}
 use Rattle.bib_spec.proofs.Keys.{option_cases}

@@ -1,6 +1,5 @@
 -- What the entries' new keys cite.
-use Rattle.std.proofs.Common.{◌≡◌, ℕ, suc, ◌+◌, true, false, cond, not, ◌&&◌, ◌==◌, nat_le, List, [], ◌∷◌, ◌++◌, Option, Some, None, is_some, is_none, unwrap_or, option_and_then, slice_get, ⊎_elim, refl, sym, ◌∙◌, ap, ap₂, subst, map, filter, filter_map, count_by, length}
-use Rattle.std.specs.Prelude.{if◌then◌else◌}
+use Rattle.std.proofs.Common.{◌≡◌, ℕ, ◌+◌, true, false, cond, not, ◌&&◌, ◌==◌, nat_le, List, [], ◌∷◌, ◌++◌, Option, Some, is_some, is_none, unwrap_or, option_and_then, slice_get, ⊎_elim, refl, sym, ◌∙◌, ap, ap₂, subst, map, filter, filter_map, count_by, length}
 use Rattle.std.specs.List.{list_any, list_all, enumerate_from, cons_option, range_with_len}
 use Rattle.std.specs.Option.{option_map_or}
 use Rattle.std.proofs.Math.Path.{fun_ext}

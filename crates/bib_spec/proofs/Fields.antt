@@ -3,9 +3,9 @@ use Rattle.std.proofs.Common.{◌≡◌, Bool, true, false, not, List, [], ◌�
 use Rattle.std.proofs.lemmas.Bool.{cases_Bool, cond-true, cond-false, not_from_true, not_from_false}
 use Rattle.std.proofs.lemmas.Option.{none-some}
 use Rattle.std.specs.Prelude.{if◌then◌else◌}
-use Rattle.bib_spec.specs.Text.{Text, folded, same}
+use Rattle.bib_spec.specs.Text.{Text, same}
 use Rattle.bib_spec.specs.Tree.{Row}
-use Rattle.bib_spec.specs.Texts.{Macros, raw_text, field_text}
+use Rattle.bib_spec.specs.Texts.{Macros, field_text}
 use Rattle.bib_spec.specs.Records.{Field, EntryTexts, record_field, field_of, crossref, has_name, effective, own_fields}
 use Rattle.bib_spec.specs.Edits.{row_to, with_value, in_braces, with_crossref}
 use Rattle.bib_spec.proofs.Keys.{option_cases}

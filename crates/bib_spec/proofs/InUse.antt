@@ -5,7 +5,7 @@ use Rattle.std.proofs.lemmas.Bool.{or_parts}
 use Rattle.bib_spec.specs.Text.{Text, same}
 use Rattle.bib_spec.specs.Tree.{Part, Value, Row, Tree, CommentTree, DefinitionTree, PreambleTree, EntryTree}
 use Rattle.bib_spec.specs.Reading.{Item}
-use Rattle.bib_spec.specs.Texts.{parts_of, values_of}
+use Rattle.bib_spec.specs.Texts.{parts_of}
 use Rattle.bib_spec.specs.Edits.{defines, any_part}
 use Rattle.bib_spec.proofs.Simulation.{Parts, Rows, InTree, InItems}
 

@@ -25,3 +25,9 @@ pub mod Balanced
 pub mod OneMore
 pub mod OtherEntries
 pub mod AddedBehind
+pub mod KeptTrees
+pub mod UntouchedItems
+pub mod ExampleFacts
+pub mod AcceptedExamples
+pub mod TreeChunks
+pub mod EditFiles

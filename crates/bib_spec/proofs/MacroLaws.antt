@@ -1,13 +1,13 @@
 -- The laws of the macro edits.
-use Rattle.std.proofs.Common.{◌≡◌, ℕ, Bool, true, false, not, ◌||◌, ◌&&◌, is_some, Option, Some, None, option_map, ⊎_elim, refl, sym, ◌∙◌, ap, length, count_by}
+use Rattle.std.proofs.Common.{◌≡◌, ℕ, true, false, not, ◌||◌, ◌&&◌, is_some, Option, Some, None, option_map, ⊎_elim, refl, sym, ◌∙◌, ap, length, count_by}
 use Rattle.std.specs.List.{list_any}
-use Rattle.std.proofs.lemmas.Bool.{cases_Bool, cond-true, cond-false, both_ways, or_parts, and_cases, false_from_ne_true, not-true, not-false}
+use Rattle.std.proofs.lemmas.Bool.{cases_Bool, both_ways, or_parts, and_cases, false_from_ne_true, not-false}
 use Rattle.bib_spec.specs.Text.{Text, folded, same}
 use Rattle.bib_spec.specs.Tree.{Part, Braced, Quoted, Digits, Macro}
 use Rattle.bib_spec.specs.Reading.{Reading}
 use Rattle.bib_spec.specs.Texts.{months, macros_at, seen}
 use Rattle.bib_spec.specs.Records.{Record, entries_of, preambles_of, expanded, parent, listed, unknown}
-use Rattle.bib_spec.specs.Edits.{defines, uses, any_part, is_in_use, rename_macro, inline_macro, introduce_macro, text_of_macro, RenameMacro, InlineMacro, IntroduceMacro, NotFound, Ambiguous, NameInUse, IsAccepted}
+use Rattle.bib_spec.specs.Edits.{defines, uses, any_part, is_in_use, rename_macro, inline_macro, introduce_macro, text_of_macro, NotFound, Ambiguous, NameInUse}
 use Rattle.bib_spec.specs.Laws.{record_with_key, no_new_key, KeepsEntries, KeepsCitations, is_behind, SeesRenamed, rename_macro_keeps, inline_macro_keeps, introduce_macro_keeps}
 use Rattle.bib_spec.proofs.Accepted.{there_once}
 use Rattle.bib_spec.proofs.Names.{same-true, true-same}

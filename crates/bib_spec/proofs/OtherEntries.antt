@@ -1,5 +1,5 @@
 -- Removing an entry and adding one: the two databases have the same entries but one.
-use Rattle.std.proofs.Common.{◌≡◌, ℕ, zero, suc, ◌≤◌, ◌==◌, true, false, not, List, [], ◌∷◌, ◌++◌, Some, None, option_map, option_and_then, slice_get, insert, length, take, ⊎_elim, refl, sym, ◌∙◌, ap, subst, arith, add-one, zero-le, suc-le-suc, not-suc-le-zero, le_of_suc-le-suc, ne_eqb}
+use Rattle.std.proofs.Common.{◌≡◌, ◌≢◌, ℕ, zero, suc, ◌≤◌, ◌==◌, true, false, not, List, [], ◌∷◌, ◌++◌, Some, None, option_map, option_and_then, slice_get, insert, length, take, ⊎_elim, refl, sym, ◌∙◌, ap, subst, arith, add-one, zero-le, suc-le-suc, not-suc-le-zero, le_of_suc-le-suc, ne_eqb}
 use Rattle.std.specs.List.{list_any}
 use Rattle.std.proofs.lemmas.Bool.{cases_Bool, cond-true, cond-false, both_ways, and_parts, and_from, and_right, or_parts, false_from_ne_true}
 use Rattle.std.proofs.lemmas.Option.{none-some, same_Some}
@@ -7,7 +7,7 @@ use Rattle.bib_spec.specs.Text.{Text, folded, same}
 use Rattle.bib_spec.specs.Tree.{Tree, Entry, CommentTree, DefinitionTree, PreambleTree, EntryTree}
 use Rattle.bib_spec.specs.Reading.{Item, Reading}
 use Rattle.bib_spec.specs.Texts.{Macros, months, raw_text, macros_after, is_empty, gathered}
-use Rattle.bib_spec.specs.Records.{EntryTexts, texts_of, entry_in, preamble_in, entries_of, preambles_of, crossref_text, keys_of, first_named, entry_named, is_named, target_of, target, other_than, parent, expanded}
+use Rattle.bib_spec.specs.Records.{EntryTexts, texts_of, entry_in, preamble_in, entries_of, preambles_of, crossref_text, keys_of, first_named, entry_named, is_named, target_of, other_than, parent, expanded}
 use Rattle.bib_spec.specs.Edits.{NotFound, Ambiguous, KeyInUse, Referred, BadPosition, holders, without_first, is_entry, remove_entry, add_entry, item_of, entry_of}
 use Rattle.bib_spec.specs.OtherLaws.{number_with_one_more, entries_before, KeepsOthers, remove_entry_keeps_others, is_awaited, add_entry_keeps_others}
 use Rattle.bib_spec.proofs.Names.{same-true, true-same}
@@ -116,6 +116,15 @@ keeps_others i key fewer more one unnamed same_preambles = record {
 
 -- ---- removing
 
+-- the parent is the entry that the crossref names
+parent-named : (entries : List EntryTexts) (n : ℕ) (entry : EntryTexts) (text : Text) (m i : ℕ) → slice_get entries n ≡ Some entry → crossref_text entry ≡ Some text →
+    entry_named entries text ≡ Some m → m ≡ i → i ≢ n → parent entries n ≡ Some i
+parent-named entries n entry text m i at says named is other =
+    ap (λ o. option_and_then (other_than n) (option_and_then (target_of entries) o)) at
+    ∙ ap (λ o. option_and_then (other_than n) (option_and_then (entry_named entries) o)) says
+    ∙ ap (option_and_then (other_than n)) (named ∙ ap Some is)
+    ∙ cond-false (i == n) None (Some i) (ne_eqb i n other)
+
 module _ (key : Text) (db : Reading) (once : holders key db ≡ 1) (unreferred : (n m : ℕ) → entry_named (entries_of db) key ≡ Some m → parent (entries_of db) n ≡ Some m → ⊥) where
   the_one : (m : ℕ) × (first_named key (keys_of (entries_of db)) ≡ Some m) × ((j : ℕ) (found : Text) → slice_get (keys_of (entries_of db)) j ≡ Some found → is_named key found ≡ true → j ≡ m)
   the_one = only key (keys_of (entries_of db)) once
@@ -139,11 +148,8 @@ module _ (key : Text) (db : Reading) (once : holders key db ≡ 1) (unreferred :
       let names : (not (is_empty first.key) ≡ true) × (same first.key text ≡ true) = and_parts (not (is_empty first.key)) (same first.key text) first.named in
       let alike : folded first.key ≡ folded key = same-true first.key text names.1 ∙ sym (same-true taken.0 text (and_parts (not (is_empty taken.0)) (same taken.0 text) named).1) ∙ same-true taken.0 key (and_parts (not (is_empty taken.0)) (same taken.0 key) taken.1).1 in
       let is : some.0 ≡ i = the_one.2 some.0 first.key first.stands (and_from (not (is_empty first.key)) (same first.key key) names.0 (true-same first.key key alike)) in
-      let its_target : target (entries_of db) (number_with_one_more i n) ≡ Some i =
-      ap (option_and_then (target_of (entries_of db))) entry_at ∙ ap (option_and_then (entry_named (entries_of db))) says ∙ some.1 ∙ ap Some is in
       unreferred (number_with_one_more i n) i the_one.1
-      (ap (option_and_then (other_than (number_with_one_more i n))) its_target
-      ∙ cond-false (i == number_with_one_more i n) None (Some i) (ne_eqb i (number_with_one_more i n) (λ e. more_other i n (sym e)))))
+      (parent-named (entries_of db) (number_with_one_more i n) entry text some.0 i entry_at says some.1 is (λ e. more_other i n (sym e))))
       (option_cases (first_named text (keys_of (entries_of db)))))
 
   remove_keeps : (i : ℕ) × (entry_named (entries_of db) key ≡ Some i) × KeepsOthers (number_with_one_more i) 1 (remove_entry key db) db

@@ -1,5 +1,5 @@
 -- RegenerateKeys: the made keys meet what the law of new keys asks, they differ, and making them again changes nothing.
-use Rattle.std.proofs.Common.{◌≡◌, ◌<◌, ℕ, zero, suc, ◌+◌, Bool, true, false, cond, not, ◌||◌, ◌==◌, ◌≤◌, nat_lt, lt-ltb, ne_eqb, List, [], ◌∷◌, ◌++◌, Option, Some, None, is_some, is_none, unwrap_or, option_and_then, slice_get, length, filter_map, map, reverse, ⊎_elim, refl, sym, ◌∙◌, ap, ap₂, subst, arith, add-one, add-zero, zero-add, ◌⊎◌, inl, inr}
+use Rattle.std.proofs.Common.{◌≡◌, ◌<◌, ℕ, zero, suc, ◌+◌, Bool, true, false, cond, not, ◌==◌, ◌≤◌, nat_lt, lt-ltb, ne_eqb, List, [], ◌∷◌, ◌++◌, Option, Some, None, is_some, is_none, unwrap_or, option_and_then, slice_get, length, filter_map, map, reverse, ⊎_elim, refl, sym, ◌∙◌, ap, ap₂, subst, arith, add-one, add-zero, zero-add, ◌⊎◌, inl, inr}
 use Rattle.std.specs.Prelude.{codes}
 use Rattle.std.specs.List.{list_any, list_all, enumerate_from, cons_option, AllByRecursion}
 use Rattle.std.proofs.lemmas.Bool.{cases_Bool, cond-true, cond-false, false≢true, or_parts, or_from, and_from, and_parts, not_from_false}
@@ -8,10 +8,10 @@ use Rattle.bib_spec.specs.Bytes.{delete, file_limit}
 use Rattle.bib_spec.specs.Text.{Text, same, is_new_key_byte}
 use Rattle.bib_spec.specs.Tree.{Value, Row, Entry, Tree, CommentTree, DefinitionTree, PreambleTree, EntryTree}
 use Rattle.bib_spec.specs.Reading.{Item, Reading, bytes_of}
-use Rattle.bib_spec.specs.Texts.{Macros, months, macros_after, gathered, is_empty, too_long_at}
-use Rattle.bib_spec.specs.Records.{EntryTexts, Record, texts_of, entry_in, entries_of, keys_of, crossref, crossref_text, target_of, target, record_of, dangling_text, dangling_texts}
+use Rattle.bib_spec.specs.Texts.{months, is_empty, too_long_at}
+use Rattle.bib_spec.specs.Records.{EntryTexts, Record, entries_of, keys_of, crossref, crossref_text, target_of, target, record_of, dangling_text, dangling_texts}
 use Rattle.bib_spec.specs.MadeKeys.{letters, candidate, is_taken, free_key, made_keys, bases, new_keys, IsKeyBase}
-use Rattle.bib_spec.specs.Edits.{row_to, with_value, in_braces, with_crossref, next_number, tree_with_keys, item_with_keys, items_with_keys, with_keys, regenerate_keys, Edit, RegenerateKeys, EditFault, BadKey, BadName, BadValue, BadPosition, NotFound, Ambiguous, KeyInUse, NameInUse, Referred, WouldMerge, FileTooLong, TextTooLong, IsAccepted, Refuses}
+use Rattle.bib_spec.specs.Edits.{row_to, with_value, in_braces, with_crossref, next_number, tree_with_keys, items_with_keys, regenerate_keys, RegenerateKeys, EditFault, BadKey, BadName, BadValue, BadPosition, NotFound, Ambiguous, KeyInUse, NameInUse, Referred, WouldMerge, FileTooLong, TextTooLong, IsAccepted, Refuses}
 use Rattle.bib_spec.specs.Laws.{record_with_key, AllDiffer, regenerate_keys_keeps, made_keys_differ, regenerating_again_changes_nothing}
 use Rattle.bib_spec.proofs.Names.{same_comm}
 use Rattle.bib_spec.proofs.Keys.{option_cases, keys_with, key_before}

@@ -1,14 +1,14 @@
 -- RenameKey: the new key meets what the law of new keys asks.
-use Rattle.std.proofs.Common.{◌≡◌, ◌≢◌, ℕ, zero, suc, ◌<◌, Bool, true, false, not, ◌&&◌, ◌||◌, ◌==◌, nat_lt, nat_le, List, [], ◌∷◌, Some, None, is_none, unwrap_or, option_map, slice_get, length, ⊎_elim, refl, sym, ◌∙◌, ap, ap₂, count_by, filter, eqb-true, ne_eqb, ltb-true, arith}
+use Rattle.std.proofs.Common.{◌≡◌, ◌≢◌, ℕ, zero, suc, ◌<◌, Bool, true, false, not, ◌&&◌, ◌||◌, ◌==◌, nat_lt, nat_le, List, [], ◌∷◌, Some, None, unwrap_or, option_map, slice_get, length, ⊎_elim, refl, sym, ◌∙◌, ap, ap₂, count_by, filter, eqb-true, ne_eqb, ltb-true, arith}
 use Rattle.std.specs.List.{list_any, list_all, join_with_byte}
-use Rattle.std.proofs.lemmas.Bool.{cases_Bool, cond-true, cond-false, false_from_ne_true, true_from_ne_false, both_ways, and_parts, and_cases, and_from, or_from, or_parts, not-true, not-false}
+use Rattle.std.proofs.lemmas.Bool.{cases_Bool, cond-true, cond-false, false_from_ne_true, true_from_ne_false, both_ways, and_parts, and_cases, or_from, or_parts, not-false}
 use Rattle.std.proofs.lemmas.Option.{same_Some, none-some, cond_some}
 use Rattle.std.specs.Prelude.{codes}
-use Rattle.bib_spec.specs.Bytes.{space, tab, line_feed, carriage_return, delete, name_limit}
+use Rattle.bib_spec.specs.Bytes.{delete, name_limit}
 use Rattle.bib_spec.specs.Text.{Text, same, is_space, is_new_key_byte, is_new_key}
 use Rattle.bib_spec.specs.Reading.{Reading}
 use Rattle.bib_spec.specs.Texts.{is_empty, onto_first, words, field_text}
-use Rattle.bib_spec.specs.Records.{EntryTexts, Record, entries_of, keys_of, first_named, is_named, crossref_text, target_of, dangling_texts}
+use Rattle.bib_spec.specs.Records.{EntryTexts, Record, entries_of, keys_of, first_named, is_named, dangling_texts}
 use Rattle.bib_spec.specs.Edits.{BadKey, NotFound, Ambiguous, KeyInUse, RenameKey, IsAccepted, key_for}
 use Rattle.bib_spec.specs.Laws.{rename_key_keeps}
 use Rattle.bib_spec.proofs.Names.{same_comm}

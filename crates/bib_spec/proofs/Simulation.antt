@@ -6,7 +6,7 @@ use Rattle.bib_spec.specs.Tree.{Part, Link, Value, Row, Definition, Tree, Commen
 use Rattle.bib_spec.specs.Reading.{Item}
 use Rattle.bib_spec.specs.Texts.{Macros, updated, parts_of, part_text, raw_text, values_of, macros_in, macros_after, macros_at, gathered}
 use Rattle.bib_spec.specs.Records.{Field, EntryTexts, field_of, entry_in, preamble_in}
-use Rattle.bib_spec.specs.Edits.{changed, link_with, value_with, row_with, tree_with, item_with, items_with}
+use Rattle.bib_spec.specs.Edits.{changed, link_with, value_with, row_with, tree_with, items_with}
 use Rattle.std.specs.List.{flat_map}
 
 -- P of each part, and Q of each defined name

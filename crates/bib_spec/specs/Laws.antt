@@ -6,10 +6,10 @@ use Rattle.bib_spec.specs.Tree.{Definition, Tree, DefinitionTree}
 use Rattle.bib_spec.specs.Reading.{Item, Reading, Reads, bytes_of}
 use Rattle.bib_spec.specs.Texts.{months, macros_in, macros_at, raw_text, seen}
 use Rattle.bib_spec.specs.Records.{EntryTexts, Record, entries_of, preambles_of, keys_of, entry_named, parent, expanded, cites_all, listed, unknown}
-use Rattle.bib_spec.specs.Pieces.{old_of, new_of}
+use Rattle.bib_spec.specs.Pieces.{Fit, applied, old_of, new_of}
 use Rattle.bib_spec.specs.MadeKeys.{new_keys, IsKeyBase}
 use Rattle.bib_spec.specs.Edits.{Edit, RenameKey, RenameMacro, InlineMacro, IntroduceMacro, RegenerateKeys, defines, holds, any_part, key_for, edited, IsAccepted}
-use Rattle.bib_spec.specs.EditChunks.{chunks}
+use Rattle.bib_spec.specs.EditChunks.{chunks, pieces_of}
 
 -- ---- macros
 
@@ -155,3 +155,8 @@ introduce_macro_keeps = (key_base : Record → Text) (db : Reading) (name text :
 abbrev pub chunks_are_files : Type 0
 chunks_are_files = (key_base : Record → Text) (db : Reading) (e : Edit) →
     (old_of (chunks key_base db e) ≡ bytes_of db) × (new_of (chunks key_base db e) ≡ bytes_of (edited key_base db e))
+
+-- The pieces of an edit fit the file, and lead to the file of what the edit makes.
+abbrev pub pieces_lead_to_edited : Type 0
+pieces_lead_to_edited = (key_base : Record → Text) (db : Reading) (e : Edit) →
+    Fit (pieces_of key_base db e) (bytes_of db) × (applied (pieces_of key_base db e) (bytes_of db) ≡ bytes_of (edited key_base db e))

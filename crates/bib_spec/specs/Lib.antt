@@ -14,3 +14,4 @@ pub mod History
 pub mod Steps
 pub mod Laws
 pub mod OtherLaws
+pub mod Examples

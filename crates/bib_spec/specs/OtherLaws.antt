@@ -1,6 +1,6 @@
 -- What the edits keep beside what they are asked for: the other entries, and the bytes of the items that they do not touch.
-use Rattle.std.specs.Prelude.{◌≡◌, ◌<◌, ◌+◌, ℕ, zero, suc, Bool, true, false, not, ◌&&◌, ◌||◌, ◌==◌, List, ◌++◌, [], Option, Some, None, if◌then◌else◌, option_map, slice_get, length, take, find}
-use Rattle.std.specs.List.{list_any, position_or_len}
+use Rattle.std.specs.Prelude.{◌≡◌, ◌<◌, ◌+◌, ℕ, zero, suc, Bool, true, false, ◌&&◌, ◌||◌, ◌==◌, List, ◌++◌, [], ◌∷◌, Option, Some, None, if◌then◌else◌, option_map, slice_get, length, take, find}
+use Rattle.std.specs.List.{list_any}
 use Rattle.std.specs.Option.{option_map_or}
 use Rattle.bib_spec.specs.Text.{Text, same}
 use Rattle.bib_spec.specs.Tree.{Tree, EntryTree}
@@ -73,13 +73,14 @@ add_many_keeps_others = (key_base : Record → Text) (db : Reading) (news : List
 abbrev pub passes : (Tree → Bool) → List Item → ℕ → Bool
 passes test items n = option_map_or (λ item. test item.tree) (slice_get items n) false
 
+-- the number of the first item that passes the test; where none does, how many there are
+abbrev pub number_of_first : (Tree → Bool) → List Item → ℕ
+number_of_first test [] = 0
+number_of_first test (item ∷ items) = if test item.tree then 0 else suc (number_of_first test items)
+
 -- item n is the first that passes the test
 abbrev pub is_first : (Tree → Bool) → List Item → ℕ → Bool
-is_first test items n = passes test items n && not (list_any (λ item. test item.tree) (take n items))
-
--- the number of the first item that passes the test
-abbrev pub number_of_first : (Tree → Bool) → List Item → ℕ
-number_of_first test items = position_or_len (λ item. test item.tree) items
+is_first test items n = number_of_first test items == n
 
 -- the edit takes item n away, or moves it
 abbrev pub is_gone : Reading → Edit → ℕ → Bool
@@ -129,12 +130,13 @@ pub record StandsAt (items : List Item) (n : ℕ) (is_changed : Bool) (old : Tre
   pub trail_is : item.trail ≡ trail
   pub tree_is : is_changed ≡ false → item.tree ≡ old
 
--- Each item that does not go stands where it is said to, with its tree unless that is changed, and with its trail, behind
--- which there is the trail of a neighbour that goes; and so it is with the front.
+-- Each item that does not go stands where it is said to, in the order that they had, with its tree unless that is changed,
+-- and with its trail, behind which there is the trail of a neighbour that goes; and so it is with the front.
 pub record KeepsItems (gone changed : ℕ → Bool) (number : ℕ → ℕ) (old new : Reading) : Type 0 where
   pub front : new.front ≡ old.front ++ gained gone old.items 0
   pub items : (n : ℕ) (item : Item) → gone n ≡ false → slice_get old.items n ≡ Some item
       → StandsAt new.items (number n) (changed n) item.tree (item.trail ++ gained gone old.items (suc n))
+  pub order : (n m : ℕ) → gone n ≡ false → gone m ≡ false → n < m → m < length old.items → number n < number m
 
 -- An edit keeps each item that it neither changes, nor removes, nor moves.
 abbrev pub untouched_items_stay : Type 0

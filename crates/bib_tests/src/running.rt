@@ -101,7 +101,7 @@ fn cat_says_why_a_file_is_refused_and_where(rt: HostRuntime) -> Result<(), Fail>
         ),
         (
             b"mail joe@x.org\n@Misc{a,}}@misc{b",
-            b"bibkeep: 1 Unended at 33\n",
+            b"bibkeep: 1 Unended at 32\n",
         ),
     ];
     for (file, message) in rows {
