@@ -6,6 +6,8 @@ mod command_lines;
 #[cfg(test)]
 mod fakes;
 #[cfg(test)]
+mod names;
+#[cfg(test)]
 mod reading;
 #[cfg(test)]
 mod running;
