@@ -1,13 +1,14 @@
 -- No promise rests on this page: it retraces how the private functions read, from left to right, so that lemmas can
 -- lead from their code to `Reading`, which says what a text means. Each function here gives what it read and the text
 -- behind it, or stops at a fault.
-use Rattle.std.specs.Prelude.{ℕ, zero, suc, ◌≡◌, ◌+◌, ◌-◌, Bool, false, ◌&&◌, not, ◌==◌, nat_lt, List, [], ◌∷◌, ◌++◌, length, take, drop, codes, ⊤, Option, None, Some, Result, Ok, Err, if◌then◌else◌}
+use Rattle.std.specs.Prelude.{ℕ, zero, suc, ◌+◌, ◌-◌, Bool, false, ◌&&◌, not, ◌==◌, nat_lt, List, [], ◌∷◌, ◌++◌, length, take, drop, codes, Option, None, Some, Result, Ok, Err, if◌then◌else◌}
 use Rattle.std.specs.List.{prefix_len, take_while}
 use Rattle.std.specs.Char.{is_ascii_digit}
 use Rattle.bib_spec.specs.Bytes.{quote, hash, comma, equals_sign, open_brace, close_brace}
 use Rattle.bib_spec.specs.Text.{Text, is_space, is_name_byte, is_type_byte, same, after_run}
 use Rattle.bib_spec.specs.Clean.{begins_command}
 use Rattle.bib_spec.specs.Tree.{Part, Braced, Quoted, Digits, Macro, Delimiter, Brace, Paren, close_byte, goes_on_key}
+use Rattle.bib_scan.specs.declared.layout.Span.{Span}
 use Rattle.bib_spec.specs.Fault.{ReadingFault, Unended, ExpectedName, ExpectedEquals, ExpectedCommaOrClose, ExpectedValue, UnbalancedBrace, KeyTooLong}
 
 -- a fault, and the text from its place on
@@ -186,16 +187,19 @@ unfoldable pub next_command : Text → ℕ
 next_command [] = 0
 next_command (b ∷ t) = if begins_command (b ∷ t) then 0 else next_command t + 1
 
+abbrev pub span : ℕ → ℕ → Span
+span start end = record { start = start; end = end }
+
 -- Where each command begins and ends in a text of so many bytes, of which t is the end, and t is
 -- empty or begins with a command. There are fewer than n.
-unfoldable pub read_commands : ℕ → ℕ → ℕ → Text → Result (List (ℕ × ℕ)) Halt
+unfoldable pub read_commands : ℕ → ℕ → ℕ → Text → Result (List Span) Halt
 read_commands limit total zero t = Ok []
 read_commands limit total (suc n) [] = Ok []
 read_commands limit total (suc n) (b ∷ t) = do
   rest ← read_command limit (b ∷ t)
   later ← read_commands limit total n (drop (next_command rest) rest)
-  Ok ((total - length (b ∷ t), total - length rest) ∷ later)
+  Ok (span (total - length (b ∷ t)) (total - length rest) ∷ later)
 
 -- the same of a whole text, whose front comes first
-abbrev pub read_all_commands : ℕ → Text → Result (List (ℕ × ℕ)) Halt
+abbrev pub read_all_commands : ℕ → Text → Result (List Span) Halt
 read_all_commands limit t = read_commands limit (length t) (length t + 1) (drop (next_command t) t)

@@ -1,1 +1,7 @@
 pub mod LeftToRight
+pub mod DelimiterView
+pub mod View
+pub mod FieldsLeft
+pub mod Layout
+pub mod Code
+pub mod PartView

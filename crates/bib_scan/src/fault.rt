@@ -1,8 +1,91 @@
-//! Why a text is not read.
+//! Why a text is not read, and where reading it stopped.
 
 ghost use Rattle.std.specs.Prelude.{◌≡◌, None, Some, if◌then◌else◌, ◌==◌};
+ghost use Rattle.bib_spec.specs.Fault.{fault_number};
+ghost use Rattle.bib_scan.specs.LeftToRight.{expected};
+ghost use Rattle.bib_scan.specs.Code.{fault_of, halt_of};
 
+use std::alloc::AllocFailed;
 use thiserror::Error;
+
+/// What is wrong at the first byte at which no file goes on.
+#[derive(Clone, Copy, Debug, PartialEq, Eq)]
+pub(crate) enum Fault {
+    Unended,
+    ExpectedName,
+    ExpectedEquals,
+    ExpectedCommaOrClose,
+    ExpectedValue,
+    UnbalancedBrace,
+    KeyTooLong,
+}
+
+impl Fault {
+    /// The number of the fault.
+    pub fn number(self) -> u8
+        ensures { result ≡ fault_number (fault_of self) }
+    {
+        match self {
+            Fault::Unended => 1,
+            Fault::ExpectedName => 2,
+            Fault::ExpectedEquals => 3,
+            Fault::ExpectedCommaOrClose => 4,
+            Fault::ExpectedValue => 5,
+            Fault::UnbalancedBrace => 6,
+            Fault::KeyTooLong => 7,
+        }
+    }
+}
+
+/// A fault, and the text from its place on.
+#[derive(Clone, Copy)]
+pub(crate) struct Stop<'a> {
+    pub fault: Fault,
+    pub rest: &'a [u8],
+}
+
+impl<'a> Stop<'a> {
+    /// The text ends, or something else stands where the fault says.
+    pub fn expected(fault: Fault, rest: &'a [u8]) -> Self
+        ensures { halt_of result ≡ expected (fault_of fault) rest.now }
+    {
+        let fault = if rest.is_empty() {
+            Fault::Unended
+        } else {
+            fault
+        };
+        Stop { fault, rest }
+    }
+}
+
+/// Why nothing was read: want of memory, or a fault of the text.
+#[derive(Clone, Copy)]
+pub(crate) enum Refusal<'a> {
+    Memory,
+    Fault(Stop<'a>),
+}
+
+impl<'a> From<Stop<'a>> for Refusal<'a> {
+    ghost use Rattle.std.specs.Prelude.{◌≡◌};
+    ghost use Rattle.bib_scan.specs.declared.fault.Refusal.TheVariants.{Fault as RefusalFault};
+
+    ghost from_gives = { λ s e. e ≡ RefusalFault s };
+
+    fn from(stop: Stop<'a>) -> Self {
+        Refusal::Fault(stop)
+    }
+}
+
+impl<T: Drop> From<AllocFailed<T>> for Refusal<'_> {
+    ghost use Rattle.std.specs.Prelude.{◌≡◌};
+    ghost use Rattle.bib_scan.specs.declared.fault.Refusal.TheVariants.{Memory as RefusalMemory};
+
+    ghost from_gives = { λ _ e. e ≡ RefusalMemory };
+
+    fn from(_failed: AllocFailed<T>) -> Self {
+        Refusal::Memory
+    }
+}
 
 /// Why a text is not read: the number of the fault and its place, which is 0 with 10.
 #[derive(Clone, Copy, Debug, PartialEq, Eq, Error)]

@@ -2,12 +2,25 @@
 //! It promises the one reading of a file with its places, or the first byte at which no file continues.
 #![tactic(auto)]
 
+mod body;
+mod class;
 mod fault;
+mod fields;
 mod layout;
+mod opening;
 mod reading;
+mod run;
 mod seq;
+mod text;
+mod value;
+mod view;
 
 pub use fault::ReadFault;
+pub use fields::{FieldView, Fields};
 pub use layout::Layout;
+pub use opening::is_clean_trail;
 pub use reading::{FILE_LIMIT, read};
 pub use seq::{Seq, Text};
+pub use text::{NAME_LIMIT, is_balanced, is_key, is_name, is_type, same_folded};
+pub use value::Part;
+pub use view::{ItemView, Kind};

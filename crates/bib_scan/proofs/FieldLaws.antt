@@ -1,0 +1,124 @@
+-- The fields that are read from left to right are those of the tree.
+use Rattle.std.proofs.Common.{◌≡◌, ℕ, zero, suc, ◌+◌, ◌-◌, ◌<◌, ◌≤◌, true, false, eqb, List, [], ◌∷◌, ◌++◌, length, refl, sym, ap, subst, ◌∙◌, arith, append_assoc, Option, None, Some, Result, Ok, Err}
+use Rattle.std.proofs.lemmas.Bool.{eqb-true, ne_eqb, not_from_false, cond-true, cond-false, both_ways, and_left}
+use Rattle.std.proofs.lemmas.List.{length-append}
+use Rattle.std.proofs.lemmas.List.Elements.{All-head, All-tail}
+use Rattle.std.specs.List.{flat_map, All}
+use Rattle.std.specs.Result.{result_ok}
+use Rattle.bib_spec.specs.Bytes.{name_limit}
+use Rattle.bib_spec.specs.Text.{Text, is_space, is_name_byte, after_run}
+use Rattle.bib_spec.specs.Tree.{Assignment, Row, Value, value_bytes, row_bytes, last_comma_bytes, IsAssignment, IsRow, IsLastComma, IsValue, IsSpace}
+use Rattle.bib_scan.specs.LeftToRight.{Halt, Read, ◌>>=◌, read_name, read_equals, read_value, read_comma, begins_name, expected}
+use Rattle.bib_scan.specs.View.{Field, field_behind, fields_behind}
+use Rattle.bib_scan.specs.FieldsLeft.{read_assignment, read_row_field, read_preamble_field, first_field, first_and_others, kind_behind, fields_left, all_fields_left}
+use Rattle.bib_scan.specs.declared.view.Kind.{Kind}
+use Rattle.bib_scan.specs.declared.view.Kind.TheVariants as kind
+use Rattle.bib_scan.proofs.ValueLaws.{Stands, skip_space}
+use Rattle.bib_scan.proofs.PartLaws.{name_again}
+use Rattle.bib_scan.proofs.RowLaws.{assignment_inside, row_inside, row_shape}
+use Rattle.bib_scan.proofs.AgainLaws.{EndsRow, Close, equals_breaks, after_space, no_link, name_stands, value_stands, value_again, equals_stands, rows_inside, rows_begin}
+
+-- ---- one field
+
+-- the text before a value, and that from the value on
+before_value : (before : Text) (a : Assignment) (u : Text) → before ++ assignment_inside a u ≡ (before ++ a.name ++ a.space_before_equals ++ 61 ∷ a.space_before_value) ++ (value_bytes a.value ++ (a.space_behind ++ u))
+before_value before a u =
+    let v : Text = value_bytes a.value ++ (a.space_behind ++ u) in
+    sym (append_assoc (before ++ a.name ++ a.space_before_equals) (61 ∷ a.space_before_value) v ∙ append_assoc (before ++ a.name) a.space_before_equals _ ∙ append_assoc before a.name _)
+
+pub assignment_again : (total start : ℕ) (before : Text) (a : Assignment) (b : ℕ) (x : Text) → IsAssignment name_limit a → EndsRow b → total ≡ length (before ++ assignment_inside a (b ∷ x)) → read_assignment total start (assignment_inside a (b ∷ x)) ≡ Ok (field_behind start before a, b ∷ x)
+unfolding read_assignment
+assignment_again total start before a b x is ends whole =
+    let t6 : Text = a.space_behind ++ (b ∷ x) in
+    let t5 : Text = value_bytes a.value ++ t6 in
+    let t3 : Text = 61 ∷ (a.space_before_value ++ t5) in
+    let t1 : Text = a.name ++ (a.space_before_equals ++ t3) in
+    let front : Text = before ++ a.name ++ a.space_before_equals ++ 61 ∷ a.space_before_value in
+    let e2 : read_name name_limit t1 ≡ Ok (a.name, a.space_before_equals ++ t3) = name_again name_limit a.name (a.space_before_equals ++ t3) is.name (after_space a.space_before_equals 61 (a.space_before_value ++ t5) is.space_before_equals equals_breaks).name in
+    let e3 : after_run is_space (a.space_before_equals ++ t3) ≡ t3 = skip_space a.space_before_equals t3 is.space_before_equals (equals_stands (a.space_before_value ++ t5)) in
+    let e4 : after_run is_space (a.space_before_value ++ t5) ≡ t5 = skip_space a.space_before_value t5 is.space_before_value (value_stands name_limit a.value t6 is.value) in
+    let e5 : read_value name_limit t5 ≡ Ok (value_bytes a.value, t6) = value_again name_limit a.value t6 is.value (after_space a.space_behind b x is.space_behind ends.breaks) (no_link a.space_behind b x is.space_behind ends) in
+    let e6 : after_run is_space t6 ≡ b ∷ x = skip_space a.space_behind (b ∷ x) is.space_behind (not_from_false _ ends.no_space) in
+    let name_at : total - length t1 ≡ length before = omega (arith, whole, length-append before t1) in
+    let value_at : total - length t5 ≡ length front = omega (arith, whole, ap (length {A = ℕ}) (before_value before a (b ∷ x)), length-append front t5) in
+    rw (e2, e3, e4, e5, e6, name_at, value_at) refl
+
+-- ---- none
+
+pub none_left : (n total : ℕ) (t : Text) → fields_left n kind.Comment total t ≡ []
+unfolding fields_left
+none_left zero total t = refl
+none_left (suc n) total t = refl
+
+-- ---- the fields of rows
+
+close_no_comma : (c : ℕ) → Close c → eqb c 44 ≡ false
+close_no_comma c close = ne_eqb c 44 (λ e. both_ways (eqb 44 c) close.no_comma (subst (λ (n : ℕ). eqb 44 n ≡ true) (sym e) refl))
+
+-- no name begins with a closing delimiter
+no_assignment : (total start c : ℕ) (x : Text) → Close c → result_ok (read_assignment total start (c ∷ x)) ≡ None
+unfolding read_assignment
+no_assignment total start c x close =
+    let none : begins_name (c ∷ x) ≡ false = and_left _ _ close.ends.breaks.name in
+    rw none refl
+
+no_field : (total c : ℕ) (tail : Option Text) (x : Text) → IsLastComma tail → Close c → first_field kind.Entry total (rows_inside c [] tail x) ≡ None
+no_field total c None x space close = rw (close_no_comma c close) refl
+no_field total c (Some s) x space close =
+    let skipped : after_run is_space (s ++ c ∷ x) ≡ c ∷ x = skip_space s (c ∷ x) space (not_from_false _ close.ends.no_space) in
+    rw skipped (no_assignment total _ c x close)
+
+pub rows_fields_again : (rs : List Row) (n total c : ℕ) (before : Text) (tail : Option Text) (x : Text) → All (IsRow name_limit) rs → IsLastComma tail → Close c → length rs ≤ n → total ≡ length (before ++ rows_inside c rs tail x) → fields_left n kind.Entry total (rows_inside c rs tail x) ≡ fields_behind before rs
+unfolding fields_left
+rows_fields_again [] zero total c before tail x all space close room whole = refl
+rows_fields_again [] (suc n) total c before tail x all space close room whole = ap (λ (o : Option (Field × Text)). first_and_others o (fields_left n kind.Entry total)) (no_field total c tail x space close)
+rows_fields_again (r ∷ rs) zero total c before tail x all space close room whole = absurd (omega arith)
+rows_fields_again (r ∷ rs) (suc n) total c before tail x all space close room whole =
+    let ok = All-head (IsRow name_limit) r rs all in
+    let begin = rows_begin c rs tail x close in
+    let rest : Text = rows_inside c rs tail x in
+    let named : Text = assignment_inside r.assignment rest in
+    let front : Text = before ++ 44 ∷ r.space_before_name in
+    let shape : rows_inside c (r ∷ rs) tail x ≡ 44 ∷ (r.space_before_name ++ named) = append_assoc (row_bytes r) (flat_map row_bytes rs) _ ∙ row_shape r _ in
+    let whole_is : total ≡ length (front ++ named) = whole ∙ ap (λ (u : Text). length (before ++ u)) shape ∙ ap (length {A = ℕ}) (sym (append_assoc before (44 ∷ r.space_before_name) named)) in
+    let start : total - length (44 ∷ (r.space_before_name ++ named)) ≡ length before = omega (arith, whole, ap (λ (u : Text). length (before ++ u)) shape, length-append before (44 ∷ (r.space_before_name ++ named))) in
+    let skipped : after_run is_space (r.space_before_name ++ named) ≡ named = skip_space r.space_before_name named ok.space_before_name (name_stands name_limit r.assignment.name _ ok.assignment.name) in
+    let read : read_assignment total (length before) named ≡ Ok (field_behind (length before) front r.assignment, rest) =
+    subst (λ (u : Text). total ≡ length (front ++ assignment_inside r.assignment u) → read_assignment total (length before) (assignment_inside r.assignment u) ≡ Ok (field_behind (length before) front r.assignment, u)) (sym begin.3) (assignment_again total (length before) front r.assignment begin.0 begin.1 ok.assignment begin.2) whole_is in
+    let found : first_field kind.Entry total (44 ∷ (r.space_before_name ++ named)) ≡ Some (field_behind (length before) front r.assignment, rest) = rw (start, skipped, read) refl in
+    let later = rows_fields_again rs n total c (before ++ row_bytes r) tail x (All-tail (IsRow name_limit) r rs all) space close (omega arith) (whole ∙ ap (λ (u : Text). length (before ++ u)) (append_assoc (row_bytes r) (flat_map row_bytes rs) (last_comma_bytes tail ++ c ∷ x)) ∙ ap (length {A = ℕ}) (sym (append_assoc before (row_bytes r) rest))) in
+    ap (fields_left (suc n) kind.Entry total) shape
+    ∙ ap (λ (o : Option (Field × Text)). first_and_others o (fields_left n kind.Entry total)) found
+    ∙ ap (λ (fs : List Field). field_behind (length before) front r.assignment ∷ fs) later
+
+-- ---- the one field of definitions and preambles
+
+one_field : (n total : ℕ) (k : Kind) (t : Text) (x : Field × Text) → 0 < n → first_field k total t ≡ Some x → kind_behind k ≡ kind.Comment → fields_left n k total t ≡ x.0 ∷ []
+unfolding fields_left
+one_field zero total k t x some found last = absurd (omega arith)
+one_field (suc n) total k t x some found last =
+    ap (λ (o : Option (Field × Text)). first_and_others o (fields_left n (kind_behind k) total)) found
+    ∙ ap (λ (j : Kind). x.0 ∷ fields_left n j total x.1) last
+    ∙ ap (λ (fs : List Field). x.0 ∷ fs) (none_left n total x.1)
+
+pub definition_field_again : (total : ℕ) (before : Text) (a : Assignment) (b : ℕ) (x : Text) → IsAssignment name_limit a → EndsRow b → total ≡ length (before ++ assignment_inside a (b ∷ x)) → all_fields_left kind.Macro total (assignment_inside a (b ∷ x)) ≡ field_behind (length before) before a ∷ []
+definition_field_again total before a b x is ends whole =
+    let t : Text = assignment_inside a (b ∷ x) in
+    let start : total - length t ≡ length before = omega (arith, whole, length-append before t) in
+    let read = assignment_again total (length before) before a b x is ends whole in
+    let found : first_field kind.Macro total t ≡ Some (field_behind (length before) before a, b ∷ x) = rw (start, read) refl in
+    let some : 0 < length t = omega (arith, ap (length {A = ℕ}) (before_value [] a (b ∷ x)), length-append (a.name ++ a.space_before_equals) (61 ∷ a.space_before_value), length-append (a.name ++ a.space_before_equals ++ 61 ∷ a.space_before_value) (value_bytes a.value ++ (a.space_behind ++ b ∷ x))) in
+    one_field (length t) total kind.Macro t _ some found refl
+
+-- the field of a preamble that begins behind so much text
+abbrev pub preamble_field : Text → Value → Field
+preamble_field before v = record { name = []; value = value_bytes v; start = length before; name_at = length before; value_at = length before }
+
+pub preamble_field_again : (total : ℕ) (before : Text) (v : Value) (s : Text) (b : ℕ) (x : Text) → IsValue name_limit v → IsSpace s → EndsRow b → total ≡ length (before ++ (value_bytes v ++ (s ++ b ∷ x))) → all_fields_left kind.Preamble total (value_bytes v ++ (s ++ b ∷ x)) ≡ preamble_field before v ∷ []
+preamble_field_again total before v s b x is space ends whole =
+    let t : Text = value_bytes v ++ (s ++ b ∷ x) in
+    let start : total - length t ≡ length before = omega (arith, whole, length-append before t) in
+    let read : read_value name_limit t ≡ Ok (value_bytes v, s ++ b ∷ x) = value_again name_limit v (s ++ b ∷ x) is (after_space s b x space ends.breaks) (no_link s b x space ends) in
+    let found : first_field kind.Preamble total t ≡ Some (preamble_field before v, s ++ b ∷ x) = rw (start, read) refl in
+    let some : 0 < length t = omega (arith, length-append (value_bytes v) (s ++ b ∷ x), length-append s (b ∷ x)) in
+    one_field (length t) total kind.Preamble t _ some found refl

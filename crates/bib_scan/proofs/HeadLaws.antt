@@ -1,0 +1,159 @@
+-- The view that is read from left to right is that of the item.
+use Rattle.std.proofs.Common.{◌≡◌, ℕ, ◌+◌, ◌-◌, ◌<◌, ◌≤◌, true, false, List, [], ◌∷◌, ◌++◌, length, refl, sym, ap, subst, ◌∙◌, arith, append_assoc, append-nil}
+use Rattle.std.proofs.lemmas.Bool.{not_from_false, not-true, or_parts, cond-true, cond-false}
+use Rattle.std.proofs.lemmas.List.{length-append}
+use Rattle.std.specs.Prelude.{codes}
+use Rattle.std.specs.List.{take_while, flat_map, AllPass}
+use Rattle.bib_spec.specs.Bytes.{name_limit}
+use Rattle.bib_spec.specs.Text.{Text, is_space, is_type_byte, same, after_run, does_not_begin_with}
+use Rattle.bib_spec.specs.Tree as tree
+use Rattle.bib_spec.specs.Tree.{Tree, CommentTree, DefinitionTree, PreambleTree, EntryTree, Head, Opening, Delimiter, Brace, Paren, row_bytes, value_bytes, head_bytes, opening_bytes, open_byte, close_byte, last_comma_bytes, behind_key_bytes, tree_bytes, goes_on_key, is_no_keyword, IsHead, IsOpening, IsTree}
+use Rattle.bib_scan.specs.LeftToRight.{delimiter_of}
+use Rattle.bib_scan.specs.View.{Field, View, view_of}
+use Rattle.bib_scan.specs.FieldsLeft.{fields_left, all_fields_left, read_head, kind_named, read_opening, view_behind, read_view}
+use Rattle.bib_scan.specs.declared.view.Kind.{Kind}
+use Rattle.bib_scan.specs.declared.view.Kind.TheVariants as kind
+use Rattle.bib_scan.proofs.RunLaws.{run_front, run_rest}
+use Rattle.bib_scan.proofs.PartLaws.{type_name_parts}
+use Rattle.bib_scan.proofs.ValueLaws.{Stands, skip_space}
+use Rattle.bib_scan.proofs.RowLaws.{assignment_inside}
+use Rattle.bib_scan.proofs.AgainLaws.{name_stands, value_stands, rows_inside, rows_begin}
+use Rattle.bib_scan.proofs.TreeAgainLaws.{closes, open_no_space, type_ends, key_stands, stops_more, rows_len, string_no_comment, preamble_no_comment, preamble_no_string, head_shape, opening_shape, definition_shape, preamble_shape, entry_shape}
+use Rattle.bib_scan.proofs.FieldLaws.{none_left, rows_fields_again, definition_field_again, preamble_field_again}
+
+-- ---- heads
+
+-- a head, and a text that does not go on with its type name
+pub head_again : (h : Head) (x : Text) → IsHead h → does_not_begin_with is_type_byte x ≡ true → read_head (head_bytes h ++ x) ≡ (h.type_name, x)
+head_again h x is ends =
+    let named_well = type_name_parts h.type_name is.type_name in
+    let e1 : after_run is_space (h.space_before_type ++ (h.type_name ++ x)) ≡ h.type_name ++ x = skip_space h.space_before_type (h.type_name ++ x) is.space_before_type (name_stands name_limit h.type_name x named_well.0) in
+    let e2 : take_while is_type_byte (h.type_name ++ x) ≡ h.type_name = run_front is_type_byte h.type_name x named_well.1 ends in
+    let e3 : after_run is_type_byte (h.type_name ++ x) ≡ x = run_rest is_type_byte h.type_name x named_well.1 ends in
+    ap read_head (head_shape h x) ∙ ap (λ (t : Text). (take_while is_type_byte t, after_run is_type_byte t)) e1 ∙ (λ i. (e2 i, e3 i))
+
+delimiter_again : (d : Delimiter) → delimiter_of (open_byte d) ≡ d
+delimiter_again Brace = refl
+delimiter_again Paren = refl
+
+opening_again : (d : Delimiter) (s u : Text) → AllPass is_space s → Stands u → read_opening (open_byte d ∷ (s ++ u)) ≡ (d, u)
+opening_again d s u space stands = λ i. (delimiter_again d i, skip_space s u space stands i)
+
+-- a body that begins with this opening
+opened_again : (body trail : Text) (o : Opening) (u : Text) (k : Kind) → IsOpening o → Stands u → kind_named o.head.type_name ≡ k → body ≡ opening_bytes o ++ u → read_view body trail ≡ view_behind body trail o.head.type_name k (o.delimiter, u)
+opened_again body trail o u k is stands named whole =
+    let inside : Text = open_byte o.delimiter ∷ (o.space_behind ++ u) in
+    let behind : Text = o.space_before_delimiter ++ inside in
+    let shape : body ≡ head_bytes o.head ++ behind = whole ∙ opening_shape o u ∙ sym (head_shape o.head behind) in
+    let head : read_head body ≡ (o.head.type_name, behind) = ap read_head shape ∙ head_again o.head behind is.head (type_ends o.space_before_delimiter o.delimiter (o.space_behind ++ u) is.space_before_delimiter) in
+    let skipped : after_run is_space behind ≡ inside = skip_space o.space_before_delimiter inside is.space_before_delimiter (not_from_false _ (open_no_space o.delimiter)) in
+    let opened : read_opening (after_run is_space behind) ≡ (o.delimiter, u) = ap read_opening skipped ∙ opening_again o.delimiter o.space_behind u is.space_behind stands in
+    ap (λ (h : Text × Text). view_behind body trail h.0 (kind_named h.0) (read_opening (after_run is_space h.1))) head
+    ∙ ap (λ (q : Delimiter × Text). view_behind body trail o.head.type_name (kind_named o.head.type_name) q) opened
+    ∙ ap (λ (j : Kind). view_behind body trail o.head.type_name j (o.delimiter, u)) named
+
+-- ---- kinds
+
+comment_named : (t : Text) → same t (codes "comment") ≡ true → kind_named t ≡ kind.Comment
+comment_named t is = cond-true (same t (codes "comment")) _ _ is
+
+definition_named : (t : Text) → same t (codes "string") ≡ true → kind_named t ≡ kind.Macro
+definition_named t is = cond-false (same t (codes "comment")) _ _ (string_no_comment t is) ∙ cond-true (same t (codes "string")) _ _ is
+
+preamble_named : (t : Text) → same t (codes "preamble") ≡ true → kind_named t ≡ kind.Preamble
+preamble_named t is =
+    cond-false (same t (codes "comment")) _ _ (preamble_no_comment t is) ∙ cond-false (same t (codes "string")) _ _ (preamble_no_string t is) ∙ cond-true (same t (codes "preamble")) _ _ is
+
+entry_named : (t : Text) → is_no_keyword t ≡ true → kind_named t ≡ kind.Entry
+entry_named t is =
+    let none = or_parts _ _ (not-true _ is) in
+    let first = or_parts _ _ none.0 in
+    cond-false (same t (codes "comment")) _ _ first.0 ∙ cond-false (same t (codes "string")) _ _ first.1 ∙ cond-false (same t (codes "preamble")) _ _ none.1
+
+-- ---- views
+
+comment_view : (h : Head) (trail : Text) → IsTree name_limit (CommentTree h) → read_view (head_bytes h) trail ≡ view_of (record { tree = CommentTree h; trail = trail })
+unfolding fields_left
+comment_view h trail is =
+    let body : Text = head_bytes h in
+    let head : read_head body ≡ (h.type_name, []) = ap read_head (sym (append-nil body)) ∙ head_again h [] is.head refl in
+    ap (λ (x : Text × Text). view_behind body trail x.0 (kind_named x.0) (read_opening (after_run is_space x.1))) head
+    ∙ ap (λ (k : Kind). view_behind body trail h.type_name k (Brace, [])) (comment_named h.type_name is.type_name)
+
+definition_view : (d : tree.Definition) (trail : Text) → IsTree name_limit (DefinitionTree d) → read_view (tree_bytes (DefinitionTree d)) trail ≡ view_of (record { tree = DefinitionTree d; trail = trail })
+definition_view d trail is =
+    let body : Text = tree_bytes (DefinitionTree d) in
+    let c = close_byte d.opening.delimiter in
+    let u : Text = assignment_inside d.assignment (c ∷ []) in
+    let whole : body ≡ opening_bytes d.opening ++ u = sym (append-nil body) ∙ definition_shape d [] in
+    let read = opened_again body trail d.opening u kind.Macro is.opening (name_stands name_limit d.assignment.name _ is.assignment.name) (definition_named d.opening.head.type_name is.type_name) whole in
+    let field = definition_field_again (length body) (opening_bytes d.opening) d.assignment c [] is.assignment (closes d.opening.delimiter).ends (ap (length {A = ℕ}) whole) in
+    read ∙ ap (λ (fs : List Field). record (view_of (record { tree = DefinitionTree d; trail = trail })) { fields = fs }) field
+
+preamble_view : (p : tree.Preamble) (trail : Text) → IsTree name_limit (PreambleTree p) → read_view (tree_bytes (PreambleTree p)) trail ≡ view_of (record { tree = PreambleTree p; trail = trail })
+preamble_view p trail is =
+    let body : Text = tree_bytes (PreambleTree p) in
+    let c = close_byte p.opening.delimiter in
+    let u : Text = value_bytes p.value ++ (p.space_behind ++ c ∷ []) in
+    let whole : body ≡ opening_bytes p.opening ++ u = sym (append-nil body) ∙ preamble_shape p [] in
+    let read = opened_again body trail p.opening u kind.Preamble is.opening (value_stands name_limit p.value _ is.value) (preamble_named p.opening.head.type_name is.type_name) whole in
+    let field = preamble_field_again (length body) (opening_bytes p.opening) p.value p.space_behind c [] is.value is.space_behind (closes p.opening.delimiter).ends (ap (length {A = ℕ}) whole) in
+    read ∙ ap (λ (fs : List Field). record (view_of (record { tree = PreambleTree p; trail = trail })) { fields = fs }) field
+
+entry_view : (e : tree.Entry) (trail : Text) → IsTree name_limit (EntryTree e) → read_view (tree_bytes (EntryTree e)) trail ≡ view_of (record { tree = EntryTree e; trail = trail })
+entry_view e trail is =
+    let body : Text = tree_bytes (EntryTree e) in
+    let d = e.opening.delimiter in
+    let c = close_byte d in
+    let front : Text = opening_bytes e.opening in
+    let inside : Text = rows_inside c e.rows e.last_comma [] in
+    let begin = rows_begin c e.rows e.last_comma [] (closes d) in
+    let inside_stands : Stands inside = subst Stands (sym begin.3) (not_from_false _ begin.2.no_space) in
+    let behind : Text = behind_key_bytes e in
+    let shape : behind ≡ e.space_behind_key ++ inside =
+    append_assoc (e.space_behind_key ++ flat_map row_bytes e.rows) (last_comma_bytes e.last_comma) (c ∷ []) ∙ append_assoc e.space_behind_key (flat_map row_bytes e.rows) (last_comma_bytes e.last_comma ++ c ∷ []) in
+    let u : Text = e.key ++ behind in
+    let stands : Stands u = key_stands d e.key behind is.key (λ none. subst Stands (sym (shape ∙ ap (λ (v : Text). v ++ inside) (is.empty_key none))) inside_stands) in
+    let whole : body ≡ front ++ u = append_assoc front e.key behind in
+    let read = opened_again body trail e.opening u kind.Entry is.opening stands (entry_named e.opening.head.type_name is.type_name) whole in
+    let key : take_while (goes_on_key d) u ≡ e.key = run_front (goes_on_key d) e.key behind is.key is.key_ends in
+    let behind_key : after_run is_space (after_run (goes_on_key d) u) ≡ inside =
+    ap (after_run is_space) (run_rest (goes_on_key d) e.key behind is.key is.key_ends ∙ shape) ∙ skip_space e.space_behind_key inside is.space_behind_key inside_stands in
+    let key_at : length body - length u ≡ length front = omega (arith, ap (length {A = ℕ}) whole, length-append front u) in
+    let before : Text = front ++ e.key ++ e.space_behind_key in
+    let total : length body ≡ length (before ++ inside) =
+    ap (length {A = ℕ}) (whole ∙ ap (λ (v : Text). front ++ (e.key ++ v)) shape ∙ sym (append_assoc (front ++ e.key) e.space_behind_key inside ∙ append_assoc front e.key _)) in
+    let room : length e.rows ≤ length inside = omega (arith, rows_len e.rows, length-append (flat_map row_bytes e.rows) (last_comma_bytes e.last_comma ++ c ∷ [])) in
+    let fields = ap (all_fields_left kind.Entry (length body)) behind_key ∙ rows_fields_again e.rows (length inside) (length body) c before e.last_comma [] is.rows is.last_comma (closes d) room total in
+    read ∙ (λ i. record {
+      kind = kind.Entry;
+      body = body;
+      trail = trail;
+      type_name = e.opening.head.type_name;
+      key = key i;
+      key_at = key_at i;
+      fields = fields i;
+    })
+
+pub view_again : (t : Tree) (trail : Text) → IsTree name_limit t → read_view (tree_bytes t) trail ≡ view_of (record { tree = t; trail = trail })
+view_again (CommentTree h) trail is = comment_view h trail is
+view_again (DefinitionTree d) trail is = definition_view d trail is
+view_again (PreambleTree p) trail is = preamble_view p trail is
+view_again (EntryTree e) trail is = entry_view e trail is
+
+-- ---- what the code finds
+
+-- the head, kind and opening of a body lead to the view of its item
+pub view_found : (body trail : Text) (head : Text × Text) (k : Kind) (opened : Delimiter × Text) (t : Tree) → head ≡ read_head body → k ≡ kind_named head.0 → opened ≡ read_opening (after_run is_space head.1) → IsTree name_limit t → tree_bytes t ≡ body → view_behind body trail head.0 k opened ≡ view_of (record { tree = t; trail = trail })
+view_found body trail head k opened t head_is k_is opened_is is whole =
+    ap (λ (j : Kind). view_behind body trail head.0 j opened) k_is
+    ∙ ap (λ (q : Delimiter × Text). view_behind body trail head.0 (kind_named head.0) q) opened_is
+    ∙ ap (λ (x : Text × Text). view_behind body trail x.0 (kind_named x.0) (read_opening (after_run is_space x.1))) head_is
+    ∙ ap (λ (b : Text). read_view b trail) (sym whole) ∙ view_again t trail is
+
+-- an item that is no entry has no key
+pub plain_view : (body trail type_name : Text) (k : Kind) (opened : Delimiter × Text) → (k ≡ kind.Entry → ⊥) → view_behind body trail type_name k opened ≡ record { kind = k; body = body; trail = trail; type_name = type_name; key = []; key_at = 0; fields = all_fields_left k (length body) opened.1 }
+plain_view body trail type_name kind.Entry opened other = absurd (other refl)
+plain_view body trail type_name kind.Macro opened other = refl
+plain_view body trail type_name kind.Preamble opened other = refl
+plain_view body trail type_name kind.Comment opened other = refl

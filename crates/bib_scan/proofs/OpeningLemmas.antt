@@ -1,0 +1,29 @@
+-- A text is clean exactly where the search for a command goes to its end.
+use Rattle.std.proofs.Common.{◌≡◌, ℕ, zero, suc, ◌+◌, true, false, [], ◌∷◌, length, drop, refl, ap, arith, inl, inr}
+use Rattle.std.proofs.lemmas.List.{drop_all}
+use Rattle.std.proofs.lemmas.Bool.{cases_Bool}
+use Rattle.bib_spec.specs.Text.{Text}
+use Rattle.bib_spec.specs.Clean.{begins_command, IsClean}
+use Rattle.bib_scan.specs.LeftToRight.{next_command}
+use Rattle.bib_scan.proofs.CommandLemmas.{next_none, next_here}
+
+pub clean_len : (t : Text) → IsClean t → next_command t ≡ length t
+unfolding next_command
+clean_len [] clean = refl
+clean_len (b ∷ t) clean =
+    let later = clean_len t (λ p. clean (suc p)) in
+    omega (arith, next_none b t (clean 0))
+
+pub len_clean : (t : Text) → next_command t ≡ length t → IsClean t
+unfolding begins_command
+len_clean [] is p = ap begins_command (drop_all p [] (omega arith))
+len_clean (b ∷ t) is zero =
+    elim (cases_Bool (begins_command (b ∷ t))) [
+      | inl here ↦ absurd (omega (arith, next_here (b ∷ t) here))
+      | inr none ↦ none
+    ]
+len_clean (b ∷ t) is (suc p) =
+    elim (cases_Bool (begins_command (b ∷ t))) [
+      | inl here ↦ absurd (omega (arith, next_here (b ∷ t) here))
+      | inr none ↦ len_clean t (omega (arith, next_none b t none)) p
+    ]

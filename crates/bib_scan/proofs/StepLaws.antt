@@ -1,0 +1,102 @@
+-- One field after another: what is left behind the first.
+use Rattle.std.proofs.Common.{◌≡◌, ℕ, zero, suc, Bool, ◌-◌, ◌<◌, ◌≤◌, List, [], ◌∷◌, ◌++◌, length, refl, sym, ap, subst, ◌∙◌, arith, Option, None, Some, Result, Ok, Err}
+use Rattle.std.proofs.lemmas.List.{length-append, length-drop}
+use Rattle.std.specs.List.{prefix_len}
+use Rattle.std.specs.Result.{result_ok}
+use Rattle.bib_spec.specs.Bytes.{name_limit}
+use Rattle.bib_spec.specs.Text.{Text, is_space, after_run}
+use Rattle.bib_scan.specs.LeftToRight.{Halt, Read, ◌>>=◌, read_name, read_equals, read_value, read_comma}
+use Rattle.bib_scan.specs.View.{Field}
+use Rattle.bib_scan.specs.FieldsLeft.{read_assignment, first_field, first_and_others, kind_behind, fields_left, all_fields_left}
+use Rattle.bib_scan.specs.declared.view.Kind.{Kind}
+use Rattle.bib_scan.specs.declared.view.Kind.TheVariants as kind
+use Rattle.bib_scan.proofs.RunLaws.{bind_ok, ok_same}
+use Rattle.bib_scan.proofs.PartLaws.{name_ok}
+use Rattle.bib_scan.proofs.ValueLaws.{value_ok}
+use Rattle.bib_scan.proofs.RowLaws.{equals_ok, comma_ok}
+use Rattle.bib_scan.proofs.FieldLaws.{none_left}
+
+ok_some : {A : Type 0} (r : Result A Halt) (x : A) → result_ok r ≡ Some x → r ≡ Ok x
+ok_some (Ok y) x is = cc
+ok_some (Err h) x is = cc
+
+run_shorter : (test : ℕ → Bool) (t : Text) → length (after_run test t) ≤ length t
+run_shorter test t = omega (arith, length-drop (prefix_len test t) t)
+
+-- ---- what is read is no longer there
+
+assignment_shorter : (total start : ℕ) (t : Text) (x : Field × Text) → read_assignment total start t ≡ Ok x → length x.1 ≤ length t
+unfolding read_assignment
+assignment_shorter total start t x is =
+    let named = bind_ok (read_name name_limit t) _ x is in
+    let sign = bind_ok (read_equals (after_run is_space named.0.1)) _ x named.2 in
+    let valued = bind_ok (read_value name_limit (after_run is_space sign.0)) _ x sign.2 in
+    let n = name_ok name_limit t named.0 named.1 in
+    let e = equals_ok (after_run is_space named.0.1) sign.0 sign.1 in
+    let v = value_ok name_limit (after_run is_space sign.0) valued.0 valued.1 in
+    let field : Field = record { name = named.0.0; value = valued.0.0; start = start; name_at = total - length t; value_at = total - length (after_run is_space sign.0) } in
+    let rest : Text = after_run is_space valued.0.1 in
+    let last : rest ≡ x.1 = ap (λ (y : Field × Text). y.1) (ok_same (field, rest) x (Ok (field, rest)) refl valued.2) in
+    omega (
+      arith,
+      ap (length {A = ℕ}) last,
+      ap (length {A = ℕ}) n.split,
+      length-append named.0.0 named.0.1,
+      run_shorter is_space named.0.1,
+      ap (length {A = ℕ}) e,
+      run_shorter is_space sign.0,
+      ap (length {A = ℕ}) v.3,
+      length-append valued.0.0 valued.0.1,
+      run_shorter is_space valued.0.1,
+    )
+
+row_shorter : (total : ℕ) (t : Text) (x : Field × Text) → first_field kind.Entry total t ≡ Some x → length x.1 < length t
+row_shorter total t x is =
+    let read = bind_ok (read_comma t) _ x (ok_some _ x is) in
+    let sign = comma_ok t read.0 read.1 in
+    let later = assignment_shorter total (total - length t) (after_run is_space read.0) x read.2 in
+    omega (arith, ap (length {A = ℕ}) sign, run_shorter is_space read.0)
+
+-- ---- how many turns do not matter
+
+no_rows : (n total : ℕ) → fields_left n kind.Entry total [] ≡ []
+unfolding fields_left
+no_rows zero total = refl
+no_rows (suc n) total = refl
+
+others_same : (o : Option (Field × Text)) (f g : Text → List Field) → ((x : Field × Text) → o ≡ Some x → f x.1 ≡ g x.1) → first_and_others o f ≡ first_and_others o g
+others_same None f g same = refl
+others_same (Some x) f g same = ap (λ (fs : List Field). x.0 ∷ fs) (same x refl)
+
+rows_turns : (n m total : ℕ) (t : Text) → length t ≤ n → length t ≤ m → fields_left n kind.Entry total t ≡ fields_left m kind.Entry total t
+unfolding fields_left
+rows_turns n m total [] ln lm = no_rows n total ∙ sym (no_rows m total)
+rows_turns zero m total (b ∷ t) ln lm = absurd (omega arith)
+rows_turns (suc n) zero total (b ∷ t) ln lm = absurd (omega arith)
+rows_turns (suc n) (suc m) total (b ∷ t) ln lm =
+    others_same (first_field kind.Entry total (b ∷ t)) (fields_left n kind.Entry total) (fields_left m kind.Entry total) (λ x is.
+    let short = row_shorter total (b ∷ t) x is in
+    rows_turns n m total x.1 (omega arith) (omega arith))
+
+-- ---- one step
+
+pub field_last : (k : Kind) (total : ℕ) (t : Text) → first_field k total t ≡ None → all_fields_left k total t ≡ []
+unfolding fields_left
+field_last kind.Entry total [] is = refl
+field_last kind.Macro total [] is = refl
+field_last kind.Preamble total [] is = refl
+field_last kind.Comment total [] is = refl
+field_last k total (b ∷ t) is = ap (λ (o : Option (Field × Text)). first_and_others o (fields_left (length t) (kind_behind k) total)) is
+
+turns_behind : (k : Kind) (n total : ℕ) (t : Text) → length t ≤ n → fields_left n (kind_behind k) total t ≡ all_fields_left (kind_behind k) total t
+turns_behind kind.Entry n total t le = rows_turns n (length t) total t le (omega arith)
+turns_behind kind.Macro n total t le = none_left n total t ∙ sym (none_left (length t) total t)
+turns_behind kind.Preamble n total t le = none_left n total t ∙ sym (none_left (length t) total t)
+turns_behind kind.Comment n total t le = none_left n total t ∙ sym (none_left (length t) total t)
+
+pub field_step : (k : Kind) (total : ℕ) (t : Text) (x : Field × Text) → first_field k total t ≡ Some x → length x.1 < length t → all_fields_left k total t ≡ x.0 ∷ all_fields_left (kind_behind k) total x.1
+unfolding fields_left
+field_step k total [] x is short = absurd (omega arith)
+field_step k total (b ∷ t) x is short =
+    ap (λ (o : Option (Field × Text)). first_and_others o (fields_left (length t) (kind_behind k) total)) is
+    ∙ ap (λ (fs : List Field). x.0 ∷ fs) (turns_behind k (length t) total x.1 (omega arith))

@@ -1,0 +1,10 @@
+use Rattle.std.proofs.Common.{◌-◌, length}
+use Rattle.bib_scan.specs.LeftToRight.{read_braced}
+use Rattle.bib_scan.proofs.ScanInvariant.{Scanned}
+use Rattle.bib_scan.proofs.value.split_braced.Given as goal
+
+abbrev pub invariant-loop-found : goal.invariant-loop-found
+invariant-loop-found l = Scanned read_braced l.text l.at l.depth
+
+abbrev pub decreases-loop-found : goal.decreases-loop-found
+decreases-loop-found l = length l.text - l.at

@@ -1,0 +1,19 @@
+use Rattle.std.proofs.Common.{arith}
+use Rattle.std.proofs.lemmas.Result.{err_from_is_err_and}
+use Rattle.bib_spec.specs.Bytes.{name_limit}
+use Rattle.bib_scan.proofs.ValueLemmas.{leads_on, value_fault, value_end}
+use Rattle.bib_scan.proofs.value.split_value.Goals as goal
+
+pub loop-next-preserved : goal.loop-next-preserved
+loop-next-preserved c = leads_on name_limit _ _ _ _ c.loop-next.invariant c.in-Some.ensures.shorter c.in_ok-behind.ensures.shorter c.in-Some.ensures.read c.in_ok-behind.ensures.read
+
+pub loop-next-smaller : goal.loop-next-smaller
+loop-next-smaller c = omega (arith, c.in-Some.ensures.shorter, c.in_ok-behind.ensures.shorter)
+
+pub returns-in_err-behind-clause-read : goal.returns-in_err-behind-clause-read
+returns-in_err-behind-clause-read c =
+    let p = err_from_is_err_and c.from_residual-in_err-behind.result c.from_residual-in_err-behind.ensures.1 in
+    rw (p.1, p.2) (value_fault name_limit _ _ _ _ c.loop-next.invariant c.in-Some.ensures.shorter c.in-Some.ensures.read c.in_err-behind.ensures.read)
+
+pub returns-clause-read : goal.returns-clause-read
+returns-clause-read c = rw c.split_at.ensures.front (value_end name_limit _ _ c.loop-next.invariant c.in_default.ensures.read)

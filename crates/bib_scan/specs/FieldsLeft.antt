@@ -1,0 +1,109 @@
+-- No promise rests on this page: it retraces how a view finds its parts and how its fields are read, from left to right,
+-- so that lemmas can lead from the code to `View`.
+use Rattle.std.specs.Prelude.{ℕ, zero, suc, ◌-◌, List, [], ◌∷◌, length, drop, codes, Option, None, Some, Result, Ok, Err, if◌then◌else◌}
+use Rattle.std.specs.List.{prefix_len, take_while}
+use Rattle.std.specs.Result.{result_ok}
+use Rattle.bib_spec.specs.Bytes.{name_limit}
+use Rattle.bib_spec.specs.Text.{Text, is_space, is_type_byte, same, after_run}
+use Rattle.bib_spec.specs.Tree.{Delimiter, Brace, goes_on_key}
+use Rattle.bib_scan.specs.LeftToRight.{Halt, Read, ◌>>=◌, read_name, read_equals, read_value, read_comma, delimiter_of}
+use Rattle.bib_scan.specs.View.{Field, View}
+use Rattle.bib_scan.specs.declared.view.Kind.{Kind}
+use Rattle.bib_scan.specs.declared.view.Kind.TheVariants as kind
+
+-- ---- fields
+
+-- an assignment, as the field of a row that begins at start, in a body of so many bytes
+unfoldable pub read_assignment : ℕ → ℕ → Text → Read Field
+read_assignment total start t = do
+  named ← read_name name_limit t
+  u ← read_equals (after_run is_space named.1)
+  valued ← read_value name_limit (after_run is_space u)
+  Ok (record { name = named.0; value = valued.0; start = start; name_at = total - length t; value_at = total - length (after_run is_space u) }, after_run is_space valued.1)
+
+-- a row, as a field
+abbrev pub read_row_field : ℕ → Text → Read Field
+read_row_field total t = read_comma t >>= λ u. read_assignment total (total - length t) (after_run is_space u)
+
+-- a value, as the field of a preamble
+abbrev pub read_preamble_field : ℕ → Text → Read Field
+read_preamble_field total t =
+    read_value name_limit t >>= λ x.
+    Ok (record { name = []; value = x.0; start = total - length t; name_at = total - length t; value_at = total - length t }, x.1)
+
+-- the field at the front, in an item of this kind
+abbrev pub first_field : Kind → ℕ → Text → Option (Field × Text)
+first_field kind.Entry total t = result_ok (read_row_field total t)
+first_field kind.Macro total t = result_ok (read_assignment total (total - length t) t)
+first_field kind.Preamble total t = result_ok (read_preamble_field total t)
+first_field kind.Comment total t = None
+
+-- what kind of item may have the fields that follow the first: only an entry has more than one
+abbrev pub kind_behind : Kind → Kind
+kind_behind kind.Entry = kind.Entry
+kind_behind kind.Macro = kind.Comment
+kind_behind kind.Preamble = kind.Comment
+kind_behind kind.Comment = kind.Comment
+
+-- the first field and those that stand in the text behind it
+abbrev pub first_and_others : Option (Field × Text) → (Text → List Field) → List Field
+first_and_others None others = []
+first_and_others (Some x) others = x.0 ∷ others x.1
+
+-- the fields from here on, of which there are at most so many
+unfoldable pub fields_left : ℕ → Kind → ℕ → Text → List Field
+fields_left zero k total t = []
+fields_left (suc n) k total t = first_and_others (first_field k total t) (fields_left n (kind_behind k) total)
+
+-- as many as there may be
+abbrev pub all_fields_left : Kind → ℕ → Text → List Field
+all_fields_left k total t = fields_left (length t) k total t
+
+-- ---- heads
+
+-- the type name and the text behind it
+abbrev pub read_head : Text → Text × Text
+read_head [] = ([], [])
+read_head (b ∷ t) = (take_while is_type_byte (after_run is_space t), after_run is_type_byte (after_run is_space t))
+
+-- the kind of item that has this type
+abbrev pub kind_named : Text → Kind
+kind_named t =
+    if same t (codes "comment") then kind.Comment
+    else if same t (codes "string") then kind.Macro
+    else if same t (codes "preamble") then kind.Preamble
+    else kind.Entry
+
+-- the opening delimiter, and the text behind it and white space
+abbrev pub read_opening : Text → Delimiter × Text
+read_opening [] = (Brace, [])
+read_opening (b ∷ t) = (delimiter_of b, after_run is_space t)
+
+-- the view of an item of this kind and type, from its delimiter and the text behind its opening
+abbrev pub view_behind : Text → Text → Text → Kind → Delimiter × Text → View
+view_behind body trail type_name kind.Entry opened =
+    let behind = after_run is_space (after_run (goes_on_key opened.0) opened.1) in
+    record {
+      kind = kind.Entry;
+      body = body;
+      trail = trail;
+      type_name = type_name;
+      key = take_while (goes_on_key opened.0) opened.1;
+      key_at = length body - length opened.1;
+      fields = all_fields_left kind.Entry (length body) behind;
+    }
+view_behind body trail type_name k opened = record {
+  kind = k;
+  body = body;
+  trail = trail;
+  type_name = type_name;
+  key = [];
+  key_at = 0;
+  fields = all_fields_left k (length body) opened.1;
+}
+
+-- the view of an item
+abbrev pub read_view : Text → Text → View
+read_view body trail =
+    let head = read_head body in
+    view_behind body trail head.0 (kind_named head.0) (read_opening (after_run is_space head.1))

@@ -1,0 +1,28 @@
+-- Where everything stands in a file.
+use Rattle.std.specs.Prelude.{ℕ, ◌+◌, List, length, take, map}
+use Rattle.std.specs.List.{flat_map, enumerate_from}
+use Rattle.bib_spec.specs.Tree.{tree_bytes}
+use Rattle.bib_spec.specs.Reading.{Item, Reading, item_bytes}
+use Rattle.bib_scan.specs.declared.layout.Span.{Span}
+
+-- the length of the front, and where the body of each item lies
+pub record Places : Type 0 where
+  pub front_len : ℕ
+  pub items : List Span
+
+abbrev pub placed : ℕ → List Span → Places
+placed front_len items = record { front_len = front_len; items = items }
+
+-- item n begins behind the front and the first n items
+abbrev pub start_of : Reading → ℕ → ℕ
+start_of db n = length db.front + length (flat_map item_bytes (take n db.items))
+
+-- where the body of item n lies
+abbrev pub span_of : Reading → ℕ × Item → Span
+span_of db numbered = record {
+  start = start_of db numbered.0;
+  end = start_of db numbered.0 + length (tree_bytes numbered.1.tree);
+}
+
+abbrev pub places_of : Reading → Places
+places_of db = placed (length db.front) (map (span_of db) (enumerate_from 0 db.items))

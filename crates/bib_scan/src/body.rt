@@ -1,0 +1,171 @@
+//! Commands: keys, rows and closing delimiters.
+
+ghost use Rattle.std.specs.Prelude.{◌≡◌, ◌<◌, ◌≤◌, IfSome, IfOk, length};
+ghost use Rattle.std.specs.Option.{option_copied};
+ghost use Rattle.std.specs.List.{prefix_len};
+ghost use Rattle.bib_spec.specs.Bytes.{name_limit};
+ghost use Rattle.bib_spec.specs.Tree.{goes_on_key, close_byte};
+ghost use Rattle.bib_scan.specs.LeftToRight.{read_run, read_row, past_byte, read_comma, read_close, read_all_rows, read_entry, read_definition, read_preamble, read_body, read_command};
+ghost use Rattle.bib_scan.specs.Code.{Gives};
+ghost use Rattle.bib_scan.specs.DelimiterView.{delimiter_view};
+
+use crate::fault::{Fault, Stop};
+use crate::opening::Delimiter;
+use crate::run::{behind, past_space, split_type_name};
+use crate::text::{NAME_LIMIT, same_folded};
+use crate::value::{past_equals, split_name, split_value};
+
+/// The text behind a row, from behind its comma on.
+#[tactic(auto, unfolding(crate::specs::LeftToRight::read_row))]
+fn past_row(text: &[u8]) -> Result<&[u8], Stop<'_>>
+    ensures read { Gives (λ x. x.now) result (read_row name_limit text.now) }
+    ensures shorter { IfOk result (λ x. length x.now < length text.now) }
+{
+    let (_, rest) = split_name(past_space(text))?;
+    let rest = past_equals(past_space(rest))?;
+    let (_, rest) = split_value(past_space(rest))?;
+    Ok(past_space(rest))
+}
+
+/// The text behind this byte, where the text begins with it.
+fn past_byte(byte: u8, text: &[u8]) -> Option<&[u8]>
+    ensures read { option_copied result ≡ past_byte byte text.now }
+    ensures shorter { IfSome result (λ x. length x.now < length text.now) }
+{
+    match text {
+        [first, rest @ ..] if *first == byte => Some(rest),
+        _ => None,
+    }
+}
+
+/// The text behind a comma.
+pub(crate) fn past_comma(text: &[u8]) -> Result<&[u8], Stop<'_>>
+    ensures read { Gives (λ x. x.now) result (read_comma text.now) }
+    ensures shorter { IfOk result (λ x. length x.now < length text.now) }
+{
+    match text {
+        [b',', rest @ ..] => Ok(rest),
+        _ => Err(Stop::expected(Fault::ExpectedCommaOrClose, text)),
+    }
+}
+
+/// The text behind the closing delimiter.
+fn past_close(close: u8, text: &[u8]) -> Result<&[u8], Stop<'_>>
+    ensures read { Gives (λ x. x.now) result (read_close close text.now) }
+    ensures shorter { IfOk result (λ x. length x.now < length text.now) }
+{
+    match past_byte(close, text) {
+        Some(rest) => Ok(rest),
+        None => Err(Stop::expected(Fault::ExpectedCommaOrClose, text)),
+    }
+}
+
+/// How many bytes of a key the text begins with.
+pub(crate) fn key_len(delimiter: Delimiter, text: &[u8]) -> usize
+    ensures len { result ≡ prefix_len (goes_on_key (delimiter_view delimiter)) text.now }
+    ensures within { result ≤ length text.now }
+{
+    text.iter()
+        .take_while(|b| delimiter.goes_on_key(**b))
+        .count()
+}
+
+/// A key, and the text behind it.
+fn split_key(delimiter: Delimiter, text: &[u8]) -> Result<(&[u8], &[u8]), Stop<'_>>
+    ensures read { Gives (λ x. (x.0.now, x.1.now)) result (read_run name_limit (goes_on_key (delimiter_view delimiter)) text.now) }
+    ensures shorter { IfOk result (λ x. length x.1.now ≤ length text.now) }
+{
+    let len = key_len(delimiter, text);
+    if len > NAME_LIMIT {
+        return Err(Stop {
+            fault: Fault::KeyTooLong,
+            rest: behind(text, NAME_LIMIT),
+        });
+    }
+    Ok(text.split_at(len))
+}
+
+/// The text behind an entry's rows and its closing delimiter.
+fn past_rows(close: u8, text: &[u8]) -> Result<&[u8], Stop<'_>>
+    ensures read { Gives (λ x. x.now) result (read_all_rows name_limit close text.now) }
+    ensures shorter { IfOk result (λ x. length x.now < length text.now) }
+{
+    let mut rest = text;
+    'turns: loop {
+        if let Some(end) = past_byte(close, rest) {
+            return Ok(end);
+        }
+        let after = past_comma(rest)?;
+        if let Some(end) = past_byte(close, past_space(after)) {
+            return Ok(end);
+        }
+        rest = past_row(after)?;
+    }
+}
+
+/// The text behind an entry, from behind its opening delimiter on.
+#[tactic(auto, unfolding(crate::specs::LeftToRight::read_entry))]
+fn past_entry(delimiter: Delimiter, text: &[u8]) -> Result<&[u8], Stop<'_>>
+    ensures read { Gives (λ x. x.now) result (read_entry name_limit (delimiter_view delimiter) text.now) }
+    ensures shorter { IfOk result (λ x. length x.now < length text.now) }
+{
+    let (_, rest) = split_key(delimiter, past_space(text))?;
+    past_rows(delimiter.close(), past_space(rest))
+}
+
+/// The text behind a preamble, from behind its opening delimiter on.
+fn past_preamble(close: u8, text: &[u8]) -> Result<&[u8], Stop<'_>>
+    ensures read { Gives (λ x. x.now) result (read_preamble name_limit close text.now) }
+    ensures shorter { IfOk result (λ x. length x.now < length text.now) }
+{
+    let (_, rest) = split_value(past_space(text))?;
+    past_close(close, past_space(rest))
+}
+
+/// The text behind a macro definition, from behind its opening delimiter on.
+fn past_definition(close: u8, text: &[u8]) -> Result<&[u8], Stop<'_>>
+    ensures read { Gives (λ x. x.now) result (read_definition name_limit close text.now) }
+    ensures shorter { IfOk result (λ x. length x.now < length text.now) }
+{
+    past_close(close, past_row(text)?)
+}
+
+/// The text behind a command of this type, from its opening delimiter on.
+#[tactic(auto, unfolding(crate::specs::LeftToRight::read_body))]
+fn past_body<'a>(type_name: &[u8], text: &'a [u8]) -> Result<&'a [u8], Stop<'a>>
+    ensures read { Gives (λ x. x.now) result (read_body name_limit type_name.now text.now) }
+    ensures shorter { IfOk result (λ x. length x.now < length text.now) }
+{
+    match text {
+        [] => Err(Stop::expected(Fault::Unended, text)),
+        [first, inside @ ..] => {
+            let delimiter = Delimiter::of(*first);
+            if same_folded(type_name, b"string") {
+                past_definition(delimiter.close(), inside)
+            } else if same_folded(type_name, b"preamble") {
+                past_preamble(delimiter.close(), inside)
+            } else {
+                past_entry(delimiter, inside)
+            }
+        }
+    }
+}
+
+/// The text behind the command that begins here.
+#[tactic(auto, unfolding(crate::specs::LeftToRight::read_command))]
+pub(crate) fn past_command(text: &[u8]) -> Result<&[u8], Stop<'_>>
+    ensures read { Gives (λ x. x.now) result (read_command name_limit text.now) }
+    ensures shorter { IfOk result (λ x. length x.now < length text.now) }
+{
+    match text {
+        [] => Err(Stop::expected(Fault::Unended, text)),
+        [_, after @ ..] => {
+            let (type_name, rest) = split_type_name(past_space(after));
+            if same_folded(type_name, b"comment") {
+                Ok(rest)
+            } else {
+                past_body(type_name, past_space(rest))
+            }
+        }
+    }
+}

@@ -1,0 +1,120 @@
+//! Where an at-sign begins an item.
+
+ghost use Rattle.std.specs.Prelude.{◌≡◌, ◌↔◌, ◌≤◌, IsTrue, length};
+ghost use Rattle.bib_spec.specs.Text.{is_type_byte, does_not_begin_with};
+ghost use Rattle.bib_spec.specs.Clean.{begins_command, opens_body, IsClean, IsCleanTrail};
+ghost use Rattle.bib_scan.specs.LeftToRight.{next_command, delimiter_of};
+ghost use Rattle.bib_spec.specs.Tree.{close_byte, goes_on_key};
+ghost use Rattle.bib_scan.specs.DelimiterView.{delimiter_view};
+
+use crate::class::{is_space, is_type_byte};
+use crate::run::{behind, past_space, split_type_name};
+use crate::text::{is_name, same_folded};
+use memchr::memchr;
+
+/// `{` with `}`, or `(` with `)`.
+#[derive(Clone, Copy, PartialEq, Eq)]
+pub(crate) enum Delimiter {
+    Brace,
+    Paren,
+}
+
+impl Delimiter {
+    /// The delimiter with this opening byte.
+    pub fn of(byte: u8) -> Self
+        ensures { delimiter_view result ≡ delimiter_of byte }
+    {
+        if byte == b'{' {
+            Delimiter::Brace
+        } else {
+            Delimiter::Paren
+        }
+    }
+
+    /// Its closing byte.
+    pub fn close(self) -> u8
+        ensures { result ≡ close_byte (delimiter_view self) }
+    {
+        match self {
+            Delimiter::Brace => b'}',
+            Delimiter::Paren => b')',
+        }
+    }
+
+    /// Whether a key behind this delimiter goes on with the byte.
+    pub fn goes_on_key(self, byte: u8) -> bool
+        ensures { result ≡ goes_on_key (delimiter_view self) byte }
+    {
+        match self {
+            Delimiter::Brace => !(is_space(byte) || byte == b',' || byte == b'}'),
+            Delimiter::Paren => !(is_space(byte) || byte == b','),
+        }
+    }
+}
+
+/// Whether the text begins with an opening delimiter.
+fn opens_body(text: &[u8]) -> bool
+    ensures { result ≡ opens_body text.now }
+{
+    match text {
+        [first, ..] => *first == b'{' || *first == b'(',
+        [] => false,
+    }
+}
+
+/// Whether a command begins at the front of the text.
+#[tactic(auto, unfolding(bib_spec::specs::Clean::begins_command))]
+fn begins_command(text: &[u8]) -> bool
+    ensures { result ≡ begins_command text.now }
+{
+    match text {
+        [first, after @ ..] => {
+            let (type_name, rest) = split_type_name(past_space(after));
+            *first == b'@'
+                && is_name(type_name)
+                && (same_folded(type_name, b"comment") || opens_body(past_space(rest)))
+        }
+        [] => false,
+    }
+}
+
+/// How many bytes stand before the next command, which may be the whole text.
+pub(crate) fn next_command(text: &[u8]) -> usize
+    ensures read { result ≡ next_command text.now }
+    ensures within { result ≤ length text.now }
+{
+    let mut at = 0;
+    while let Some(found) = memchr(b'@', behind(text, at)) {
+        let place = at + found;
+        if begins_command(behind(text, place)) {
+            return place;
+        }
+        at = place + 1;
+    }
+    text.len()
+}
+
+/// Whether the text does not go on with a type name.
+fn begins_without_type_byte(text: &[u8]) -> bool
+    ensures { result ≡ does_not_begin_with is_type_byte text.now }
+{
+    match text {
+        [first, ..] => !is_type_byte(*first),
+        [] => true,
+    }
+}
+
+/// Whether no command begins in the text.
+fn is_clean(text: &[u8]) -> bool
+    ensures { IsTrue result ↔ IsClean text.now }
+{
+    next_command(text) == text.len()
+}
+
+/// Whether the text may follow an item's body: no command begins in it, and behind a comment it does not
+/// go on with the comment's type name. (dialect)
+pub fn is_clean_trail(after_comment: bool, bytes: &[u8]) -> bool
+    ensures { IsTrue result ↔ IsCleanTrail after_comment bytes.now }
+{
+    is_clean(bytes) && (!after_comment || begins_without_type_byte(bytes))
+}

@@ -1,0 +1,200 @@
+//! What is seen of an item: its parts, as slices of the file.
+
+ghost use Rattle.std.specs.Prelude.{◌≡◌, ◌≤◌, length};
+ghost use Rattle.bib_spec.specs.Bytes.{name_limit};
+ghost use Rattle.bib_scan.specs.FieldsLeft.{read_head, read_opening};
+ghost use Rattle.bib_scan.specs.DelimiterView.{delimiter_view};
+ghost use Rattle.bib_spec.specs.Tree.{Tree, IsTree, tree_bytes};
+
+use crate::body::key_len;
+use crate::fields::Fields;
+use crate::opening::Delimiter;
+use crate::run::{past_space, split_type_name};
+use crate::text::same_folded;
+use std::marker::Model;
+
+/// The kinds of items.
+#[derive(Clone, Copy, Debug, PartialEq, Eq)]
+pub enum Kind {
+    Entry,
+    Macro,
+    Preamble,
+    Comment,
+}
+
+impl Kind {
+    ghost use Rattle.bib_scan.specs.FieldsLeft.{kind_named, kind_behind};
+
+    /// The kind of item that has this type.
+    fn named(type_name: &[u8]) -> Self
+        ensures { result ≡ kind_named type_name.now }
+    {
+        if same_folded(type_name, b"comment") {
+            Kind::Comment
+        } else if same_folded(type_name, b"string") {
+            Kind::Macro
+        } else if same_folded(type_name, b"preamble") {
+            Kind::Preamble
+        } else {
+            Kind::Entry
+        }
+    }
+
+    /// Which kind of item has the fields behind the first: only an entry has more than one.
+    pub(crate) fn behind_field(self) -> Self
+        ensures { result ≡ kind_behind self }
+    {
+        match self {
+            Kind::Entry => Kind::Entry,
+            Kind::Macro | Kind::Preamble | Kind::Comment => Kind::Comment,
+        }
+    }
+}
+
+/// An item as slices of the file: it takes no memory. A contract sees the view of the item's tree.
+#[derive(Drop)]
+pub struct ItemView<'a> {
+    kind: Kind,
+    body: &'a [u8],
+    trail: &'a [u8],
+    type_name: &'a [u8],
+    key: &'a [u8],
+    key_at: usize,
+    // where the fields begin
+    rows: &'a [u8],
+}
+
+impl<'a> Model for ItemView<'a> {
+    ghost use Rattle.std.specs.Prelude.{◌≤◌, length};
+    ghost use Rattle.bib_scan.specs.View.{View};
+    ghost use Rattle.bib_scan.specs.FieldsLeft.{all_fields_left};
+
+    ghost Value = { View };
+
+    ghost view = { λ v. record {
+      kind = v.kind;
+      body = v.body.now;
+      trail = v.trail.now;
+      type_name = v.type_name.now;
+      key = v.key.now;
+      key_at = v.key_at;
+      fields = all_fields_left v.kind (length v.body.now) v.rows.now;
+    } };
+
+    ghost invariant = { λ v. length v.rows.now ≤ length v.body.now };
+}
+
+impl<'a> ItemView<'a> {
+    ghost use Rattle.std.specs.Prelude.{◌≡◌};
+    ghost use Rattle.bib_scan.specs.View.{view_of, with_trail};
+
+    /// The view of the item with this body and trail. The body is read up to its fields, in time of that
+    /// length.
+    pub fn of(body: &'a [u8], trail: &'a [u8]) -> Self
+        ensures item { (tree : Tree) → IsTree name_limit tree → tree_bytes tree ≡ body.now → result ≡ view_of (record { tree = tree; trail = trail.now }) }
+    {
+        let (type_name, behind_type) = split_head(body);
+        let (delimiter, inside) = split_opening(past_space(behind_type));
+        match Kind::named(type_name) {
+            Kind::Entry => {
+                let (key, behind_key) = inside.split_at(key_len(delimiter, inside));
+                ItemView {
+                    kind: Kind::Entry,
+                    body,
+                    trail,
+                    type_name,
+                    key,
+                    key_at: body.len() - inside.len(),
+                    rows: past_space(behind_key),
+                }
+            }
+            kind => ItemView {
+                kind,
+                body,
+                trail,
+                type_name,
+                key: b"",
+                key_at: 0,
+                rows: inside,
+            },
+        }
+    }
+
+    /// Whether it is an entry, a macro definition, a preamble or a comment.
+    pub fn kind(&self) -> Kind
+        ensures { result ≡ self.now.kind }
+    {
+        self.kind
+    }
+
+    /// The item's own bytes, from its at-sign to its closing delimiter; of a comment its head alone.
+    pub fn body(&self) -> &'a [u8]
+        ensures { result.now ≡ self.now.body }
+    {
+        self.body
+    }
+
+    /// The text between the body and the next item.
+    pub fn trail(&self) -> &'a [u8]
+        ensures { result.now ≡ self.now.trail }
+    {
+        self.trail
+    }
+
+    /// The word behind the at-sign, as it stands.
+    pub fn type_name(&self) -> &'a [u8]
+        ensures { result.now ≡ self.now.type_name }
+    {
+        self.type_name
+    }
+
+    /// An entry's key, as it stands; it is empty for other items, and may be for entries.
+    pub fn key(&self) -> &'a [u8]
+        ensures { result.now ≡ self.now.key }
+    {
+        self.key
+    }
+
+    /// The place of the key in the body, from 0; it is 0 for other items than entries.
+    pub fn key_at(&self) -> usize
+        ensures { result ≡ self.now.key_at }
+    {
+        self.key_at
+    }
+
+    /// The item's fields in their order, read as they are asked for.
+    pub fn fields(&self) -> Fields<'a>
+        ensures { result ≡ self.now.fields }
+    {
+        Fields::from_rest(self.kind, self.body.len(), self.rows)
+    }
+
+    /// The same item with another trail.
+    pub fn with_trail(self, trail: &'a [u8]) -> Self
+        ensures { result ≡ with_trail self.entry trail.now }
+    {
+        ItemView { trail, ..self }
+    }
+}
+
+/// The type name of a body, and the text behind it.
+fn split_head(body: &[u8]) -> (&[u8], &[u8])
+    ensures parts { (result.0.now, result.1.now) ≡ read_head body.now }
+    ensures within { length result.1.now ≤ length body.now }
+{
+    match body {
+        [_, after @ ..] => split_type_name(past_space(after)),
+        [] => (body, body),
+    }
+}
+
+/// The opening delimiter, and the text behind it and white space.
+fn split_opening(text: &[u8]) -> (Delimiter, &[u8])
+    ensures parts { (delimiter_view result.0, result.1.now) ≡ read_opening text.now }
+    ensures within { length result.1.now ≤ length text.now }
+{
+    match text {
+        [first, inside @ ..] => (Delimiter::of(*first), past_space(inside)),
+        [] => (Delimiter::Brace, text),
+    }
+}
