@@ -7,6 +7,7 @@ use Rattle.std.specs.Prelude.{codes}
 use Rattle.std.specs.List.{take_while, prefix_len}
 use Rattle.bib_spec.specs.Text.{Text, is_space, is_name, is_name_byte, is_type_byte, same, after_run}
 use Rattle.bib_spec.specs.Clean.{begins_command, opens_body, IsClean}
+use Rattle.bib_scan.specs.Laws.{IsCleanBeforeSign}
 use Rattle.bib_scan.specs.LeftToRight.{next_command}
 use Rattle.bib_scan.proofs.CommandLemmas.{next_none, next_here}
 
@@ -61,10 +62,6 @@ clean_cons b u none clean (suc p) = clean p
 
 pub clean_tail : (b : ℕ) (u : Text) → IsClean (b ∷ u) → IsClean u
 clean_tail b u clean p = clean (suc p)
-
--- no command begins in the text, read with an at-sign behind it
-abbrev pub IsCleanBeforeSign : Text → Type 0
-IsCleanBeforeSign t = (p : ℕ) → p < length t → begins_command (drop p (t ++ 64 ∷ [])) ≡ false
 
 before_sign : (t : Text) → IsClean t → IsCleanBeforeSign t
 before_sign [] clean p lt = absurd (omega arith)

@@ -1,5 +1,17 @@
 pub mod BalanceLaws
 pub mod OpeningLemmas
+pub mod LocalLaws
+pub mod LocalParts
+pub mod LocalRows
+pub mod MendLaws
+pub mod LongerNames
+pub mod StopLaws
+pub mod PlaceLaws
+pub mod HopelessLaws
+pub mod TellParts
+pub mod MendRows
+pub mod MendTrees
+pub mod TellLaws
 pub mod BraceLemmas
 pub mod ScanInvariant
 pub mod ValueLemmas
@@ -22,3 +34,5 @@ pub mod RowsLemmas
 pub mod StepLaws
 pub mod LayoutLemmas
 pub mod LayoutLaws
+pub mod TakenApart
+pub mod PartsLemmas

@@ -136,7 +136,7 @@ part_ok limit (b ∷ t) x is =
       ]
     ]
 
-name_byte_no : (b c : ℕ) → is_name_byte b ≡ true → is_name_byte c ≡ false → eqb b c ≡ false
+pub name_byte_no : (b c : ℕ) → is_name_byte b ≡ true → is_name_byte c ≡ false → eqb b c ≡ false
 name_byte_no b c is fails = ne_eqb b c (λ e. both_ways (is_name_byte b) (ap is_name_byte e ∙ fails) is)
 
 digit_no : (b c : ℕ) → is_ascii_digit b ≡ true → is_ascii_digit c ≡ false → eqb b c ≡ false

@@ -1,8 +1,9 @@
 -- Where everything stands in a file.
-use Rattle.std.specs.Prelude.{ℕ, ◌+◌, List, length, take, map}
+use Rattle.std.specs.Prelude.{ℕ, ◌≡◌, ◌+◌, List, length, take, map, slice_get, Option, None, Some}
 use Rattle.std.specs.List.{flat_map, enumerate_from}
+use Rattle.bib_spec.specs.Text.{Text}
 use Rattle.bib_spec.specs.Tree.{tree_bytes}
-use Rattle.bib_spec.specs.Reading.{Item, Reading, item_bytes}
+use Rattle.bib_spec.specs.Reading.{Item, Reading, Reads, item_bytes}
 use Rattle.bib_scan.specs.declared.layout.Span.{Span}
 
 -- the length of the front, and where the body of each item lies
@@ -26,3 +27,15 @@ span_of db numbered = record {
 
 abbrev pub places_of : Reading → Places
 places_of db = placed (length db.front) (map (span_of db) (enumerate_from 0 db.items))
+
+-- the places are those of what the file says
+abbrev pub IsLayoutOf : Text → Places → Type 0
+IsLayoutOf file places = (db : Reading) × Reads file db × (places ≡ places_of db)
+
+abbrev pub start_or : ℕ → Option Span → ℕ
+start_or end None = end
+start_or end (Some next) = next.start
+
+-- the trail of item n ends where the next body starts, or with the file
+abbrev pub trail_end : Text → Places → ℕ → ℕ
+trail_end file places n = start_or (length file) (slice_get places.items (n + 1))

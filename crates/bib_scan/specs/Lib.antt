@@ -5,3 +5,6 @@ pub mod FieldsLeft
 pub mod Layout
 pub mod Code
 pub mod PartView
+pub mod ValueParts
+pub mod PartsLeft
+pub mod Laws

@@ -2,6 +2,8 @@
 
 ghost use Rattle.std.specs.Prelude.{◌≡◌};
 
+use crate::run::behind;
+use crate::view::ItemView;
 use std::marker::Model;
 
 /// Where the body of an item lies: its first byte, and the first one behind it.
@@ -11,7 +13,8 @@ pub(crate) struct Span {
     pub end: usize,
 }
 
-/// Where the items of a file lie.
+/// Where the front and the items of a file lie: places in bytes, from 0. Each of its views is a slice of the bytes
+/// that were read, and takes no time that grows with them.
 #[derive(Drop)]
 pub struct Layout {
     front_len: usize,
@@ -27,9 +30,11 @@ impl Model for Layout {
 }
 
 impl Layout {
-    ghost use Rattle.std.specs.Prelude.{◌≡◌, length};
-    ghost use Rattle.bib_spec.specs.Reading.{Reading};
-    ghost use Rattle.bib_scan.specs.Layout.{places_of, placed};
+    ghost use Rattle.std.specs.Prelude.{◌≡◌, ◌<◌, length, slice_get, Some};
+    ghost use Rattle.bib_spec.specs.Tree.{tree_bytes};
+    ghost use Rattle.bib_spec.specs.Reading.{Reading, Item, Reads};
+    ghost use Rattle.bib_scan.specs.Layout.{places_of, placed, trail_end, IsLayoutOf};
+    ghost use Rattle.bib_scan.specs.View.{view_of};
 
     /// The layout of a file whose front is so long, and whose items have their bodies there.
     pub(crate) fn new(front_len: usize, items: Vec<Span>) -> Self
@@ -44,5 +49,54 @@ impl Layout {
         ensures items { (db : Reading) → self.now ≡ places_of db → result ≡ length db.items }
     {
         self.items.len()
+    }
+
+    /// The text before the first item.
+    pub fn front<'a>(&self, bytes: &'a [u8]) -> &'a [u8]
+        requires { IsLayoutOf bytes.now self.now }
+        ensures { (db : Reading) → Reads bytes.now db → result.now ≡ db.front }
+    {
+        bytes.split_at(self.front_len).0
+    }
+
+    /// The body of item n.
+    pub(crate) fn body<'a>(&self, bytes: &'a [u8], n: usize) -> &'a [u8]
+        requires layout { IsLayoutOf bytes.now self.now }
+        requires n_in_range { n < length self.now.items }
+        ensures { (db : Reading) (i : Item) → Reads bytes.now db → slice_get db.items n ≡ Some i → result.now ≡ tree_bytes i.tree }
+    {
+        let body = self.items[n];
+        behind(bytes, body.start).split_at(body.end - body.start).0
+    }
+
+    /// Item n, as slices of the file: the head of its body is read, in time of its length.
+    pub fn item<'a>(&'a self, bytes: &'a [u8], n: usize) -> ItemView<'a>
+        requires layout { IsLayoutOf bytes.now self.now }
+        requires n_in_range { n < length self.now.items }
+        ensures { (db : Reading) (i : Item) → Reads bytes.now db → slice_get db.items n ≡ Some i → result ≡ view_of i }
+    {
+        ItemView::of(self.body(bytes, n), self.trail(bytes, n))
+    }
+
+    /// Where the trail of item n ends.
+    fn trail_end(&self, bytes: &[u8], n: usize) -> usize
+        requires { n < length self.now.items }
+        ensures { result ≡ trail_end bytes.now self.now n }
+    {
+        match self.items.get(n + 1) {
+            Some(next) => next.start,
+            None => bytes.len(),
+        }
+    }
+
+    /// The trail of item n, up to the next item or to the end of the file.
+    pub(crate) fn trail<'a>(&self, bytes: &'a [u8], n: usize) -> &'a [u8]
+        requires layout { IsLayoutOf bytes.now self.now }
+        requires n_in_range { n < length self.now.items }
+        ensures { (db : Reading) (i : Item) → Reads bytes.now db → slice_get db.items n ≡ Some i → result.now ≡ i.trail }
+    {
+        let body = self.items[n];
+        let end = self.trail_end(bytes, n);
+        behind(bytes, body.end).split_at(end - body.end).0
     }
 }

@@ -2,10 +2,10 @@
 
 ghost use Rattle.std.specs.Prelude.{◌≡◌, ◌≤◌, ◌<◌, ◌⊎◌, ◌↔◌, length, IfOk, IfErr, IsErrAnd};
 ghost use Rattle.bib_spec.specs.Bytes.{name_limit, file_limit};
-ghost use Rattle.bib_spec.specs.Reading.{Reading, Reads, HasReading};
+ghost use Rattle.bib_spec.specs.Reading.{HasReading, IsHopeless};
 ghost use Rattle.bib_scan.specs.LeftToRight.{read_all_commands};
 ghost use Rattle.bib_scan.specs.Code.{GivesUnlessMemory};
-ghost use Rattle.bib_scan.specs.Layout.{places_of};
+ghost use Rattle.bib_scan.specs.Layout.{IsLayoutOf};
 
 use crate::body::past_command;
 use crate::fault::{ReadFault, Refusal};
@@ -17,11 +17,16 @@ use std::alloc::Global;
 /// The longest file that is read, in bytes. (dialect)
 pub const FILE_LIMIT: usize = 16_777_216;
 
-/// The layout of the one reading of a file.
+/// Where everything stands in a file, by the one reading that it has.
+///
+/// One pass over the bytes, and one list that grows by two places an item. Nothing recurses, however
+/// deep braces nest. Refused with 9 at `FILE_LIMIT` where the file is longer, which is tested first; with 1 to 7 at
+/// the first byte at which no file goes on, whatever its length; with 10 where memory ran out. (btxdoc 2 and 3;
+/// dialect)
 pub fn read(alloc: Global, bytes: &[u8]) -> Result<Layout, ReadFault>
-    ensures found { IfOk result (λ layout. (length bytes.now ≤ file_limit) × ((db : Reading) × Reads bytes.now db × (layout ≡ places_of db))) }
-    // Only a file without a reading is refused with 1 to 7.
-    ensures refused { IfErr result (λ fault. fault.kind < 8 → HasReading bytes.now → ⊥) }
+    ensures found { IfOk result (λ layout. (length bytes.now ≤ file_limit) × IsLayoutOf bytes.now layout) }
+    // A file is refused with 1 to 7 only where it has no reading, at the place where it goes wrong.
+    ensures place { IfErr result (λ fault. fault.kind < 8 → IsHopeless HasReading bytes.now fault.place) }
     ensures kinds { IfErr result (λ fault. ((1 ≤ fault.kind) × (fault.kind ≤ 7)) ⊎ ((fault.kind ≡ 9) ⊎ (fault.kind ≡ 10))) }
     // A file is refused with 9 exactly where it is too long.
     ensures too_long { (file_limit < length bytes.now) ↔ IsErrAnd result (λ fault. fault.kind ≡ 9) }
@@ -38,7 +43,7 @@ pub fn read(alloc: Global, bytes: &[u8]) -> Result<Layout, ReadFault>
         Err(Refusal::Memory) => Err(ReadFault { kind: 10, place: 0 }),
         Err(Refusal::Fault(stop)) => Err(ReadFault {
             kind: stop.fault.number(),
-            place: bytes.len().saturating_sub(stop.rest.len()),
+            place: bytes.len() - stop.rest.len(),
         }),
     }
 }

@@ -157,7 +157,7 @@ pub(crate) fn split_part(text: &[u8]) -> Result<(Part<'_>, &[u8]), Stop<'_>>
 }
 
 /// The text behind `#` and white space, where the text goes on so, white space aside.
-fn past_hash(text: &[u8]) -> Option<&[u8]>
+pub(crate) fn past_hash(text: &[u8]) -> Option<&[u8]>
     ensures read { option_copied result ≡ past_hash (after_run is_space text.now) }
     ensures shorter { IfSome result (λ u. length u.now < length text.now) }
 {

@@ -29,22 +29,26 @@ fault_number ExpectedValue = 5
 fault_number UnbalancedBrace = 6
 fault_number KeyTooLong = 7
 
--- what is wrong at the place where the text goes wrong
+-- What is wrong at the place where the text goes wrong. The conditions exclude one another.
 pub data IsFaultAt (IsSuch : TextKind) (t : Text) (place : ℕ) : ReadingFault → Type 0 where
   -- the text ends
   unended : place ≡ length t → IsFaultAt IsSuch t place Unended
   -- a name or key would go on
   too_long : place < length t → IsOneTooLong IsSuch t place → IsFaultAt IsSuch t place KeyTooLong
-  -- a name could begin here, but no number
-  name : place < length t → MayStand IsSuch t place letter_x → (MayStand IsSuch t place digit_one → ⊥) → IsFaultAt IsSuch t place ExpectedName
-  -- an equals sign could stand here, but no value
-  equals : place < length t → (IsOneTooLong IsSuch t place → ⊥) → MayStand IsSuch t place equals_sign → (MayStand IsSuch t place quote → ⊥) → IsFaultAt IsSuch t place ExpectedEquals
-  -- a quoted part could begin here, but no row
-  value : place < length t → MayStand IsSuch t place quote → (MayStand IsSuch t place comma → ⊥) → IsFaultAt IsSuch t place ExpectedValue
+  -- a name could begin here, but neither a number nor a quoted part, and no equals sign could stand here
+  name : place < length t → (IsOneTooLong IsSuch t place → ⊥) → (MayStand IsSuch t place quote → ⊥) → (MayStand IsSuch t place equals_sign → ⊥)
+      → MayStand IsSuch t place letter_x → (MayStand IsSuch t place digit_one → ⊥) → IsFaultAt IsSuch t place ExpectedName
+  -- an equals sign could stand here, but no quoted part
+  equals : place < length t → (IsOneTooLong IsSuch t place → ⊥) → (MayStand IsSuch t place quote → ⊥) → MayStand IsSuch t place equals_sign
+      → IsFaultAt IsSuch t place ExpectedEquals
+  -- a quoted part could begin here, but no comma could stand here
+  value : place < length t → (IsOneTooLong IsSuch t place → ⊥) → MayStand IsSuch t place quote → (MayStand IsSuch t place comma → ⊥)
+      → IsFaultAt IsSuch t place ExpectedValue
   -- a quoted part could end here, or go on with a comma
-  brace : place < length t → MayStand IsSuch t place quote → MayStand IsSuch t place comma → IsFaultAt IsSuch t place UnbalancedBrace
-  -- neither a name, nor an equals sign, nor a value could stand here
-  comma_or_close : place < length t → (IsOneTooLong IsSuch t place → ⊥) → (MayStand IsSuch t place equals_sign → ⊥) → (MayStand IsSuch t place quote → ⊥)
+  brace : place < length t → (IsOneTooLong IsSuch t place → ⊥) → MayStand IsSuch t place quote → MayStand IsSuch t place comma
+      → IsFaultAt IsSuch t place UnbalancedBrace
+  -- neither a quoted part nor an equals sign could stand here, and a name only where a digit could go on
+  comma_or_close : place < length t → (IsOneTooLong IsSuch t place → ⊥) → (MayStand IsSuch t place quote → ⊥) → (MayStand IsSuch t place equals_sign → ⊥)
       → (MayStand IsSuch t place letter_x → MayStand IsSuch t place digit_one) → IsFaultAt IsSuch t place ExpectedCommaOrClose
 
 -- Why the bytes are not read as a database: they are too long, or no such text, or memory ran out.

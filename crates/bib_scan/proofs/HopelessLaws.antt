@@ -1,0 +1,88 @@
+-- A file that is refused goes wrong where reading stops, and nowhere else.
+use Rattle.std.proofs.Common.{◌≡◌, ℕ, ◌+◌, ◌-◌, ◌<◌, ◌≤◌, Bool, true, false, [], ◌∷◌, ◌++◌, length, take, refl, sym, ap, subst, ◌∙◌, arith, append_assoc, append-nil, inl, inr, Result, Ok, Err}
+use Rattle.std.proofs.lemmas.Bool.{cases_Bool, or_from, not_from_false}
+use Rattle.std.proofs.lemmas.List.{length-append, append_cancel_right}
+use Rattle.std.specs.Prelude.{codes}
+use Rattle.bib_spec.specs.Text.{Text, same}
+use Rattle.bib_spec.specs.Tree.{Delimiter, close_byte}
+use Rattle.bib_spec.specs.Reading.{HasReadingWithin, IsViable, IsHopeless}
+use Rattle.bib_scan.specs.Layout.{places_of}
+use Rattle.bib_scan.specs.LeftToRight.{Halt, stop, read_definition, read_preamble, read_entry, read_all_commands, ◌>>=◌}
+use Rattle.bib_scan.proofs.RunLaws.{bind_ok, ok_same, not_ok}
+use Rattle.bib_scan.proofs.TreeAgainLaws.{closes, string_body, preamble_body, entry_body}
+use Rattle.bib_scan.proofs.ReadingLaws.{reading_again}
+use Rattle.bib_scan.proofs.LocalLaws.{LocalAt, Local}
+use Rattle.bib_scan.proofs.LocalRows.{plain, ready, fault_of, local_entry, local_definition, local_preamble}
+use Rattle.bib_scan.proofs.MendLaws.{Mends, Always}
+use Rattle.bib_scan.proofs.MendTrees.{mend_definition, mend_preamble, mend_entry}
+use Rattle.bib_scan.proofs.StopLaws.{inside, FileStop, file_stop}
+use Rattle.bib_scan.proofs.PlaceLaws.{front_cut, front_more}
+
+-- what holds of the three readers of what stands behind an opening delimiter holds of each command's
+pub of_inside : (P : (ℕ → Text → Result Text Halt) → Type 0) (type_name : Text) (d : Delimiter) → same type_name (codes "comment") ≡ false
+    → P (λ m. read_definition m (close_byte d)) → P (λ m. read_preamble m (close_byte d)) → P (λ m. read_entry m d) → P (λ m. inside m type_name d)
+of_inside P type_name d no_comment definition preamble entry =
+    elim (cases_Bool (same type_name (codes "string"))) [
+      | inl string ↦ by (λ m. read_definition m (close_byte d)) (λ m s. string_body m type_name s _ d string refl) definition
+      | inr no_string ↦ elim (cases_Bool (same type_name (codes "preamble"))) [
+        | inl preface ↦ by (λ m. read_preamble m (close_byte d)) (λ m s. preamble_body m type_name s _ d preface refl) preamble
+        | inr plain_type ↦ by (λ m. read_entry m d) (λ m s. entry_body m type_name s _ d (not_from_false _ (or_from _ _ (or_from _ _ no_comment no_string) plain_type)) refl) entry
+      ]
+    ]
+  where
+    by : (p : ℕ → Text → Result Text Halt) → ((m : ℕ) (s : Text) → inside m type_name d s ≡ p m s) → P p → P (λ m. inside m type_name d)
+    by p e it = subst P (λ i m s. sym (e m s) i) it
+
+pub local_inside : (limit : ℕ) (type_name : Text) (d : Delimiter) → same type_name (codes "comment") ≡ false → Local (plain (inside limit type_name d))
+local_inside limit type_name d no_comment = of_inside (λ p. Local (plain (p limit))) type_name d no_comment (local_definition limit (close_byte d)) (local_preamble limit (close_byte d)) (local_entry limit d)
+
+mend_inside : (limit : ℕ) (some : 0 < limit) (type_name : Text) (d : Delimiter) → same type_name (codes "comment") ≡ false → Mends (plain (inside limit type_name d)) Always Always
+mend_inside limit some type_name d no_comment = of_inside (λ p. Mends (plain (p limit)) Always Always) type_name d no_comment (mend_definition limit some (close_byte d) (closes d)) (mend_preamble limit some (close_byte d) (closes d)) (mend_entry limit some d)
+
+-- where the file is read up to, and what stands behind
+pub record StopsAt (limit : ℕ) (t : Text) (h : Halt) : Type 0 where
+  pub front : Text
+  pub split : t ≡ front ++ h.rest
+  pub viable : IsViable (HasReadingWithin limit) front
+  pub same : (c : ℕ) (v w : Text) → h.rest ≡ c ∷ v → read_all_commands limit (front ++ c ∷ w) ≡ Err (stop h.fault (c ∷ w))
+
+pub stops_at : (limit : ℕ) (some : 0 < limit) (t : Text) (h : Halt) → read_all_commands limit t ≡ Err h → StopsAt limit t h
+stops_at limit some t h is =
+    let file = file_stop limit t h is in
+    let p = inside limit file.type_name file.delimiter in
+    let stopped : plain p file.behind ≡ Err h = ap (λ (m : Result Text Halt). m >>= ready) file.stopped in
+    let at : LocalAt (plain p) file.behind (Err h) = subst (LocalAt (plain p) file.behind) stopped (local_inside limit file.type_name file.delimiter file.no_comment file.behind) in
+    let m = mend_inside limit some file.type_name file.delimiter file.no_comment file.behind h stopped in
+    let w = m.works [] tt in
+    let one = bind_ok (p (m.front ++ (m.end ++ []))) ready (w.0, []) w.1 in
+    let rest : one.0 ≡ [] = ap (λ (y : Unit {0} × Text). y.1) (ok_same {A = Unit {0} × Text} (tt, one.0) (w.0, []) _ refl one.2) in
+    let fronts : m.front ≡ at.front = append_cancel_right m.front at.front h.rest (sym m.split ∙ at.split) in
+    let read : p (at.front ++ m.end) ≡ Ok [] = ap (λ (u : Text). p (u ++ m.end)) (sym fronts) ∙ ap (λ (u : Text). p (m.front ++ u)) (sym (append-nil m.end)) ∙ one.1 ∙ ap (λ (u : Text). Ok u) rest in
+    let regroup : (r : Text) → (file.before ++ at.front) ++ r ≡ file.before ++ (at.front ++ r) = λ r. append_assoc file.before at.front r in
+    record {
+      front = file.before ++ at.front;
+      split = file.split ∙ ap (λ (u : Text). file.before ++ u) at.split ∙ sym (regroup h.rest);
+      viable = (m.end, subst (HasReadingWithin limit) (sym (regroup m.end)) (file.reads limit (omega arith) (at.front ++ m.end) read));
+      same = λ c v s e. ap (read_all_commands limit) (regroup (c ∷ s)) ∙ file.stops limit (omega arith) (at.front ++ c ∷ s) (stop h.fault (c ∷ s)) (fault_of _ _ (at.same c v s e));
+    }
+
+-- a file is read
+pub no_fault : (limit : ℕ) (t : Text) (h : Halt) → HasReadingWithin limit t → read_all_commands limit t ≡ Err h → ⊥
+no_fault limit t h (db, reads) is = not_ok (places_of db).items h (read_all_commands limit t) is (reading_again limit t db reads).0
+
+-- the place of a fault is the hopeless one
+pub hopeless : (limit : ℕ) (some : 0 < limit) (t : Text) (h : Halt) → read_all_commands limit t ≡ Err h → IsHopeless (HasReadingWithin limit) t (length t - length h.rest)
+hopeless limit some t h is =
+    let at = stops_at limit some t h is in
+    record {
+      fails = λ reading. no_fault limit t h reading is;
+      within = omega arith;
+      viable = subst (IsViable (HasReadingWithin limit)) (sym (front_cut t at.front h.rest at.split)) at.viable;
+      stuck = λ low. stuck at low h.rest refl;
+    }
+  where
+    stuck : StopsAt limit t h → length t - length h.rest < length t → (r : Text) → h.rest ≡ r → IsViable (HasReadingWithin limit) (take (length t - length r + 1) t) → ⊥
+    stuck at low [] e viable = absurd (omega (arith, ap (length {A = ℕ}) e))
+    stuck at low (c ∷ v) e (more, reading) =
+        let shape : take (length t - length (c ∷ v) + 1) t ++ more ≡ at.front ++ c ∷ more = ap (λ (u : Text). u ++ more) (front_more t at.front c v (at.split ∙ ap (λ (u : Text). at.front ++ u) e)) ∙ append_assoc at.front (c ∷ []) more in
+        no_fault limit (at.front ++ c ∷ more) (stop h.fault (c ∷ more)) (subst (HasReadingWithin limit) shape reading) (at.same c v more e)

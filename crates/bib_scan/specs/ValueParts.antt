@@ -1,0 +1,47 @@
+-- The parts of a value, and where they lie in its bytes.
+use Rattle.std.specs.Prelude.{ℕ, ◌≡◌, ◌+◌, List, [], ◌∷◌, ◌++◌, length, map}
+use Rattle.bib_spec.specs.Bytes.{hash, name_limit}
+use Rattle.bib_spec.specs.Text.{Text}
+use Rattle.bib_spec.specs.Tree as tree
+use Rattle.bib_spec.specs.Tree.{Link, Value, part_bytes, link_bytes, value_bytes, IsValue}
+use Rattle.bib_scan.specs.declared.parts.PartKind.{PartKind}
+use Rattle.bib_scan.specs.declared.parts.PartKind.TheVariants as kind
+use Rattle.bib_scan.specs.declared.parts.PartSpan.{PartSpan}
+
+abbrev pub link_part : Link → tree.Part
+link_part l = l.part
+
+-- the parts of a value in their order (btxdoc 2.1)
+abbrev pub parts_of : Value → List tree.Part
+parts_of v = v.first ∷ map link_part v.links
+
+abbrev pub part_kind : tree.Part → PartKind
+part_kind (tree.Braced t) = kind.Braced
+part_kind (tree.Quoted t) = kind.Quoted
+part_kind (tree.Digits t) = kind.Digits
+part_kind (tree.Macro t) = kind.Macro
+
+-- where a part lies that stands behind this text
+abbrev pub span_behind : Text → tree.Part → PartSpan
+span_behind before p = record {
+  kind = part_kind p;
+  start = length before;
+  end = length before + length (part_bytes p);
+}
+
+-- where the parts of links lie that stand behind this text
+abbrev pub spans_behind : Text → List Link → List PartSpan
+spans_behind before [] = []
+spans_behind before (l ∷ ls) =
+    span_behind (before ++ l.space_before_hash ++ hash ∷ l.space_behind_hash) l.part ∷ spans_behind (before ++ link_bytes l) ls
+
+-- where the parts of a value lie
+abbrev pub spans_of : Value → List PartSpan
+spans_of v = span_behind [] v.first ∷ spans_behind (part_bytes v.first) v.links
+
+-- the parts of this text lie there: it is one value
+abbrev pub IsPartsOf : Text → List PartSpan → Type 0
+IsPartsOf t spans = (v : Value) × IsValue name_limit v × (value_bytes v ≡ t) × (spans ≡ spans_of v)
+
+abbrev pub span_start : PartSpan → ℕ
+span_start s = s.start

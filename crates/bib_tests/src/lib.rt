@@ -1,0 +1,5 @@
+//! Worked examples that cross crates, and what no contract says: that calls succeed with ample memory.
+#![tactic(auto)]
+
+#[cfg(test)]
+mod reading;
