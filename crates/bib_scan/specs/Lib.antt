@@ -5,6 +5,7 @@ pub mod FieldsLeft
 pub mod Layout
 pub mod Code
 pub mod PartView
+pub mod Laws
 pub mod ValueParts
 pub mod PartsLeft
 pub mod Laws

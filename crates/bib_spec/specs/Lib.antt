@@ -9,5 +9,9 @@ pub mod Records
 pub mod Pieces
 pub mod MadeKeys
 pub mod Edits
+pub mod EditChunks
 pub mod History
 pub mod Steps
+pub mod Laws
+pub mod OtherLaws
+pub mod Examples

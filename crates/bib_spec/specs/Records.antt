@@ -4,7 +4,7 @@ use Rattle.std.specs.List.{list_any, enumerate_from, range_with_len}
 use Rattle.std.specs.Option.{option_map_or}
 use Rattle.bib_spec.specs.Text.{Text, folded, same}
 use Rattle.bib_spec.specs.Tree.{Row, Entry, Tree, CommentTree, DefinitionTree, PreambleTree, EntryTree}
-use Rattle.bib_spec.specs.Reading.{Item, Reading}
+use Rattle.bib_spec.specs.Reading.{Reading}
 use Rattle.bib_spec.specs.Texts.{is_empty, Macros, months, raw_text, gathered, field_text}
 
 -- ---- entries

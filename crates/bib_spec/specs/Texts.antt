@@ -1,10 +1,10 @@
 -- What values say: macros, raw texts, field texts.
-use Rattle.std.specs.Prelude.{ℕ, ◌≡◌, ◌+◌, ◌≤◌, Bool, true, false, not, nat_lt, List, [], ◌∷◌, ◌++◌, length, take, Option, Some, None, is_none, unwrap_or, option_map, if◌then◌else◌, bytes_eq, codes, map, filter, find, fold, scan, zip}
-use Rattle.std.specs.List.{flat_map, list_any, join_with_byte}
+use Rattle.std.specs.Prelude.{ℕ, ◌≡◌, ◌+◌, ◌≤◌, Bool, true, false, not, nat_lt, List, [], ◌∷◌, ◌++◌, length, take, Option, Some, None, unwrap_or, option_map, if◌then◌else◌, bytes_eq, codes, map, filter, find, fold, scan, zip}
+use Rattle.std.specs.List.{flat_map, join_with_byte}
 use Rattle.bib_spec.specs.Bytes.{space, comma, equals_sign, file_limit}
-use Rattle.bib_spec.specs.Text.{Text, is_space, folded, same}
-use Rattle.bib_spec.specs.Tree.{Part, Braced, Quoted, Digits, Macro, Value, Assignment, Row, Tree, CommentTree, DefinitionTree, PreambleTree, EntryTree, row_bytes, opening_bytes, Entry}
-use Rattle.bib_spec.specs.Reading.{Item, Reading, item_bytes, bytes_of, Reads}
+use Rattle.bib_spec.specs.Text.{Text, is_space, folded}
+use Rattle.bib_spec.specs.Tree.{Part, Braced, Quoted, Digits, Macro, Value, Assignment, Row, Tree, CommentTree, DefinitionTree, PreambleTree, EntryTree, row_bytes, opening_bytes}
+use Rattle.bib_spec.specs.Reading.{Item, Reading, item_bytes, Reads}
 
 abbrev pub is_empty : Text → Bool
 is_empty [] = true
@@ -116,11 +116,15 @@ raw_texts_in macros tree = map (raw_text (macros_in macros tree)) (values_of tre
 abbrev pub bytes_before_value : Assignment → Text
 bytes_before_value a = a.name ++ (a.space_before_equals ++ equals_sign ∷ a.space_before_value)
 
+-- the bytes of a row before its value
+abbrev pub row_start : Row → Text
+row_start row = comma ∷ row.space_before_name ++ bytes_before_value row.assignment
+
 -- the places of the rows' values, where the first row begins at this place
 abbrev pub row_places : ℕ → List Row → List ℕ
 row_places at [] = []
 row_places at (row ∷ rows) =
-    (at + length (comma ∷ row.space_before_name ++ bytes_before_value row.assignment)) ∷ row_places (at + length (row_bytes row)) rows
+    (at + length (row_start row)) ∷ row_places (at + length (row_bytes row)) rows
 
 -- the places of an item's values in its body
 abbrev pub value_places : Tree → List ℕ

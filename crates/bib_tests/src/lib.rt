@@ -2,4 +2,10 @@
 #![tactic(auto)]
 
 #[cfg(test)]
+mod command_lines;
+#[cfg(test)]
+mod fakes;
+#[cfg(test)]
 mod reading;
+#[cfg(test)]
+mod running;

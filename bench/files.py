@@ -1,0 +1,70 @@
+"""Large `.bib` files made by rule: item n is a function of n, so that each run measures the same bytes."""
+
+NAMES = ["Knuth, Donald E.", "Leslie Lamport", "de la Fontaine, Jean", "King, Jr, Martin Luther", "{Barnes and Noble}",
+         "Charles Louis Xavier Joseph de la Vall{\\'e}e Poussin", "Per Brinch Hansen", "Wirth, Niklaus", "G{\\\"o}del, Kurt"]
+WORDS = ["on", "the", "theory", "of", "ordered", "sets", "with", "an", "application", "to", "{B}ib{\\TeX}", "databases",
+         "and", "their", "{{\\LaTeX}}", "readers", "in", "linear", "time", "$O(n \\log n)$"]
+MACROS = ["cacm", "jacm", "tcs", "lncs", "springer", "mit-press"]
+MONTHS = ["jan", "feb", "mar", "apr", "may", "jun", "jul", "aug", "sep", "oct", "nov", "dec"]
+
+
+def text_of(n, count):
+    return " ".join(WORDS[(n * 7 + k * (n % 5 + 1)) % len(WORDS)] for k in range(count))
+
+
+def people_of(n):
+    return " and ".join(NAMES[(n + 4 * k) % len(NAMES)] for k in range(n % 4 + 1))
+
+
+def macro(n):
+    name = MACROS[n % len(MACROS)] + str(n)
+    return '@string{%s = "%s" # { %s}}\n' % (name, text_of(n, 4).replace('"', "{\"}"), n)
+
+
+def article(n):
+    return ('@article{key%d,\n  author = {%s},\n  title = {%s},\n  journal = %s%d # ", series %d",\n  year = %d,\n'
+            '  month = %s # "~%d",\n  pages = "%d--%d",\n  note = {See \\cite{key%d}, 50\\%% of it}\n}\n\n'
+            % (n, people_of(n), text_of(n, 9), MACROS[n % len(MACROS)], n - n % 97, n % 7, 1950 + n % 75,
+               MONTHS[n % 12], n % 28 + 1, n, n + 12, n // 2))
+
+
+def in_proceedings(n):
+    return ('@InProceedings{key%d,\n\tauthor\t= "%s",\n\ttitle\t= {%s},\n\tcrossref = {proc%d},\n\tabstract = {%s.},\n}\n'
+            % (n, people_of(n), text_of(n, 7), n - n % 50, text_of(n + 3, 40)))
+
+
+def proceedings(n):
+    return '@proceedings(proc%d , title = {%s}, booktitle = "%s", year = %d, editor = {%s} )\n' % (
+        n, text_of(n, 5), text_of(n + 1, 5), 1950 + n % 75, people_of(n + 2))
+
+
+def comment(n):
+    return '@comment{ key%d is not used any more: @misc{old%d, title = {%s}}}\n' % (n, n, text_of(n, 3))
+
+
+def remark(n):
+    return 'Checked %d%% of these; ask jane.doe%d@example.org or joe @ work, room %d.\n' % (n % 100, n, n)
+
+
+def item(n):
+    if n % 97 == 0:
+        return macro(n)
+    if n % 50 == 0:
+        return proceedings(n)
+    if n % 31 == 0:
+        return comment(n)
+    if n % 11 == 0:
+        return remark(n)
+    return in_proceedings(n) if n % 3 == 0 else article(n)
+
+
+def database(size):
+    """A database of at most `size` bytes, short of it by less than an item."""
+    items, length, n = [], 0, 0
+    while True:
+        text = item(n).encode()
+        if length + len(text) > size:
+            return b"".join(items)
+        items.append(text)
+        length += len(text)
+        n += 1

@@ -1,0 +1,28 @@
+-- What the user is told of an error.
+use Rattle.std.proofs.Common.{◌≡◌, List, true, refl, inl, inr}
+use Rattle.clap.specs.Words.{Text, HasKind, fault_of, kind_of, is_simple_and_free}
+use Rattle.clap.specs.declared.error.Error.{Error}
+use Rattle.clap.specs.declared.error.ErrorKind.{ErrorKind}
+use Rattle.clap.specs.declared.error.ErrorKind.TheVariants.{OutOfMemory}
+use Rattle.clap.proofs.OnLiterals.{clap_on_literals}
+use Rattle.bib_command.specs.declared.usages.Usage.{Usage}
+use Rattle.bib_command.specs.CommandLine.{bibkeep}
+use Rattle.bib_command.specs.Usage as spec
+use Rattle.bib_command.specs.Usage.{no_memory, IsUsageOf, IsUsageFor, told}
+
+-- clap's exact matching covers the command line
+pub bibkeep_is_simple : is_simple_and_free bibkeep ≡ true
+unfolding clap_on_literals
+bibkeep_is_simple = refl
+
+-- of want of memory the user is told nothing
+pub usage_of_memory : (kind : ErrorKind) (usage : Usage) → IsUsageOf kind usage → kind ≡ OutOfMemory → usage ≡ no_memory
+usage_of_memory kind usage (spec.help is status) memory = cc
+usage_of_memory kind usage (spec.version is status) memory = cc
+usage_of_memory kind usage (spec.mistake a b not_memory status) memory = absurd (not_memory memory)
+usage_of_memory kind usage (spec.memory is) memory = is
+
+-- an error of the words is the first fault that matching meets, or want of memory
+pub usage_for : (words : List Text) (error : Error) (usage : Usage) → HasKind (fault_of bibkeep words) error → IsUsageOf (kind_of error) usage → IsUsageFor words usage
+usage_for words error usage (inl memory) of = spec.memory (usage_of_memory (kind_of error) usage of memory)
+usage_for words error usage (inr among) of = told (kind_of error) among of

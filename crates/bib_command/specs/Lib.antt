@@ -1,0 +1,3 @@
+pub mod CommandLine
+pub mod Lines
+pub mod Usage

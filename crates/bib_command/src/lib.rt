@@ -1,0 +1,10 @@
+//! The command line. It knows the words and options of each command, and not what a command does. It promises the
+//! command that clap's exact matching of the words names, or what to tell the user.
+#![tactic(auto)]
+
+mod command_line;
+mod parsing;
+mod usages;
+
+pub use parsing::parse;
+pub use usages::Usage;

@@ -1,0 +1,74 @@
+//! The command that the words of the command line name.
+
+ghost use Rattle.std.specs.Prelude.{◌≡◌, ◌++◌, IfOk, IfErr, OnOk, map, string_bytes, [], true};
+ghost use Rattle.clap.specs.Words.{fault_of, takes, rows_of, found_of};
+ghost use Rattle.bib_command.specs.CommandLine.{bibkeep, values, command_of, IsCommandOf};
+ghost use Rattle.bib_command.specs.Usage.{no_memory, IsUsageFor};
+
+use crate::Usage;
+use crate::command_line::command_line;
+use crate::usages::{no_memory, usage_of};
+use bib_scan::{Seq, Text};
+use bib_words::Command;
+use clap::ArgMatches;
+use std::alloc::{AllocError, Global};
+
+/// The command that the words name, the program's own name first, or what the user is told.
+pub fn parse(alloc: Global, words: &[String]) -> Result<Command, Usage>
+    ensures ok { IfOk result (IsCommandOf (map string_bytes words.now)) }
+    ensures err { IfErr result (IsUsageFor (map string_bytes words.now)) }
+
+    // Words that name a command are refused for want of memory alone.
+    ensures taken { takes bibkeep (map string_bytes words.now) ≡ true → IfErr result (λ usage. usage ≡ no_memory) }
+{
+    let Ok(command) = command_line(alloc) else {
+        return Err(no_memory(alloc));
+    };
+    match command.try_get_matches_from(words) {
+        Ok(matches) => match matches.subcommand() {
+            Some((name, inner)) => match command_of(alloc, name, inner) {
+                Ok(command) => Ok(command),
+                Err(_) => Err(no_memory(alloc)),
+            },
+            None => unreachable!(),
+        },
+        Err(error) => Err(usage_of(alloc, &error)),
+    }
+}
+
+/// The command of this name with these matches.
+fn command_of(alloc: Global, name: &str, matches: &ArgMatches<'_>) -> Result<Command, AllocError>
+    ensures { IfOk result (λ command. command ≡ command_of name.now (rows_of (found_of matches.now))) }
+{
+    let mut words = Vec::new(alloc);
+    add_values(alloc, &mut words, matches, "F")?;
+    Ok(Command {
+        name: Text::from_vec(Vec::from_slice(alloc, name.as_bytes())?),
+        words: Seq::from_vec(words),
+        n: 0,
+    })
+}
+
+/// Adds the values of an argument, in order.
+fn add_values(
+    alloc: Global,
+    texts: &mut Vec<Text>,
+    matches: &ArgMatches<'_>,
+    id: &str,
+) -> Result<(), AllocError>
+    ensures { OnOk result (texts.new.items ≡ texts.old.items ++ values id.now (rows_of (found_of matches.now))) }
+{
+    match matches.get_strs(id) {
+        Some(words) => add_words(alloc, texts, words),
+        None => Ok(()),
+    }
+}
+
+fn add_words(alloc: Global, texts: &mut Vec<Text>, words: &[&str]) -> Result<(), AllocError>
+    ensures { OnOk result (texts.new.items ≡ texts.old.items ++ map (λ word. word.now) words.now) }
+{
+    for word in words {
+        texts.push(Text::from_vec(Vec::from_slice(alloc, word.as_bytes())?))?;
+    }
+    Ok(())
+}

@@ -1,0 +1,49 @@
+//! What the user is told in place of running a command.
+
+ghost use Rattle.std.specs.Prelude.{◌≡◌, [], ◌⊎◌, IsTrue, ◌↔◌, ◌≢◌};
+ghost use Rattle.clap.specs.Words.{kind_of};
+ghost use Rattle.bib_command.specs.Usage.{IsUsageOf, no_memory};
+
+use bib_scan::Text;
+use bib_words::status;
+use clap::error::ErrorKind;
+use std::alloc::Global;
+
+/// Why the words give no command: a text for the user, and the status to end with, which is 0 for help and the version,
+/// 2 for a mistake, and 4, with no text, for want of memory.
+#[derive(Drop)]
+pub struct Usage {
+    pub text: Text,
+    pub status: u8,
+}
+
+/// What the user is told of an error.
+pub fn usage_of(alloc: Global, error: &clap::Error) -> Usage
+    ensures { IsUsageOf (kind_of error.now) result }
+{
+    if error.kind() == ErrorKind::OutOfMemory {
+        return no_memory(alloc);
+    }
+    let status = if error.use_stderr() {
+        status::COMMAND_LINE
+    } else {
+        status::DONE
+    };
+    match error.to_string(alloc) {
+        Ok(text) => Usage {
+            text: Text::from_vec(text.into_bytes()),
+            status,
+        },
+        Err(_) => no_memory(alloc),
+    }
+}
+
+/// There is no memory to tell more.
+pub fn no_memory(alloc: Global) -> Usage
+    ensures { result ≡ no_memory }
+{
+    Usage {
+        text: Text::from_vec(Vec::new(alloc)),
+        status: status::MEMORY,
+    }
+}

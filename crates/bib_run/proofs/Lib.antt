@@ -1,0 +1,4 @@
+pub mod Progress
+pub mod WholeFile
+pub mod Endings
+pub mod Refusals

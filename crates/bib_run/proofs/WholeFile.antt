@@ -1,0 +1,71 @@
+-- What was read up to the limit tells of the whole file.
+use Rattle.std.proofs.Common.{◌≡◌, ◌≢◌, ℕ, ◌+◌, ◌<◌, ◌≤◌, [], ◌++◌, length, take, Option, Some, None, subst, refl, arith, inl, inr, sym, append-nil, length-append}
+use Rattle.std.proofs.lemmas.List.{take_all, length-take-le}
+use Rattle.std.proofs.lemmas.Bool.{cases_eq, cases_lt}
+use Rattle.std.proofs.Math.Seq.{take-append_seam}
+use Rattle.std.specs.Io.KnownBytes.{Consumes}
+use Rattle.bib_spec.specs.Bytes.{file_limit}
+use Rattle.bib_spec.specs.Text.{Text}
+use Rattle.bib_words.specs.declared.commands.Command.{Command}
+use Rattle.bib_run.specs.declared.answers.Answer.{Answer}
+use Rattle.bib_run.specs.Transfers.{ReadsUpTo, HasBytes}
+use Rattle.bib_run.specs.Answers.{IsAnswer, IsCatAnswer, IsRefusal, cat, copied, refused, too_long, no_reading}
+
+-- what was read up to the limit is that much of all that there was
+pub take-read : (most : ℕ) (v rest : Text) → length v ≤ most → (length v ≢ most → rest ≡ []) → take most (v ++ rest) ≡ v
+take-read most v rest within whole = elim (cases_eq (length v) most) [
+  | inl e ↦ subst (λ n. take n (v ++ rest) ≡ v) e (take-append_seam v rest)
+  | inr n ↦ rw (whole n, append-nil v) (take_all most v within)
+]
+
+-- the bytes of a source, of which these were read
+pub record IsReadFrom (most : ℕ) (before after : Option Text) (v : Text) : Type 0 where
+  pub bytes : Text
+  pub has : HasBytes most before after bytes
+  pub front : take most bytes ≡ v
+
+pub source_bytes : (most : ℕ) (before after : Option Text) (v : Text) → ReadsUpTo most before after v → IsReadFrom most before after v
+source_bytes most None after v r =
+    let front : take most v ≡ v = take_all most v r.within in
+    record {
+      bytes = v;
+      has = record {
+        all = tt;
+        taken = subst (Consumes None after) (sym front) r.given;
+        ended = λ short. r.whole (λ e. omega (arith, short, e));
+      };
+      front = front;
+    }
+source_bytes most (Some told) None v r = absurd r.given
+source_bytes most (Some told) (Some rest) v r =
+    let front : take most told ≡ v = subst (λ t. take most t ≡ v) (sym r.given) (take-read most v rest r.within r.whole) in
+    record {
+      bytes = told;
+      has = record {
+        all = refl;
+        taken = subst (Consumes (Some told) (Some rest)) (sym front) r.given;
+        ended = λ short. r.whole (λ e. let same : length told ≡ length (v ++ rest) = rw r.given refl in omega (arith, short, e, same, length-append v rest));
+      };
+      front = front;
+    }
+
+-- a file that is too long is refused as its front is that has one byte past the limit
+IsRefusal-long : (bytes : Text) (kind place : ℕ) → file_limit < length bytes → IsRefusal (take (file_limit + 1) bytes) kind place → IsRefusal bytes kind place
+IsRefusal-long bytes kind place long (too_long over) = too_long long
+IsRefusal-long bytes kind place long (no_reading k p low high within hopeless) = absurd (omega (arith, long, within, length-take-le (file_limit + 1) bytes (omega (arith, long))))
+
+IsCatAnswer-long : (bytes : Text) (answer : Answer) → file_limit < length bytes
+    → IsCatAnswer (take (file_limit + 1) bytes) answer → IsCatAnswer bytes answer
+IsCatAnswer-long bytes answer long (copied within reads) = absurd (omega (arith, long, within, length-take-le (file_limit + 1) bytes (omega (arith, long))))
+IsCatAnswer-long bytes answer long (refused kind place fault) = refused kind place (IsRefusal-long bytes kind place long fault)
+
+IsAnswer-long : (command : Command) (bytes : Text) (answer : Answer) → file_limit < length bytes
+    → IsAnswer command (take (file_limit + 1) bytes) answer → IsAnswer command bytes answer
+IsAnswer-long command bytes answer long (cat named answers) = cat named (IsCatAnswer-long bytes answer long answers)
+
+-- the answer to what was read of a file is the answer to the file
+pub IsAnswer-front : (command : Command) (bytes : Text) (answer : Answer) → IsAnswer command (take (file_limit + 1) bytes) answer → IsAnswer command bytes answer
+IsAnswer-front command bytes answer answers = elim (cases_lt file_limit (length bytes)) [
+  | inl long ↦ IsAnswer-long command bytes answer long answers
+  | inr short ↦ subst (λ t. IsAnswer command t answer) (take_all (file_limit + 1) bytes (omega (arith, short))) answers
+]

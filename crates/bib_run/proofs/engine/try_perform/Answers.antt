@@ -1,0 +1,26 @@
+use Rattle.std.proofs.Common.{◌≡◌, true, false, rules, refl, subst}
+use Rattle.bib_run.specs.Runs.{answered, read_fault, write_fault}
+use Rattle.bib_run.specs.Taps.{has_failed}
+use Rattle.bib_run.specs.Transfers.{WritesPrefix}
+use Rattle.bib_run.proofs.Endings.{has_answer, Appends-whole}
+use Rattle.bib_run.proofs.engine.try_perform.Goals as goal
+
+pub returns-in-Err-Failed-clause-ran : goal.returns-in-Err-Failed-clause-ran
+returns-in-Err-Failed-clause-ran g c =
+    let failed : has_failed c.read_up_to.new.source ≡ true = search rules in
+    rw (c.in_ok-read_fault.ensures) (read_fault failed refl)
+
+pub returns-then-not-write_whole-clause-ran : goal.returns-then-not-write_whole-clause-ran
+returns-then-not-write_whole-clause-ran g c =
+    let stopped : c.write_whole.result ≡ false = search rules in
+    rw (c.in_ok-write_fault.ensures) (write_fault c.in_ok-answer.answer
+    (has_answer _ _ _ c.in-Ok.bytes.items c.in_ok-answer.answer c.in-Ok.ensures.ok c.in-Ok.ensures.sound c.in_ok-answer.ensures)
+    (rw (← c.as_slice.ensures) (subst (WritesPrefix _ _ c.as_slice.result.now) stopped c.write_whole.ensures.written)) (c.write_whole.ensures.failed stopped))
+
+pub returns-clause-ran : goal.returns-clause-ran
+returns-clause-ran g c =
+    let done : c.write_whole.result ≡ true = search rules in
+    answered c.in_ok-answer.answer
+    (has_answer _ _ _ c.in-Ok.bytes.items c.in_ok-answer.answer c.in-Ok.ensures.ok c.in-Ok.ensures.sound c.in_ok-answer.ensures)
+    (rw (← c.as_slice.ensures) (Appends-whole _ _ c.as_slice.result.now (subst (WritesPrefix _ _ c.as_slice.result.now) done c.write_whole.ensures.written)))
+    (c.write_whole.ensures.sound done)

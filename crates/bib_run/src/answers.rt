@@ -1,0 +1,56 @@
+//! What a command answers.
+
+ghost use Rattle.std.specs.Prelude.{◌≡◌, [], IfOk};
+ghost use Rattle.bib_run.specs.Outcome.{outcome_of, answer_of};
+
+use bib_scan::Text;
+use bib_words::status;
+use std::alloc::Global;
+
+/// What the program has to write besides the output, and the status in which it ends.
+#[derive(Drop)]
+pub struct Outcome {
+    pub file: Option<Text>,
+    pub journal: Option<Text>,
+    pub message: Text,
+    pub status: u8,
+}
+
+/// What a command writes to its output, and its outcome.
+#[derive(Drop)]
+pub struct Answer {
+    pub output: Text,
+    pub outcome: Outcome,
+}
+
+/// The outcome that says this, and leaves no file and no journal to be written.
+pub fn outcome_of(message: Text, status: u8) -> Outcome
+    ensures { result ≡ outcome_of message status }
+{
+    Outcome {
+        file: None,
+        journal: None,
+        message,
+        status,
+    }
+}
+
+/// The bytes are the output, and there is nothing to say.
+pub fn done(alloc: Global, output: Text) -> Answer
+    ensures { result ≡ answer_of output [] 0 }
+{
+    Answer {
+        output,
+        outcome: outcome_of(Text::from_vec(Vec::new(alloc)), status::DONE),
+    }
+}
+
+/// Nothing is output, and the message says why.
+pub fn refused(alloc: Global, message: Text) -> Answer
+    ensures { result ≡ answer_of [] message 1 }
+{
+    Answer {
+        output: Text::from_vec(Vec::new(alloc)),
+        outcome: outcome_of(message, status::REFUSED),
+    }
+}

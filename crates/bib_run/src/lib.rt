@@ -1,0 +1,17 @@
+//! Runs a command: reads its file, makes its answer and writes it. It knows what each command answers to which bytes,
+//! over any reader and writer, and neither paths nor options. It promises that output, message and status are a stated
+//! function of the bytes read, and that no fault of a reader or a writer passes for an answer.
+#![tactic(auto)]
+
+mod answers;
+mod commands;
+mod engine;
+mod messages;
+mod sink;
+mod source;
+mod taps;
+
+pub use answers::Outcome;
+pub use engine::run;
+pub use messages::{READ_FAULT, WRITE_FAULT};
+pub use taps::Tap;

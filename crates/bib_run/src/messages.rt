@@ -1,0 +1,40 @@
+//! What a run says besides its output, a line each.
+
+ghost use Rattle.std.specs.Prelude.{◌≡◌, IfOk, codes};
+ghost use Rattle.bib_run.specs.Messages.{fault_name, refusal_line};
+
+use bib_scan::{ReadFault, Text};
+use std::alloc::{AllocError, Global};
+
+/// The message of a reader that failed.
+pub const READ_FAULT: &[u8] = b"bibkeep: read fault\n";
+
+/// The message of a writer that failed.
+pub const WRITE_FAULT: &[u8] = b"bibkeep: write fault\n";
+
+/// Why a file is not read: `bibkeep: N Name at P`, a line.
+pub fn refusal_line(alloc: Global, fault: ReadFault) -> Result<Text, AllocError>
+    ensures { IfOk result (λ line. line ≡ refusal_line fault.kind fault.place) }
+{
+    let name = fault_name(fault.kind);
+    let line = format!(in alloc; "bibkeep: {} {} at {}\n", fault.kind, name, fault.place)?;
+    Ok(Text::from_vec(line.into_bytes()))
+}
+
+/// The name of a fault of reading, by its number.
+fn fault_name(kind: u8) -> &'static str
+    ensures { result.now ≡ fault_name kind }
+{
+    match kind {
+        1 => "Unended",
+        2 => "ExpectedName",
+        3 => "ExpectedEquals",
+        4 => "ExpectedCommaOrClose",
+        5 => "ExpectedValue",
+        6 => "UnbalancedBrace",
+        7 => "KeyTooLong",
+        8 => "TextTooLong",
+        9 => "FileTooLong",
+        _ => "Memory",
+    }
+}

@@ -1,0 +1,73 @@
+//! `bibkeep`: opens what the words of the command line name, runs the command, and says how it ended. Nothing is
+//! decided here: `bib_command` reads the words, and `bib_run` knows what a command does.
+#![tactic(auto)]
+
+ghost use Rattle.bib_words.specs.Command.{IsCommand};
+
+mod endings;
+
+use bib_command::parse;
+use bib_run::{READ_FAULT, Tap, run};
+use bib_words::{Command, status};
+use endings::{end, end_run, end_unknown, end_usage, end_without_words};
+use std::alloc::Global;
+use std::fs::File;
+use std::io::Read;
+use std::process::ExitCode;
+use std::{env, str};
+
+fn main(rt: HostRuntime) -> ExitCode {
+    ExitCode::from(answer_words(&rt, rt.alloc()))
+}
+
+/// Does what the words ask for, and gives the status to end with.
+fn answer_words(rt: &HostRuntime, alloc: Global) -> u8 {
+    let words = match env::args(rt) {
+        Ok(words) => words,
+        Err(error) => return end_without_words(&mut rt.stderr(), &error),
+    };
+    let words: Vec<String> = match words.collect(alloc) {
+        Ok(words) => words,
+        Err(error) => return end_without_words(&mut rt.stderr(), &error.into()),
+    };
+    match parse(alloc, words.as_slice()) {
+        Ok(command) if command.is_known() => perform(rt, alloc, &command),
+        Ok(_) => end_unknown(&mut rt.stderr()),
+        Err(usage) => end_usage(&mut rt.stdout(), &mut rt.stderr(), &usage),
+    }
+}
+
+/// Runs the command over the file that it names, or over standard input where it names none.
+fn perform(rt: &HostRuntime, alloc: Global, command: &Command) -> u8
+    requires { IsCommand command.now }
+{
+    let Some(path) = command.words.as_slice().first() else {
+        return run_over(rt, alloc, command, rt.stdin());
+    };
+    let Ok(path) = str::from_utf8(path.as_slice()) else {
+        return end_unknown(&mut rt.stderr());
+    };
+    match File::open(rt, path) {
+        Ok(file) => run_over(rt, alloc, command, file),
+        Err(_) => end(&mut rt.stderr(), READ_FAULT, status::FAULT),
+    }
+}
+
+fn run_over<F: Read>(rt: &HostRuntime, alloc: Global, command: &Command, file: F) -> u8
+where
+    F: Drop,
+    requires { IsCommand command.now }
+{
+    let mut file = Tap::new(file);
+    let mut input = Tap::new(rt.stdin());
+    let mut out = Tap::new(rt.stdout());
+    let outcome = run(
+        alloc,
+        command,
+        &mut file,
+        None::<&mut Tap<File>>,
+        &mut input,
+        &mut out,
+    );
+    end_run(&mut rt.stderr(), &outcome)
+}

@@ -1,0 +1,21 @@
+# The words of the command line.
+# shellcheck shell=sh
+
+when --help; ends_with 0; mentions 'Usage: bibkeep'; says_nothing
+when -h; ends_with 0; mentions 'Reads BibTeX databases'; says_nothing
+when help; ends_with 0; mentions 'Writes the bytes of a file'; says_nothing
+when cat --help; ends_with 0; mentions 'or standard input where it is left out'; says_nothing
+when help cat; ends_with 0; mentions 'Usage: bibkeep cat [F]'; says_nothing
+when --version; ends_with 0; mentions 'bibkeep 0.1.0'; says_nothing
+when -V; ends_with 0; mentions 'bibkeep 0.1.0'; says_nothing
+
+when; ends_with 2; writes_nothing; complains_of 'Usage: bibkeep'
+when keep; ends_with 2; writes_nothing; complains_of "'keep'"
+when Cat; ends_with 2; writes_nothing; complains_of "'Cat'"
+when cat row.bib row.bib; ends_with 2; writes_nothing; complains_of "'row.bib'"
+when cat --all; ends_with 2; writes_nothing; complains_of "'--all'"
+when --hel; ends_with 2; writes_nothing; complains_of "'--help'"
+when cat "$(printf 'caf\351.bib')"; ends_with 2; writes_nothing; complains_of 'not UTF-8'
+
+when_shell_runs '"$program" --help >/dev/full'; ends_with 3; says 'bibkeep: write fault'
+when_shell_runs '"$program" --version >&-'; ends_with 3; says 'bibkeep: write fault'

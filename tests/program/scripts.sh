@@ -1,0 +1,11 @@
+# The scripts at the top of the repository.
+# shellcheck shell=sh
+
+when_shell_runs '"$root/bibkeep" cat row.bib'; ends_with 0; writes row.bib; says_nothing
+when_shell_runs '"$root/bibkeep" cat <row.bib'; ends_with 0; writes row.bib; says_nothing
+when_shell_runs '"$root/bibkeep" cat folder'; ends_with 3; writes_nothing; says 'bibkeep: read fault'
+when_shell_runs '"$root/install" prefix >/dev/null && prefix/bin/bibkeep cat row.bib'; ends_with 0; writes row.bib; says_nothing
+when_shell_runs 'HOME=$PWD/home "$root/install" && home/.local/bin/bibkeep --version'; ends_with 0; mentions 'bibkeep 0.1.0'; says_nothing
+when_shell_runs '"$root/install" --help'; ends_with 0; mentions 'Usage: ./install [PREFIX]'; says_nothing
+when_shell_runs '"$root/install" --nowhere'; ends_with 2; writes_nothing; complains_of 'Usage: ./install [PREFIX]'
+when_shell_runs '"$root/test" --help'; ends_with 0; mentions 'Usage: ./test'; says_nothing
