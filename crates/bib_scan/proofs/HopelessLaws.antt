@@ -70,6 +70,20 @@ stops_at limit some t h is =
 pub no_fault : (limit : ℕ) (t : Text) (h : Halt) → HasReadingWithin limit t → read_all_commands limit t ≡ Err h → ⊥
 no_fault limit t h (db, reads) is = not_ok (places_of db).items h (read_all_commands limit t) is (reading_again limit t db reads).0
 
+-- what goes on with the byte at the fault is no front of a file
+pub stuck_at : (limit : ℕ) (some : 0 < limit) (t u : Text) (h : Halt) (c : ℕ) (v : Text) → read_all_commands limit t ≡ Err h → t ≡ u ++ h.rest → h.rest ≡ c ∷ v → IsViable (HasReadingWithin limit) (u ++ c ∷ []) → ⊥
+stuck_at limit some t u h c v is split rest (more, reading) =
+    let at = stops_at limit some t h is in
+    let u_is : u ≡ at.front = append_cancel_right u at.front h.rest (sym split ∙ at.split) in
+    let shape : (u ++ c ∷ []) ++ more ≡ at.front ++ c ∷ more = append_assoc u (c ∷ []) more ∙ ap (λ (w : Text). w ++ c ∷ more) u_is in
+    no_fault limit (at.front ++ c ∷ more) (stop h.fault (c ∷ more)) (subst (HasReadingWithin limit) shape reading) (at.same c v more rest)
+
+-- what is read to its end is a front of a file
+pub viable_at : (limit : ℕ) (some : 0 < limit) (t : Text) (h : Halt) → read_all_commands limit t ≡ Err h → h.rest ≡ [] → IsViable (HasReadingWithin limit) t
+viable_at limit some t h is none =
+    let at = stops_at limit some t h is in
+    subst (IsViable (HasReadingWithin limit)) (sym (at.split ∙ ap (λ (u : Text). at.front ++ u) none ∙ append-nil at.front)) at.viable
+
 -- the place of a fault is the hopeless one
 pub hopeless : (limit : ℕ) (some : 0 < limit) (t : Text) (h : Halt) → read_all_commands limit t ≡ Err h → IsHopeless (HasReadingWithin limit) t (length t - length h.rest)
 hopeless limit some t h is =
@@ -83,6 +97,6 @@ hopeless limit some t h is =
   where
     stuck : StopsAt limit t h → length t - length h.rest < length t → (r : Text) → h.rest ≡ r → IsViable (HasReadingWithin limit) (take (length t - length r + 1) t) → ⊥
     stuck at low [] e viable = absurd (omega (arith, ap (length {A = ℕ}) e))
-    stuck at low (c ∷ v) e (more, reading) =
-        let shape : take (length t - length (c ∷ v) + 1) t ++ more ≡ at.front ++ c ∷ more = ap (λ (u : Text). u ++ more) (front_more t at.front c v (at.split ∙ ap (λ (u : Text). at.front ++ u) e)) ∙ append_assoc at.front (c ∷ []) more in
-        no_fault limit (at.front ++ c ∷ more) (stop h.fault (c ∷ more)) (subst (HasReadingWithin limit) shape reading) (at.same c v more e)
+    stuck at low (c ∷ v) e viable =
+        let split : t ≡ at.front ++ c ∷ v = at.split ∙ ap (λ (u : Text). at.front ++ u) e in
+        stuck_at limit some t at.front h c v is at.split e (subst (IsViable (HasReadingWithin limit)) (front_more t at.front c v split) viable)

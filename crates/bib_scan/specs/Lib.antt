@@ -8,4 +8,3 @@ pub mod PartView
 pub mod Laws
 pub mod ValueParts
 pub mod PartsLeft
-pub mod Laws
