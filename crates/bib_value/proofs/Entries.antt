@@ -1,14 +1,15 @@
 -- The entries that the code keeps by folded names, as the list of the names with their values.
 use Rattle.std.proofs.Common.{◌≡◌, ℕ, ◌<◌, ◌≤◌, Bool, true, false, cond, List, [], ◌∷◌, length, refl, sym, ap, subst, ◌∙◌, arith, Option, None, Some, if◌then◌else◌, ⊎_elim}
-use Rattle.std.proofs.lemmas.Bool.{cases_Bool, cond-true, cond-false, both_ways, false_from_ne_true}
+use Rattle.std.proofs.lemmas.Bool.{cases_Bool, cond-true, cond-false, both_ways, false_from_ne_true, and_parts, leb-true}
 use Rattle.std.proofs.lemmas.Slice.Eq.{bytes_eq-Decides}
 use Rattle.std.specs.declared.vec.Vec.{Vec}
 use Rattle.std.specs.Str.{bytes_eq}
 use Rattle.std.specs.HashMap.{HashMap}
 use Rattle.indexmap.specs.IndexMap.{insert_entry, get_by}
 use Rattle.bib_spec.specs.Bytes.{name_limit}
-use Rattle.bib_spec.specs.Text.{Text, folded}
-use Rattle.std.specs.Char.{to_ascii_lowercase}
+use Rattle.bib_spec.specs.Text.{Text, folded, is_name, is_name_within, does_not_begin_with}
+use Rattle.std.specs.Prelude.{◌&&◌, nat_lt, nat_le, IsTrue}
+use Rattle.std.specs.Char.{to_ascii_lowercase, is_ascii_digit}
 use Rattle.std.proofs.lemmas.List.{length-map}
 use Rattle.bib_value.specs.FoldedMap.{value_at, by_name, NamesAreShort, IsWith}
 
@@ -76,3 +77,12 @@ folded_long name longer = subst (λ (n : ℕ). name_limit < n) (sym (length-map 
 
 pub folded_short : (name : Text) → length name ≤ name_limit → length (folded name) ≤ name_limit
 folded_short name short = subst (λ (n : ℕ). n ≤ name_limit) (sym (length-map name to_ascii_lowercase)) short
+
+-- a name is short
+pub name_short : (name : Text) → IsTrue (is_name name) → length name ≤ name_limit
+unfolding is_name_within
+name_short name is =
+    let some = nat_lt 0 (length name) in
+    let short = nat_le (length name) name_limit in
+    let no_digit = does_not_begin_with is_ascii_digit name in
+    leb-true (length name) name_limit (and_parts some short (and_parts (some && short) no_digit (and_parts (some && short && no_digit) _ is).0).0).1

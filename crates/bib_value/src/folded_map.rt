@@ -43,6 +43,11 @@ impl<V> FoldedMap<V> {
         }
     }
 
+    /// Where its memory comes from.
+    pub fn allocator(&self) -> Global {
+        self.alloc
+    }
+
     /// The value of a name, if it has one.
     pub fn get(&self, name: &[u8]) -> Option<&V>
         ensures { option_copied result ≡ value_at self.now (folded name.now) }
