@@ -1,16 +1,16 @@
 -- What every accepted edit makes reads, and its file opens.
-use Rattle.std.proofs.Common.{◌≡◌, ◌≤◌, nat_lt, is_some, length, ⊎_elim, sym, ◌∙◌, ap, subst, ltb-true}
-use Rattle.std.proofs.lemmas.Bool.{cases_Bool, ltb-false}
+use Rattle.std.proofs.Common.{◌≡◌, ◌≤◌, is_some, length, ⊎_elim, sym, ◌∙◌, ap, subst}
 use Rattle.bib_spec.specs.Bytes.{file_limit}
 use Rattle.bib_spec.specs.Text.{Text}
 use Rattle.bib_spec.specs.Reading.{Reads, bytes_of}
 use Rattle.bib_spec.specs.Texts.{too_long_at}
 use Rattle.bib_spec.specs.Pieces.{applied}
-use Rattle.bib_spec.specs.Edits.{SetField, DropField, AddEntry, RemoveEntry, MoveEntry, RenameKey, RenameMacro, InlineMacro, IntroduceMacro, RegenerateKeys, AddMany, FileTooLong, TextTooLong, edited}
+use Rattle.bib_spec.specs.Edits.{SetField, DropField, AddEntry, RemoveEntry, MoveEntry, RenameKey, RenameMacro, InlineMacro, IntroduceMacro, RegenerateKeys, AddMany, TextTooLong, edited}
 use Rattle.bib_spec.specs.EditChunks.{pieces_of}
 use Rattle.bib_spec.specs.EditLaws.{edited_reads, applied_opens}
 use Rattle.bib_spec.proofs.Keys.{option_cases}
 use Rattle.bib_spec.proofs.EditFiles.{pieces-lead}
+use Rattle.bib_spec.proofs.Unrefuted.{edited-short}
 use Rattle.bib_spec.proofs.SetField.{set_field-reads}
 use Rattle.bib_spec.proofs.DropField.{drop_field-reads}
 use Rattle.bib_spec.proofs.AddedEntries.{add_entry-reads, add_many-reads}
@@ -38,9 +38,6 @@ applied-opens key_base file db e base reads accepted =
     let leads : applied (pieces_of key_base db e) file ≡ bytes_of new = ap (applied (pieces_of key_base db e)) (sym reads.bytes) ∙ (pieces-lead key_base db e).1 in
     record {
       reads = subst (λ (t : Text). Reads t new) (sym leads) (edited-reads key_base file db e base reads accepted);
-      short = subst (λ (t : Text). length t ≤ file_limit) (sym leads) (⊎_elim
-          (λ t. absurd (accepted FileTooLong (ltb-true file_limit (length (bytes_of new)) t)))
-          (λ e. ltb-false file_limit (length (bytes_of new)) e)
-          (cases_Bool (nat_lt file_limit (length (bytes_of new)))));
+      short = subst (λ (t : Text). length t ≤ file_limit) (sym leads) (edited-short key_base db e accepted);
       texts = ⊎_elim (λ none. none) (λ some. absurd (accepted TextTooLong (ap is_some some.1))) (option_cases (too_long_at new));
     }

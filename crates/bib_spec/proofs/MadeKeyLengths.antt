@@ -14,9 +14,10 @@ use Rattle.bib_spec.specs.Reading.{Item, Reading, item_bytes, bytes_of, Reads}
 use Rattle.bib_spec.specs.Texts.{Macros, months, macros_after, gathered}
 use Rattle.bib_spec.specs.Records.{EntryTexts, Record, record_of, entry_in, entries_of, dangling_text, dangling_texts}
 use Rattle.bib_spec.specs.MadeKeys.{letters, candidate, candidates, is_taken, free_key, made_keys, bases, new_keys, base_limit, IsKeyBase}
-use Rattle.bib_spec.specs.Edits.{RegenerateKeys, FileTooLong, next_number, items_with_keys, regenerate_keys, IsAccepted}
+use Rattle.bib_spec.specs.Edits.{RegenerateKeys, next_number, items_with_keys, regenerate_keys, IsAccepted}
 use Rattle.bib_spec.proofs.FreeKeys.{AreLower, lower_letters, written, written-letters, free_key_free}
 use Rattle.bib_spec.proofs.RekeyedEntries.{with_keys-reads}
+use Rattle.bib_spec.proofs.Unrefuted.{edited-short}
 
 -- ---- how many letters a number takes
 
@@ -183,7 +184,5 @@ regenerate_keys-reads key_base file db depth fit reads accepted =
         let same_count = length-rekeyed (slice_get (new_keys key_base depth (entries_of db))) (entries_of db) 0 db.items in
         let items = few_items new.items in
         let file = length-append new.front (flat_map item_bytes new.items) in
-        ⊎_elim
-        (λ t. absurd (accepted FileTooLong (ltb-true file_limit (length (bytes_of new)) t)))
-        (λ e. let short = ltb-false file_limit (length (bytes_of new)) e in omega (arith, entries, same_count, items, file, short))
-        (cases_Bool (nat_lt file_limit (length (bytes_of new))))
+        let short = edited-short key_base db (RegenerateKeys depth) accepted in
+        omega (arith, entries, same_count, items, file, short)

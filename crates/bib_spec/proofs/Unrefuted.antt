@@ -2,13 +2,13 @@
 use Rattle.std.proofs.Common.{◌≡◌, ℕ, ◌<◌, ◌≤◌, ◌==◌, nat_lt, nat_le, Bool, true, false, ◌&&◌, length, All, ⊎_elim, arith}
 use Rattle.std.specs.List.{list_all}
 use Rattle.std.proofs.lemmas.Bool.{cases_Bool, both_ways, and_parts, true_from_ne_false, leb-true, leb-false, ltb-true, ltb-false, eqb-true, eqb-false}
-use Rattle.bib_spec.specs.Bytes.{name_limit}
+use Rattle.bib_spec.specs.Bytes.{name_limit, file_limit}
 use Rattle.bib_spec.specs.Text.{Text, is_name, is_new_key, IsBalanced, opened_before, closed_before}
 use Rattle.bib_spec.specs.Clean.{IsClean, IsCleanTrail}
 use Rattle.bib_spec.specs.Tree.{Part, Braced, Quoted, Digits, Macro, Link, Value, is_type, IsSpace, IsPart, IsLink, IsValue}
-use Rattle.bib_spec.specs.Reading.{Reading}
+use Rattle.bib_spec.specs.Reading.{Reading, bytes_of}
 use Rattle.bib_spec.specs.Records.{Record}
-use Rattle.bib_spec.specs.Edits.{Edit, BadKey, BadName, BadValue, given_keys, given_names, given_types, given_values, HasCleanTexts, IsAccepted}
+use Rattle.bib_spec.specs.Edits.{Edit, BadKey, BadName, BadValue, FileTooLong, given_keys, given_names, given_types, given_values, HasCleanTexts, edited, IsAccepted}
 
 unrefuted_true : (b : Bool) → ((b ≡ true → ⊥) → ⊥) → b ≡ true
 unrefuted_true b h = true_from_ne_false b (λ e. h (λ t. both_ways b e t))
@@ -74,7 +74,7 @@ unrefuted_texts db h = record {
   trails = λ k d lt. unrefuted_trail _ _ (λ none. h (λ is. none (is.trails k d lt)));
 }
 
--- ---- what an accepted edit is given
+-- ---- an accepted edit
 
 module _ (key_base : Record → Text) (db : Reading) (e : Edit) (accepted : IsAccepted key_base db e) where
   pub given_keys-are : list_all is_new_key (given_keys e) ≡ true
@@ -91,3 +91,9 @@ module _ (key_base : Record → Text) (db : Reading) (e : Edit) (accepted : IsAc
 
   pub given_values-are : All (IsValue name_limit) (given_values e)
   given_values-are k d lt = unrefuted_value name_limit _ (λ none. accepted BadValue (λ is. none (is k d lt)))
+
+  pub edited-short : length (bytes_of (edited key_base db e)) ≤ file_limit
+  edited-short = ⊎_elim
+      (λ t. absurd (accepted FileTooLong (ltb-true file_limit (length (bytes_of (edited key_base db e))) t)))
+      (λ t. ltb-false file_limit (length (bytes_of (edited key_base db e))) t)
+      (cases_Bool (nat_lt file_limit (length (bytes_of (edited key_base db e)))))

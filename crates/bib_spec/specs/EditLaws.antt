@@ -9,7 +9,7 @@ use Rattle.bib_spec.specs.MadeKeys.{IsKeyBase}
 use Rattle.bib_spec.specs.Edits.{Edit, RegenerateKeys, edited, IsAccepted}
 use Rattle.bib_spec.specs.EditChunks.{pieces_of}
 
--- the edit makes keys, and then of a base of made keys
+-- where the edit makes keys, their base is one of made keys
 abbrev pub HasKeyBase : (Record → Text) → Edit → Type 0
 HasKeyBase key_base (RegenerateKeys depth) = IsKeyBase key_base
 HasKeyBase key_base other = ⊤
