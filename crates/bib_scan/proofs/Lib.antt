@@ -12,6 +12,7 @@ pub mod TellTrees
 pub mod WidenLaws
 pub mod WidenTrees
 pub mod KindLaws
+pub mod WholeValueLaws
 pub mod MendRows
 pub mod MendTrees
 pub mod TellLaws
