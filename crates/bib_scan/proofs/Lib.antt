@@ -9,6 +9,12 @@ pub mod StopLaws
 pub mod PlaceLaws
 pub mod HopelessLaws
 pub mod TellParts
+pub mod TellRows
+pub mod TellTrees
+pub mod WidenLaws
+pub mod WidenTrees
+pub mod KindLaws
+pub mod WholeValueLaws
 pub mod MendRows
 pub mod MendTrees
 pub mod TellLaws
