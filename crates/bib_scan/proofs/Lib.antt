@@ -42,3 +42,4 @@ pub mod LayoutLemmas
 pub mod LayoutLaws
 pub mod TakenApart
 pub mod PartsLemmas
+pub mod PartsFaults

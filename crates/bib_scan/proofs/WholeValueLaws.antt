@@ -181,7 +181,7 @@ value_stops limit some t h (followed s is e) =
     last u c v r shape (behind read) = read ∙ ap (λ (f : ReadingFault). Err (stop f (c ∷ r))) (ap (λ (w : Text). (expected ExpectedCommaOrClose w).fault) (sym shape) ∙ ap (λ (k : Halt). k.fault) e)
 
 module _ (limit : ℕ) (some : 0 < limit) where
-  stops_by : (t : Text) (h : Halt) → read_whole_value limit t ≡ Err h → StopsAt (IsValueWithin limit) (read_whole_value limit) t h
+  pub stops_by : (t : Text) (h : Halt) → read_whole_value limit t ≡ Err h → StopsAt (IsValueWithin limit) (read_whole_value limit) t h
   stops_by t h is = value_stops limit some t h (refused_by limit t h is)
 
   stuck_value : (t u : Text) (h : Halt) (c : ℕ) (v : Text) → read_whole_value limit t ≡ Err h → t ≡ u ++ h.rest → h.rest ≡ c ∷ v → IsViable (IsValueWithin limit) (u ++ c ∷ []) → ⊥
