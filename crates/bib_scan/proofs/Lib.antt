@@ -15,6 +15,7 @@ pub mod WidenLaws
 pub mod WidenTrees
 pub mod KindLaws
 pub mod FaultyFiles
+pub mod WholeValueLaws
 pub mod MendRows
 pub mod MendTrees
 pub mod TellLaws
@@ -42,3 +43,4 @@ pub mod LayoutLemmas
 pub mod LayoutLaws
 pub mod TakenApart
 pub mod PartsLemmas
+pub mod PartsFaults
