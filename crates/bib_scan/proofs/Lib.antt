@@ -13,6 +13,7 @@ pub mod WidenLaws
 pub mod WidenTrees
 pub mod KindLaws
 pub mod WholeValueLaws
+pub mod PlaceOfFault
 pub mod MendRows
 pub mod MendTrees
 pub mod TellLaws

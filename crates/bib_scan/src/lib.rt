@@ -15,7 +15,7 @@ mod text;
 mod value;
 
 pub use fault::ReadFault;
-pub use laws::{clean_before_sign, one_reading};
+pub use laws::{clean_before_sign, cut_ends, one_fault, one_place, one_reading};
 pub use layout::Layout;
 pub use reading::{FILE_LIMIT, read};
 pub use seq::{Seq, Text};
