@@ -14,8 +14,8 @@ pub mod TellTrees
 pub mod WidenLaws
 pub mod WidenTrees
 pub mod KindLaws
-pub mod FaultyFiles
 pub mod WholeValueLaws
+pub mod PlaceOfFault
 pub mod MendRows
 pub mod MendTrees
 pub mod TellLaws

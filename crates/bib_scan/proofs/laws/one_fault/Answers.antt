@@ -1,13 +1,8 @@
-use Rattle.bib_spec.specs.Reading.{HasReading, HasReadingWithin}
-use Rattle.bib_scan.proofs.FaultyFiles.{goes_wrong}
-use Rattle.bib_scan.proofs.PlaceLaws.{one_place, one_fault}
+use Rattle.bib_scan.proofs.PlaceOfFault.{fault_of_file, fault_of_value}
 use Rattle.bib_scan.proofs.laws.one_fault.Goals as goal
 
-pub returns-clause-found : goal.returns-clause-found
-returns-clause-found c = goes_wrong
+pub returns-clause-file : goal.returns-clause-file
+returns-clause-file c = fault_of_file
 
-pub returns-clause-place : goal.returns-clause-place
-returns-clause-place c = one_place HasReading
-
-pub returns-clause-fault : goal.returns-clause-fault
-returns-clause-fault c = one_fault HasReadingWithin
+pub returns-clause-value : goal.returns-clause-value
+returns-clause-value c = fault_of_value
