@@ -9,3 +9,5 @@ mod fakes;
 mod reading;
 #[cfg(test)]
 mod running;
+#[cfg(test)]
+mod values;
