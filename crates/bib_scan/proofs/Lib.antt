@@ -14,6 +14,7 @@ pub mod TellTrees
 pub mod WidenLaws
 pub mod WidenTrees
 pub mod KindLaws
+pub mod FaultyFiles
 pub mod MendRows
 pub mod MendTrees
 pub mod TellLaws
