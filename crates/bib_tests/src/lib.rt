@@ -12,4 +12,6 @@ mod reading;
 #[cfg(test)]
 mod running;
 #[cfg(test)]
+mod values;
+#[cfg(test)]
 mod views;

@@ -11,7 +11,7 @@ use Rattle.bib_spec.specs.Text.{Text, folded, is_name, is_name_within, does_not_
 use Rattle.std.specs.Prelude.{◌&&◌, nat_lt, nat_le, IsTrue}
 use Rattle.std.specs.Char.{to_ascii_lowercase, is_ascii_digit}
 use Rattle.std.proofs.lemmas.List.{length-map}
-use Rattle.bib_value.specs.FoldedMap.{value_at, by_name, NamesAreShort, IsWith}
+use Rattle.bib_value.specs.FoldedMap.{value_at, by_name, NamesAreShort}
 
 -- how the code compares two names
 abbrev pub same_name : {Z : Type 0} → Vec ℕ Z → Vec ℕ Z → Bool
@@ -43,9 +43,9 @@ pub names_are_short-insert : {V Z : Type 0} (es : List (Vec ℕ Z × V)) (k : Ve
 names_are_short-insert [] k v is short = (is, tt)
 names_are_short-insert {V} {Z} (e ∷ es) k v is short =
     ⊎_elim
-        (λ same. subst NamesAreShort (sym (cond-true (same_name k e.0) ((e.0, v) ∷ es) (e ∷ insert_entry same_name es k v) same)) (short.0, short.1))
-        (λ other. subst NamesAreShort (sym (cond-false (same_name k e.0) ((e.0, v) ∷ es) (e ∷ insert_entry same_name es k v) other)) (short.0, names_are_short-insert es k v is short.1))
-        (cases_Bool (same_name k e.0))
+    (λ same. subst NamesAreShort (sym (cond-true (same_name k e.0) ((e.0, v) ∷ es) (e ∷ insert_entry same_name es k v) same)) (short.0, short.1))
+    (λ other. subst NamesAreShort (sym (cond-false (same_name k e.0) ((e.0, v) ∷ es) (e ∷ insert_entry same_name es k v) other)) (short.0, names_are_short-insert es k v is short.1))
+    (cases_Bool (same_name k e.0))
 
 -- what is put in is found, and the rest is found as before
 pub value_at-insert : {V Z : Type 0} (es : List (Vec ℕ Z × V)) (k : Vec ℕ Z) (v : V) (x : Text) → value_at (by_name (insert_entry same_name es k v)) x ≡ (if bytes_eq x k.items then Some v else value_at (by_name es) x)
@@ -58,6 +58,7 @@ value_at-insert {V} {Z} (e ∷ es) k v x = ⊎_elim same (other (value_at-insert
         let e2 : value_at (by_name (insert_entry same_name (e ∷ es) k v)) x ≡ (if bytes_eq x e.0.items then Some v else value_at (by_name es) x) = ap (λ l. value_at (by_name l) x) (cond-true (same_name k e.0) ((e.0, v) ∷ es) (e ∷ insert_entry same_name es k v) h) in
         let twice : (b : Bool) → cond b (Some v) (value_at (by_name es) x) ≡ cond b (Some v) (cond b (Some e.1) (value_at (by_name es) x)) = elim [ true ↦ refl | false ↦ refl ] in
         e2 ∙ twice (bytes_eq x e.0.items) ∙ ap (λ (t : Text). if bytes_eq x t then Some v else value_at (by_name (e ∷ es)) x) (sym e1)
+
     other : value_at (by_name (insert_entry same_name es k v)) x ≡ (if bytes_eq x k.items then Some v else value_at (by_name es) x) → same_name k e.0 ≡ false → value_at (by_name (insert_entry same_name (e ∷ es) k v)) x ≡ (if bytes_eq x k.items then Some v else value_at (by_name (e ∷ es)) x)
     other later h =
         let e2 : value_at (by_name (insert_entry same_name (e ∷ es) k v)) x ≡ (if bytes_eq x e.0.items then Some e.1 else (if bytes_eq x k.items then Some v else value_at (by_name es) x)) = ap (λ l. value_at (by_name l) x) (cond-false (same_name k e.0) ((e.0, v) ∷ es) (e ∷ insert_entry same_name es k v) h) ∙ ap (cond (bytes_eq x e.0.items) (Some e.1)) later in
@@ -65,6 +66,7 @@ value_at-insert {V} {Z} (e ∷ es) k v x = ⊎_elim same (other (value_at-insert
       where
         apart : bytes_eq x e.0.items ≡ true → bytes_eq x k.items ≡ true → ⊥
         apart p q = both_ways (same_name k e.0) h ((bytes_eq-Decides k.items e.0.items).1 (sym (same_text x k.items q) ∙ same_text x e.0.items p))
+
         swapped : (a b : Bool) (p q r : Option V) → (a ≡ true → b ≡ true → ⊥) → cond a p (cond b q r) ≡ cond b q (cond a p r)
         swapped true true p q r never = absurd (never refl refl)
         swapped true false p q r never = refl

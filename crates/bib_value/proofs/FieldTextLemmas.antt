@@ -1,5 +1,5 @@
 -- A field text is found from left to right.
-use Rattle.std.proofs.Common.{◌≡◌, ℕ, ◌+◌, ◌<◌, eqb, drop, get_or, add-one, drop-cons, arith, Bool, true, false, cond, not, ◌&&◌, List, [], ◌∷◌, ◌++◌, length, filter, refl, sym, ap, subst, ◌∙◌, ⊎_elim, if◌then◌else◌, append-nil, append_assoc}
+use Rattle.std.proofs.Common.{◌≡◌, ℕ, ◌+◌, ◌<◌, eqb, drop, get_or, add-one, drop-cons, arith, Bool, true, false, not, ◌&&◌, List, [], ◌∷◌, ◌++◌, length, filter, refl, sym, ap, subst, ◌∙◌, ⊎_elim, if◌then◌else◌, append-nil, append_assoc}
 use Rattle.std.proofs.lemmas.Bool.{cases_Bool, cond-true, cond-false, and_from, both_ways, eq-eqb, eqb-true}
 use Rattle.std.specs.List.{join_with_byte}
 use Rattle.bib_spec.specs.Bytes.{space}
@@ -87,19 +87,23 @@ pub in_text_space : (text : Text) (apart : Bool) (b : ℕ) (rest whole : Text) �
 in_text_space text apart b rest whole h is = record { joined = ap (λ (u : Text). text ++ u) (sym (cond-true (is_space b) (more_text true (is_begun text) rest) _ h)) ∙ is.joined }
 
 pub in_text_word : (text : Text) (apart : Bool) (b : ℕ) (rest whole : Text) → is_space b ≡ false → (apart && is_begun text) ≡ false → InText text apart (b ∷ rest) whole → InText (text ++ b ∷ []) false rest whole
-in_text_word text apart b rest whole h joins is = record { joined =
-    append_assoc text (b ∷ []) _
-    ∙ ap (λ (u : Bool). text ++ b ∷ more_text false u rest) (begun_push text b)
-    ∙ ap (λ (u : Text). text ++ u) (sym (cond-false (apart && is_begun text) _ _ joins) ∙ sym (cond-false (is_space b) (more_text true (is_begun text) rest) _ h))
-    ∙ is.joined }
+in_text_word text apart b rest whole h joins is = record {
+  joined =
+      append_assoc text (b ∷ []) _
+      ∙ ap (λ (u : Bool). text ++ b ∷ more_text false u rest) (begun_push text b)
+      ∙ ap (λ (u : Text). text ++ u) (sym (cond-false (apart && is_begun text) _ _ joins) ∙ sym (cond-false (is_space b) (more_text true (is_begun text) rest) _ h))
+      ∙ is.joined;
+}
 
 pub in_text_gap : (text : Text) (apart : Bool) (b : ℕ) (rest whole : Text) → is_space b ≡ false → (apart && is_begun text) ≡ true → InText text apart (b ∷ rest) whole → InText ((text ++ space ∷ []) ++ b ∷ []) false rest whole
-in_text_gap text apart b rest whole h joins is = record { joined =
-    append_assoc (text ++ space ∷ []) (b ∷ []) _
-    ∙ append_assoc text (space ∷ []) _
-    ∙ ap (λ (u : Bool). text ++ space ∷ b ∷ more_text false u rest) (begun_push (text ++ space ∷ []) b)
-    ∙ ap (λ (u : Text). text ++ u) (sym (cond-true (apart && is_begun text) _ _ joins) ∙ sym (cond-false (is_space b) (more_text true (is_begun text) rest) _ h))
-    ∙ is.joined }
+in_text_gap text apart b rest whole h joins is = record {
+  joined =
+      append_assoc (text ++ space ∷ []) (b ∷ []) _
+      ∙ append_assoc text (space ∷ []) _
+      ∙ ap (λ (u : Bool). text ++ space ∷ b ∷ more_text false u rest) (begun_push (text ++ space ∷ []) b)
+      ∙ ap (λ (u : Text). text ++ u) (sym (cond-true (apart && is_begun text) _ _ joins) ∙ sym (cond-false (is_space b) (more_text true (is_begun text) rest) _ h))
+      ∙ is.joined;
+}
 
 pub in_text_all : (text : Text) (apart : Bool) (whole : Text) → InText text apart [] whole → text ≡ field_text whole
 in_text_all text apart whole is = sym (append-nil text) ∙ is.joined

@@ -1,10 +1,10 @@
 -- The months, found among their names.
-use Rattle.std.proofs.Common.{◌≡◌, ℕ, ◌<◌, ◌≤◌, ◌+◌, suc, Bool, true, false, cond, List, [], ◌∷◌, length, find, get_or, drop, map, refl, sym, ap, ◌∙◌, arith, add-one, drop-cons, Option, None, Some, Bor, ⊎_elim, IfSome}
+use Rattle.std.proofs.Common.{◌≡◌, ℕ, ◌≤◌, Bool, true, false, List, [], ◌∷◌, length, find, drop, map, sym, ap, ◌∙◌, arith, Option, None, Some, Bor, ⊎_elim, IfSome}
 use Rattle.std.specs.Option.{option_map, option_copied}
 use Rattle.std.specs.Str.{bytes_eq}
 use Rattle.std.specs.List.{AllByRecursion}
 use Rattle.std.proofs.lemmas.Bool.{cases_Bool, cond-true, cond-false}
-use Rattle.bib_spec.specs.Text.{Text, same, folded}
+use Rattle.bib_spec.specs.Text.{Text}
 use Rattle.bib_spec.specs.Texts.{months, month_names, raw_limit}
 use Rattle.bib_value.specs.Months.{shown, text_in}
 
@@ -25,10 +25,12 @@ all_short test (m ∷ ms) short t is = ⊎_elim (here short.0) (later (all_short
   where
     some_same : (u v : Text) → ◌≡◌ {A = Option Text} (Some u) (Some v) → u ≡ v
     some_same u v e = cc
+
     here : length m.1 ≤ raw_limit → test m ≡ true → length t ≤ raw_limit
     here low h =
         let e : m.1 ≡ t = some_same m.1 t (sym (ap (option_map (λ m. m.1)) (cond-true (test m) (Some m) (find test ms) h)) ∙ is) in
         omega (arith, low, ap (length {A = ℕ}) e)
+
     later : (option_map (λ m. m.1) (find test ms) ≡ Some t → length t ≤ raw_limit) → test m ≡ false → length t ≤ raw_limit
     later rest h = rest (sym (ap (option_map (λ m. m.1)) (cond-false (test m) (Some m) (find test ms) h)) ∙ is)
 

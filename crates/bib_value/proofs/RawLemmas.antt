@@ -1,14 +1,13 @@
 -- What the parts of a value say, part by part.
-use Rattle.std.proofs.Common.{◌≡◌, ℕ, ◌+◌, ◌-◌, ◌<◌, ◌≤◌, min, List, [], ◌∷◌, ◌++◌, length, take, drop, map, get_or, refl, sym, ap, subst, ◌∙◌, arith, append-nil, length-append, Option, Some}
+use Rattle.std.proofs.Common.{◌≡◌, ℕ, ◌+◌, ◌-◌, ◌<◌, ◌≤◌, min, List, [], ◌∷◌, ◌++◌, length, take, refl, sym, ap, subst, ◌∙◌, arith, append-nil, length-append, Some}
 use Rattle.std.proofs.lemmas.Option.{slice_get_within, get_or_from_slice_get}
 use Rattle.std.proofs.lemmas.List.{take_more}
 use Rattle.std.proofs.lemmas.List.Folds.{length-flat_map-take}
 use Rattle.std.proofs.lemmas.Grind.{flat_map-append}
 use Rattle.std.proofs.Math.Seq.{take-length}
 use Rattle.std.specs.List.{flat_map, slice_get}
-use Rattle.bib_spec.specs.Bytes.{name_limit}
 use Rattle.bib_spec.specs.Text.{Text}
-use Rattle.bib_spec.specs.Tree.{Part, Value, value_bytes, IsValue}
+use Rattle.bib_spec.specs.Tree.{Part, Value}
 use Rattle.bib_spec.specs.Texts.{Macros, parts_of, part_text, raw_text, raw_limit}
 use Rattle.bib_scan.specs.ValueParts.{IsPartsOf, spans_of}
 use Rattle.bib_scan.specs.declared.parts.PartSpan.{PartSpan}
@@ -50,9 +49,9 @@ len_to_start bytes m = record { is = λ v ok same. refl; short = omega arith }
 pub len_to_more : (bytes : Text) (m : Macros) (n len : ℕ) (t : Text) → OfValue bytes (λ v. (p : Part) × (slice_get (parts_of v) n ≡ Some p) × (t ≡ part_text m p)) → length t ≤ raw_limit - len → LenTo bytes m n len → LenTo bytes m (n + 1) (len + length t)
 len_to_more bytes m n len t part fits to = record {
   is = λ v ok same.
-    let at = part v ok same in
-    let more = ap (length {A = ℕ}) (said-more m v n at.0 at.1) in
-    omega (arith, to.is v ok same, more, length-append (said m v n) (part_text m at.0), ap (length {A = ℕ}) at.2);
+      let at = part v ok same in
+      let more = ap (length {A = ℕ}) (said-more m v n at.0 at.1) in
+      omega (arith, to.is v ok same, more, length-append (said m v n) (part_text m at.0), ap (length {A = ℕ}) at.2);
   short = omega (arith, fits, to.short);
 }
 
@@ -77,9 +76,11 @@ pub said_to_start : (bytes : Text) (m : Macros) → SaidTo bytes m 0 []
 said_to_start bytes m = record { is = λ v ok same. refl }
 
 pub said_to_more : (bytes : Text) (m : Macros) (n : ℕ) (text t : Text) → OfValue bytes (λ v. (p : Part) × (slice_get (parts_of v) n ≡ Some p) × (t ≡ part_text m p)) → SaidTo bytes m n text → SaidTo bytes m (n + 1) (text ++ t)
-said_to_more bytes m n text t part to = record { is = λ v ok same.
-    let at = part v ok same in
-    ap (λ (u : Text). u ++ t) (to.is v ok same) ∙ ap (λ (u : Text). said m v n ++ u) at.2 ∙ sym (said-more m v n at.0 at.1) }
+said_to_more bytes m n text t part to = record {
+  is = λ v ok same.
+      let at = part v ok same in
+      ap (λ (u : Text). u ++ t) (to.is v ok same) ∙ ap (λ (u : Text). said m v n ++ u) at.2 ∙ sym (said-more m v n at.0 at.1);
+}
 
 pub said_to_all : (bytes : Text) (m : Macros) (n : ℕ) (text : Text) → OfValue bytes (λ v. n ≡ length (parts_of v)) → SaidTo bytes m n text → OfValue bytes (λ v. text ≡ raw_text m v)
 said_to_all bytes m n text all to v ok same = to.is v ok same ∙ said-all m v n (all v ok same)

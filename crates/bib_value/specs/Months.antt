@@ -1,5 +1,5 @@
 -- The months, as the code keeps them: names with their texts.
-use Rattle.std.specs.Prelude.{List, Option, find, map}
+use Rattle.std.specs.Prelude.{List, Option, find}
 use Rattle.std.specs.Option.{option_map}
 use Rattle.std.specs.Borrow.{Bor}
 use Rattle.bib_spec.specs.Text.{Text, same}

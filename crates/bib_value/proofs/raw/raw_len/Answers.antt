@@ -1,11 +1,7 @@
-use Rattle.std.proofs.Common.{◌≡◌, ◌∙◌, ℕ, Some, arith}
+use Rattle.std.proofs.Common.{◌≡◌, ◌∙◌, arith}
 use Rattle.std.specs.Option.{option_copied}
-use Rattle.std.specs.List.{slice_get}
-use Rattle.bib_spec.specs.Tree.{Part, Value}
-use Rattle.bib_spec.specs.Texts.{Macros, parts_of, part_text}
 use Rattle.bib_scan.specs.PartView.{part_view}
 use Rattle.bib_value.specs.Macros.{without}
-use Rattle.bib_value.specs.Raw.{OfValue}
 use Rattle.bib_value.proofs.RawLemmas.{len_to_more, len_to_over, len_to_all, parts_counted}
 use Rattle.bib_value.proofs.raw.raw_len.Goals as goal
 

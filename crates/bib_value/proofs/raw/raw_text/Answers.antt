@@ -1,6 +1,5 @@
-use Rattle.std.proofs.Common.{◌≡◌, ◌∙◌, ℕ, ◌+◌, Some, sym, subst, arith}
+use Rattle.std.proofs.Common.{◌≡◌, ◌∙◌, ◌+◌, sym, subst, arith}
 use Rattle.std.specs.Option.{option_copied}
-use Rattle.bib_spec.specs.Text.{Text}
 use Rattle.bib_scan.specs.PartView.{part_view}
 use Rattle.bib_value.specs.Macros.{without}
 use Rattle.bib_value.proofs.RawLemmas.{SaidTo, said_to_more, said_to_all, parts_counted}

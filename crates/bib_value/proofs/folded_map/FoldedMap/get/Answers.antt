@@ -1,5 +1,5 @@
 use Rattle.std.proofs.Common.{◌∙◌, ap, sym}
-use Rattle.bib_spec.specs.Text.{Text, folded}
+use Rattle.bib_spec.specs.Text.{folded}
 use Rattle.bib_value.specs.FoldedMap.{value_at}
 use Rattle.bib_value.proofs.Entries.{value_at-by_name, value_at-long, folded_long}
 use Rattle.bib_value.proofs.folded_map.FoldedMap.get.Goals as goal
