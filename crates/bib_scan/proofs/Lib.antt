@@ -14,6 +14,8 @@ pub mod TellTrees
 pub mod WidenLaws
 pub mod WidenTrees
 pub mod KindLaws
+pub mod WholeValueLaws
+pub mod PlaceOfFault
 pub mod MendRows
 pub mod MendTrees
 pub mod TellLaws
@@ -41,3 +43,4 @@ pub mod LayoutLemmas
 pub mod LayoutLaws
 pub mod TakenApart
 pub mod PartsLemmas
+pub mod PartsFaults

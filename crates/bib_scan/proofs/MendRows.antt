@@ -128,7 +128,7 @@ resumes_part limit t a r is u s split after =
 
 -- ---- parts
 
-one_part : (limit : ℕ) → IsPart limit (Digits (49 ∷ []))
+pub one_part : (limit : ℕ) → IsPart limit (Digits (49 ∷ []))
 one_part limit = (omega arith, All-cons (λ (x : ℕ). is_ascii_digit x ≡ true) 49 [] refl (All-nil (λ (x : ℕ). is_ascii_digit x ≡ true)))
 
 -- `1` is a part

@@ -2,6 +2,7 @@
 //! code here, only functions that do nothing and carry the laws about the definitions.
 #![tactic(auto)]
 
+mod edits;
 mod examples;
 mod histories;
 mod macros;
@@ -11,6 +12,7 @@ mod replacing;
 mod stepping;
 mod untouched_items;
 
+pub use edits::an_accepted_edit_makes_a_file_that_opens;
 pub use examples::{
     a_crossref_of_parts_is_renamed, a_dangling_crossref_finds_a_key, a_field_is_set_and_dropped,
     a_high_place_is_not_reached, a_key_base_is_needed, a_key_in_use_takes_children,

@@ -6,8 +6,12 @@ mod command_lines;
 #[cfg(test)]
 mod fakes;
 #[cfg(test)]
+mod names;
+#[cfg(test)]
 mod reading;
 #[cfg(test)]
 mod running;
+#[cfg(test)]
+mod values;
 #[cfg(test)]
 mod views;

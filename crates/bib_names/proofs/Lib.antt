@@ -1,0 +1,14 @@
+pub mod BoolLemmas
+pub mod BraceLemmas
+pub mod TrimLemmas
+pub mod PlaceLemmas
+pub mod NameListLemmas
+pub mod WordLemmas
+pub mod CommaLemmas
+pub mod SpecialLemmas
+pub mod CaseLemmas
+pub mod CharLemmas
+pub mod TemplateLaws
+pub mod BalanceLaws
+pub mod MadeKeyLaws
+pub mod LabelLaws

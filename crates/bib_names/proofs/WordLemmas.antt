@@ -1,0 +1,123 @@
+-- What is told of the words of a piece after some of its places.
+use Rattle.std.proofs.Common.{◌≡◌, ℕ, suc, ◌+◌, ◌-◌, ◌≤◌, ◌<◌, true, false, cond, eqb, List, [], ◌∷◌, ◌++◌, length, get_or, refl, sym, ap, ◌∙◌, arith, map, append_assoc, add-one, append-nil, below_more}
+use Rattle.std.proofs.lemmas.Bool.{ne_eqb}
+use Rattle.std.proofs.Math.Bool.{and-false}
+use Rattle.std.specs.Prelude.{◌&&◌, ◌||◌, not}
+use Rattle.std.specs.List.{slice_range}
+use Rattle.bib_spec.specs.Text.{Text}
+use Rattle.bib_names.specs.Places.{places_from, stretch}
+use Rattle.bib_names.specs.Words.{NameWord, is_gap, begins_word, word_end, run_start, kept_separator, sep_before, word_at, words_of}
+use Rattle.bib_names.proofs.PlaceLemmas.{places_here, places_past, places_none, places_skip_to, run_to, run_to_end}
+
+-- no word, or a part of one, stands between start and place, and those before are told
+pub record AreWordsSoFar (at : ℕ) (text : Text) (words : List NameWord) (start before place : ℕ) : Type 0 where
+  pub within : start ≤ place
+  pub front : (eqb start 0 || is_gap text (start - 1)) ≡ true
+  pub inside : (p : ℕ) → start ≤ p → p < place → is_gap text p ≡ false
+  pub sep : before ≡ sep_before text start
+  pub told : words ++ map (word_at (stretch at text)) (places_from (begins_word text) start (length text - start)) ≡ words_of (stretch at text)
+
+pub no_words : (at : ℕ) (text : Text) → AreWordsSoFar at text [] 0 32 0
+no_words at text = let whole : length text - 0 ≡ length text = omega arith in record {
+  within = omega arith;
+  front = refl;
+  inside = λ p low high. absurd (omega arith);
+  sep = refl;
+  told = ap (λ n. map (word_at (stretch at text)) (places_from (begins_word text) 0 n)) whole;
+}
+
+-- no gap: the word goes on
+pub words_on : (at : ℕ) (text : Text) (words : List NameWord) (start sep place : ℕ) → AreWordsSoFar at text words start sep place → is_gap text place ≡ false → AreWordsSoFar at text words start sep (place + 1)
+words_on at text words start sep place far gap = record {
+  within = omega (arith, far.within);
+  front = far.front;
+  inside = λ p low high. below_more (λ q. start ≤ q → is_gap text q ≡ false) place (λ q h l. far.inside q l h) (λ _. gap) p high low;
+  sep = far.sep;
+  told = far.told;
+}
+
+-- a run of gaps goes on
+run_next : (text : Text) (place : ℕ) → is_gap text place ≡ true → run_start text (place + 1) ≡ run_start text place
+run_next text place gap = ap (run_start text) (add-one place) ∙ ap (λ b. cond b (run_start text place) (suc place)) gap
+
+-- no run of gaps ends here
+run_here : (text : Text) (place : ℕ) → 0 < place → is_gap text (place - 1) ≡ false → run_start text place ≡ place
+run_here text place lt none =
+    let e : place ≡ suc (place - 1) = omega arith in
+    ap (run_start text) e ∙ ap (λ b. cond b (run_start text (place - 1)) (suc (place - 1))) none ∙ sym e
+
+-- behind a gap a word may begin
+front_behind : (text : Text) (place : ℕ) → is_gap text place ≡ true → (eqb (place + 1) 0 || is_gap text (place + 1 - 1)) ≡ true
+front_behind text place gap =
+    let e : place + 1 - 1 ≡ place = omega arith in
+    ap (λ b. b || is_gap text (place + 1 - 1)) (ne_eqb (place + 1) 0 (λ i. omega arith)) ∙ ap (is_gap text) e ∙ gap
+
+-- a gap right behind another, or at the front
+pub words_gap : (at : ℕ) (text : Text) (words : List NameWord) (start sep place : ℕ) → place < length text → AreWordsSoFar at text words start sep place → start ≡ place → is_gap text place ≡ true → AreWordsSoFar at text words (place + 1) sep (place + 1)
+words_gap at text words start sep place lt far is gap =
+    let past : begins_word text place ≡ false = ap (λ g. not g && (eqb place 0 || is_gap text (place - 1))) gap in
+    let told_from = λ (s : ℕ). words ++ map (word_at (stretch at text)) (places_from (begins_word text) s (length text - s)) in
+    record {
+      within = omega arith;
+      front = front_behind text place gap;
+      inside = λ p low high. absurd (omega arith);
+      sep = far.sep ∙ ap (sep_before text) is ∙ ap (λ r. cond (eqb r 0) 32 (kept_separator (get_or text r 0))) (sym (run_next text place gap));
+      told = ap (λ ps. words ++ map (word_at (stretch at text)) ps) (sym (places_past (begins_word text) place (length text) lt past)) ∙ ap told_from (sym is) ∙ far.told;
+    }
+
+-- the word begins at start
+begins_at : (at : ℕ) (text : Text) (words : List NameWord) (start sep place : ℕ) → AreWordsSoFar at text words start sep place → start < place → begins_word text start ≡ true
+begins_at at text words start sep place far before =
+    ap (λ g. not g && (eqb start 0 || is_gap text (start - 1))) (far.inside start (omega arith) before) ∙ far.front
+
+-- and no other up to place
+begins_inside : (at : ℕ) (text : Text) (words : List NameWord) (start sep place : ℕ) → AreWordsSoFar at text words start sep place → (p : ℕ) → start + 1 ≤ p → p < place + 1 → begins_word text p ≡ false
+begins_inside at text words start sep place far p low high =
+    ap (λ b. not (is_gap text p) && (b || is_gap text (p - 1))) (ne_eqb p 0 (λ i. omega arith))
+    ∙ ap (λ g. not (is_gap text p) && g) (far.inside (p - 1) (omega arith) (omega arith))
+    ∙ and-false (not (is_gap text p))
+
+-- the word that begins at start, with its end known
+word_is : (at : ℕ) (text : Text) (start sep end : ℕ) → sep ≡ sep_before text start → word_end text start ≡ end → word_at (stretch at text) start ≡ record { sep = sep; at = at + start; text = slice_range text start end }
+word_is at text start sep end sep_is end_is =
+    ap (λ (e : ℕ). record { sep = sep_before text start; at = at + start; text = slice_range text start e }) end_is
+    ∙ ap (λ (s : ℕ). record { sep = s; at = at + start; text = slice_range text start end }) (sym sep_is)
+
+-- a gap behind a word
+pub words_end : (at : ℕ) (text : Text) (words : List NameWord) (start sep place : ℕ) → place < length text → AreWordsSoFar at text words start sep place → start < place → is_gap text place ≡ true
+    → AreWordsSoFar at text (words ++ record { sep = sep; at = at + start; text = slice_range text start place } ∷ []) (place + 1) (kept_separator (get_or text place 0)) (place + 1)
+words_end at text words start sep place lt far before gap =
+    let f = word_at (stretch at text) in
+    let here = places_here (begins_word text) start (length text) (omega arith) (begins_at at text words start sep place far before) in
+    let past = places_skip_to (begins_word text) (start + 1) (place + 1) (length text) (omega arith) (omega arith) (begins_inside at text words start sep place far) in
+    let ends = run_to (λ p. not (is_gap text p)) start place (length text) (omega arith) lt (λ p low high. ap not (far.inside p low high)) (ap not gap) in
+    let word = word_is at text start sep place far.sep ends in
+    let run : run_start text (place + 1) ≡ place = run_next text place gap ∙ run_here text place (omega arith) (far.inside (place - 1) (omega arith) (omega arith)) in
+    let shown = ap (λ r. cond (eqb r 0) 32 (kept_separator (get_or text r 0))) run in
+    record {
+      within = omega arith;
+      front = front_behind text place gap;
+      inside = λ p low high. absurd (omega arith);
+      sep = sym (shown ∙ ap (λ b. cond b 32 (kept_separator (get_or text place 0))) (ne_eqb place 0 (λ i. omega arith)));
+      told = append_assoc words _ _ ∙ ap (λ w. words ++ w ∷ map f (places_from (begins_word text) (place + 1) (length text - (place + 1)))) (sym word)
+          ∙ ap (λ ps. words ++ f start ∷ map f ps) (sym past) ∙ ap (λ ps. words ++ map f ps) (sym here) ∙ far.told;
+    }
+
+-- the last word ends the piece
+pub words_last : (at : ℕ) (text : Text) (words : List NameWord) (start sep place : ℕ) → place ≡ length text → AreWordsSoFar at text words start sep place → start < place
+    → words ++ record { sep = sep; at = at + start; text = slice_range text start (length text) } ∷ [] ≡ words_of (stretch at text)
+words_last at text words start sep place is far before =
+    let f = word_at (stretch at text) in
+    let here = places_here (begins_word text) start (length text) (omega arith) (begins_at at text words start sep place far before) in
+    let past = places_skip_to (begins_word text) (start + 1) (length text) (length text) (omega arith) (omega arith) (λ p low high. begins_inside at text words start sep place far p low (omega arith)) in
+    let none = places_none (begins_word text) (length text) (length text) (omega arith) in
+    let ends = run_to_end (λ p. not (is_gap text p)) start (length text) (omega arith) (λ p low high. ap not (far.inside p low (omega arith))) in
+    let word = word_is at text start sep (length text) far.sep ends in
+    ap (λ w. words ++ w ∷ []) (sym word)
+    ∙ ap (λ ps. words ++ f start ∷ map f ps) (sym (past ∙ none)) ∙ ap (λ ps. words ++ map f ps) (sym here) ∙ far.told
+
+-- a gap ends the piece
+pub words_none : (at : ℕ) (text : Text) (words : List NameWord) (start sep place : ℕ) → place ≡ length text → AreWordsSoFar at text words start sep place → place ≤ start → words ≡ words_of (stretch at text)
+words_none at text words start sep place is far le =
+    let none = places_none (begins_word text) start (length text) (omega arith) in
+    sym (append-nil words) ∙ ap (λ ps. words ++ map (word_at (stretch at text)) ps) (sym none) ∙ far.told

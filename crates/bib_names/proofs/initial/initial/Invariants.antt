@@ -1,0 +1,9 @@
+use Rattle.std.proofs.Common.{◌≡◌, length}
+use Rattle.bib_names.specs.Printing.{initial, first_initial}
+use Rattle.bib_names.proofs.initial.initial.Given as goal
+
+abbrev pub decreases-loop-character : goal.decreases-loop-character
+decreases-loop-character l = length l.chars
+
+abbrev pub invariant-loop-character : goal.invariant-loop-character
+invariant-loop-character l = first_initial l.chars ≡ initial l.word

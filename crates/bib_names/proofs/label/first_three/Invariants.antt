@@ -1,0 +1,8 @@
+use Rattle.std.proofs.Common.{◌≡◌, ◌-◌, ◌++◌, take}
+use Rattle.std.specs.List.{flat_map}
+use Rattle.bib_spec.specs.Text.{Text}
+use Rattle.bib_names.specs.Label.{first_three}
+use Rattle.bib_names.proofs.label.first_three.Given as goal
+
+abbrev pub invariant-loop : goal.invariant-loop
+invariant-loop l = l.out.items ++ flat_map (λ (char : Text). char) (take (3 - l.counter) l.chars) ≡ first_three l.text

@@ -1,0 +1,11 @@
+use Rattle.std.proofs.Common.{length}
+use Rattle.std.specs.Prelude.{not}
+use Rattle.bib_names.specs.Marks.{is_dropped_at_end}
+use Rattle.bib_names.proofs.TrimLemmas.{IsTrimming}
+use Rattle.bib_names.proofs.text.without_end.Given as goal
+
+abbrev pub decreases-loop-end : goal.decreases-loop-end
+decreases-loop-end l = l.end
+
+abbrev pub invariant-loop-end : goal.invariant-loop-end
+invariant-loop-end l = IsTrimming (λ b. not (is_dropped_at_end b)) l.text (length l.text) l.end

@@ -1,0 +1,14 @@
+-- The commas of a name from a place on, and the first of them.
+use Rattle.std.specs.Prelude.{◌≡◌, ◌<◌, ◌≤◌, ℕ, ◌+◌, ◌-◌, true, List, ◌∷◌, length}
+use Rattle.bib_spec.specs.Text.{Text}
+use Rattle.bib_names.specs.Places.{is_level, places_from}
+use Rattle.bib_names.specs.Name.{is_comma}
+
+abbrev pub commas_from : Text → ℕ → List ℕ
+commas_from text start = places_from (is_comma text) start (length text - start)
+
+pub record IsFirstComma (text : Text) (start place : ℕ) : Type 0 where
+  pub after : start ≤ place
+  pub within : place < length text
+  pub level : is_level text (place + 1) ≡ true
+  pub first : commas_from text start ≡ place ∷ commas_from text (place + 1)

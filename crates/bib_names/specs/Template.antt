@@ -1,0 +1,72 @@
+-- Templates, and how they are spelled.
+use Rattle.std.specs.Prelude.{ℕ, ◌≡◌, ◌&&◌, not, Bool, true, List, [], ◌∷◌, ◌++◌, Option, None, Some}
+use Rattle.std.specs.List.{flat_map, list_all, AllByRecursion}
+use Rattle.std.specs.Char.{is_ascii_alphabetic}
+use Rattle.bib_spec.specs.Bytes.{open_brace, close_brace}
+use Rattle.bib_spec.specs.Text.{Text}
+use Rattle.bib_names.specs.Marks.{is_brace}
+use Rattle.bib_names.specs.declared.template.Part.{Part}
+use Rattle.bib_names.specs.declared.template.Part.TheVariants.{First, Von, Last, Jr}
+use Rattle.bib_names.specs.declared.template.Form.{Form}
+use Rattle.bib_names.specs.declared.template.Form.TheVariants.{Initials, Words}
+use Rattle.bib_names.specs.declared.template.Group.{Group}
+
+-- a template: the text before the first group, and groups, each with the text behind it
+pub record Pattern : Type 0 where
+  pub front : Text
+  pub groups : List Group
+
+-- what may stand outside of groups, and between words
+abbrev pub is_no_brace : ℕ → Bool
+is_no_brace byte = not (is_brace byte)
+
+-- what may stand before and behind the letters of a group (dialect)
+abbrev pub is_ornament : ℕ → Bool
+is_ornament byte = is_no_brace byte && not (is_ascii_alphabetic byte)
+
+-- the letter that names a part: f, v, l or j (btxhak 5.4)
+abbrev pub letter_of : Part → ℕ
+letter_of First = 102
+letter_of Von = 118
+letter_of Last = 108
+letter_of Jr = 106
+
+-- one letter prints initials, two print words (btxhak 5.4)
+abbrev pub letters_of : Part → Form → Text
+letters_of part Initials = letter_of part ∷ []
+letters_of part Words = letter_of part ∷ letter_of part ∷ []
+
+abbrev pub between_bytes : Option Text → Text
+between_bytes None = []
+between_bytes (Some between) = open_brace ∷ between ++ close_brace ∷ []
+
+-- what stands behind the opening brace of a group `{pre letters{between}post}`, and the text behind it (btxhak 5.4)
+abbrev pub group_inside : Group → Text
+group_inside g = g.pre ++ (letters_of g.part g.form ++ (between_bytes g.between ++ (g.post ++ (close_brace ∷ g.trail))))
+
+abbrev pub group_bytes : Group → Text
+group_bytes g = open_brace ∷ group_inside g
+
+-- the bytes of a template: the text before the first group, and each group with the text behind it
+abbrev pub spelling : Pattern → Text
+spelling t = t.front ++ flat_map group_bytes t.groups
+
+abbrev pub is_between : Option Text → Bool
+is_between None = true
+is_between (Some between) = list_all is_no_brace between
+
+-- no brace and no letter stands beside the letters, no brace between words and none behind the group (dialect)
+pub record IsGroup (g : Group) : Type 0 where
+  pub pre : list_all is_ornament g.pre ≡ true
+  pub between : is_between g.between ≡ true
+  pub post : list_all is_ornament g.post ≡ true
+  pub trail : list_all is_no_brace g.trail ≡ true
+
+-- the grammar of templates (dialect)
+pub record IsTemplate (t : Pattern) : Type 0 where
+  pub front : list_all is_no_brace t.front ≡ true
+  pub groups : AllByRecursion IsGroup t.groups
+
+-- no bytes spell two templates
+abbrev pub OneTemplate : Type 0
+OneTemplate = (s t : Pattern) → IsTemplate s → IsTemplate t → spelling s ≡ spelling t → s ≡ t

@@ -1,0 +1,239 @@
+//! The letters of a label and its base.
+
+ghost use Rattle.std.specs.Prelude.{◌≡◌, ◌≤◌, ◌<◌, ◌++◌, ◌∷◌, [], Some, None, IfOk, IfErr, length, map, filter, take};
+ghost use Rattle.std.specs.List.{flat_map};
+ghost use Rattle.std.specs.Char.{is_ascii_digit};
+ghost use Rattle.bib_names.specs.Label.{text_in, balances, listed_names, names_in, group, initials_template, last_template, print_of, initials_of, first_three, letters_of_one, ends_with_others, letters_of_many, letters_of_fields, or_anon, last_two, label_base};
+
+use crate::fault::NameFault;
+use crate::name::parts_of;
+use crate::name_list::names_of;
+use crate::printing::printed;
+use crate::record::Record;
+use crate::special::{Chars, char_count};
+use crate::template::{Form, Group, Part, Template};
+use crate::text::is_balanced;
+use bib_scan::{Seq, Text};
+use std::alloc::{AllocError, Global};
+
+/// The text of the first field of exactly this name, empty if there is none.
+fn text_in<'a>(fields: &'a [(Text, Text)], name: &[u8]) -> &'a [u8]
+    ensures { result.now ≡ text_in fields.now name.now }
+{
+    for field in fields {
+        if field.0.as_slice() == name {
+            return field.1.as_slice();
+        }
+    }
+    b""
+}
+
+/// Whether the braces of the text balance, as a test that a definition computes.
+fn balances(text: &[u8]) -> bool
+    ensures { result ≡ balances text.now }
+{
+    is_balanced(text)
+}
+
+/// The names of a list, none where its braces do not balance.
+fn listed_names(alloc: Global, text: &[u8]) -> Result<Seq<&[u8]>, AllocError>
+    ensures { IfOk result (λ names. map (λ n. n.now) names ≡ listed_names text.now) }
+{
+    if balances(text) {
+        names_of(alloc, text)
+    } else {
+        Ok(Seq::from_vec(Vec::new(alloc)))
+    }
+}
+
+/// The names of the author, or where there are none of the editor.
+fn names_in<'a>(alloc: Global, fields: &'a [(Text, Text)]) -> Result<Seq<&'a [u8]>, AllocError>
+    ensures { IfOk result (λ names. map (λ n. n.now) names ≡ names_in fields.now) }
+{
+    let authors = listed_names(alloc, text_in(fields, b"author"))?;
+    if authors.as_slice().is_empty() {
+        listed_names(alloc, text_in(fields, b"editor"))
+    } else {
+        Ok(authors)
+    }
+}
+
+/// A group that prints a part and nothing else.
+fn group(alloc: Global, part: Part, form: Form, between: Option<Text>) -> Group
+    ensures { result ≡ group part form between }
+{
+    Group {
+        pre: Seq::from_vec(Vec::new(alloc)),
+        part,
+        form,
+        between,
+        post: Seq::from_vec(Vec::new(alloc)),
+        trail: Seq::from_vec(Vec::new(alloc)),
+    }
+}
+
+/// `{v{}}{l{}}`.
+fn initials_template(alloc: Global) -> Result<Template, AllocError>
+    ensures { IfOk result (λ t. t ≡ initials_template) }
+{
+    let nothing = Some(Seq::from_vec(Vec::new(alloc)));
+    let von = group(alloc, Part::Von, Form::Initials, nothing);
+    let nothing = Some(Seq::from_vec(Vec::new(alloc)));
+    let last = group(alloc, Part::Last, Form::Initials, nothing);
+    let mut groups = Vec::new(alloc);
+    groups.push(von)?;
+    groups.push(last)?;
+    Ok(Template::of(alloc, Seq::from_vec(Vec::new(alloc)), groups))
+}
+
+/// `{ll}`.
+fn last_template(alloc: Global) -> Result<Template, AllocError>
+    ensures { IfOk result (λ t. t ≡ last_template) }
+{
+    let mut groups = Vec::new(alloc);
+    groups.push(group(alloc, Part::Last, Form::Words, None))?;
+    Ok(Template::of(alloc, Seq::from_vec(Vec::new(alloc)), groups))
+}
+
+/// The print of a name, empty where the name is refused.
+fn print_of(alloc: Global, template: &Template, name: &[u8]) -> Result<Text, AllocError>
+    ensures { IfOk result (λ text. text ≡ print_of template.now name.now) }
+{
+    if !balances(name) {
+        return Ok(Seq::from_vec(Vec::new(alloc)));
+    }
+    match parts_of(alloc, name)? {
+        Some(parts) => printed(alloc, template, &parts),
+        None => Ok(Seq::from_vec(Vec::new(alloc))),
+    }
+}
+
+/// The first three text characters, without ordinary braces.
+fn first_three(alloc: Global, text: &[u8]) -> Result<Text, AllocError>
+    ensures { IfOk result (λ t. t ≡ first_three text.now) }
+{
+    let mut out = Vec::new(alloc);
+    let mut chars = Chars::of(text);
+    for _ in 0..3_usize {
+        let Some((character, rest)) = chars.next() else {
+            return Ok(Seq::from_vec(out));
+        };
+        out.extend_from_slice(character)?;
+        chars = rest;
+    }
+    Ok(Seq::from_vec(out))
+}
+
+/// The letters of one name.
+fn letters_of_one(alloc: Global, name: &[u8]) -> Result<Text, AllocError>
+    ensures { IfOk result (λ t. t ≡ letters_of_one name.now) }
+{
+    let initials = print_of(alloc, &initials_template(alloc)?, name)?;
+    if char_count(initials.as_slice(), 2) < 2 {
+        let last = print_of(alloc, &last_template(alloc)?, name)?;
+        first_three(alloc, last.as_slice())
+    } else {
+        Ok(initials)
+    }
+}
+
+/// The prints of names, joined.
+fn prints_of(alloc: Global, template: &Template, names: &[&[u8]]) -> Result<Vec<u8>, AllocError>
+    ensures { IfOk result (λ t. t.items ≡ flat_map (print_of template.now) (map (λ n. n.now) names.now)) }
+{
+    let mut out = Vec::new(alloc);
+    for name in names {
+        out.extend_from_slice(print_of(alloc, template, name)?.as_slice())?;
+    }
+    Ok(out)
+}
+
+/// The prints of names by `{v{}}{l{}}`, joined.
+fn initials_of(alloc: Global, names: &[&[u8]]) -> Result<Vec<u8>, AllocError>
+    ensures { IfOk result (λ t. t.items ≡ initials_of (map (λ n. n.now) names.now)) }
+{
+    prints_of(alloc, &initials_template(alloc)?, names)
+}
+
+/// Whether the last name is `others`.
+fn ends_with_others(names: &[&[u8]]) -> bool
+    ensures { result ≡ ends_with_others (map (λ n. n.now) names.now) }
+{
+    match names {
+        [.., last] => *last == b"others".as_slice(),
+        [] => false,
+    }
+}
+
+/// The letters of two names or more.
+fn letters_of_many(alloc: Global, names: &[&[u8]]) -> Result<Text, AllocError>
+    requires { 0 < length names.now }
+    ensures { IfOk result (λ t. t ≡ letters_of_many (map (λ n. n.now) names.now)) }
+{
+    let len = names.len();
+    let listed = if len > 4 {
+        3
+    } else if ends_with_others(names) {
+        len - 1
+    } else {
+        return Ok(Seq::from_vec(initials_of(alloc, names)?));
+    };
+    let mut out = initials_of(alloc, names.split_at(listed).0)?;
+    out.push(b'+')?;
+    Ok(Seq::from_vec(out))
+}
+
+/// The letters of a label, empty if it has none.
+fn letters_of(alloc: Global, fields: &[(Text, Text)]) -> Result<Text, AllocError>
+    ensures { IfOk result (λ t. t ≡ letters_of_fields fields.now) }
+{
+    let names = names_in(alloc, fields)?;
+    match names.as_slice() {
+        [] => first_three(alloc, text_in(fields, b"key")),
+        [name] => letters_of_one(alloc, name),
+        many => letters_of_many(alloc, many),
+    }
+}
+
+/// The text, or `anon` where it is empty.
+pub(crate) fn or_anon(alloc: Global, text: Vec<u8>) -> Result<Vec<u8>, AllocError>
+    ensures { IfOk result (λ t. t.items ≡ or_anon text.items) }
+{
+    if text.is_empty() {
+        Vec::from_slice(alloc, b"anon")
+    } else {
+        Ok(text)
+    }
+}
+
+/// The last two digits of a text, or fewer.
+fn last_two_digits(alloc: Global, text: &[u8]) -> Result<Vec<u8>, AllocError>
+    ensures { IfOk result (λ t. t.items ≡ last_two (filter is_ascii_digit text.now)) }
+{
+    let digits: Vec<u8> = text
+        .iter()
+        .copied()
+        .filter(|b| b.is_ascii_digit())
+        .collect(alloc)?;
+    let front = digits.len().saturating_sub(2);
+    Vec::from_slice(alloc, digits.as_slice().split_at(front).1)
+}
+
+/// The label base of a record with these fields.
+pub(crate) fn base_of(alloc: Global, fields: &[(Text, Text)]) -> Result<Text, AllocError>
+    ensures { IfOk result (λ t. t ≡ label_base fields.now) }
+{
+    let letters = letters_of(alloc, fields)?;
+    let mut out = or_anon(alloc, letters.into_vec())?;
+    out.extend_from_slice(last_two_digits(alloc, text_in(fields, b"year"))?.as_slice())?;
+    Ok(Seq::from_vec(out))
+}
+
+/// The base of a record's label: letters from its names, and the last two digits of its year. All rules are this
+/// project's own. The one refusal is want of memory.
+pub fn label_base(alloc: Global, entry: &Record) -> Result<Text, NameFault>
+    ensures base { IfOk result (λ t. t ≡ label_base entry.now.fields) }
+    ensures memory { IfErr result (λ fault. fault ≡ NameFault.Memory) }
+{
+    Ok(base_of(alloc, entry.fields.as_slice())?)
+}

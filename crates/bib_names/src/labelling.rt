@@ -1,0 +1,74 @@
+//! Labels for a list of records.
+
+ghost use Rattle.std.specs.Prelude.{◌≡◌, ◌≤◌, ◌<◌, ◌+◌, ◌^◌, ℕ, List, IfOk, IfErr, length, map, reverse};
+ghost use Rattle.bib_spec.specs.MadeKeys.{letters};
+ghost use Rattle.bib_names.specs.Label.{label_base, label_of, labels_of};
+
+use crate::fault::NameFault;
+use crate::label::base_of;
+use crate::record::Record;
+use crate::tally::Tally;
+use bib_scan::{Seq, Text};
+use std::alloc::{AllocError, Global};
+
+/// The letters of a number: none of 0, then a, b, .. z, aa, ab, ..
+fn letters_of(alloc: Global, number: usize) -> Result<Vec<u8>, AllocError>
+    ensures { IfOk result (λ r. r.items ≡ reverse (letters number)) }
+{
+    let mut letters = Vec::new(alloc);
+    let mut rest = number;
+    while rest > 0 {
+        letters.push(b'a' + ((rest - 1) % 26) as u8)?;
+        rest = (rest - 1) / 26;
+    }
+    letters.reverse();
+    Ok(letters)
+}
+
+/// The label of a base that stands so often in the list, and so often earlier.
+fn label_of(alloc: Global, base: &[u8], count: usize, earlier: usize) -> Result<Text, AllocError>
+    requires { earlier + 1 < 2 ^ 64 }
+    ensures { IfOk result (λ label. label ≡ label_of base.now count earlier) }
+{
+    let mut label = Vec::from_slice(alloc, base)?;
+    if count > 1 {
+        label.extend_from_slice(letters_of(alloc, earlier + 1)?.as_slice())?;
+    }
+    Ok(Seq::from_vec(label))
+}
+
+/// The labels of records with these bases.
+fn labels_of(alloc: Global, bases: &[Text]) -> Result<Seq<Text>, AllocError>
+    ensures { IfOk result (λ labels. labels ≡ labels_of bases.now) }
+{
+    let all = Tally::of(alloc, bases)?;
+    let mut earlier = Tally::none(alloc);
+    let mut labels = Vec::new(alloc);
+    for base in bases {
+        let base = base.as_slice();
+        labels.push(label_of(alloc, base, all.count(base), earlier.count(base))?)?;
+        earlier.add(base)?;
+    }
+    Ok(Seq::from_vec(labels))
+}
+
+/// The label bases of records.
+fn bases_of(alloc: Global, records: &[Record]) -> Result<Vec<Text>, AllocError>
+    ensures { IfOk result (λ bases. bases.items ≡ map (λ r. label_base r.fields) records.now) }
+{
+    let mut bases = Vec::new(alloc);
+    for record in records {
+        bases.push(base_of(alloc, record.fields.as_slice())?)?;
+    }
+    Ok(bases)
+}
+
+/// The labels of records, in their order: where a base stands more than once, byte for byte, a, b, .. z, aa, ab, .. are
+/// added in list order. Each label takes time logarithmic in their number. The one refusal is want of memory.
+pub fn labels(alloc: Global, records: &[Record]) -> Result<Seq<Text>, NameFault>
+    ensures labels { IfOk result (λ labels. labels ≡ labels_of (map (λ r. label_base r.fields) records.now)) }
+    ensures memory { IfErr result (λ fault. fault ≡ NameFault.Memory) }
+{
+    let bases = bases_of(alloc, records)?;
+    Ok(labels_of(alloc, bases.as_slice())?)
+}

@@ -1,0 +1,32 @@
+//! Names of persons, the templates that print them, and labels.
+//!
+//! Knows names, templates and labels, from texts and records alone. Does not know files or edits.
+//! Promises: the parts of a name and their places; the printed text; the label.
+#![tactic(auto)]
+
+mod braces;
+mod case;
+mod fault;
+mod initial;
+mod label;
+mod labelling;
+mod made_key;
+mod name;
+mod name_list;
+mod printing;
+mod record;
+mod special;
+mod tally;
+mod template;
+mod text;
+mod word;
+
+pub use fault::NameFault;
+pub use label::label_base;
+pub use labelling::labels;
+pub use made_key::{BASE_LIMIT, key_base, key_bases_are_keys};
+pub use name::{Name, split_name};
+pub use name_list::split_names;
+pub use record::Record;
+pub use template::{Template, one_template};
+pub use word::Word;

@@ -1,0 +1,47 @@
+//! Made keys.
+
+ghost use Rattle.std.specs.Prelude.{◌≡◌, ◌≤◌, IfOk, IfErr, true, length, filter, take};
+ghost use Rattle.std.specs.Char.{is_ascii_alphanumeric};
+ghost use Rattle.bib_spec.specs.Text.{is_new_key};
+ghost use Rattle.bib_spec.specs.MadeKeys.{base_limit, IsKeyBase};
+ghost use Rattle.bib_names.specs.Label.{or_anon, key_base};
+
+use crate::fault::NameFault;
+use crate::label::{base_of, or_anon};
+use crate::record::Record;
+use bib_scan::{Seq, Text};
+use std::alloc::{AllocError, Global};
+
+/// The longest base of a made key, in bytes. (dialect)
+pub const BASE_LIMIT: usize = 40;
+
+/// The letters and digits of a text, or `anon`, cut to the limit.
+fn key_letters(alloc: Global, base: &[u8]) -> Result<Vec<u8>, AllocError>
+    ensures { IfOk result (λ t. t.items ≡ take base_limit (or_anon (filter is_ascii_alphanumeric base.now))) }
+{
+    let kept: Vec<u8> = base
+        .iter()
+        .copied()
+        .filter(|b| b.is_ascii_alphanumeric())
+        .collect(alloc)?;
+    let mut out = or_anon(alloc, kept)?;
+    out.truncate(BASE_LIMIT);
+    Ok(out)
+}
+
+/// The base of a record's made key: the letters and digits of its label base, cut to 40 bytes. It is a key that an edit
+/// may write, and the citation key has no part in it. The one refusal is want of memory.
+pub fn key_base(alloc: Global, entry: &Record) -> Result<Text, NameFault>
+    ensures base { IfOk result (λ t. t ≡ key_base entry.now.fields) }
+    ensures is_key { IfOk result (λ t. is_new_key t ≡ true) }
+    ensures short { IfOk result (λ t. length t ≤ base_limit) }
+    ensures memory { IfErr result (λ fault. fault ≡ NameFault.Memory) }
+{
+    let base = base_of(alloc, entry.fields.as_slice())?;
+    Ok(Seq::from_vec(key_letters(alloc, base.as_slice())?))
+}
+
+/// Made keys have a base: it does not depend on the citation key, and it is a short key.
+pub fn key_bases_are_keys()
+    ensures { IsKeyBase (λ r. key_base r.fields) }
+{}

@@ -1,0 +1,94 @@
+//! Words of a name.
+
+ghost use Rattle.std.specs.Prelude.{◌≡◌, ◌<◌, ◌+◌, ◌^◌, ◌==◌, IfOk, length};
+ghost use Rattle.bib_names.specs.Places.{is_level, stretch};
+ghost use Rattle.bib_names.specs.Words.{is_gap, kept_separator, words_of};
+ghost use Rattle.bib_names.specs.Name.{is_von, is_free};
+
+use crate::braces::Braces;
+use crate::case::is_lower;
+use crate::text::{is_separator, is_space};
+use std::alloc::{AllocError, Global};
+use std::marker::Model;
+
+/// A word of a name: the first byte of the separators before it, with white space as a space; its place in the text
+/// handed in, in bytes from 0; and its bytes. The first word between commas has a space before it.
+#[derive(Debug, Drop)]
+pub struct Word<'a> {
+    pub sep: u8,
+    pub at: usize,
+    pub text: &'a [u8],
+}
+
+impl<'a> Model for Word<'a> {
+    ghost use Rattle.bib_names.specs.Words.{NameWord};
+
+    ghost Value = { NameWord };
+
+    ghost view = { λ w. record { sep = w.sep; at = w.at; text = w.text.now } };
+}
+
+impl Word<'_> {
+    /// Whether it is a von word, but for the final one.
+    pub(crate) fn is_von(&self) -> bool
+        ensures { result ≡ is_von self.now }
+    {
+        is_lower(self.text)
+    }
+
+    /// Whether no hyphen joins it to the word before it.
+    pub(crate) fn is_free(&self) -> bool
+        ensures { result ≡ is_free self.now }
+    {
+        self.sep != b'-'
+    }
+}
+
+/// Whether a separator stands at the place, at depth 0.
+fn is_gap(piece: &[u8], place: usize, braces: Braces) -> bool
+    requires within { place < length piece.now }
+    requires braces { (braces.opened == braces.closed) ≡ is_level piece.now place }
+    ensures { result ≡ is_gap piece.now place }
+{
+    braces.are_level() && is_separator(piece[place])
+}
+
+/// The separator as a word keeps it: white space as a space.
+fn kept_separator(byte: u8) -> u8
+    ensures { result ≡ kept_separator byte }
+{
+    if is_space(byte) { b' ' } else { byte }
+}
+
+/// The words of a piece of a name, which begins at this place of the name.
+pub(crate) fn words(alloc: Global, piece: &[u8], at: usize) -> Result<Vec<Word<'_>>, AllocError>
+    requires { at + length piece.now < 2 ^ 64 }
+    ensures { IfOk result (λ words. words.items ≡ words_of (stretch at piece.now)) }
+{
+    let mut words = Vec::new(alloc);
+    let mut start = 0;
+    let mut sep = b' ';
+    let mut braces = Braces::none();
+    for (place, &byte) in piece.iter().enumerate() {
+        if is_gap(piece, place, braces) {
+            if start < place {
+                words.push(Word {
+                    sep,
+                    at: at + start,
+                    text: &piece[start..place],
+                })?;
+                sep = kept_separator(byte);
+            }
+            start = place + 1;
+        }
+        braces = braces.and(byte);
+    }
+    if start < piece.len() {
+        words.push(Word {
+            sep,
+            at: at + start,
+            text: &piece[start..],
+        })?;
+    }
+    Ok(words)
+}
