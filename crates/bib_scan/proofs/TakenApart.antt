@@ -1,21 +1,20 @@
 -- A value that is taken apart: what is found are its parts.
-use Rattle.std.proofs.Common.{◌≡◌, ℕ, zero, suc, ◌+◌, ◌-◌, ◌<◌, ◌≤◌, List, [], ◌∷◌, ◌++◌, length, map, get_or, take, drop, refl, sym, ap, subst, ◌∙◌, arith, append_assoc, append-nil, Option, None, Some, Result, Ok, Err}
+use Rattle.std.proofs.Common.{◌≡◌, ℕ, zero, suc, ◌+◌, ◌-◌, ◌<◌, ◌≤◌, List, [], ◌∷◌, ◌++◌, length, map, get_or, take, drop, refl, sym, ap, subst, ◌∙◌, arith, append_assoc, append-nil, Option, None, Some, Ok, Err}
 use Rattle.std.proofs.lemmas.List.{length-append, length-map, take_at, drop_at}
-use Rattle.std.proofs.lemmas.List.Elements.{All-nil, All-cons, All-head, All-tail}
+use Rattle.std.proofs.lemmas.List.Elements.{All-nil, All-cons}
 use Rattle.std.specs.Prelude.{slice_get}
 use Rattle.std.specs.List.{take_while, flat_map, All}
 use Rattle.bib_spec.specs.Bytes.{name_limit}
 use Rattle.bib_spec.specs.Fault.{ExpectedCommaOrClose}
 use Rattle.bib_spec.specs.Text.{Text, is_space, after_run}
 use Rattle.bib_spec.specs.Tree.{Part, Link, Value, part_bytes, link_bytes, value_bytes, IsSpace, IsPart, IsLink, IsValue}
-use Rattle.bib_scan.specs.LeftToRight.{Halt, expected, read_part, past_hash, go_on, ◌>>=◌}
+use Rattle.bib_scan.specs.LeftToRight.{expected, read_part, past_hash, go_on, ◌>>=◌}
 use Rattle.bib_scan.specs.ValueParts.{link_part, parts_of, part_kind, span_behind, spans_behind, spans_of, IsPartsOf}
 use Rattle.bib_scan.specs.PartsLeft.{read_link, unless_end, part_span, read_parts, read_all_parts}
 use Rattle.bib_scan.specs.declared.parts.PartSpan.{PartSpan}
 use Rattle.bib_scan.proofs.RunLaws.{bind_ok, ok_same, not_ok, run_passes}
-use Rattle.bib_scan.proofs.PartLaws.{AfterPart, part_ok, part_again}
-use Rattle.bib_scan.proofs.ValueLaws.{space_split, skip_space, joined_ok}
-use Rattle.bib_scan.proofs.AgainLaws.{links_after, part_stands, hash_stands}
+use Rattle.bib_scan.proofs.PartLaws.{AfterPart, part_ok}
+use Rattle.bib_scan.proofs.ValueLaws.{space_split, joined_ok}
 use Rattle.bib_scan.proofs.UniqueLaws.{AfterValue, value_unique}
 
 -- ---- what is found
