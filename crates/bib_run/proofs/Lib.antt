@@ -1,4 +1,3 @@
 pub mod Progress
 pub mod WholeFile
 pub mod Endings
-pub mod Refusals

@@ -6,10 +6,11 @@ use Rattle.std.proofs.Math.Seq.{take-append_seam}
 use Rattle.std.specs.Io.KnownBytes.{Consumes}
 use Rattle.bib_spec.specs.Bytes.{file_limit}
 use Rattle.bib_spec.specs.Text.{Text}
+use Rattle.bib_spec.specs.Fault.{IsReadFault, too_long, no_reading, no_memory}
 use Rattle.bib_words.specs.declared.commands.Command.{Command}
 use Rattle.bib_run.specs.declared.answers.Answer.{Answer}
 use Rattle.bib_run.specs.Transfers.{ReadsUpTo, HasBytes}
-use Rattle.bib_run.specs.Answers.{IsAnswer, IsCatAnswer, IsRefusal, cat, copied, refused, too_long, no_reading}
+use Rattle.bib_run.specs.Answers.{IsAnswer, IsCatAnswer, cat, copied, refused}
 
 -- what was read up to the limit is that much of all that there was
 pub take-read : (most : ℕ) (v rest : Text) → length v ≤ most → (length v ≢ most → rest ≡ []) → take most (v ++ rest) ≡ v
@@ -50,14 +51,15 @@ source_bytes most (Some told) (Some rest) v r =
     }
 
 -- a file that is too long is refused as its front is that has one byte past the limit
-IsRefusal-long : (bytes : Text) (kind place : ℕ) → file_limit < length bytes → IsRefusal (take (file_limit + 1) bytes) kind place → IsRefusal bytes kind place
-IsRefusal-long bytes kind place long (too_long over) = too_long long
-IsRefusal-long bytes kind place long (no_reading k p low high within hopeless) = absurd (omega (arith, long, within, length-take-le (file_limit + 1) bytes (omega (arith, long))))
+IsReadFault-long : (bytes : Text) (kind place : ℕ) → file_limit < length bytes → IsReadFault (take (file_limit + 1) bytes) kind place → IsReadFault bytes kind place
+IsReadFault-long bytes kind place long (too_long over) = too_long long
+IsReadFault-long bytes kind place long (no_reading fault at within hopeless wrong) = absurd (omega (arith, long, within, length-take-le (file_limit + 1) bytes (omega (arith, long))))
+IsReadFault-long bytes kind place long (no_memory within) = absurd (omega (arith, long, within, length-take-le (file_limit + 1) bytes (omega (arith, long))))
 
 IsCatAnswer-long : (bytes : Text) (answer : Answer) → file_limit < length bytes
     → IsCatAnswer (take (file_limit + 1) bytes) answer → IsCatAnswer bytes answer
 IsCatAnswer-long bytes answer long (copied within reads) = absurd (omega (arith, long, within, length-take-le (file_limit + 1) bytes (omega (arith, long))))
-IsCatAnswer-long bytes answer long (refused kind place fault) = refused kind place (IsRefusal-long bytes kind place long fault)
+IsCatAnswer-long bytes answer long (refused kind place other fault) = refused kind place other (IsReadFault-long bytes kind place long fault)
 
 IsAnswer-long : (command : Command) (bytes : Text) (answer : Answer) → file_limit < length bytes
     → IsAnswer command (take (file_limit + 1) bytes) answer → IsAnswer command bytes answer

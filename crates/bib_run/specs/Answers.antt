@@ -1,23 +1,18 @@
 -- What each command answers to the bytes of its sources.
-use Rattle.std.specs.Prelude.{◌≡◌, ◌<◌, ◌≤◌, ℕ, [], length, codes}
+use Rattle.std.specs.Prelude.{◌≡◌, ◌≢◌, ◌≤◌, ℕ, [], length, codes}
 use Rattle.bib_spec.specs.Bytes.{file_limit}
 use Rattle.bib_spec.specs.Text.{Text}
-use Rattle.bib_spec.specs.Reading.{HasReading, IsHopeless}
+use Rattle.bib_spec.specs.Reading.{HasReading}
+use Rattle.bib_spec.specs.Fault.{IsReadFault}
 use Rattle.bib_words.specs.declared.commands.Command.{Command}
 use Rattle.bib_run.specs.declared.answers.Answer.{Answer}
 use Rattle.bib_run.specs.Messages.{refusal_line}
 use Rattle.bib_run.specs.Outcome.{answer_of}
 
--- The file is refused with the fault of this number at this place: it is too long, or it has no reading and goes wrong
--- there. (dialect)
-pub data IsRefusal (file : Text) : ℕ → ℕ → Type 0 where
-  too_long : file_limit < length file → IsRefusal file 9 file_limit
-  no_reading : (kind place : ℕ) → 1 ≤ kind → kind ≤ 7 → length file ≤ file_limit → IsHopeless HasReading file place → IsRefusal file kind place
-
 -- `cat`: the file again, or, with nothing written, why it is no file (dialect)
 pub data IsCatAnswer (file : Text) : Answer → Type 0 where
   copied : length file ≤ file_limit → HasReading file → IsCatAnswer file (answer_of file [] 0)
-  refused : (kind place : ℕ) → IsRefusal file kind place → IsCatAnswer file (answer_of [] (refusal_line kind place) 1)
+  refused : (kind place : ℕ) → kind ≢ 10 → IsReadFault file kind place → IsCatAnswer file (answer_of [] (refusal_line kind place) 1)
 
 -- the answer of a command to a file
 pub data IsAnswer (command : Command) (file : Text) (answer : Answer) : Type 0 where

@@ -160,7 +160,7 @@ row_again limit r b x is ends =
 pub closed_here : (c : ℕ) (x : Text) → past_byte c (c ∷ x) ≡ Some x
 closed_here c x = cond-true (eqb c c) _ _ (eq-eqb c c refl)
 
-not_closed : (c b : ℕ) (x : Text) → eqb b c ≡ false → past_byte c (b ∷ x) ≡ None
+pub not_closed : (c b : ℕ) (x : Text) → eqb b c ≡ false → past_byte c (b ∷ x) ≡ None
 not_closed c b x other = cond-false (eqb b c) _ _ other
 
 -- a closing delimiter: it ends a row, and is no comma and no name byte

@@ -1,21 +1,21 @@
 -- The fields that are read from left to right are those of the tree.
-use Rattle.std.proofs.Common.{◌≡◌, ℕ, zero, suc, ◌+◌, ◌-◌, ◌<◌, ◌≤◌, true, false, eqb, List, [], ◌∷◌, ◌++◌, length, refl, sym, ap, subst, ◌∙◌, arith, append_assoc, Option, None, Some, Result, Ok, Err}
-use Rattle.std.proofs.lemmas.Bool.{eqb-true, ne_eqb, not_from_false, cond-true, cond-false, both_ways, and_left}
+use Rattle.std.proofs.Common.{◌≡◌, ℕ, zero, suc, ◌-◌, ◌<◌, ◌≤◌, true, false, eqb, List, [], ◌∷◌, ◌++◌, length, refl, sym, ap, subst, ◌∙◌, arith, append_assoc, Option, None, Some, Ok}
+use Rattle.std.proofs.lemmas.Bool.{ne_eqb, not_from_false, both_ways, and_left}
 use Rattle.std.proofs.lemmas.List.{length-append}
 use Rattle.std.proofs.lemmas.List.Elements.{All-head, All-tail}
 use Rattle.std.specs.List.{flat_map, All}
 use Rattle.std.specs.Result.{result_ok}
 use Rattle.bib_spec.specs.Bytes.{name_limit}
-use Rattle.bib_spec.specs.Text.{Text, is_space, is_name_byte, after_run}
+use Rattle.bib_spec.specs.Text.{Text, is_space, after_run}
 use Rattle.bib_spec.specs.Tree.{Assignment, Row, Value, value_bytes, row_bytes, last_comma_bytes, IsAssignment, IsRow, IsLastComma, IsValue, IsSpace}
-use Rattle.bib_scan.specs.LeftToRight.{Halt, Read, ◌>>=◌, read_name, read_equals, read_value, read_comma, begins_name, expected}
+use Rattle.bib_scan.specs.LeftToRight.{read_name, read_value, begins_name}
 use Rattle.bib_scan.specs.View.{Field, field_behind, fields_behind}
-use Rattle.bib_scan.specs.FieldsLeft.{read_assignment, read_row_field, read_preamble_field, first_field, first_and_others, kind_behind, fields_left, all_fields_left}
+use Rattle.bib_scan.specs.FieldsLeft.{read_assignment, first_field, first_and_others, kind_behind, fields_left, all_fields_left}
 use Rattle.bib_scan.specs.declared.view.Kind.{Kind}
 use Rattle.bib_scan.specs.declared.view.Kind.TheVariants as kind
-use Rattle.bib_scan.proofs.ValueLaws.{Stands, skip_space}
+use Rattle.bib_scan.proofs.ValueLaws.{skip_space}
 use Rattle.bib_scan.proofs.PartLaws.{name_again}
-use Rattle.bib_scan.proofs.RowLaws.{assignment_inside, row_inside, row_shape}
+use Rattle.bib_scan.proofs.RowLaws.{assignment_inside, row_shape}
 use Rattle.bib_scan.proofs.AgainLaws.{EndsRow, Close, equals_breaks, after_space, no_link, name_stands, value_stands, value_again, equals_stands, rows_inside, rows_begin}
 
 -- ---- one field

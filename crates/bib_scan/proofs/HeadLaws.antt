@@ -1,5 +1,5 @@
 -- The view that is read from left to right is that of the item.
-use Rattle.std.proofs.Common.{◌≡◌, ℕ, ◌+◌, ◌-◌, ◌<◌, ◌≤◌, true, false, List, [], ◌∷◌, ◌++◌, length, refl, sym, ap, subst, ◌∙◌, arith, append_assoc, append-nil}
+use Rattle.std.proofs.Common.{◌≡◌, ℕ, ◌-◌, ◌≤◌, true, List, [], ◌∷◌, ◌++◌, length, refl, sym, ap, subst, ◌∙◌, arith, append_assoc, append-nil}
 use Rattle.std.proofs.lemmas.Bool.{not_from_false, not-true, or_parts, cond-true, cond-false}
 use Rattle.std.proofs.lemmas.List.{length-append}
 use Rattle.std.specs.Prelude.{codes}
@@ -9,7 +9,7 @@ use Rattle.bib_spec.specs.Text.{Text, is_space, is_type_byte, same, after_run, d
 use Rattle.bib_spec.specs.Tree as tree
 use Rattle.bib_spec.specs.Tree.{Tree, CommentTree, DefinitionTree, PreambleTree, EntryTree, Head, Opening, Delimiter, Brace, Paren, row_bytes, value_bytes, head_bytes, opening_bytes, open_byte, close_byte, last_comma_bytes, behind_key_bytes, tree_bytes, goes_on_key, is_no_keyword, IsHead, IsOpening, IsTree}
 use Rattle.bib_scan.specs.LeftToRight.{delimiter_of}
-use Rattle.bib_scan.specs.View.{Field, View, view_of}
+use Rattle.bib_scan.specs.View.{Field, view_of}
 use Rattle.bib_scan.specs.FieldsLeft.{fields_left, all_fields_left, read_head, kind_named, read_opening, view_behind, read_view}
 use Rattle.bib_scan.specs.declared.view.Kind.{Kind}
 use Rattle.bib_scan.specs.declared.view.Kind.TheVariants as kind
@@ -18,8 +18,8 @@ use Rattle.bib_scan.proofs.PartLaws.{type_name_parts}
 use Rattle.bib_scan.proofs.ValueLaws.{Stands, skip_space}
 use Rattle.bib_scan.proofs.RowLaws.{assignment_inside}
 use Rattle.bib_scan.proofs.AgainLaws.{name_stands, value_stands, rows_inside, rows_begin}
-use Rattle.bib_scan.proofs.TreeAgainLaws.{closes, open_no_space, type_ends, key_stands, stops_more, rows_len, string_no_comment, preamble_no_comment, preamble_no_string, head_shape, opening_shape, definition_shape, preamble_shape, entry_shape}
-use Rattle.bib_scan.proofs.FieldLaws.{none_left, rows_fields_again, definition_field_again, preamble_field_again}
+use Rattle.bib_scan.proofs.TreeAgainLaws.{closes, open_no_space, type_ends, key_stands, rows_len, string_no_comment, preamble_no_comment, preamble_no_string, head_shape, opening_shape, definition_shape, preamble_shape}
+use Rattle.bib_scan.proofs.FieldLaws.{rows_fields_again, definition_field_again, preamble_field_again}
 
 -- ---- heads
 

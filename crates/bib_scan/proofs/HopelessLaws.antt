@@ -39,14 +39,50 @@ local_inside limit type_name d no_comment = of_inside (λ p. Local (plain (p lim
 mend_inside : (limit : ℕ) (some : 0 < limit) (type_name : Text) (d : Delimiter) → same type_name (codes "comment") ≡ false → Mends (plain (inside limit type_name d)) Always Always
 mend_inside limit some type_name d no_comment = of_inside (λ p. Mends (plain (p limit)) Always Always) type_name d no_comment (mend_definition limit some (close_byte d) (closes d)) (mend_preamble limit some (close_byte d) (closes d)) (mend_entry limit some d)
 
--- where the file is read up to, and what stands behind
-pub record StopsAt (limit : ℕ) (t : Text) (h : Halt) : Type 0 where
+-- ---- where reading stops
+
+-- reading stops behind front, whatever stands behind the byte there, and front goes on to such a text
+pub record StopsAt {A : Type 0} (IsSuch : Text → Type 0) (read : Text → Result A Halt) (t : Text) (h : Halt) : Type 0 where
   pub front : Text
   pub split : t ≡ front ++ h.rest
-  pub viable : IsViable (HasReadingWithin limit) front
-  pub same : (c : ℕ) (v w : Text) → h.rest ≡ c ∷ v → read_all_commands limit (front ++ c ∷ w) ≡ Err (stop h.fault (c ∷ w))
+  pub viable : IsViable IsSuch front
+  pub same : (c : ℕ) (v w : Text) → h.rest ≡ c ∷ v → read (front ++ c ∷ w) ≡ Err (stop h.fault (c ∷ w))
 
-pub stops_at : (limit : ℕ) (some : 0 < limit) (t : Text) (h : Halt) → read_all_commands limit t ≡ Err h → StopsAt limit t h
+module _ {A : Type 0} (IsSuch : Text → Type 0) (read : Text → Result A Halt) (no_fault : (t : Text) (h : Halt) → IsSuch t → read t ≡ Err h → ⊥) (stops : (t : Text) (h : Halt) → read t ≡ Err h → StopsAt IsSuch read t h) where
+  -- what goes on with the byte at the fault is no front of such a text
+  pub stuck_by : (t u : Text) (h : Halt) (c : ℕ) (v : Text) → read t ≡ Err h → t ≡ u ++ h.rest → h.rest ≡ c ∷ v → IsViable IsSuch (u ++ c ∷ []) → ⊥
+  stuck_by t u h c v is split rest (more, such) =
+      let at = stops t h is in
+      let u_is : u ≡ at.front = append_cancel_right u at.front h.rest (sym split ∙ at.split) in
+      let shape : (u ++ c ∷ []) ++ more ≡ at.front ++ c ∷ more = append_assoc u (c ∷ []) more ∙ ap (λ (w : Text). w ++ c ∷ more) u_is in
+      no_fault (at.front ++ c ∷ more) (stop h.fault (c ∷ more)) (subst IsSuch shape such) (at.same c v more rest)
+
+  -- what is read to its end is a front of such a text
+  pub viable_by : (t : Text) (h : Halt) → read t ≡ Err h → h.rest ≡ [] → IsViable IsSuch t
+  viable_by t h is none =
+      let at = stops t h is in
+      subst (IsViable IsSuch) (sym (at.split ∙ ap (λ (u : Text). at.front ++ u) none ∙ append-nil at.front)) at.viable
+
+  -- the place of a fault is the hopeless one
+  pub hopeless_by : (t : Text) (h : Halt) → read t ≡ Err h → IsHopeless IsSuch t (length t - length h.rest)
+  hopeless_by t h is =
+      let at = stops t h is in
+      record {
+        fails = λ such. no_fault t h such is;
+        within = omega arith;
+        viable = subst (IsViable IsSuch) (sym (front_cut t at.front h.rest at.split)) at.viable;
+        stuck = λ low. stuck at low h.rest refl;
+      }
+    where
+      stuck : StopsAt IsSuch read t h → length t - length h.rest < length t → (r : Text) → h.rest ≡ r → IsViable IsSuch (take (length t - length r + 1) t) → ⊥
+      stuck at low [] e viable = absurd (omega (arith, ap (length {A = ℕ}) e))
+      stuck at low (c ∷ v) e viable =
+          let split : t ≡ at.front ++ c ∷ v = at.split ∙ ap (λ (u : Text). at.front ++ u) e in
+          stuck_by t at.front h c v is at.split e (subst (IsViable IsSuch) (front_more t at.front c v split) viable)
+
+-- ---- files
+
+pub stops_at : (limit : ℕ) (some : 0 < limit) (t : Text) (h : Halt) → read_all_commands limit t ≡ Err h → StopsAt (HasReadingWithin limit) (read_all_commands limit) t h
 stops_at limit some t h is =
     let file = file_stop limit t h is in
     let p = inside limit file.type_name file.delimiter in
@@ -70,19 +106,12 @@ stops_at limit some t h is =
 pub no_fault : (limit : ℕ) (t : Text) (h : Halt) → HasReadingWithin limit t → read_all_commands limit t ≡ Err h → ⊥
 no_fault limit t h (db, reads) is = not_ok (places_of db).items h (read_all_commands limit t) is (reading_again limit t db reads).0
 
--- the place of a fault is the hopeless one
+pub stuck_at : (limit : ℕ) (some : 0 < limit) (t u : Text) (h : Halt) (c : ℕ) (v : Text) → read_all_commands limit t ≡ Err h → t ≡ u ++ h.rest → h.rest ≡ c ∷ v → IsViable (HasReadingWithin limit) (u ++ c ∷ []) → ⊥
+stuck_at limit some = stuck_by (HasReadingWithin limit) (read_all_commands limit) (no_fault limit) (stops_at limit some)
+
+pub viable_at : (limit : ℕ) (some : 0 < limit) (t : Text) (h : Halt) → read_all_commands limit t ≡ Err h → h.rest ≡ [] → IsViable (HasReadingWithin limit) t
+viable_at limit some = viable_by (HasReadingWithin limit) (read_all_commands limit) (no_fault limit) (stops_at limit some)
+
+-- a refused file goes wrong where reading stops
 pub hopeless : (limit : ℕ) (some : 0 < limit) (t : Text) (h : Halt) → read_all_commands limit t ≡ Err h → IsHopeless (HasReadingWithin limit) t (length t - length h.rest)
-hopeless limit some t h is =
-    let at = stops_at limit some t h is in
-    record {
-      fails = λ reading. no_fault limit t h reading is;
-      within = omega arith;
-      viable = subst (IsViable (HasReadingWithin limit)) (sym (front_cut t at.front h.rest at.split)) at.viable;
-      stuck = λ low. stuck at low h.rest refl;
-    }
-  where
-    stuck : StopsAt limit t h → length t - length h.rest < length t → (r : Text) → h.rest ≡ r → IsViable (HasReadingWithin limit) (take (length t - length r + 1) t) → ⊥
-    stuck at low [] e viable = absurd (omega (arith, ap (length {A = ℕ}) e))
-    stuck at low (c ∷ v) e (more, reading) =
-        let shape : take (length t - length (c ∷ v) + 1) t ++ more ≡ at.front ++ c ∷ more = ap (λ (u : Text). u ++ more) (front_more t at.front c v (at.split ∙ ap (λ (u : Text). at.front ++ u) e)) ∙ append_assoc at.front (c ∷ []) more in
-        no_fault limit (at.front ++ c ∷ more) (stop h.fault (c ∷ more)) (subst (HasReadingWithin limit) shape reading) (at.same c v more e)
+hopeless limit some = hopeless_by (HasReadingWithin limit) (read_all_commands limit) (no_fault limit) (stops_at limit some)

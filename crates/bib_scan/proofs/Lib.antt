@@ -9,6 +9,13 @@ pub mod StopLaws
 pub mod PlaceLaws
 pub mod HopelessLaws
 pub mod TellParts
+pub mod TellRows
+pub mod TellTrees
+pub mod WidenLaws
+pub mod WidenTrees
+pub mod KindLaws
+pub mod WholeValueLaws
+pub mod PlaceOfFault
 pub mod MendRows
 pub mod MendTrees
 pub mod TellLaws
@@ -36,3 +43,4 @@ pub mod LayoutLemmas
 pub mod LayoutLaws
 pub mod TakenApart
 pub mod PartsLemmas
+pub mod PartsFaults

@@ -77,14 +77,14 @@ first_is test (b ∷ t) = test b
 pub local_name : (limit : ℕ) → Local (read_name limit)
 local_name limit = local_cond begins_name (read_run limit is_name_byte) (λ t. Err (expected ExpectedName t)) (λ b t u. refl) (local_limited limit is_name_byte) (local_expected ExpectedName)
 
-abbrev part_by_first : (limit : ℕ) → Text → Read Part
+abbrev pub part_by_first : (limit : ℕ) → Text → Read Part
 part_by_first limit t =
     cond (first_is (λ b. eqb b 123) t) (behind_first (λ u. read_braced 0 u >>= λ x. Ok (Braced x.0, x.1)) t)
     (cond (first_is (λ b. eqb b 34) t) (behind_first (λ u. read_quoted 0 u >>= λ x. Ok (Quoted x.0, x.1)) t)
     (cond (first_is is_ascii_digit t) (run is_ascii_digit t >>= λ x. Ok (Digits x.0, x.1))
     (cond (first_is is_name_byte t) (read_run limit is_name_byte t >>= λ x. Ok (Macro x.0, x.1)) (Err (expected ExpectedValue t)))))
 
-part_is : (limit : ℕ) (t : Text) → read_part limit t ≡ part_by_first limit t
+pub part_is : (limit : ℕ) (t : Text) → read_part limit t ≡ part_by_first limit t
 unfolding read_part
 part_is limit [] = refl
 part_is limit (b ∷ t) = refl

@@ -282,8 +282,11 @@ rows_fuel limit zero m c t small tiny = absurd (omega arith)
 rows_fuel limit (suc n) zero c t small tiny = absurd (omega arith)
 rows_fuel limit (suc n) (suc m) c t small tiny = rows_turn limit n m c t (past_byte c t) small tiny (λ u a b. rows_fuel limit n m c u a b)
 
+pub all_rows_is : (limit c n : ℕ) (t : Text) → length t ≤ n → plain (read_all_rows limit c) t ≡ rows_read limit (suc n) c t
+all_rows_is limit c n t small = ap (λ (m : Result Text Halt). m >>= ready) (rows_fuel limit (length t + 1) (suc n) c t (omega arith) (omega arith))
+
 pub local_all_rows : (limit : ℕ) (c : ℕ) → Local (plain (read_all_rows limit c))
-local_all_rows limit c = local_family (plain (read_all_rows limit c)) (λ n t. rows_read limit (suc n) c t) (λ n t small. ap (λ (m : Result Text Halt). m >>= ready) (rows_fuel limit (length t + 1) (suc n) c t (omega arith) (omega arith))) (λ n. local_rows limit (suc n) c)
+local_all_rows limit c = local_family (plain (read_all_rows limit c)) (λ n t. rows_read limit (suc n) c t) (all_rows_is limit c) (λ n. local_rows limit (suc n) c)
 
 -- ---- what stands between the delimiters
 
@@ -297,14 +300,18 @@ local_entry limit d = local_same (plain (read_entry limit d)) _ is
     is : (t : Text) → plain (read_entry limit d) t ≡ (run is_space t >>= λ a. read_run limit (goes_on_key d) a.1 >>= λ k. run is_space k.1 >>= λ b. plain (read_all_rows limit (close_byte d)) b.1)
     is t = bind_assoc (read_run limit (goes_on_key d) (after_run is_space t)) _ ready
 
+pub definition_is : (limit c : ℕ) (t : Text) → plain (read_definition limit c) t ≡ (plain (read_row limit) t >>= λ r. plain (read_close c) r.1)
+definition_is limit c t = bind_assoc (read_row limit t) (read_close c) ready ∙ sym (bind_assoc (read_row limit t) ready (λ r. plain (read_close c) r.1))
+
 pub local_definition : (limit : ℕ) (c : ℕ) → Local (plain (read_definition limit c))
-local_definition limit c = local_same (plain (read_definition limit c)) _ is (local_bind (plain (read_row limit)) (λ r u. plain (read_close c) u) (local_row limit) (λ r. local_closing c))
-  where
-    is : (t : Text) → plain (read_definition limit c) t ≡ (plain (read_row limit) t >>= λ r. plain (read_close c) r.1)
-    is t = bind_assoc (read_row limit t) (read_close c) ready ∙ sym (bind_assoc (read_row limit t) ready (λ r. plain (read_close c) r.1))
+local_definition limit c = local_same (plain (read_definition limit c)) _ (definition_is limit c) (local_bind (plain (read_row limit)) (λ r u. plain (read_close c) u) (local_row limit) (λ r. local_closing c))
+
+-- a value, the white space behind it and the closing delimiter
+abbrev pub value_close : ℕ → ℕ → Text → Read (Unit {0})
+value_close limit c t = value_gap limit t >>= λ v. plain (read_close c) v.1
+
+pub preamble_is : (limit c : ℕ) (t : Text) → plain (read_preamble limit c) t ≡ (run is_space t >>= λ a. value_close limit c a.1)
+preamble_is limit c t = bind_assoc (read_value limit (after_run is_space t)) (λ v. read_close c (after_run is_space v.1)) ready ∙ sym (bind_assoc (read_value limit (after_run is_space t)) (λ v. skip v.1) (λ v. plain (read_close c) v.1))
 
 pub local_preamble : (limit : ℕ) (c : ℕ) → Local (plain (read_preamble limit c))
-local_preamble limit c = local_same (plain (read_preamble limit c)) _ is (local_bind (run is_space) _ (local_run is_space) (λ a. local_bind (value_gap limit) (λ v u. plain (read_close c) u) (local_value limit) (λ v. local_closing c)))
-  where
-    is : (t : Text) → plain (read_preamble limit c) t ≡ (run is_space t >>= λ a. value_gap limit a.1 >>= λ v. plain (read_close c) v.1)
-    is t = bind_assoc (read_value limit (after_run is_space t)) (λ v. read_close c (after_run is_space v.1)) ready ∙ sym (bind_assoc (read_value limit (after_run is_space t)) (λ v. skip v.1) (λ v. plain (read_close c) v.1))
+local_preamble limit c = local_same (plain (read_preamble limit c)) _ (preamble_is limit c) (local_bind (run is_space) _ (local_run is_space) (λ a. local_bind (value_gap limit) (λ v u. plain (read_close c) u) (local_value limit) (λ v. local_closing c)))

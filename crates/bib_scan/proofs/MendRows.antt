@@ -1,7 +1,7 @@
 -- What can stand where the reading of a value or a row stops.
-use Rattle.std.proofs.Common.{◌≡◌, ℕ, zero, suc, ◌<◌, Bool, true, false, cond, eqb, ltb, [], ◌∷◌, ◌++◌, length, take, drop, refl, sym, ap, subst, ◌∙◌, arith, append_assoc, inl, inr, Ok, Err}
-use Rattle.std.proofs.lemmas.List.{append_cancel_right, length-append, take-append-drop, take-take, length-take-le}
-use Rattle.std.proofs.lemmas.List.Sums.{prefix_len-le-length}
+use Rattle.std.proofs.Common.{◌≡◌, ℕ, zero, suc, ◌<◌, Bool, true, false, cond, eqb, ltb, [], ◌∷◌, ◌++◌, length, get_or, take, drop, refl, sym, ap, subst, ◌∙◌, arith, append_assoc, inl, inr, Ok, Err}
+use Rattle.std.proofs.lemmas.List.{append_cancel_right, length-append, get_or-drop, take-append-drop, take-take, length-take-le}
+use Rattle.std.proofs.lemmas.List.Sums.{prefix_len_passes, prefix_len-le-length}
 use Rattle.std.proofs.lemmas.List.Elements.{All-nil, All-cons, All-take}
 use Rattle.std.proofs.lemmas.Bool.{ltb-true, and_parts, eqb-true, cond-false, not_from_false, and_from}
 use Rattle.std.specs.List.{prefix_len, take_while, flat_map, AllPass}
@@ -41,6 +41,8 @@ pub record TooLong (limit : ℕ) (test : ℕ → Bool) (t : Text) (h : Halt) : T
   pub split : t ≡ front ++ h.rest
   pub passes : AllPass test front
   pub len : length front ≡ limit
+  pub next : (c : ℕ) (v : Text) → h.rest ≡ c ∷ v → test c ≡ true
+  pub fault : KeyTooLong ≡ h.fault
 
 pub too_long : (limit : ℕ) (test : ℕ → Bool) (t : Text) (h : Halt) → read_run limit test t ≡ Err h → TooLong limit test t h
 too_long limit test t h is =
@@ -54,9 +56,14 @@ too_long limit test t h is =
             split = sym (take-append-drop limit t) ∙ ap (λ (k : Halt). take limit t ++ k.rest) e;
             passes = subst (AllPass test) (take-take limit (prefix_len test t) t (omega arith)) (All-take (λ (x : ℕ). test x ≡ true) limit (take_while test t) (run_passes test t));
             len = length-take-le limit t (omega arith);
+            fault = ap (λ (k : Halt). k.fault) e;
+            next = λ c v rest. subst (λ (b : ℕ). test b ≡ true) (here (ap (λ (k : Halt). k.rest) e ∙ rest)) (prefix_len_passes test t limit 0 more);
           }
       | inr short ↦ absurd (not_ok _ h _ short.1 refl)
     ]
+  where
+    here : {c : ℕ} {v : Text} → drop limit t ≡ c ∷ v → get_or t limit 0 ≡ c
+    here {c} {v} e = ap (λ (n : ℕ). get_or t n 0) (omega arith) ∙ sym (get_or-drop limit t 0 0) ∙ ap (λ (s : Text). get_or s 0 0) e
 
 not_empty : (limit : ℕ) (some : 0 < limit) (u : Text) → length u ≡ limit → u ≡ [] → ⊥
 not_empty limit some u len none = omega (arith, ap (length {A = ℕ}) none)
@@ -92,7 +99,6 @@ x_byte = refl
 pub x_name : (limit : ℕ) (some : 0 < limit) → is_name_within limit (120 ∷ []) ≡ true
 x_name limit some = name_from limit (120 ∷ []) (record { some = omega arith; short = omega arith; first = refl; bytes = All-cons (λ (x : ℕ). is_name_byte x ≡ true) 120 [] x_byte (All-nil (λ (x : ℕ). is_name_byte x ≡ true)) })
 
-
 pub mend_name : (limit : ℕ) (some : 0 < limit) (F : Text → Type 0) → ((s : Text) → F (120 ∷ s)) → Mends (read_name limit) (λ s. does_not_begin_with is_name_byte s ≡ true) F
 mend_name limit some F start t h is =
     elim (chosen (begins_name t) _ _ _ is) [
@@ -122,7 +128,7 @@ resumes_part limit t a r is u s split after =
 
 -- ---- parts
 
-one_part : (limit : ℕ) → IsPart limit (Digits (49 ∷ []))
+pub one_part : (limit : ℕ) → IsPart limit (Digits (49 ∷ []))
 one_part limit = (omega arith, All-cons (λ (x : ℕ). is_ascii_digit x ≡ true) 49 [] refl (All-nil (λ (x : ℕ). is_ascii_digit x ≡ true)))
 
 -- `1` is a part
@@ -286,7 +292,7 @@ equals_err (b ∷ t) h is = go (eqb b 61) is
 mend_equals : (G : Text → Type 0) → ((s : Text) → G (61 ∷ s)) → Mends (plain read_equals) Always G
 mend_equals G start t h is = record { front = []; split = equals_err t h is; end = 61 ∷ []; works = λ r ok. (tt, equals_one r); starts = λ none r ok. start r }
 
-resumes_equals : Resumes (plain read_equals) Always
+pub resumes_equals : Resumes (plain read_equals) Always
 resumes_equals t a r is u s split ok =
     let one = bind_ok (read_equals t) ready (a, r) is in
     let shape = equals_ok t one.0 one.1 in
@@ -306,10 +312,10 @@ x_stands : (s : Text) → Stands (120 ∷ s)
 unfolding is_space
 x_stands s = refl
 
-abbrev row_value : ℕ → Text → Read (Unit {0})
+abbrev pub row_value : ℕ → Text → Read (Unit {0})
 row_value limit t = run is_space t >>= λ d. value_gap limit d.1
 
-abbrev row_sign : ℕ → Text → Read (Unit {0})
+abbrev pub row_sign : ℕ → Text → Read (Unit {0})
 row_sign limit t = run is_space t >>= λ b. plain read_equals b.1 >>= λ e. row_value limit e.1
 
 default_row_value : (limit : ℕ) → Default (row_value limit) (49 ∷ []) AfterRow
@@ -319,13 +325,13 @@ default_row_value limit r a = default_value limit r a
 mend_row_value : (limit : ℕ) (some : 0 < limit) (G : Text → Type 0) → ((s : Text) → G (49 ∷ s)) → Mends (row_value limit) AfterRow G
 mend_row_value limit some G start = mend_bind (run is_space) (λ d u. value_gap limit u) Always AfterRow Stands G (49 ∷ []) (local_run is_space) (resumes_run is_space) (mend_run is_space Always G) (λ d. mend_value limit some (λ s. Stands s × G s) (λ s. (one_stands s, start s))) (λ d. default_value limit) (λ r a. tt)
 
-abbrev sign_value : ℕ → Text → Read (Unit {0})
+abbrev pub sign_value : ℕ → Text → Read (Unit {0})
 sign_value limit t = plain read_equals t >>= λ e. row_value limit e.1
 
 default_sign_value : (limit : ℕ) → Default (sign_value limit) (61 ∷ 49 ∷ []) AfterRow
 default_sign_value limit r a = default_row_value limit r a
 
-equals_takes : (t : Text) (a : Unit {0}) (r : Text) → plain read_equals t ≡ Ok (a, r) → length r < length t
+pub equals_takes : (t : Text) (a : Unit {0}) (r : Text) → plain read_equals t ≡ Ok (a, r) → length r < length t
 equals_takes t a r is =
     let one = bind_ok (read_equals t) ready (a, r) is in
     let rest : one.0 ≡ r = ap (λ (y : Unit {0} × Text). y.1) (ok_same {A = Unit {0} × Text} (tt, one.0) (a, r) _ refl one.2) in
@@ -341,7 +347,7 @@ default_row_sign limit r a = default_sign_value limit r a
 mend_row_sign : (limit : ℕ) (some : 0 < limit) (G : Text → Type 0) → ((s : Text) → G (61 ∷ s)) → Mends (row_sign limit) AfterRow G
 mend_row_sign limit some G start = mend_bind (run is_space) (λ b u. sign_value limit u) Always AfterRow Stands G (61 ∷ 49 ∷ []) (local_run is_space) (resumes_run is_space) (mend_run is_space Always G) (λ b. mend_sign_value limit some (λ s. Stands s × G s) (λ s. (equals_stop s, start s))) (λ b. default_sign_value limit) (λ r a. tt)
 
-abbrev named_row : ℕ → Text → Read (Unit {0})
+abbrev pub named_row : ℕ → Text → Read (Unit {0})
 named_row limit t = read_name limit t >>= λ n. row_sign limit n.1
 
 default_named_row : (limit : ℕ) (some : 0 < limit) → Default (named_row limit) (120 ∷ 61 ∷ 49 ∷ []) AfterRow
@@ -349,7 +355,7 @@ default_named_row limit some r a =
     let d = default_row_sign limit r a in
     (d.0, ap (λ (m : Read Text). m >>= λ n. row_sign limit n.1) (name_again limit (120 ∷ []) (61 ∷ 49 ∷ r) (x_name limit some) (equals_no_name (49 ∷ r))) ∙ d.1)
 
-name_takes : (limit : ℕ) (t a r : Text) → read_name limit t ≡ Ok (a, r) → length r < length t
+pub name_takes : (limit : ℕ) (t a r : Text) → read_name limit t ≡ Ok (a, r) → length r < length t
 name_takes limit t a r is =
     let n = name_ok limit t (a, r) is in
     let some = name_parts limit a n.name in

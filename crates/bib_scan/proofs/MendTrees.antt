@@ -16,7 +16,7 @@ use Rattle.bib_scan.proofs.AgainLaws.{Close, row_again, rows_inside, rows_again,
 use Rattle.bib_scan.proofs.TreeAgainLaws.{closes, closing_again, rows_len}
 use Rattle.bib_scan.proofs.UniqueLaws.{tail_same, AfterRow, after_value, after_row_stands}
 use Rattle.bib_scan.proofs.LocalLaws.{run, local_run, local_limited}
-use Rattle.bib_scan.proofs.LocalRows.{plain, ready, fault_of, skip, local_row, value_gap, local_value}
+use Rattle.bib_scan.proofs.LocalRows.{plain, ready, fault_of, skip, local_row, value_gap, local_value, definition_is, value_close, preamble_is}
 use Rattle.bib_scan.proofs.MendLaws.{MendAt, Mends, Resumes, Default, mend_bind, mend_same, err_is, Always}
 use Rattle.bib_scan.proofs.MendRows.{mend_run, resumes_run, mend_limited, resumes_limited, mend_value, default_value, mend_row}
 
@@ -41,7 +41,7 @@ mend_close c G start t h is = record { front = []; split = close_err c t h is; e
 close_after : (c : ℕ) (r : Text) → Close c → AfterRow (c ∷ r)
 close_after c r close = record { first = c; others = r; ends = close.ends; is = refl }
 
-resumes_row : (limit : ℕ) → Resumes (plain (read_row limit)) AfterRow
+pub resumes_row : (limit : ℕ) → Resumes (plain (read_row limit)) AfterRow
 resumes_row limit t a r is u s split after =
     let one = bind_ok (read_row limit t) ready (a, r) is in
     let same = ok_same {A = Unit {0} × Text} (tt, one.0) (a, r) _ refl one.2 in
@@ -53,7 +53,7 @@ resumes_row limit t a r is u s split after =
     let read : read_row limit (row_inside w.0 s) ≡ Ok s = subst (λ (x : Text). read_row limit (row_inside w.0 x) ≡ Ok x) (sym after.is) (row_again limit w.0 after.first after.others w.1 after.ends) in
     ap (plain (read_row limit)) inside ∙ ap (λ (m : Result Text Halt). m >>= ready) read
 
-resumes_value : (limit : ℕ) → Resumes (value_gap limit) AfterRow
+pub resumes_value : (limit : ℕ) → Resumes (value_gap limit) AfterRow
 resumes_value limit t a r is u s split after =
     let one = bind_ok (read_value limit t) (λ v. skip v.1) (a, r) is in
     let rest : after_run is_space one.0.1 ≡ r = ap (λ (y : Unit {0} × Text). y.1) (ok_same {A = Unit {0} × Text} (tt, after_run is_space one.0.1) (a, r) _ refl one.2) in
@@ -67,16 +67,9 @@ resumes_value limit t a r is u s split after =
     ∙ ap (λ (m : Read Text). m >>= λ y. skip y.1) (value_again limit v.0 (space ++ s) v.1 behind.part behind.no_hash)
     ∙ ap (λ (x : Text). Ok (tt, x)) (skip_space space s ok (after_row_stands s after))
 
-bind_assoc2 : (m : Result Text Halt) (f : Text → Result Text Halt) → ((m >>= f) >>= ready) ≡ (m >>= ready >>= λ r. plain f r.1)
-bind_assoc2 (Ok x) f = refl
-bind_assoc2 (Err h) f = refl
-
 pub mend_definition : (limit : ℕ) (some : 0 < limit) (c : ℕ) → Close c → Mends (plain (read_definition limit c)) Always Always
-mend_definition limit some c close = mend_same (plain (read_definition limit c)) (λ t. plain (read_row limit) t >>= λ r. plain (read_close c) r.1) Always Always (λ t. bind_assoc2 (read_row limit t) (read_close c))
+mend_definition limit some c close = mend_same (plain (read_definition limit c)) (λ t. plain (read_row limit) t >>= λ r. plain (read_close c) r.1) Always Always (definition_is limit c)
     (mend_bind (plain (read_row limit)) (λ r u. plain (read_close c) u) AfterRow Always AfterRow Always (c ∷ []) (local_row limit) (resumes_row limit) (mend_row limit some Always (λ s. tt)) (λ r. mend_close c (λ s. AfterRow s × Always s) (λ s. (close_after c s close, tt))) (λ r. default_close c) (λ r ok. close_after c r close))
-
-abbrev value_close : ℕ → ℕ → Text → Read (Unit {0})
-value_close limit c t = value_gap limit t >>= λ v. plain (read_close c) v.1
 
 one_stands : (s : Text) → Stands (49 ∷ s)
 unfolding is_space
@@ -91,12 +84,8 @@ default_value_close limit c close r ok =
     let d = default_close c r tt in
     (d.0, ap (λ (m : Read (Unit {0})). m >>= λ v. plain (read_close c) v.1) v.1 ∙ d.1)
 
-bind_value : (m : Read Text) (f : Text → Result Text Halt) → ((m >>= λ v. f (after_run is_space v.1)) >>= ready) ≡ ((m >>= λ v. skip v.1) >>= λ v. plain f v.1)
-bind_value (Ok x) f = refl
-bind_value (Err h) f = refl
-
 pub mend_preamble : (limit : ℕ) (some : 0 < limit) (c : ℕ) → Close c → Mends (plain (read_preamble limit c)) Always Always
-mend_preamble limit some c close = mend_same (plain (read_preamble limit c)) (λ t. run is_space t >>= λ a. value_close limit c a.1) Always Always (λ t. bind_value (read_value limit (after_run is_space t)) (read_close c))
+mend_preamble limit some c close = mend_same (plain (read_preamble limit c)) (λ t. run is_space t >>= λ a. value_close limit c a.1) Always Always (preamble_is limit c)
     (mend_bind (run is_space) (λ a u. value_close limit c u) Always Always Stands Always (49 ∷ c ∷ []) (local_run is_space) (resumes_run is_space) (mend_run is_space Always Always)
     (λ a. mend_bind (value_gap limit) (λ v u. plain (read_close c) u) AfterRow Always AfterRow (λ s. Stands s × Always s) (c ∷ []) (local_value limit) (resumes_value limit) (mend_value limit some (λ s. Stands s × Always s) (λ s. (one_stands s, tt))) (λ v. mend_close c (λ s. AfterRow s × (Stands s × Always s)) (λ s. (close_after c s close, (close_stands c s close, tt)))) (λ v. default_close c) (λ r ok. close_after c r close))
     (λ a. default_value_close limit c close) (λ r ok. tt))
@@ -162,7 +151,7 @@ comma_err (b ∷ t) h is = go (eqb b 44) is
     go true e = absurd (not_ok t h _ e refl)
     go false e = ap (λ (k : Halt). k.rest) (err_is {A = Text} (stop ExpectedCommaOrClose (b ∷ t)) h _ refl e)
 
-all_again : (limit : ℕ) (c : ℕ) (rs : List Row) (tail : Option Text) (x u : Text) → Close c → All (IsRow limit) rs → IsLastComma tail → u ≡ rows_inside c rs tail x → plain (read_all_rows limit c) u ≡ Ok (tt, x)
+pub all_again : (limit : ℕ) (c : ℕ) (rs : List Row) (tail : Option Text) (x u : Text) → Close c → All (IsRow limit) rs → IsLastComma tail → u ≡ rows_inside c rs tail x → plain (read_all_rows limit c) u ≡ Ok (tt, x)
 all_again limit c rs tail x u close all space is =
     let room : length rs < length (rows_inside c rs tail x) + 1 = omega (arith, rows_len rs, length-append (flat_map row_bytes rs) (last_comma_bytes tail ++ c ∷ x)) in
     ap (plain (read_all_rows limit c)) is ∙ ap (λ (m : Result Text Halt). m >>= ready) (rows_again limit rs (length (rows_inside c rs tail x) + 1) c tail x all space close room)
@@ -222,7 +211,7 @@ unfolding is_space
 comma_key Brace s = refl
 comma_key Paren s = refl
 
-abbrev space_rows : ℕ → ℕ → Text → Read (Unit {0})
+abbrev pub space_rows : ℕ → ℕ → Text → Read (Unit {0})
 space_rows limit c t = run is_space t >>= λ b. plain (read_all_rows limit c) b.1
 
 default_all_rows : (limit : ℕ) (c : ℕ) → Close c → Default (plain (read_all_rows limit c)) (44 ∷ c ∷ []) Always
@@ -235,7 +224,7 @@ default_space_rows limit c close r ok = default_all_rows limit c close r ok
 mend_space_rows : (limit : ℕ) (some : 0 < limit) (c : ℕ) (G : Text → Type 0) → Close c → ((s : Text) → G (44 ∷ s)) → Mends (space_rows limit c) Always G
 mend_space_rows limit some c G close start = mend_bind (run is_space) (λ b u. plain (read_all_rows limit c) u) Always Always Stands G (44 ∷ c ∷ []) (local_run is_space) (resumes_run is_space) (mend_run is_space Always G) (λ b. mend_all_rows limit some c (λ s. Stands s × G s) close (λ s. (comma_stands s, start s))) (λ b. default_all_rows limit c close) (λ r ok. tt)
 
-abbrev key_rows : ℕ → Delimiter → Text → Read (Unit {0})
+abbrev pub key_rows : ℕ → Delimiter → Text → Read (Unit {0})
 key_rows limit d t = read_run limit (goes_on_key d) t >>= λ k. space_rows limit (close_byte d) k.1
 
 default_key_rows : (limit : ℕ) (d : Delimiter) → Default (key_rows limit d) (44 ∷ close_byte d ∷ []) Always
@@ -248,7 +237,7 @@ mend_key_rows limit some d G start =
     let c = close_byte d in
     mend_bind (read_run limit (goes_on_key d)) (λ k u. space_rows limit c u) (λ s. does_not_begin_with (goes_on_key d) s ≡ true) Always (λ s. does_not_begin_with (goes_on_key d) s ≡ true) G (44 ∷ c ∷ []) (local_limited limit (goes_on_key d)) (resumes_limited limit (goes_on_key d)) (mend_limited limit some (goes_on_key d) G) (λ k. mend_space_rows limit some c (λ s. (does_not_begin_with (goes_on_key d) s ≡ true) × G s) (closes d) (λ s. (comma_key d s, start s))) (λ k. default_space_rows limit c (closes d)) (λ r ok. comma_key d (c ∷ r))
 
-entry_bind : (limit : ℕ) (m : Read Text) (c : ℕ) → ((m >>= λ k. read_all_rows limit c (after_run is_space k.1)) >>= ready) ≡ (m >>= λ k. space_rows limit c k.1)
+pub entry_bind : (limit : ℕ) (m : Read Text) (c : ℕ) → ((m >>= λ k. read_all_rows limit c (after_run is_space k.1)) >>= ready) ≡ (m >>= λ k. space_rows limit c k.1)
 entry_bind limit (Ok x) c = refl
 entry_bind limit (Err h) c = refl
 

@@ -1,11 +1,11 @@
 -- One field after another: what is left behind the first.
-use Rattle.std.proofs.Common.{◌≡◌, ℕ, zero, suc, Bool, ◌-◌, ◌<◌, ◌≤◌, List, [], ◌∷◌, ◌++◌, length, refl, sym, ap, subst, ◌∙◌, arith, Option, None, Some, Result, Ok, Err}
+use Rattle.std.proofs.Common.{◌≡◌, ℕ, zero, suc, Bool, ◌-◌, ◌<◌, ◌≤◌, List, [], ◌∷◌, length, refl, sym, ap, ◌∙◌, arith, Option, None, Some, Result, Ok, Err}
 use Rattle.std.proofs.lemmas.List.{length-append, length-drop}
 use Rattle.std.specs.List.{prefix_len}
 use Rattle.std.specs.Result.{result_ok}
 use Rattle.bib_spec.specs.Bytes.{name_limit}
 use Rattle.bib_spec.specs.Text.{Text, is_space, after_run}
-use Rattle.bib_scan.specs.LeftToRight.{Halt, Read, ◌>>=◌, read_name, read_equals, read_value, read_comma}
+use Rattle.bib_scan.specs.LeftToRight.{Halt, read_name, read_equals, read_value, read_comma}
 use Rattle.bib_scan.specs.View.{Field}
 use Rattle.bib_scan.specs.FieldsLeft.{read_assignment, first_field, first_and_others, kind_behind, fields_left, all_fields_left}
 use Rattle.bib_scan.specs.declared.view.Kind.{Kind}
@@ -100,3 +100,14 @@ field_step k total [] x is short = absurd (omega arith)
 field_step k total (b ∷ t) x is short =
     ap (λ (o : Option (Field × Text)). first_and_others o (fields_left (length t) (kind_behind k) total)) is
     ∙ ap (λ (fs : List Field). x.0 ∷ fs) (turns_behind k (length t) total x.1 (omega arith))
+
+-- ---- how many there are
+
+others_few : (o : Option (Field × Text)) (f : Text → List Field) (n : ℕ) → ((t : Text) → length (f t) ≤ n) → length (first_and_others o f) ≤ suc n
+others_few None f n few = omega arith
+others_few (Some x) f n few = omega (arith, few x.1)
+
+pub fields_few : (n : ℕ) (k : Kind) (total : ℕ) (t : Text) → length (fields_left n k total t) ≤ n
+unfolding fields_left
+fields_few zero k total t = omega arith
+fields_few (suc n) k total t = others_few (first_field k total t) (fields_left n (kind_behind k) total) n (fields_few n (kind_behind k) total)

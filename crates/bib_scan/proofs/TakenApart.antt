@@ -1,4 +1,4 @@
--- A value that is taken apart: what is found are its parts, and a value's parts are found.
+-- A value that is taken apart: what is found are its parts.
 use Rattle.std.proofs.Common.{◌≡◌, ℕ, zero, suc, ◌+◌, ◌-◌, ◌<◌, ◌≤◌, List, [], ◌∷◌, ◌++◌, length, map, get_or, take, drop, refl, sym, ap, subst, ◌∙◌, arith, append_assoc, append-nil, Option, None, Some, Result, Ok, Err}
 use Rattle.std.proofs.lemmas.List.{length-append, length-map, take_at, drop_at}
 use Rattle.std.proofs.lemmas.List.Elements.{All-nil, All-cons, All-head, All-tail}
@@ -24,7 +24,7 @@ use Rattle.bib_scan.proofs.UniqueLaws.{AfterValue, value_unique}
 abbrev pub IsLinkTo : Text → Text → Type 0
 IsLinkTo t u = (a : Text) × (b : Text) × IsSpace a × IsSpace b × (t ≡ a ++ (35 ∷ b ++ u))
 
-link_found : (t u : Text) (o : Option Text) → past_hash (after_run is_space t) ≡ o → go_on (Err (expected ExpectedCommaOrClose (after_run is_space t))) Ok o ≡ Ok u → IsLinkTo t u
+pub link_found : (t u : Text) (o : Option Text) → past_hash (after_run is_space t) ≡ o → go_on (Err (expected ExpectedCommaOrClose (after_run is_space t))) Ok o ≡ Ok u → IsLinkTo t u
 link_found t u None o_is is = absurd (not_ok u _ _ refl is)
 link_found t u (Some v) o_is is =
     let hash = joined_ok _ v o_is in
@@ -91,69 +91,6 @@ value_found t spans is =
     let found = parts_ok name_limit (length t) (length t + 1) [] t spans is refl in
     let v : Value = record { first = found.0; links = found.1 } in
     (v, record { first = found.2; links = found.3 }, sym found.4, found.5)
-
--- ---- what is there is found
-
-after_nothing : AfterPart []
-after_nothing = record { name = refl; digit = refl }
-
-after_links : (limit : ℕ) (ls : List Link) → All (IsLink limit) ls → AfterPart (flat_map link_bytes ls)
-after_links limit ls all = subst AfterPart (append-nil (flat_map link_bytes ls)) (links_after limit ls [] all after_nothing)
-
-link_again : (limit : ℕ) (l : Link) (ls : List Link) → IsLink limit l → read_link (flat_map link_bytes (l ∷ ls)) ≡ Ok (part_bytes l.part ++ flat_map link_bytes ls)
-link_again limit l ls ok =
-    let next : Text = part_bytes l.part ++ flat_map link_bytes ls in
-    let behind : Text = l.space_behind_hash ++ next in
-    let shape : flat_map link_bytes (l ∷ ls) ≡ l.space_before_hash ++ (35 ∷ behind) =
-    append_assoc (l.space_before_hash ++ 35 ∷ l.space_behind_hash) (part_bytes l.part) (flat_map link_bytes ls) ∙ append_assoc l.space_before_hash (35 ∷ l.space_behind_hash) next in
-    let skipped : after_run is_space (flat_map link_bytes (l ∷ ls)) ≡ 35 ∷ behind = ap (after_run is_space) shape ∙ skip_space l.space_before_hash (35 ∷ behind) ok.space_before_hash (hash_stands behind) in
-    let inner : after_run is_space behind ≡ next = skip_space l.space_behind_hash next ok.space_behind_hash (part_stands limit l.part (flat_map link_bytes ls) ok.part) in
-    ap (λ (w : Text). go_on (Err (expected ExpectedCommaOrClose w)) Ok (past_hash w)) skipped ∙ ap Ok inner
-
-more_there : (more : Result (List PartSpan) Halt) (t : Text) → 0 < length t → unless_end more t ≡ more
-more_there more [] some = absurd (omega arith)
-more_there more (b ∷ t) some = refl
-
-one_part : (limit total n : ℕ) (before t rest : Text) (p : Part) → read_part limit t ≡ Ok (p, rest) → t ≡ part_bytes p ++ rest → total ≡ length (before ++ t) → read_parts limit total (suc n) t ≡ (unless_end (read_link rest >>= read_parts limit total n) rest >>= λ later. Ok (span_behind before p ∷ later))
-unfolding read_parts
-one_part limit total n before t rest p read split whole =
-    let lens = length-append before t in
-    let parts_len = length-append (part_bytes p) rest in
-    let split_len = ap (length {A = ℕ}) split in
-    let start : total - length t ≡ length before = omega (arith, whole, lens) in
-    let end : total - length rest ≡ length before + length (part_bytes p) = omega (arith, whole, lens, parts_len, split_len) in
-    rw (read, start, end) refl
-
-parts_again : (limit total n : ℕ) (ls : List Link) (before : Text) (p : Part) → IsPart limit p → All (IsLink limit) ls → length ls < n → total ≡ length (before ++ (part_bytes p ++ flat_map link_bytes ls)) → read_parts limit total n (part_bytes p ++ flat_map link_bytes ls) ≡ Ok (span_behind before p ∷ spans_behind (before ++ part_bytes p) ls)
-parts_again limit total zero ls before p is all room whole = absurd (omega arith)
-parts_again limit total (suc n) [] before p is all room whole =
-    one_part limit total n before (part_bytes p ++ []) [] p (part_again limit p [] is after_nothing) refl whole
-parts_again limit total (suc n) (l ∷ ls) before p is all room whole =
-    let ok = All-head (IsLink limit) l ls all in
-    let rest : Text = flat_map link_bytes (l ∷ ls) in
-    let next : Text = part_bytes l.part ++ flat_map link_bytes ls in
-    let here : Text = before ++ part_bytes p in
-    let front : Text = here ++ l.space_before_hash ++ 35 ∷ l.space_behind_hash in
-    let some : 0 < length rest = omega (arith, length-append (link_bytes l) (flat_map link_bytes ls), length-append (l.space_before_hash ++ 35 ∷ l.space_behind_hash) (part_bytes l.part), length-append l.space_before_hash (35 ∷ l.space_behind_hash)) in
-    let one = one_part limit total n before (part_bytes p ++ rest) rest p (part_again limit p rest is (after_links limit (l ∷ ls) all)) refl whole in
-    let grouped : before ++ (part_bytes p ++ rest) ≡ front ++ next =
-    sym (append_assoc before (part_bytes p) rest)
-    ∙ ap (λ (w : Text). here ++ w) (append_assoc (l.space_before_hash ++ 35 ∷ l.space_behind_hash) (part_bytes l.part) (flat_map link_bytes ls) ∙ append_assoc l.space_before_hash (35 ∷ l.space_behind_hash) next)
-    ∙ sym (append_assoc (here ++ l.space_before_hash) (35 ∷ l.space_behind_hash) next ∙ append_assoc here l.space_before_hash _) in
-    let later = parts_again limit total n ls front l.part ok.part (All-tail (IsLink limit) l ls all) (omega arith) (whole ∙ ap (length {A = ℕ}) grouped) in
-    let behind : unless_end (read_link rest >>= read_parts limit total n) rest ≡ Ok (spans_behind here (l ∷ ls)) =
-    more_there _ rest some ∙ ap (λ (m : Result Text Halt). m >>= read_parts limit total n) (link_again limit l ls ok) ∙ later
-    ∙ ap (λ (w : Text). Ok (span_behind front l.part ∷ spans_behind w ls)) (sym (before_link here l)) in
-    one ∙ ap (λ (m : Result (List PartSpan) Halt). m >>= λ later. Ok (span_behind before p ∷ later)) behind
-
-links_fit : (ls : List Link) → length ls ≤ length (flat_map link_bytes ls)
-links_fit [] = omega arith
-links_fit (l ∷ ls) =
-    omega (arith, links_fit ls, length-append (link_bytes l) (flat_map link_bytes ls), length-append (l.space_before_hash ++ 35 ∷ l.space_behind_hash) (part_bytes l.part), length-append l.space_before_hash (35 ∷ l.space_behind_hash))
-
-pub value_apart : (v : Value) → IsValue name_limit v → read_all_parts name_limit (value_bytes v) ≡ Ok (spans_of v)
-value_apart v is =
-    parts_again name_limit (length (value_bytes v)) (length (value_bytes v) + 1) v.links [] v.first is.first is.links (omega (arith, links_fit v.links, length-append (part_bytes v.first) (flat_map link_bytes v.links))) refl
 
 -- ---- the count of parts
 
@@ -224,6 +161,9 @@ part_text t parts n s at =
     let dropped : drop s.start t ≡ part_bytes at.part ++ at.behind = ap (drop s.start) at.split ∙ drop_at at.before _ s.start (sym start) in
     let len : length (part_bytes at.part) ≡ s.end - s.start = omega (arith, start, end) in
     ap (take (s.end - s.start)) dropped ∙ take_at (part_bytes at.part) at.behind _ len
+
+after_nothing : AfterPart []
+after_nothing = record { name = refl; digit = refl }
 
 -- a text is one value at most
 pub one_value : (v w : Value) → IsValue name_limit v → IsValue name_limit w → value_bytes v ≡ value_bytes w → v ≡ w

@@ -8,6 +8,7 @@ use Rattle.bib_spec.specs.Text.{Text}
 use Rattle.bib_scan.specs.LeftToRight.{Read, Halt, stop, ◌>>=◌}
 use Rattle.bib_scan.proofs.RunLaws.{not_ok}
 use Rattle.bib_scan.proofs.LocalLaws.{rest_of, with_rest, LocalAt, Local, behind_first}
+use Rattle.bib_scan.proofs.UniqueLaws.{tail_same}
 use Rattle.bib_scan.proofs.MendLaws.{Resumes, err_is}
 
 -- behind u the reader goes on past the byte d
@@ -131,6 +132,10 @@ keeps_of p P F resumes allowed t a r u is split d ok = resumes t a r is u (d ∷
 pub digits_of : {A : Type 0} (p : Text → Read A) (F : ℕ → Type 0) → Keeps p F → F 120 → F 49 → Digits p
 digits_of p F keeps letter digit t a r u is split = inl (keeps t a r u is split 120 letter, keeps t a r u is split 49 digit)
 
+pub some_or_none : (v : Text) → (v ≡ []) ⊎ (v ≡ [] → ⊥)
+some_or_none [] = inl refl
+some_or_none (b ∷ v) = inr (λ e. cc)
+
 -- ---- readers in a row
 
 nothing_left : {A : Type 0} (p : Text → Read A) → Local p → rest_of (p []) ≡ []
@@ -144,7 +149,7 @@ module _ {A B : Type 0} (p : Text → Read A) (f : A → Text → Read B) where
   abbrev pub Both : Text → Read B
   Both t = p t >>= λ x. f x.0 x.1
 
-  past_first : ((a : A) → Local (f a)) → (u : Text) (d : ℕ) → Past p u d → Past Both u d
+  pub past_first : ((a : A) → Local (f a)) → (u : Text) (d : ℕ) → Past p u d → Past Both u d
   past_first local u d past = go (p (u ++ d ∷ [])) past
     where
       go : (m : Read A) → rest_of m ≡ [] → rest_of (m >>= λ x. f x.0 x.1) ≡ []
@@ -158,7 +163,7 @@ module _ {A B : Type 0} (p : Text → Read A) (f : A → Text → Read B) where
   goes_on : (a : A) (u1 u2 w : Text) → p (u1 ++ (u2 ++ w)) ≡ Ok (a, u2 ++ w) → Both ((u1 ++ u2) ++ w) ≡ f a (u2 ++ w)
   goes_on a u1 u2 w is = ap Both (append_assoc u1 u2 w) ∙ ap (λ (m : Read A). m >>= λ x. f x.0 x.1) is
 
-  past_second : (a : A) (u1 u2 : Text) (d : ℕ) → p (u1 ++ (u2 ++ d ∷ [])) ≡ Ok (a, u2 ++ d ∷ []) → Past (f a) u2 d → Past Both (u1 ++ u2) d
+  pub past_second : (a : A) (u1 u2 : Text) (d : ℕ) → p (u1 ++ (u2 ++ d ∷ [])) ≡ Ok (a, u2 ++ d ∷ []) → Past (f a) u2 d → Past Both (u1 ++ u2) d
   past_second a u1 u2 d is past = ap rest_of (goes_on a u1 u2 (d ∷ []) is) ∙ past
 
   stopped_second : (a : A) (u1 u2 : Text) (d : ℕ) → p (u1 ++ (u2 ++ d ∷ [])) ≡ Ok (a, u2 ++ d ∷ []) → Stopped (f a) u2 d → Stopped Both (u1 ++ u2) d
@@ -216,10 +221,6 @@ module _ {A B : Type 0} (p : Text → Read A) (f : A → Text → Read B) where
       (λ d ok. subst (λ (v : Text). p (l.front ++ (v ++ d ∷ [])) ≡ Ok (a, v ++ d ∷ [])) (sym none) (leaves d ok))
       (λ too. subst (λ (v : Text). DigitToo Both (l.front ++ v)) (sym none) (digit_both local a l.front takes (subst (DigitToo (f a)) none too)))
       (λ gone. starts (sym (append-nil l.front) ∙ subst (λ (v : Text). l.front ++ v ≡ []) none gone))
-
-  some_or_none : (v : Text) → (v ≡ []) ⊎ (v ≡ [] → ⊥)
-  some_or_none [] = inl refl
-  some_or_none (b ∷ v) = inr (λ e. cc)
 
   tell_second : (F G : ℕ → Type 0) (t : Text) (a : A) (r : Text) (h : Halt) → p t ≡ Ok (a, r) → LocalAt p t (Ok (a, r)) → ((a : A) → Local (f a)) → Keeps p F → Digits p → TellsAt (f a) (λ d. F d × G d) r h → TellsAt Both G t h
   tell_second F G t a r h is l local keeps digits m =
@@ -402,3 +403,56 @@ tell_cond {A} test p q G by_first other mp mq t h is = go (test t) refl is
         too : (u : Text) → ((d : ℕ) → IsTried d → test (u ++ d ∷ []) ≡ false) → DigitToo q u → DigitToo (λ u. cond (test u) (p u) (q u)) u
         too u to (inl s) = inl (s.0, cond-false (test _) _ _ (to 120 the_letter) ∙ s.1)
         too u to (inr e) = inr (ap rest_of (cond-false (test _) _ _ (to 49 the_digit)) ∙ e)
+
+some_front : (b : ℕ) (u : Text) → b ∷ u ≡ [] → ⊥
+some_front b u e = cc
+
+-- behind the first byte of a text that has one
+pub tell_behind : {A : Type 0} (p : Text → Read A) (G : ℕ → Type 0) (test : Text → Bool) → test [] ≡ false → Tells p (λ d. Unit {0}) → (t : Text) (h : Halt) → test t ≡ true → behind_first p t ≡ Err h → (m : TellsAt (behind_first p) G t h) × (m.front ≡ [] → ⊥)
+tell_behind p G test none tells [] h passes is = absurd (both_ways (test []) none passes)
+tell_behind {A} p G test none tells (b ∷ t) h passes is =
+    let m = tells t h is in
+    let at : TellsAt (behind_first p) G (b ∷ t) h = record {
+      front = b ∷ m.front;
+      split = ap (λ (u : Text). b ∷ u) m.split;
+      end = m.end;
+      passed = m.passed;
+      blocked = m.blocked;
+      digit = m.digit;
+      starts = λ e. absurd (some_front b m.front e);
+    } in
+    (at, λ e. some_front b m.front e)
+
+pub digits_cond : {A : Type 0} (test : Text → Bool) (p q : Text → Read A) → ((b : ℕ) (t u : Text) → test (b ∷ t) ≡ test (b ∷ u)) → test [] ≡ false → test (120 ∷ []) ≡ false → test (49 ∷ []) ≡ false → Local p → Digits p → Digits q → Digits (λ t. cond (test t) (behind_first p t) (q t))
+digits_cond {A} test p q by_first none letter digit local dp dq t a r u is split = go (test t) refl is
+  where
+    same_test : (x : Bool) (v : Text) (d : ℕ) → test t ≡ x → t ≡ v ++ r → (v ≡ [] → test (d ∷ []) ≡ x) → test (v ++ d ∷ []) ≡ x
+    same_test x [] d was shape starts = starts refl
+    same_test x (b ∷ v) d was shape starts = by_first b (v ++ d ∷ []) (v ++ r) ∙ ap test (sym shape) ∙ was
+
+    first : (s v : Text) → t ≡ s → t ≡ v ++ r → test s ≡ true → behind_first p s ≡ Ok (a, r) → TakesDigit (λ w. cond (test w) (behind_first p w) (q w)) a v
+    first [] v shape parts was read = absurd (both_ways (test []) none was)
+    first (b ∷ s) [] shape parts was read =
+        let l = local s in
+        absurd (omega (arith, ap (length {A = ℕ}) shape, ap (length {A = ℕ}) parts, shorter (p s) l read))
+      where
+        shorter : (m : Read A) → LocalAt p s m → m ≡ Ok (a, r) → length r ≤ length s
+        shorter m l e = omega (arith, ap (length {A = ℕ}) (subst (λ (x : Read A). s ≡ l.front ++ rest_of x) e l.split), length-append l.front r)
+    first (b ∷ s) (c ∷ v) shape parts was read =
+        let inner : s ≡ v ++ r = tail_same b c s (v ++ r) (sym shape ∙ parts) in
+        let to : (d : ℕ) → test ((c ∷ v) ++ d ∷ []) ≡ true = λ d. same_test true (c ∷ v) d (ap test shape ∙ was) parts (λ e. absurd (some_front c v e)) in
+        lift to (dp s a r v read inner)
+      where
+        lift : ((d : ℕ) → test ((c ∷ v) ++ d ∷ []) ≡ true) → TakesDigit p a v → TakesDigit (λ w. cond (test w) (behind_first p w) (q w)) a (c ∷ v)
+        lift to (inl l) = inl (cond-true (test _) _ _ (to 120) ∙ l.0, cond-true (test _) _ _ (to 49) ∙ l.1)
+        lift to (inr (inl s)) = inr (inl (s.0, cond-true (test _) _ _ (to 120) ∙ s.1))
+        lift to (inr (inr e)) = inr (inr (ap rest_of (cond-true (test _) _ _ (to 49)) ∙ e))
+
+    other : test (u ++ 120 ∷ []) ≡ false → test (u ++ 49 ∷ []) ≡ false → TakesDigit q a u → TakesDigit (λ w. cond (test w) (behind_first p w) (q w)) a u
+    other to too (inl l) = inl (cond-false (test _) _ _ to ∙ l.0, cond-false (test _) _ _ too ∙ l.1)
+    other to too (inr (inl s)) = inr (inl (s.0, cond-false (test _) _ _ to ∙ s.1))
+    other to too (inr (inr e)) = inr (inr (ap rest_of (cond-false (test _) _ _ too) ∙ e))
+
+    go : (x : Bool) → test t ≡ x → cond x (behind_first p t) (q t) ≡ Ok (a, r) → TakesDigit (λ w. cond (test w) (behind_first p w) (q w)) a u
+    go true was e = first t u refl split was e
+    go false was e = other (same_test false u 120 was split (λ gone. letter)) (same_test false u 49 was split (λ gone. digit)) (dq t a r u e split)

@@ -122,7 +122,7 @@ digits_name limit t a r u is split =
 
 -- ---- braced and quoted text
 
-front_err : (b : ℕ) (m : Read Text) (h : Halt) → with_front (b ∷ []) m ≡ Err h → m ≡ Err h
+pub front_err : (b : ℕ) (m : Read Text) (h : Halt) → with_front (b ∷ []) m ≡ Err h → m ≡ Err h
 front_err b (Ok x) h e = absurd (not_ok (b ∷ x.0, x.1) h _ e refl)
 front_err b (Err k) h e = e
 

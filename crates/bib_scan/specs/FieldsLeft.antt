@@ -1,12 +1,12 @@
 -- No promise rests on this page: it retraces how a view finds its parts and how its fields are read, from left to right,
 -- so that lemmas can lead from the code to `View`.
-use Rattle.std.specs.Prelude.{ℕ, zero, suc, ◌-◌, List, [], ◌∷◌, length, drop, codes, Option, None, Some, Result, Ok, Err, if◌then◌else◌}
-use Rattle.std.specs.List.{prefix_len, take_while}
+use Rattle.std.specs.Prelude.{ℕ, zero, suc, ◌-◌, List, [], ◌∷◌, length, codes, Option, None, Some, Ok, if◌then◌else◌}
+use Rattle.std.specs.List.{take_while}
 use Rattle.std.specs.Result.{result_ok}
 use Rattle.bib_spec.specs.Bytes.{name_limit}
 use Rattle.bib_spec.specs.Text.{Text, is_space, is_type_byte, same, after_run}
 use Rattle.bib_spec.specs.Tree.{Delimiter, Brace, goes_on_key}
-use Rattle.bib_scan.specs.LeftToRight.{Halt, Read, ◌>>=◌, read_name, read_equals, read_value, read_comma, delimiter_of}
+use Rattle.bib_scan.specs.LeftToRight.{Read, ◌>>=◌, read_name, read_equals, read_value, read_comma, delimiter_of}
 use Rattle.bib_scan.specs.View.{Field, View}
 use Rattle.bib_scan.specs.declared.view.Kind.{Kind}
 use Rattle.bib_scan.specs.declared.view.Kind.TheVariants as kind

@@ -1,9 +1,10 @@
 -- Laws of reading.
-use Rattle.std.specs.Prelude.{ℕ, ◌≡◌, ◌↔◌, ◌<◌, false, [], ◌∷◌, ◌++◌, length, drop}
-use Rattle.bib_spec.specs.Bytes.{at_sign}
+use Rattle.std.specs.Prelude.{ℕ, ◌≡◌, ◌↔◌, ◌⊎◌, ◌<◌, false, [], ◌∷◌, ◌++◌, length, take, drop}
+use Rattle.bib_spec.specs.Bytes.{at_sign, name_limit}
 use Rattle.bib_spec.specs.Text.{Text}
 use Rattle.bib_spec.specs.Clean.{begins_command, IsClean}
-use Rattle.bib_spec.specs.Reading.{Reading, Reads}
+use Rattle.bib_spec.specs.Reading.{Reading, Reads, IsViable, IsHopeless}
+use Rattle.bib_spec.specs.Fault.{TextKind, ReadingFault, Unended, IsFaultAt}
 
 -- no file has two readings
 abbrev pub OneReading : Type 0
@@ -16,3 +17,23 @@ IsCleanBeforeSign t = (p : ℕ) → p < length t → begins_command (drop p (t +
 -- what stands behind a text does not change whether it is clean: that it ends there, or that an item begins
 abbrev pub CleanBeforeSign : Type 0
 CleanBeforeSign = (t : Text) → IsClean t ↔ IsCleanBeforeSign t
+
+-- a text of this kind, or it goes wrong at a place
+abbrev pub IsSuchOrHopeless : (Text → Type 0) → Type 0
+IsSuchOrHopeless IsSuch = (t : Text) → IsSuch t ⊎ ((place : ℕ) × IsHopeless IsSuch t place)
+
+-- it goes wrong at one place
+abbrev pub OnePlace : (Text → Type 0) → Type 0
+OnePlace IsSuch = (t : Text) (place other : ℕ) → IsHopeless IsSuch t place → IsHopeless IsSuch t other → place ≡ other
+
+-- where it goes wrong, one thing is wrong
+abbrev pub OneFault : TextKind → Type 0
+OneFault IsSuch =
+    (t : Text) (place : ℕ) → IsHopeless (IsSuch name_limit) t place
+    → (fault : ReadingFault) × IsFaultAt IsSuch t place fault × ((other : ReadingFault) → IsFaultAt IsSuch t place other → other ≡ fault)
+
+-- cut anywhere, such a text is such a text or has ended too early
+abbrev pub CutEnds : TextKind → Type 0
+CutEnds IsSuch =
+    (t : Text) (n : ℕ) → IsSuch name_limit t
+    → IsSuch name_limit (take n t) ⊎ (IsHopeless (IsSuch name_limit) (take n t) (length (take n t)) × IsFaultAt IsSuch (take n t) (length (take n t)) Unended)

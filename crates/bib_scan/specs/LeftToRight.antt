@@ -203,3 +203,12 @@ read_commands limit total (suc n) (b ∷ t) = do
 -- the same of a whole text, whose front comes first
 abbrev pub read_all_commands : ℕ → Text → Result (List Span) Halt
 read_all_commands limit t = read_commands limit (length t) (length t + 1) (drop (next_command t) t)
+
+-- the end of a text that is one value: white space behind a value still waits for a `#`
+abbrev pub nothing_behind : Text → Result Text Halt
+nothing_behind [] = Ok []
+nothing_behind (b ∷ t) = Err (expected ExpectedCommaOrClose (after_run is_space (b ∷ t)))
+
+-- a text that is one value
+abbrev pub read_whole_value : ℕ → Text → Result Text Halt
+read_whole_value limit t = read_value_rest limit t >>= nothing_behind

@@ -49,13 +49,14 @@ impl<'a> Model for Fields<'a> {
 }
 
 impl<'a> Fields<'a> {
-    ghost use Rattle.std.specs.Prelude.{◌≡◌, ◌≤◌, length};
+    ghost use Rattle.std.specs.Prelude.{◌≡◌, ◌<◌, ◌≤◌, ◌^◌, length};
     ghost use Rattle.bib_scan.specs.FieldsLeft.{all_fields_left};
 
     /// The fields from here on, in an item of this kind and a body of this length.
     pub(crate) fn from_rest(kind: Kind, body_len: usize, rest: &'a [u8]) -> Self
         requires { length rest.now ≤ body_len }
-        ensures { result ≡ all_fields_left kind body_len rest.now }
+        ensures fields { result ≡ all_fields_left kind body_len rest.now }
+        ensures count { length result < 2 ^ 64 }
     {
         Fields {
             kind,

@@ -1,6 +1,8 @@
 //! Laws of reading, in the contracts of functions that do nothing.
 
-ghost use Rattle.bib_scan.specs.Laws.{OneReading, CleanBeforeSign};
+ghost use Rattle.bib_spec.specs.Bytes.{name_limit};
+ghost use Rattle.bib_spec.specs.Reading.{HasReading, HasReadingWithin, IsValueWithin};
+ghost use Rattle.bib_scan.specs.Laws.{OneReading, CleanBeforeSign, IsSuchOrHopeless, OnePlace, OneFault, CutEnds};
 
 /// No file has two readings.
 pub fn one_reading()
@@ -10,4 +12,24 @@ pub fn one_reading()
 /// A text is clean exactly where no command begins in it, read with an at-sign behind it.
 pub fn clean_before_sign()
     ensures { CleanBeforeSign }
+{}
+
+/// A text is a file, or goes wrong at one place. So is a text one value, or goes wrong at one place.
+pub fn one_place()
+    ensures file { IsSuchOrHopeless HasReading }
+    ensures value { IsSuchOrHopeless (IsValueWithin name_limit) }
+    ensures one_in_file { OnePlace HasReading }
+    ensures one_in_value { OnePlace (IsValueWithin name_limit) }
+{}
+
+/// Where a file goes wrong, one thing is wrong. So it is of a value.
+pub fn one_fault()
+    ensures file { OneFault HasReadingWithin }
+    ensures value { OneFault IsValueWithin }
+{}
+
+/// A file that is cut anywhere is a file, or has ended too early. So is a value.
+pub fn cut_ends()
+    ensures file { CutEnds HasReadingWithin }
+    ensures value { CutEnds IsValueWithin }
 {}

@@ -3,6 +3,7 @@
 ghost use Rattle.std.specs.Prelude.{◌≡◌};
 
 use crate::run::behind;
+use crate::view::ItemView;
 use std::marker::Model;
 
 /// Where the body of an item lies: its first byte, and the first one behind it.
@@ -33,6 +34,7 @@ impl Layout {
     ghost use Rattle.bib_spec.specs.Tree.{tree_bytes};
     ghost use Rattle.bib_spec.specs.Reading.{Reading, Item, Reads};
     ghost use Rattle.bib_scan.specs.Layout.{places_of, placed, trail_end, IsLayoutOf};
+    ghost use Rattle.bib_scan.specs.View.{view_of};
 
     /// The layout of a file whose front is so long, and whose items have their bodies there.
     pub(crate) fn new(front_len: usize, items: Vec<Span>) -> Self
@@ -65,6 +67,15 @@ impl Layout {
     {
         let body = self.items[n];
         behind(bytes, body.start).split_at(body.end - body.start).0
+    }
+
+    /// Item n, as slices of the file: the head of its body is read, in time of its length.
+    pub fn item<'a>(&'a self, bytes: &'a [u8], n: usize) -> ItemView<'a>
+        requires layout { IsLayoutOf bytes.now self.now }
+        requires n_in_range { n < length self.now.items }
+        ensures { (db : Reading) (i : Item) → Reads bytes.now db → slice_get db.items n ≡ Some i → result ≡ view_of i }
+    {
+        ItemView::of(self.body(bytes, n), self.trail(bytes, n))
     }
 
     /// Where the trail of item n ends.

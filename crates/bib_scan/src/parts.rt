@@ -1,13 +1,12 @@
 //! A value taken apart.
 
-ghost use Rattle.std.specs.Prelude.{◌≡◌, ◌<◌, ◌≤◌, ◌⊎◌, ℕ, List, [], ◌∷◌, ◌++◌, length, IfOk, IfErr};
+ghost use Rattle.std.specs.Prelude.{◌≡◌, ◌<◌, ℕ, List, [], ◌∷◌, ◌++◌, length, IfOk, IfErr};
 ghost use Rattle.bib_spec.specs.Bytes.{name_limit};
-ghost use Rattle.bib_spec.specs.Reading.{IsValueWithin};
 ghost use Rattle.bib_spec.specs.Tree as tree;
 ghost use Rattle.bib_spec.specs.Tree.{part_bytes};
 ghost use Rattle.bib_scan.specs.Code.{Gives, GivesUnlessMemory};
 ghost use Rattle.bib_scan.specs.PartView.{part_view};
-ghost use Rattle.bib_scan.specs.ValueParts.{part_kind, IsPartsOf};
+ghost use Rattle.bib_scan.specs.ValueParts.{part_kind, IsPartsOf, IsValueFault};
 ghost use Rattle.bib_scan.specs.PartsLeft.{part_span, read_link, read_all_parts};
 
 use crate::fault::{Fault, ReadFault, Refusal, Stop};
@@ -120,17 +119,15 @@ fn inside(text: &[u8]) -> &[u8]
 /// A text that is none is refused with a fault of reading (1 to 7), want of memory with 10.
 pub fn read_value(alloc: Global, bytes: &[u8]) -> Result<Parts, ReadFault>
     ensures found { IfOk result (λ parts. IsPartsOf bytes.now parts) }
-    // Only a text that is no value is refused with 1 to 7.
-    ensures refused { IfErr result (λ fault. fault.kind < 8 → IsValueWithin name_limit bytes.now → ⊥) }
-    ensures kinds { IfErr result (λ fault. ((1 ≤ fault.kind) × (fault.kind ≤ 7)) ⊎ (fault.kind ≡ 10)) }
-    ensures no_memory { IfErr result (λ fault. fault.kind ≡ 10 → fault.place ≡ 0) }
+    // Only a text that is no value is refused with 1 to 7, at the place where it goes wrong, and told what is wrong there.
+    ensures fault { IfErr result (λ fault. IsValueFault bytes.now fault.kind fault.place) }
 {
     match spans(alloc, bytes) {
         Ok(spans) => Ok(Parts { spans }),
         Err(Refusal::Memory) => Err(ReadFault { kind: 10, place: 0 }),
         Err(Refusal::Fault(stop)) => Err(ReadFault {
             kind: stop.fault.number(),
-            place: bytes.len().saturating_sub(stop.rest.len()),
+            place: bytes.len() - stop.rest.len(),
         }),
     }
 }

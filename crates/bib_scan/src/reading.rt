@@ -1,8 +1,8 @@
 //! Reading a file.
 
-ghost use Rattle.std.specs.Prelude.{◌≡◌, ◌≤◌, ◌<◌, ◌⊎◌, ◌↔◌, length, IfOk, IfErr, IsErrAnd};
+ghost use Rattle.std.specs.Prelude.{◌≡◌, ◌≤◌, length, IfOk, IfErr};
 ghost use Rattle.bib_spec.specs.Bytes.{name_limit, file_limit};
-ghost use Rattle.bib_spec.specs.Reading.{HasReading, IsHopeless};
+ghost use Rattle.bib_spec.specs.Fault.{IsReadFault};
 ghost use Rattle.bib_scan.specs.LeftToRight.{read_all_commands};
 ghost use Rattle.bib_scan.specs.Code.{GivesUnlessMemory};
 ghost use Rattle.bib_scan.specs.Layout.{IsLayoutOf};
@@ -25,12 +25,7 @@ pub const FILE_LIMIT: usize = 16_777_216;
 /// dialect)
 pub fn read(alloc: Global, bytes: &[u8]) -> Result<Layout, ReadFault>
     ensures found { IfOk result (λ layout. (length bytes.now ≤ file_limit) × IsLayoutOf bytes.now layout) }
-    // A file is refused with 1 to 7 only where it has no reading, at the place where it goes wrong.
-    ensures place { IfErr result (λ fault. fault.kind < 8 → IsHopeless HasReading bytes.now fault.place) }
-    ensures kinds { IfErr result (λ fault. ((1 ≤ fault.kind) × (fault.kind ≤ 7)) ⊎ ((fault.kind ≡ 9) ⊎ (fault.kind ≡ 10))) }
-    // A file is refused with 9 exactly where it is too long.
-    ensures too_long { (file_limit < length bytes.now) ↔ IsErrAnd result (λ fault. fault.kind ≡ 9) }
-    ensures limits { IfErr result (λ fault. (fault.kind ≡ 9 → fault.place ≡ file_limit) × (fault.kind ≡ 10 → fault.place ≡ 0)) }
+    ensures fault { IfErr result (λ fault. IsReadFault bytes.now fault.kind fault.place) }
 {
     if bytes.len() > FILE_LIMIT {
         return Err(ReadFault {

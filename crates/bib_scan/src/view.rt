@@ -85,12 +85,13 @@ impl<'a> Model for ItemView<'a> {
 }
 
 impl<'a> ItemView<'a> {
-    ghost use Rattle.std.specs.Prelude.{◌≡◌};
+    ghost use Rattle.std.specs.Prelude.{◌≡◌, ◌<◌, ◌^◌, length};
     ghost use Rattle.bib_scan.specs.View.{view_of, with_trail};
 
     /// The view of the item with this body and trail. The body is read up to its fields, in time of that
     /// length.
     pub fn of(body: &'a [u8], trail: &'a [u8]) -> Self
+        ensures slices { (result.body ≡ body.now) × (result.trail ≡ trail.now) }
         ensures item { (tree : Tree) → IsTree name_limit tree → tree_bytes tree ≡ body.now → result ≡ view_of (record { tree = tree; trail = trail.now }) }
     {
         let (type_name, behind_type) = split_head(body);
@@ -164,7 +165,9 @@ impl<'a> ItemView<'a> {
 
     /// The item's fields in their order, read as they are asked for.
     pub fn fields(&self) -> Fields<'a>
-        ensures { result ≡ self.now.fields }
+        ensures fields { result ≡ self.now.fields }
+        // A usize counts them.
+        ensures count { length result < 2 ^ 64 }
     {
         Fields::from_rest(self.kind, self.body.len(), self.rows)
     }

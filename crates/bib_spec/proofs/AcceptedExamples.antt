@@ -41,7 +41,7 @@ unfolding begins_command
 nothing_clean zero = refl
 nothing_clean (suc p) = refl
 
-line_clean : IsClean (codes "\n")
+pub line_clean : IsClean (codes "\n")
 unfolding begins_command
 line_clean zero = refl
 line_clean (suc zero) = refl

@@ -14,7 +14,7 @@ use Rattle.bib_spec.proofs.Names.{same-true, true-same}
 abbrev pub AreLower : Text → Type 0
 AreLower cs = AllByRecursion (λ c. (97 ≤ c) × (c ≤ 122)) cs
 
-abbrev written : Text → ℕ
+abbrev pub written : Text → ℕ
 written [] = 0
 written (c ∷ cs) = (c - 96) + 26 * written cs
 
@@ -45,7 +45,7 @@ written-next (c ∷ cs) h = ⊎_elim
     counted : (c w : ℕ) → (97 ≤ c) × (c ≤ 122) → ((c + 1) - 96) + 26 * w ≡ suc ((c - 96) + 26 * w)
     counted c w h = let a = h.0 in omega arith
 
-written-letters : (n : ℕ) → written (letters n) ≡ n
+pub written-letters : (n : ℕ) → written (letters n) ≡ n
 written-letters zero = refl
 written-letters (suc n) = written-next (letters n) (lower_letters n) ∙ ap suc (written-letters n)
 

@@ -31,3 +31,14 @@ pub mod ExampleFacts
 pub mod AcceptedExamples
 pub mod TreeChunks
 pub mod EditFiles
+pub mod Unrefuted
+pub mod WrittenRows
+pub mod EditedItems
+pub mod SetField
+pub mod DropField
+pub mod AddedEntries
+pub mod MovedEntries
+pub mod RekeyedEntries
+pub mod ChangedParts
+pub mod MadeKeyLengths
+pub mod EditedReads

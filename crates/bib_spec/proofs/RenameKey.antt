@@ -21,7 +21,7 @@ use Rattle.bib_spec.proofs.CitedLists.{rekeying_keeps}
 
 -- A key is its own field text.
 
-key_byte_plain : (b : ℕ) → is_new_key_byte b ≡ true → is_space b ≡ false
+pub key_byte_plain : (b : ℕ) → is_new_key_byte b ≡ true → is_space b ≡ false
 unfolding is_new_key_byte is_space
 key_byte_plain b h =
     let above : 32 < b = ltb-true 32 b (and_parts (nat_lt 32 b) (not (list_any (λ c. c == b) (delete ∷ codes ",{}"))) h).0 in

@@ -4,10 +4,10 @@ use Rattle.std.specs.Prelude.{◌≡◌, ℕ, ◌-◌, true, false, List, [], �
 use Rattle.std.specs.List.{last_or}
 use Rattle.std.specs.Option.{option_map_or}
 use Rattle.bib_spec.specs.Text.{Text}
-use Rattle.bib_spec.specs.Tree.{Part, Braced, Quoted, Digits, Macro, Value, Row, Delimiter, Brace, Paren, Opening, CommentTree, DefinitionTree, EntryTree}
+use Rattle.bib_spec.specs.Tree.{Part, Braced, Quoted, Digits, Macro, Value, Row, Delimiter, Brace, Paren, Opening, CommentTree, DefinitionTree, PreambleTree, EntryTree}
 use Rattle.bib_spec.specs.Reading.{Item, Reading, bytes_of}
-use Rattle.bib_spec.specs.Texts.{is_empty, words, seen}
-use Rattle.bib_spec.specs.Records.{Record, entries_of, keys_of, dangling_texts, is_repeated, parent, expanded, listed, unknown}
+use Rattle.bib_spec.specs.Texts.{is_empty, words, field_text, seen}
+use Rattle.bib_spec.specs.Records.{Record, entries_of, preambles_of, keys_of, crossref_text, dangling_texts, is_repeated, target, parent, expanded, listed, unknown}
 use Rattle.bib_spec.specs.Pieces.{Piece}
 use Rattle.bib_spec.specs.MadeKeys.{free_key, IsKeyBase}
 use Rattle.bib_spec.specs.Edits.{NewEntry, Edit, SetField, DropField, AddEntry, RemoveEntry, MoveEntry, RenameKey, RenameMacro, InlineMacro, IntroduceMacro, RegenerateKeys, AddMany, edited, Refuses, IsAccepted, BadKey, BadName, BadValue, BadPosition, NotFound, Ambiguous, KeyInUse, NameInUse, Referred, WouldMerge}
@@ -195,6 +195,18 @@ pub record UseBeforeDefinitionIsLeft : Type 0 where
   pub renamed : file_after used_before (RenameMacro (codes "m") (codes "n")) ≡ codes "@misc{a, t = m}@string{n = 1}@misc{b, t = n}"
   pub digits : Refuses author_year NotFound used_before (IntroduceMacro (codes "k") (codes "1"))
 
+abbrev pub preamble : Value → Item
+preamble value = record { tree = PreambleTree (record { opening = opened Brace (codes "preamble"); value = value; space_behind = [] }); trail = [] }
+
+abbrev pub joined_text : Reading
+joined_text = file (preamble (both (Quoted (codes "a")) (Braced (codes " b"))) ∷ [])
+
+-- what parts say is joined as it stands; a field's text has one space for each run of white space, and none at its ends
+pub record TextsAreJoined : Type 0 where
+  pub bytes : bytes_of joined_text ≡ codes "@preamble{\"a\" # { b}}"
+  pub preamble_text : preambles_of joined_text ≡ codes "a b" ∷ []
+  pub squeezed : field_text (codes " a \n\tb ") ≡ codes "a b"
+
 -- ---- fields
 
 -- `@misc{a, t = 1,}`
@@ -320,6 +332,20 @@ pub record ParentIsCitedWithChildren : Type 0 where
   pub unknown_keys : unknown (entries_of conference) citations ≡ 1 ∷ []
   pub fields : fields_of 1 conference 0 ≡ (codes "title", codes "One") ∷ (codes "booktitle", codes "Proc") ∷ (codes "year", codes "2001") ∷ []
   pub removed : Refuses author_year Referred conference (RemoveEntry (codes "p"))
+
+abbrev pub crossing : Reading
+crossing = file (
+    misc (codes "a") (cites (codes "a") ∷ []) ∷ misc (codes "b") [] ∷ misc (codes "c") (cites (codes "B") ∷ []) ∷ misc (codes "d") (cites (codes "q") ∷ []) ∷ [])
+
+-- a crossref may name the entry itself, which then is no parent, or none at all
+pub record CrossrefsFindTargets : Type 0 where
+  pub bytes : bytes_of crossing ≡ codes "@misc{a, crossref = {a}}@misc{b}@misc{c, crossref = {B}}@misc{d, crossref = {q}}"
+  pub targets : map (target (entries_of crossing)) (0 ∷ 1 ∷ 2 ∷ 3 ∷ []) ≡ Some 0 ∷ None ∷ Some 1 ∷ None ∷ []
+  pub parents : map (parent (entries_of crossing)) (0 ∷ 1 ∷ 2 ∷ 3 ∷ []) ≡ None ∷ None ∷ Some 1 ∷ None ∷ []
+  pub crossrefs : map crossref_text (entries_of crossing) ≡ Some (codes "a") ∷ None ∷ Some (codes "B") ∷ Some (codes "q") ∷ []
+  pub dangling : dangling_texts (entries_of crossing) ≡ codes "q" ∷ []
+  pub own : fields_of 1 crossing 0 ≡ []
+  pub all : listed (entries_of crossing) (codes "*" ∷ []) 1 ≡ 0 ∷ 1 ∷ 2 ∷ 3 ∷ []
 
 abbrev pub named_by_macro : Reading
 named_by_macro = file (

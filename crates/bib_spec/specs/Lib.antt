@@ -15,3 +15,4 @@ pub mod Steps
 pub mod Laws
 pub mod OtherLaws
 pub mod Examples
+pub mod EditLaws

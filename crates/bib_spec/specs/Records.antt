@@ -51,7 +51,7 @@ preambles_of db = gathered preamble_in months db.items
 abbrev pub crossref : Text
 crossref = codes "crossref"
 
--- the field has this name (btxdoc 3)
+-- the field has this name (btxhak 5.1)
 abbrev pub has_name : Text → Field → Bool
 has_name name field = same field.name name
 
@@ -66,7 +66,7 @@ crossref_text entry = option_map (λ field. field_text field.raw) (find (has_nam
 
 -- ---- keys and crossrefs
 
--- the text names the key: it is the key, which is not empty (btxdoc 3)
+-- the text names the key: it is the key, which is not empty (btxdoc 3.2; folded: dialect)
 abbrev pub is_named : Text → Text → Bool
 is_named text key = not (is_empty key) && same key text
 
@@ -90,7 +90,7 @@ is_repeated entries n = option_map_or (λ entry. list_any (is_named entry.key) (
 abbrev pub target_of : List EntryTexts → EntryTexts → Option ℕ
 target_of entries entry = option_and_then (entry_named entries) (crossref_text entry)
 
--- the target of entry n: the entry that its crossref names, before or behind it (btxdoc 3; dialect)
+-- the target of entry n: the entry that its crossref names, before or behind it (btxdoc 2.1; dialect)
 abbrev pub target : List EntryTexts → ℕ → Option ℕ
 target entries n = option_and_then (target_of entries) (slice_get entries n)
 
@@ -115,7 +115,7 @@ dangling_texts entries = filter_map (dangling_text entries) entries
 abbrev pub RecordField : Type 0
 RecordField = Text × Text
 
--- what a style is given of an entry (btxdoc 3)
+-- what a style is given of an entry (btxhak 5.1)
 pub record Record : Type 0 where
   pub kind_name : Text
   pub key : Text
@@ -136,7 +136,7 @@ missing own fields = filter (λ field. not (list_any (λ other. same other.0 fie
 abbrev pub depth_limit : ℕ
 depth_limit = 8
 
--- one parent, as BibTeX has it (btxdoc 3)
+-- one parent, as BibTeX has it (btxdoc 2.1)
 abbrev pub default_depth : ℕ
 default_depth = 1
 
@@ -161,7 +161,7 @@ ancestors entries depth n = ancestors_from (parent entries) depth (n ∷ []) n
 abbrev pub fields_at : List EntryTexts → ℕ → List RecordField
 fields_at entries n = option_map_or own_fields (slice_get entries n) []
 
--- the fields, and of each of these entries in turn those that are still missing (btxdoc 3)
+-- the fields, and of each of these entries in turn those that are still missing (btxdoc 2.1)
 abbrev pub with_inherited : List EntryTexts → List RecordField → List ℕ → List RecordField
 with_inherited entries own [] = own
 with_inherited entries own (n ∷ ns) = with_inherited entries (own ++ missing own (fields_at entries n)) ns
@@ -196,7 +196,7 @@ cited_by_key entries keys = once (filter_map (entry_named entries) keys)
 abbrev pub is_parent_of : List EntryTexts → ℕ → ℕ → Bool
 is_parent_of entries m n = option_map_or (λ p. p == m) (parent entries n) false
 
--- the listed entries, and then the others that are the parent of at least min of them, in file order (btxdoc 3; dialect)
+-- the listed entries, and then the others that are the parent of at least min of them, in file order (btxdoc 2.1; dialect)
 abbrev pub with_parents : List EntryTexts → ℕ → List ℕ → List ℕ
 with_parents entries min listed =
     listed ++ filter (λ m. not (list_any (λ n. n == m) listed) && nat_le min (count_by (is_parent_of entries m) listed)) (numbers_of entries)
@@ -207,7 +207,7 @@ cites_all [] = false
 cites_all (key ∷ []) = bytes_eq key (codes "*")
 cites_all (key ∷ other ∷ keys) = false
 
--- the cited list of keys; `*` alone cites all entries, in file order (btxdoc 4; dialect)
+-- the cited list of keys; `*` alone cites all entries, in file order (btxdoc 2.1; dialect)
 abbrev pub listed : List EntryTexts → List Text → ℕ → List ℕ
 listed entries keys min = if cites_all keys then numbers_of entries else with_parents entries min (cited_by_key entries keys)
 

@@ -62,7 +62,7 @@ is_new_key t = nat_lt 0 (length t) && nat_le (length t) name_limit && list_all i
 abbrev pub folded : Text → Text
 folded t = map to_ascii_lowercase t
 
--- two texts are the same but for the case of ASCII letters (btxdoc 3)
+-- two texts are the same but for the case of ASCII letters (btxhak 5.1 for names of fields and macros; for keys and types: dialect)
 abbrev pub same : Text → Text → Bool
 same a b = bytes_eq (folded a) (folded b)
 
@@ -76,11 +76,11 @@ opened_before t n = count_by (λ b. b == open_brace) (take n t)
 abbrev pub closed_before : Text → ℕ → ℕ
 closed_before t n = count_by (λ b. b == close_brace) (take n t)
 
--- no prefix closes more braces than it opens, and the whole closes all (btxdoc 4)
+-- no prefix closes more braces than it opens, and the whole closes all (dialect)
 pub record IsBalanced (t : Text) : Type 0 where
   pub never_negative : (n : ℕ) → closed_before t n ≤ opened_before t n
   pub all_closed : closed_before t (length t) ≡ opened_before t (length t)
 
--- a quotation mark stands only inside braces (btxdoc 4)
+-- a quotation mark stands only inside braces (dialect)
 abbrev pub QuotesAreBraced : Text → Type 0
 QuotesAreBraced t = (n : ℕ) → n < length t → slice_index t n ≡ quote → closed_before t n < opened_before t n

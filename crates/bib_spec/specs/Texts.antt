@@ -20,7 +20,7 @@ Macros = Text → Option Text
 abbrev pub updated : Macros → Text → Option Text → Macros
 updated macros name text = λ x. if bytes_eq x (folded name) then text else macros x
 
--- the twelve macros that are there from the start, as the style `plain` has them (btxdoc 2.2)
+-- the twelve macros that are there from the start, as the style `plain` has them (btxhak 5.2; dialect)
 abbrev pub month_names : List (Text × Text)
 month_names =
     (codes "jan", codes "January") ∷ (codes "feb", codes "February") ∷ (codes "mar", codes "March") ∷ (codes "apr", codes "April")
@@ -63,7 +63,7 @@ macros_in macros (CommentTree h) = macros
 macros_in macros (PreambleTree p) = macros
 macros_in macros (EntryTree e) = macros
 
--- The macros behind an item: a definition replaces an earlier one, also a month, for what follows. (btxdoc 2.2)
+-- The macros behind an item: a definition replaces an earlier one, also a month, for what follows. (btxhak 5.2)
 abbrev pub macros_after : Macros → Tree → Macros
 macros_after macros (DefinitionTree d) =
     updated macros d.assignment.name (Some (raw_text (macros_in macros (DefinitionTree d)) d.assignment.value))
@@ -98,7 +98,7 @@ abbrev pub words : Text → List Text
 words [] = [] ∷ []
 words (b ∷ t) = if is_space b then [] ∷ words t else onto_first b (words t)
 
--- each run of white space as one space, and none at the ends (btxhak; done once, behind joining: dialect)
+-- each run of white space as one space, and none at the ends (as BibTeX does; done once, behind joining: dialect)
 unfoldable pub field_text : Text → Text
 field_text t = join_with_byte space (filter (λ word. not (is_empty word)) (words t))
 

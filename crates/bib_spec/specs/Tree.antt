@@ -151,7 +151,7 @@ abbrev pub IsSpace : Text → Type 0
 IsSpace t = AllPass is_space t
 
 -- Braces balance in braced and in quoted parts, a quotation mark inside braces does not end a quoted one, and a
--- backslash protects nothing. (btxdoc 4; dialect)
+-- backslash protects nothing. (dialect)
 abbrev pub IsPart : ℕ → Part → Type 0
 IsPart limit (Braced t) = IsBalanced t
 IsPart limit (Quoted t) = IsBalanced t × QuotesAreBraced t

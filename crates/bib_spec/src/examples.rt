@@ -1,6 +1,6 @@
 //! What the definitions say of small files, and what goes wrong without each condition of an edit.
 
-ghost use Rattle.bib_spec.specs.Examples.{MacroIsReadWhereItStands, MonthIsOverridden, MacroIsInlinedAsText, TextGetsName, UseBeforeDefinitionIsLeft, FieldIsSetAndDropped, FirstCounts, EntriesAreAddedAndMoved, JoinedTextStaysText, TrailJoinsTextBefore, ParentIsCitedWithChildren, CrossrefOfPartsIsRenamed, RecordInheritsAlongChain, MadeKeysSwap, MadeKeysDiffer, MadeKeysReadTheChain, DanglingCrossrefFindsKey, KeyInUseTakesChildren, SpacedKeyLosesChildren, RepeatedKeyTakesChildren, RemovedParentLeavesChildren, AddedKeyTakesChildren, HighPlaceIsNotReached, KeyBaseIsNeeded, NameInUseGivesText, MacroDefinedTwiceHasTwoTexts, StarCitesAll, EditsAreAccepted};
+ghost use Rattle.bib_spec.specs.Examples.{MacroIsReadWhereItStands, MonthIsOverridden, MacroIsInlinedAsText, TextGetsName, UseBeforeDefinitionIsLeft, TextsAreJoined, FieldIsSetAndDropped, FirstCounts, EntriesAreAddedAndMoved, JoinedTextStaysText, TrailJoinsTextBefore, ParentIsCitedWithChildren, CrossrefsFindTargets, CrossrefOfPartsIsRenamed, RecordInheritsAlongChain, MadeKeysSwap, MadeKeysDiffer, MadeKeysReadTheChain, DanglingCrossrefFindsKey, KeyInUseTakesChildren, SpacedKeyLosesChildren, RepeatedKeyTakesChildren, RemovedParentLeavesChildren, AddedKeyTakesChildren, HighPlaceIsNotReached, KeyBaseIsNeeded, NameInUseGivesText, MacroDefinedTwiceHasTwoTexts, StarCitesAll, EditsAreAccepted};
 
 /// A use sees the last definition before it, and a month where there is none.
 pub fn a_macro_is_read_where_it_stands()
@@ -25,6 +25,11 @@ pub fn a_text_gets_a_name()
 /// A use before the definition means something else, and is left.
 pub fn a_use_before_the_definition_is_left()
     ensures { UseBeforeDefinitionIsLeft }
+{}
+
+/// What parts say is joined as it stands, and a field's text has single spaces.
+pub fn texts_are_joined()
+    ensures { TextsAreJoined }
 {}
 
 /// A new field stands behind the last value; a dropped one takes its comma along.
@@ -55,6 +60,11 @@ pub fn a_trail_joins_the_text_before()
 /// A parent is listed once enough of its children are, and gives them what they lack.
 pub fn a_parent_is_cited_with_its_children()
     ensures { ParentIsCitedWithChildren }
+{}
+
+/// A crossref may name the entry itself, which then is no parent, or none at all.
+pub fn crossrefs_find_targets()
+    ensures { CrossrefsFindTargets }
 {}
 
 /// A crossref is what its parts say.

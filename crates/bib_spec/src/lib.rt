@@ -2,6 +2,7 @@
 //! code here, only functions that do nothing and carry the laws about the definitions.
 #![tactic(auto)]
 
+mod edits;
 mod examples;
 mod histories;
 mod macros;
@@ -11,6 +12,7 @@ mod replacing;
 mod stepping;
 mod untouched_items;
 
+pub use edits::an_accepted_edit_makes_a_file_that_opens;
 pub use examples::{
     a_crossref_of_parts_is_renamed, a_dangling_crossref_finds_a_key, a_field_is_set_and_dropped,
     a_high_place_is_not_reached, a_key_base_is_needed, a_key_in_use_takes_children,
@@ -19,9 +21,9 @@ pub use examples::{
     a_name_in_use_gives_text, a_parent_is_cited_with_its_children, a_record_inherits_along_a_chain,
     a_removed_parent_leaves_children, a_repeated_key_takes_children, a_star_cites_all,
     a_text_gets_a_name, a_trail_joins_the_text_before, a_use_before_the_definition_is_left,
-    an_added_key_takes_children, edits_are_accepted, entries_are_added_and_moved,
-    joined_text_stays_text, made_keys_change_places, made_keys_differ, made_keys_read_the_chain,
-    the_first_of_a_name_counts,
+    an_added_key_takes_children, crossrefs_find_targets, edits_are_accepted,
+    entries_are_added_and_moved, joined_text_stays_text, made_keys_change_places, made_keys_differ,
+    made_keys_read_the_chain, texts_are_joined, the_first_of_a_name_counts,
 };
 pub use histories::{
     each_move_leads_to_one_history, the_ends_are_reached, undo_and_redo_are_opposites,

@@ -74,10 +74,11 @@ impl Read for Endless {
     }
 }
 
-/// Keeps what it takes, a piece a call, but for its faults.
+/// Keeps what it takes, a piece a call, but for its faults, and counts how often it is flushed.
 #[derive(Drop)]
 pub struct Taker {
     pub taken: Vec<u8>,
+    pub flushes: u32,
     piece: usize,
     faults: Faults,
 }
@@ -86,6 +87,7 @@ impl Taker {
     pub fn new(alloc: Global, piece: usize, faults: Faults) -> Taker {
         Taker {
             taken: Vec::new(alloc),
+            flushes: 0,
             piece,
             faults,
         }
@@ -108,6 +110,7 @@ impl Write for Taker {
     }
 
     fn flush(&mut self) -> io::Result<()> {
+        self.flushes = self.flushes.saturating_add(1);
         Ok(())
     }
 }

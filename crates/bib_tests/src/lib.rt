@@ -11,3 +11,7 @@ mod names;
 mod reading;
 #[cfg(test)]
 mod running;
+#[cfg(test)]
+mod values;
+#[cfg(test)]
+mod views;

@@ -233,5 +233,6 @@ fn a_tap_hands_a_flush_on(rt: HostRuntime) -> Result<(), Fail> {
     let mut out = Tap::new(Taker::new(alloc, 1, breaks_at(0)));
     assert!(rt; out.flush().is_ok() && !out.failed());
     assert!(rt; out.write(b"x").is_err() && out.failed());
+    assert_eq!(rt; out.into_inner().flushes, 1);
     Ok(())
 }

@@ -1,16 +1,29 @@
-use Rattle.std.proofs.Common.{sym, ap, ◌∙◌}
+use Rattle.std.proofs.Common.{ℕ, ◌≡◌, ◌-◌, length, sym, ap, subst, arith}
+use Rattle.std.proofs.lemmas.List.{length-append}
 use Rattle.bib_spec.specs.Bytes.{name_limit}
-use Rattle.bib_spec.specs.Text.{Text}
-use Rattle.bib_scan.specs.Code.{halt_of}
-use Rattle.bib_scan.specs.ValueParts.{spans_of}
-use Rattle.bib_scan.specs.PartsLeft.{read_all_parts}
-use Rattle.bib_scan.proofs.RunLaws.{not_ok}
-use Rattle.bib_scan.proofs.TakenApart.{value_found, value_apart}
+use Rattle.bib_spec.specs.Fault.{fault_number}
+use Rattle.bib_scan.specs.Code.{fault_of, halt_of}
+use Rattle.bib_scan.specs.ValueParts.{IsValueFault, no_value, no_memory}
+use Rattle.bib_scan.proofs.TakenApart.{value_found}
+use Rattle.bib_scan.proofs.PartsFaults.{refused_whole}
+use Rattle.bib_scan.proofs.WholeValueLaws.{stops_by, hopeless_value, value_fault}
 use Rattle.bib_scan.proofs.parts.read_value.Goals as goal
+
+pub overflow_sub-result : goal.overflow_sub-result
+overflow_sub-result c =
+    let at = stops_by name_limit (omega arith) c.args.bytes.now (halt_of c.in-Err-Fault.stop) (refused_whole name_limit c.args.bytes.now (halt_of c.in-Err-Fault.stop) (rw c.in-Err-Fault.field-0-is at c.in-Err-Fault.ensures)) in
+    omega (arith, ap (length {A = ℕ}) at.split, length-append at.front c.in-Err-Fault.stop.rest.now)
 
 pub returns-in-Ok-clause-found : goal.returns-in-Ok-clause-found
 returns-in-Ok-clause-found c = value_found c.args.bytes.now c.in-Ok.spans.items c.in-Ok.ensures
 
-pub returns-in-Err-Fault-clause-refused : goal.returns-in-Err-Fault-clause-refused
-returns-in-Err-Fault-clause-refused c low (v, is, whole) =
-    not_ok (spans_of v) (halt_of c.in-Err-Fault.stop) (read_all_parts name_limit c.args.bytes.now) (rw c.in-Err-Fault.field-0-is at c.in-Err-Fault.ensures) (ap (λ (t : Text). read_all_parts name_limit t) (sym whole) ∙ value_apart v is)
+pub returns-in-Err-Memory-clause-fault : goal.returns-in-Err-Memory-clause-fault
+returns-in-Err-Memory-clause-fault c = no_memory
+
+pub returns-in-Err-Fault-clause-fault : goal.returns-in-Err-Fault-clause-fault
+returns-in-Err-Fault-clause-fault c =
+    let t = c.args.bytes.now in
+    let h = halt_of c.in-Err-Fault.stop in
+    let refused = refused_whole name_limit t h (rw c.in-Err-Fault.field-0-is at c.in-Err-Fault.ensures) in
+    let place = length t - length h.rest in
+    subst (λ (n : ℕ). IsValueFault t n place) (sym c.number.ensures) (no_value h.fault place (hopeless_value name_limit (omega arith) t h refused) (value_fault t h refused))

@@ -1,9 +1,11 @@
 use Rattle.std.proofs.Common.{ℕ, length, ap, arith}
 use Rattle.std.proofs.lemmas.List.{length-append}
 use Rattle.bib_spec.specs.Bytes.{name_limit}
+use Rattle.bib_spec.specs.Fault.{too_long, no_memory}
 use Rattle.bib_scan.specs.Code.{halt_of}
 use Rattle.bib_scan.proofs.ReadingLaws.{reading_of}
-use Rattle.bib_scan.proofs.HopelessLaws.{stops_at, hopeless}
+use Rattle.bib_scan.proofs.HopelessLaws.{stops_at}
+use Rattle.bib_scan.proofs.KindLaws.{read_fault}
 use Rattle.bib_scan.proofs.reading.read.Goals as goal
 
 pub overflow_sub-result : goal.overflow_sub-result
@@ -16,6 +18,13 @@ returns-in-Ok-clause-found c =
     let r = reading_of name_limit c.args.bytes.now _ c.in-Ok.ensures in
     (omega (arith, c.if-bytes-gt-FILE_LIMIT.false), (r.0, r.1, rw (c.new.ensures, c.next_command.ensures.read) r.2))
 
-pub returns-in-Err-Fault-clause-place : goal.returns-in-Err-Fault-clause-place
-returns-in-Err-Fault-clause-place c low =
-    hopeless name_limit (omega arith) c.args.bytes.now (halt_of c.in-Err-Fault.stop) (rw c.in-Err-Fault.field-0-is at c.in-Err-Fault.ensures)
+pub returns-then-bytes-gt-FILE_LIMIT-clause-fault : goal.returns-then-bytes-gt-FILE_LIMIT-clause-fault
+returns-then-bytes-gt-FILE_LIMIT-clause-fault c = too_long (omega (arith, c.if-bytes-gt-FILE_LIMIT.true))
+
+pub returns-in-Err-Memory-clause-fault : goal.returns-in-Err-Memory-clause-fault
+returns-in-Err-Memory-clause-fault c = no_memory (omega (arith, c.if-bytes-gt-FILE_LIMIT.false))
+
+pub returns-in-Err-Fault-clause-fault : goal.returns-in-Err-Fault-clause-fault
+returns-in-Err-Fault-clause-fault c =
+    let read = read_fault c.args.bytes.now (halt_of c.in-Err-Fault.stop) (omega (arith, c.if-bytes-gt-FILE_LIMIT.false)) (rw c.in-Err-Fault.field-0-is at c.in-Err-Fault.ensures) in
+    rw c.number.ensures read

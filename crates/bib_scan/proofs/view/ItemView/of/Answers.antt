@@ -8,8 +8,8 @@ use Rattle.bib_scan.specs.declared.view.Kind.TheVariants as kind
 use Rattle.bib_scan.proofs.HeadLaws.{view_found, plain_view}
 use Rattle.bib_scan.proofs.view.ItemView.of.Goals as goal
 
-pub returns-in-Entry : goal.returns-in-Entry
-returns-in-Entry c =
+pub returns-in-Entry-clause-item : goal.returns-in-Entry-clause-item
+returns-in-Entry-clause-item c tree is whole =
     let body : Text = c.args.body.now in
     let trail : Text = c.args.trail.now in
     let inside : Text = c.split_opening-delimiter.result.1.now in
@@ -18,23 +18,21 @@ returns-in-Entry c =
     let rows : c.past_space-in-Entry.result.now ≡ after_run is_space (after_run (goes_on_key d) inside) =
     c.past_space-in-Entry.ensures.rest ∙ ap (after_run is_space) (c.split_at.ensures.back ∙ ap (λ (n : ℕ). drop n inside) c.key_len.ensures.len) in
     let opened = c.split_opening-delimiter.ensures.parts ∙ ap read_opening c.past_space.ensures.rest in
-    record {
-      item = λ tree is whole. (λ i. record {
-        kind = kind.Entry;
-        body = body;
-        trail = trail;
-        type_name = c.split_head.result.0.now;
-        key = key i;
-        key_at = length body - length inside;
-        fields = all_fields_left kind.Entry (length body) (rows i);
-      }) ∙ view_found body trail _ kind.Entry _ tree c.split_head.ensures.parts (sym c.in-Entry.is ∙ c.named.ensures) opened is whole;
-    }
+    (λ i. record {
+      kind = kind.Entry;
+      body = body;
+      trail = trail;
+      type_name = c.split_head.result.0.now;
+      key = key i;
+      key_at = length body - length inside;
+      fields = all_fields_left kind.Entry (length body) (rows i);
+    })
+    ∙ view_found body trail _ kind.Entry _ tree c.split_head.ensures.parts (sym c.in-Entry.is ∙ c.named.ensures) opened is whole
 
-pub returns-in_default : goal.returns-in_default
-returns-in_default c =
+pub returns-in_default-clause-item : goal.returns-in_default-clause-item
+returns-in_default-clause-item c tree is whole =
     let body : Text = c.args.body.now in
     let trail : Text = c.args.trail.now in
     let opened = c.split_opening-delimiter.ensures.parts ∙ ap read_opening c.past_space.ensures.rest in
-    record {
-      item = λ tree is whole. sym (plain_view body trail c.split_head.result.0.now c.named.result (delimiter_view c.split_opening-delimiter.result.0, c.split_opening-delimiter.result.1.now) c.in_default.not-Entry) ∙ view_found body trail _ c.named.result _ tree c.split_head.ensures.parts c.named.ensures opened is whole;
-    }
+    sym (plain_view body trail c.split_head.result.0.now c.named.result (delimiter_view c.split_opening-delimiter.result.0, c.split_opening-delimiter.result.1.now) c.in_default.not-Entry)
+    ∙ view_found body trail _ c.named.result _ tree c.split_head.ensures.parts c.named.ensures opened is whole

@@ -1,0 +1,90 @@
+-- The entries that the code keeps by folded names, as the list of the names with their values.
+use Rattle.std.proofs.Common.{◌≡◌, ℕ, ◌<◌, ◌≤◌, Bool, true, false, cond, List, [], ◌∷◌, length, refl, sym, ap, subst, ◌∙◌, arith, Option, None, Some, if◌then◌else◌, ⊎_elim}
+use Rattle.std.proofs.lemmas.Bool.{cases_Bool, cond-true, cond-false, both_ways, false_from_ne_true, and_parts, leb-true}
+use Rattle.std.proofs.lemmas.Slice.Eq.{bytes_eq-Decides}
+use Rattle.std.specs.declared.vec.Vec.{Vec}
+use Rattle.std.specs.Str.{bytes_eq}
+use Rattle.std.specs.HashMap.{HashMap}
+use Rattle.indexmap.specs.IndexMap.{insert_entry, get_by}
+use Rattle.bib_spec.specs.Bytes.{name_limit}
+use Rattle.bib_spec.specs.Text.{Text, folded, is_name, is_name_within, does_not_begin_with}
+use Rattle.std.specs.Prelude.{◌&&◌, nat_lt, nat_le, IsTrue}
+use Rattle.std.specs.Char.{to_ascii_lowercase, is_ascii_digit}
+use Rattle.std.proofs.lemmas.List.{length-map}
+use Rattle.bib_value.specs.FoldedMap.{value_at, by_name, NamesAreShort}
+
+-- how the code compares two names
+abbrev pub same_name : {Z : Type 0} → Vec ℕ Z → Vec ℕ Z → Bool
+same_name a b = bytes_eq a.items b.items
+
+-- the code finds the value of a name
+pub value_at-by_name : {V Z S : Type 0} (m : HashMap (Vec ℕ Z) V S) (name : Text) → get_by (λ k. bytes_eq name k.items) m ≡ value_at (by_name m.entries) name
+value_at-by_name {V} {Z} m name = along m.entries
+  where
+    along : (es : List (Vec ℕ Z × V)) → Rattle.std.specs.Map.lookup (λ (k : Vec ℕ Z). bytes_eq name k.items) es ≡ value_at (by_name es) name
+    along [] = refl
+    along (e ∷ es) = ap (cond (bytes_eq name e.0.items) (Some e.1)) (along es)
+
+same_text : (a b : Text) → bytes_eq a b ≡ true → a ≡ b
+same_text a b h = (bytes_eq-Decides a b).0 h
+
+not_longer : (a b : Text) → length b < length a → bytes_eq a b ≡ false
+not_longer a b longer = false_from_ne_true (bytes_eq a b) (λ h. let e = ap (length {A = ℕ}) (same_text a b h) in absurd (omega (arith, e, longer)))
+
+-- a name that is too long has no value
+pub value_at-long : {V Z : Type 0} (es : List (Vec ℕ Z × V)) (name : Text) → NamesAreShort es → name_limit < length name → value_at (by_name es) name ≡ None
+value_at-long [] name short longer = refl
+value_at-long (e ∷ es) name short longer =
+    cond-false (bytes_eq name e.0.items) _ _ (not_longer name e.0.items (omega (arith, short.0, longer)))
+    ∙ value_at-long es name short.1 longer
+
+-- names stay short where a short one is put in
+pub names_are_short-insert : {V Z : Type 0} (es : List (Vec ℕ Z × V)) (k : Vec ℕ Z) (v : V) → length k.items ≤ name_limit → NamesAreShort es → NamesAreShort (insert_entry same_name es k v)
+names_are_short-insert [] k v is short = (is, tt)
+names_are_short-insert {V} {Z} (e ∷ es) k v is short =
+    ⊎_elim
+    (λ same. subst NamesAreShort (sym (cond-true (same_name k e.0) ((e.0, v) ∷ es) (e ∷ insert_entry same_name es k v) same)) (short.0, short.1))
+    (λ other. subst NamesAreShort (sym (cond-false (same_name k e.0) ((e.0, v) ∷ es) (e ∷ insert_entry same_name es k v) other)) (short.0, names_are_short-insert es k v is short.1))
+    (cases_Bool (same_name k e.0))
+
+-- what is put in is found, and the rest is found as before
+pub value_at-insert : {V Z : Type 0} (es : List (Vec ℕ Z × V)) (k : Vec ℕ Z) (v : V) (x : Text) → value_at (by_name (insert_entry same_name es k v)) x ≡ (if bytes_eq x k.items then Some v else value_at (by_name es) x)
+value_at-insert [] k v x = refl
+value_at-insert {V} {Z} (e ∷ es) k v x = ⊎_elim same (other (value_at-insert es k v x)) (cases_Bool (same_name k e.0))
+  where
+    same : same_name k e.0 ≡ true → value_at (by_name (insert_entry same_name (e ∷ es) k v)) x ≡ (if bytes_eq x k.items then Some v else value_at (by_name (e ∷ es)) x)
+    same h =
+        let e1 : k.items ≡ e.0.items = same_text k.items e.0.items h in
+        let e2 : value_at (by_name (insert_entry same_name (e ∷ es) k v)) x ≡ (if bytes_eq x e.0.items then Some v else value_at (by_name es) x) = ap (λ l. value_at (by_name l) x) (cond-true (same_name k e.0) ((e.0, v) ∷ es) (e ∷ insert_entry same_name es k v) h) in
+        let twice : (b : Bool) → cond b (Some v) (value_at (by_name es) x) ≡ cond b (Some v) (cond b (Some e.1) (value_at (by_name es) x)) = elim [ true ↦ refl | false ↦ refl ] in
+        e2 ∙ twice (bytes_eq x e.0.items) ∙ ap (λ (t : Text). if bytes_eq x t then Some v else value_at (by_name (e ∷ es)) x) (sym e1)
+
+    other : value_at (by_name (insert_entry same_name es k v)) x ≡ (if bytes_eq x k.items then Some v else value_at (by_name es) x) → same_name k e.0 ≡ false → value_at (by_name (insert_entry same_name (e ∷ es) k v)) x ≡ (if bytes_eq x k.items then Some v else value_at (by_name (e ∷ es)) x)
+    other later h =
+        let e2 : value_at (by_name (insert_entry same_name (e ∷ es) k v)) x ≡ (if bytes_eq x e.0.items then Some e.1 else (if bytes_eq x k.items then Some v else value_at (by_name es) x)) = ap (λ l. value_at (by_name l) x) (cond-false (same_name k e.0) ((e.0, v) ∷ es) (e ∷ insert_entry same_name es k v) h) ∙ ap (cond (bytes_eq x e.0.items) (Some e.1)) later in
+        e2 ∙ swapped (bytes_eq x e.0.items) (bytes_eq x k.items) (Some e.1) (Some v) (value_at (by_name es) x) apart
+      where
+        apart : bytes_eq x e.0.items ≡ true → bytes_eq x k.items ≡ true → ⊥
+        apart p q = both_ways (same_name k e.0) h ((bytes_eq-Decides k.items e.0.items).1 (sym (same_text x k.items q) ∙ same_text x e.0.items p))
+
+        swapped : (a b : Bool) (p q r : Option V) → (a ≡ true → b ≡ true → ⊥) → cond a p (cond b q r) ≡ cond b q (cond a p r)
+        swapped true true p q r never = absurd (never refl refl)
+        swapped true false p q r never = refl
+        swapped false true p q r never = refl
+        swapped false false p q r never = refl
+
+-- folding keeps the length
+pub folded_long : (name : Text) → name_limit < length name → name_limit < length (folded name)
+folded_long name longer = subst (λ (n : ℕ). name_limit < n) (sym (length-map name to_ascii_lowercase)) longer
+
+pub folded_short : (name : Text) → length name ≤ name_limit → length (folded name) ≤ name_limit
+folded_short name short = subst (λ (n : ℕ). n ≤ name_limit) (sym (length-map name to_ascii_lowercase)) short
+
+-- a name is short
+pub name_short : (name : Text) → IsTrue (is_name name) → length name ≤ name_limit
+unfolding is_name_within
+name_short name is =
+    let some = nat_lt 0 (length name) in
+    let short = nat_le (length name) name_limit in
+    let no_digit = does_not_begin_with is_ascii_digit name in
+    leb-true (length name) name_limit (and_parts some short (and_parts (some && short) no_digit (and_parts (some && short && no_digit) _ is).0).0).1

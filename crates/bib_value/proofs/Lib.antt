@@ -1,0 +1,4 @@
+pub mod Entries
+pub mod FieldTextLemmas
+pub mod MonthLemmas
+pub mod RawLemmas

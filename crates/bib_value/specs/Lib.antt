@@ -1,0 +1,5 @@
+pub mod FoldedMap
+pub mod Faults
+pub mod Macros
+pub mod Months
+pub mod Raw

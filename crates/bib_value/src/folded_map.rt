@@ -1,0 +1,74 @@
+//! Values by names, without regard to ASCII case.
+
+ghost use Rattle.std.specs.Prelude.{◌≡◌, ◌≤◌, None, length, OnOk, OnErr};
+ghost use Rattle.std.specs.Option.{option_copied};
+ghost use Rattle.bib_spec.specs.Bytes.{name_limit};
+ghost use Rattle.bib_spec.specs.Text.{Text, folded};
+ghost use Rattle.bib_value.specs.FoldedMap.{value_at, IsWith};
+
+use crate::folding::FoldedName;
+use bib_scan::NAME_LIMIT;
+use indexmap::IndexMap;
+use std::alloc::{AllocError, AllocFailed, Global};
+use std::marker::Model;
+
+/// A value for each of some names of at most 255 bytes. Names are compared without regard to ASCII case.
+/// A contract sees the list of the names, folded, with their values.
+#[derive(Drop)]
+pub struct FoldedMap<V> {
+    alloc: Global,
+    entries: IndexMap<Vec<u8>, V>,
+}
+
+impl<V> Model for FoldedMap<V> {
+    ghost use Rattle.std.specs.Prelude.{List};
+    ghost use Rattle.bib_spec.specs.Text.{Text};
+    ghost use Rattle.bib_value.specs.FoldedMap.{by_name, NamesAreShort};
+
+    ghost Value = { List (Text × V) };
+
+    ghost view = { λ m. by_name m.entries.entries };
+
+    ghost invariant = { λ m. NamesAreShort m.entries.entries };
+}
+
+impl<V> FoldedMap<V> {
+    /// The map without names. It takes no memory.
+    pub fn new(alloc: Global) -> Self
+        ensures { (name : Text) → value_at result name ≡ None }
+    {
+        FoldedMap {
+            alloc,
+            entries: IndexMap::new(alloc),
+        }
+    }
+
+    /// Where its memory comes from.
+    pub fn allocator(&self) -> Global {
+        self.alloc
+    }
+
+    /// The value of a name, if it has one.
+    pub fn get(&self, name: &[u8]) -> Option<&V>
+        ensures { option_copied result ≡ value_at self.now (folded name.now) }
+    {
+        let entries = &self.entries;
+        if name.len() > NAME_LIMIT {
+            return None;
+        }
+        entries.get(FoldedName::of(name).as_slice())
+    }
+
+    /// Gives the name this value, in the place of the one that it has. Where memory is refused, nothing changes.
+    pub fn insert(&mut self, name: &[u8], value: V) -> Result<(), AllocError>
+    where
+        V: Drop,
+        requires { length name.now ≤ name_limit }
+        ensures ok { OnOk result (IsWith self.old name.now value self.new) }
+        ensures err { OnErr result (self.new ≡ self.old) }
+    {
+        let folded = Vec::from_slice(self.alloc, FoldedName::of(name).as_slice())?;
+        self.entries.insert(folded, value)?;
+        Ok(())
+    }
+}

@@ -1,0 +1,18 @@
+//! Says what a value says: its raw text by the macros that stand before it, and its field text. It knows macros and
+//! values; it does not know items. It promises the text of the definitions, and none that is longer than the limit.
+#![tactic(auto)]
+
+mod fault;
+mod folded_map;
+mod folding;
+mod months;
+mod raw;
+mod spacing;
+mod table;
+
+pub use fault::ValueFault;
+pub use folded_map::FoldedMap;
+pub use months::month;
+pub use raw::{RAW_LIMIT, part_text, raw_len, raw_text};
+pub use spacing::field_text;
+pub use table::{MacroTable, Macros};

@@ -1,0 +1,37 @@
+# Want of memory.
+# shellcheck shell=sh
+
+# Begins a case: the program is run again and again, and each of its requests for memory is refused in turn. It ends for
+# want of memory, with nothing written, or as it does with all memory.
+refusing_each_request() {
+    begin "$*, with each request for memory refused in turn"
+    "$program" "$@" >seen/wanted_out 2>seen/wanted_errors
+    wanted=$?
+    refusals=0
+    for request in $(seq 100); do
+        REFUSED=$request LD_PRELOAD=$work/refuse_memory.so "$program" "$@" >seen/out 2>seen/errors
+        status=$?
+        if test "$status" -eq 4; then
+            writes_nothing
+            says 'bibkeep: 10 Memory'
+            refusals=$((refusals + 1))
+        else
+            ends_with "$wanted"
+            writes seen/wanted_out
+            expect 'it says something else' cmp -s seen/wanted_errors seen/errors
+        fi
+    done
+    expect "only $refusals requests were refused" test "$refusals" -gt 20
+}
+
+when_shell_runs 'ulimit -v 16000; "$program" cat longest.bib'; ends_with 4; writes_nothing; says 'bibkeep: 10 Memory'
+if cc -shared -fPIC -o refuse_memory.so "$root/tests/program/refuse_memory.c" -ldl 2>seen/errors; then
+    refusing_each_request cat row.bib
+    refusing_each_request cat newline.bib
+    refusing_each_request cat nothing.bib
+    refusing_each_request cat row.bib row.bib
+    refusing_each_request --help
+    refusing_each_request --version
+else
+    echo 'there is no C compiler, so requests for memory are not refused in turn'
+fi
