@@ -68,3 +68,20 @@ def database(size):
         items.append(text)
         length += len(text)
         n += 1
+
+
+def one_macro(count):
+    """One macro, and so many entries that use it."""
+    return b"@string{m = {text}}\n" + b"".join(b"@misc{k%d, t = m}\n" % n for n in range(count))
+
+
+def chained_macros(count):
+    """So many macros, each defined by the one before, and an entry that uses the last."""
+    links = b"".join(b"@string{m%d = m%d}\n" % (n, n - 1) for n in range(1, count))
+    return b"@string{m0 = {text}}\n" + links + b"@misc{k, t = m%d}\n" % (count - 1)
+
+
+def sets(count):
+    """A script of so many edits: each sets the year of an article in a file of 5,000,000 bytes."""
+    keys = [n for n in range(15000) if n % 97 and n % 50 and n % 31 and n % 11 and n % 3]
+    return b"".join(b"set\tkey%d\tyear\t{%d}\n" % (keys[n % len(keys)], 1500 + n % 500) for n in range(count))

@@ -6,6 +6,9 @@ when -h; ends_with 0; mentions 'Reads BibTeX databases'; says_nothing
 when help; ends_with 0; mentions 'Writes the bytes of a file'; says_nothing
 when cat --help; ends_with 0; mentions 'or standard input where it is left out'; says_nothing
 when help cat; ends_with 0; mentions 'Usage: bibkeep cat [F]'; says_nothing
+when check --help; ends_with 0; mentions 'Usage: bibkeep check <F>'; says_nothing
+when help show; ends_with 0; mentions 'Usage: bibkeep show <F> <KEY>'; says_nothing
+when cite --help; ends_with 0; mentions '--min-crossrefs <N>'; says_nothing
 when --version; ends_with 0; mentions 'bibkeep 0.1.0'; says_nothing
 when -V; ends_with 0; mentions 'bibkeep 0.1.0'; says_nothing
 
@@ -14,6 +17,14 @@ when keep; ends_with 2; writes_nothing; complains_of "'keep'"
 when Cat; ends_with 2; writes_nothing; complains_of "'Cat'"
 when cat row.bib row.bib; ends_with 2; writes_nothing; complains_of "'row.bib'"
 when cat --all; ends_with 2; writes_nothing; complains_of "'--all'"
+when check; ends_with 2; writes_nothing; complains_of '<F>'
+when check row.bib row.bib; ends_with 2; writes_nothing; complains_of "'row.bib'"
+when show row.bib; ends_with 2; writes_nothing; complains_of '<KEY>'
+when show row.bib a b; ends_with 2; writes_nothing; complains_of "'b'"
+when cite row.bib; ends_with 2; writes_nothing; complains_of '<KEY>'
+when cite row.bib --min-crossrefs 0 a; ends_with 2; writes_nothing; complains_of "'0'"
+when cite row.bib --min-crossrefs 65536 a; ends_with 2; writes_nothing; complains_of "'65536'"
+when cite row.bib --min-crossrefs two a; ends_with 2; writes_nothing; complains_of "'two'"
 when --hel; ends_with 2; writes_nothing; complains_of "'--help'"
 when cat "$(printf 'caf\351.bib')"; ends_with 2; writes_nothing; complains_of 'not UTF-8'
 

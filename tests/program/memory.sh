@@ -8,7 +8,7 @@ refusing_each_request() {
     "$program" "$@" >seen/wanted_out 2>seen/wanted_errors
     wanted=$?
     refusals=0
-    for request in $(seq 100); do
+    for request in $(seq 300); do
         REFUSED=$request LD_PRELOAD=$work/refuse_memory.so "$program" "$@" >seen/out 2>seen/errors
         status=$?
         if test "$status" -eq 4; then
@@ -24,12 +24,44 @@ refusing_each_request() {
     expect "only $refusals requests were refused" test "$refusals" -gt 20
 }
 
+# The same of an edit, which leaves the file as it was where memory is wanting.
+refusing_each_request_of_edit() {
+    begin "edit $2 of $1, with each request for memory refused in turn"
+    given script "$2"
+    refusals=0
+    for request in $(seq 300); do
+        given edited.bib "$1"
+        REFUSED=$request LD_PRELOAD=$work/refuse_memory.so "$program" edit edited.bib <script >seen/out 2>seen/errors
+        status=$?
+        if test "$status" -eq 4; then
+            writes_nothing
+            says 'bibkeep: 10 Memory'
+            leaves "$1"
+            refusals=$((refusals + 1))
+        elif test "$status" -eq 3; then
+            says 'bibkeep: write fault'
+            leaves "$1"
+        else
+            ends_with 0
+            leaves "$3"
+        fi
+    done
+    expect "only $refusals requests were refused" test "$refusals" -gt 20
+    expect 'a new file was left' test ! -e edited.bib.bibkeep-new
+}
+
 when_shell_runs 'ulimit -v 16000; "$program" cat longest.bib'; ends_with 4; writes_nothing; says 'bibkeep: 10 Memory'
 if cc -shared -fPIC -o refuse_memory.so "$root/tests/program/refuse_memory.c" -ldl 2>seen/errors; then
     refusing_each_request cat row.bib
     refusing_each_request cat newline.bib
     refusing_each_request cat nothing.bib
     refusing_each_request cat row.bib row.bib
+    refusing_each_request check reports.bib
+    refusing_each_request show parents.bib c1
+    refusing_each_request cite parents.bib c1 zz c2
+    refusing_each_request labels parents.bib c1 c2
+    refusing_each_request names books.bib Lam86 '{f. }{vv~}{ll}'
+    refusing_each_request_of_edit '@misc{a}@misc{b, t = {x}}\n' 'set\tb\tt\t{y} # z\nadd\t0\tbook\tc\tt\t1\ndrop\tb\tt\nmove\ta\t1\nremove\tc' '\n@misc{a}\n@misc{b}\n'
     refusing_each_request --help
     refusing_each_request --version
 else

@@ -34,6 +34,12 @@ mentions() { expect "its output does not mention: $1" grep -qF -e "$1" seen/out;
 says_nothing() { expect 'it said something' test ! -s seen/errors; }
 complains_of() { expect "it does not complain of: $1" grep -qF -e "$1" seen/errors; }
 
+# Its output is these bytes, with backslashes as printf reads them.
+prints() {
+    printf "$1" >seen/wanted
+    expect "it does not print: $1" cmp -s seen/wanted seen/out
+}
+
 says() {
     printf '%s\n' "$1" >seen/wanted
     expect "it does not say: $1" cmp -s seen/wanted seen/errors

@@ -1,3 +1,4 @@
 pub mod LineSteps
 pub mod Subcommands
 pub mod Errors
+pub mod Numbers

@@ -1,16 +1,62 @@
 -- The command line in clap's words, and the command that its matches name. (clap)
-use Rattle.std.specs.Prelude.{◌≡◌, true, List, [], Some, unwrap_or, codes}
-use Rattle.clap.specs.Words.{App, Row, Rule, Text, all_of, subcommand_of, new_app, new_rule, with_rule, with_subcommand}
+use Rattle.std.specs.Prelude.{◌≡◌, ℕ, true, ◌&&◌, ◌++◌, ◌^◌, List, [], ◌∷◌, Some, unwrap_or, codes, pos, length, nat_lt, if◌then◌else◌}
+use Rattle.std.specs.List.{list_all}
+use Rattle.std.specs.Char.{digit_value}
+use Rattle.std.specs.Option.{option_map_or}
+use Rattle.std.specs.Str.Parse.{digits_value, without_leading_plus}
+use Rattle.clap.specs.Words.{App, Row, Rule, Text, all_of, one_of, subcommand_of, new_app, new_rule, with_rule, with_subcommand}
+use Rattle.clap.specs.Lexer.{usize_max}
 use Rattle.clap.specs.Simple.{on_top}
+use Rattle.clap.specs.declared.builder.ValueParser.TheVariants as parser
 use Rattle.bib_words.specs.declared.commands.Command.{Command}
+
+-- ---- arguments
 
 -- `[F]`
 abbrev pub any_file : Rule
 any_file = new_rule (codes "F")
 
+-- a word that must be there, such as `F` or `KEY`
+abbrev pub needed : Text → Rule
+needed id = record (new_rule id) { required = true }
+
+-- `KEY..`: one or more
+abbrev pub keys : Rule
+keys = record (needed (codes "KEY")) { range = Some (record { start_inclusive = 1; end_inclusive = usize_max }) }
+
+-- `--NAME N`: a number from 1 to 65535, and this one where it is left out
+abbrev pub count : Text → Text → Rule
+count name default = record (new_rule (codes "N")) {
+  long = Some name;
+  defaults = default ∷ [];
+  parser = Some (parser.Signed (pos 1) (pos 65535));
+}
+
+-- ---- commands
+
+-- a command over a file that is named
+abbrev pub over_file : Text → App
+over_file name = with_rule (new_app name) (needed (codes "F"))
+
 -- `cat [F]`
 abbrev pub cat_line : App
 cat_line = with_rule (new_app (codes "cat")) any_file
+
+-- `show F KEY`
+abbrev pub show_line : App
+show_line = with_rule (over_file (codes "show")) (needed (codes "KEY"))
+
+-- `cite F [--min-crossrefs N] KEY..`
+abbrev pub cite_line : App
+cite_line = with_rule (with_rule (over_file (codes "cite")) keys) (count (codes "min-crossrefs") (codes "2"))
+
+-- `labels F KEY..`
+abbrev pub labels_line : App
+labels_line = with_rule (over_file (codes "labels")) keys
+
+-- `names F KEY TEMPLATE`
+abbrev pub names_line : App
+names_line = with_rule (with_rule (over_file (codes "names")) (needed (codes "KEY"))) (needed (codes "TEMPLATE"))
 
 -- with one more subcommand
 abbrev pub adds : App → App → App
@@ -20,17 +66,34 @@ adds a s = with_subcommand a s.top
 abbrev pub bibkeep_top : App
 bibkeep_top = on_top (λ s. record s { has_version = true; subcommand_required = true }) (new_app (codes "bibkeep"))
 
+-- with the commands that show what a file says
+abbrev pub bibkeep_shows : App
+bibkeep_shows = adds (adds (adds (adds bibkeep_top cat_line) (over_file (codes "check"))) show_line) cite_line
+
 -- `bibkeep COMMAND`
 abbrev pub bibkeep : App
-bibkeep = adds bibkeep_top cat_line
+bibkeep = adds (adds (adds bibkeep_shows labels_line) names_line) (over_file (codes "edit"))
+
+-- ---- what matches name
 
 -- the values of an argument, in order
 abbrev pub values : Text → List Row → List Text
 values id rows = unwrap_or (all_of id rows) []
 
+-- the number that a text of digits says, where it is below 2 to the power of 32
+abbrev pub number_said : Text → ℕ
+number_said text =
+    let digits = without_leading_plus text in
+    if nat_lt 0 (length digits) && list_all (λ d. nat_lt (digit_value d) 10) digits && nat_lt (digits_value 10 digits) (2 ^ 32)
+    then digits_value 10 digits else 0
+
+-- the number of the command, or 0 where it has none
+abbrev pub number : List Row → ℕ
+number rows = option_map_or number_said (one_of (codes "N") rows) 0
+
 -- the command of this name with these matches
 abbrev pub command_of : Text → List Row → Command
-command_of name rows = record { name = name; words = values (codes "F") rows; n = 0 }
+command_of name rows = record { name = name; words = values (codes "F") rows ++ values (codes "KEY") rows ++ values (codes "TEMPLATE") rows; n = number rows }
 
 -- the words name this command by clap's exact matching
 pub record IsCommandOf (words : List Text) (c : Command) : Type 0 where

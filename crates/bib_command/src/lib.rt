@@ -2,6 +2,7 @@
 //! command that clap's exact matching of the words names, or what to tell the user.
 #![tactic(auto)]
 
+mod arguments;
 mod command_line;
 mod parsing;
 mod usages;

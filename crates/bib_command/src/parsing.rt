@@ -2,7 +2,7 @@
 
 ghost use Rattle.std.specs.Prelude.{◌≡◌, ◌++◌, IfOk, IfErr, OnOk, map, string_bytes, [], true};
 ghost use Rattle.clap.specs.Words.{fault_of, takes, rows_of, found_of};
-ghost use Rattle.bib_command.specs.CommandLine.{bibkeep, values, command_of, IsCommandOf};
+ghost use Rattle.bib_command.specs.CommandLine.{bibkeep, values, number, command_of, IsCommandOf};
 ghost use Rattle.bib_command.specs.Usage.{no_memory, IsUsageFor};
 
 use crate::Usage;
@@ -42,11 +42,20 @@ fn command_of(alloc: Global, name: &str, matches: &ArgMatches<'_>) -> Result<Com
 {
     let mut words = Vec::new(alloc);
     add_values(alloc, &mut words, matches, "F")?;
+    add_values(alloc, &mut words, matches, "KEY")?;
+    add_values(alloc, &mut words, matches, "TEMPLATE")?;
     Ok(Command {
         name: Text::from_vec(Vec::from_slice(alloc, name.as_bytes())?),
         words: Seq::from_vec(words),
-        n: 0,
+        n: number_of(matches),
     })
+}
+
+/// The number of a command, or 0 where it has none.
+fn number_of(matches: &ArgMatches<'_>) -> u32
+    ensures { result ≡ number (rows_of (found_of matches.now)) }
+{
+    matches.get_one::<u32>("N").unwrap_or(0)
 }
 
 /// Adds the values of an argument, in order.

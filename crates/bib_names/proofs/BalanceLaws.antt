@@ -35,7 +35,7 @@ below text all level n =
           omega (arith, ap (count_by (λ b. eqb b 125)) whole, ap (count_by (λ b. eqb b 123)) whole, level)
     ] refl
 
-IsBalanced-from_test : (text : Text) → balances text ≡ true → IsBalanced text
+pub IsBalanced-from_test : (text : Text) → balances text ≡ true → IsBalanced text
 IsBalanced-from_test text e =
     let parts = both (eqb (closed_before text (length text)) (opened_before text (length text))) (list_all (covers text) (range_with_len 0 (length text))) e in
     let level = eqb-true (closed_before text (length text)) (opened_before text (length text)) parts.0 in

@@ -1,5 +1,5 @@
 -- Where text characters begin and end, and what is told of those from a place on.
-use Rattle.std.proofs.Common.{◌≡◌, ℕ, zero, suc, ◌+◌, ◌-◌, ◌≤◌, ◌<◌, inl, inr, Bool, true, false, cond, eqb, List, [], ◌∷◌, ◌++◌, length, take, drop, get_or, map, refl, sym, ap, ◌∙◌, arith, add-one, add-zero, below_more, subst}
+use Rattle.std.proofs.Common.{◌≡◌, ℕ, zero, suc, ◌+◌, ◌-◌, ◌≤◌, ◌<◌, inl, inr, Bool, true, false, cond, eqb, [], ◌∷◌, ◌++◌, length, take, drop, get_or, refl, sym, ap, ◌∙◌, arith, add-one, add-zero, below_more, subst}
 use Rattle.std.specs.Prelude.{◌&&◌, ◌||◌, not, nat_lt, count_by}
 use Rattle.std.specs.List.{prefix_len, slice_range, list_any, range_with_len}
 use Rattle.std.proofs.Math.Bool.{and-false, or-true}
@@ -11,8 +11,7 @@ use Rattle.bib_names.specs.Marks.{is_brace, goes_on}
 use Rattle.bib_names.specs.Places.{is_level, places_from}
 use Rattle.bib_names.specs.Special.{is_opening, begins_special, next_level, is_within_special, is_plain, going_on, is_joined, begins_char, char_end, text_chars}
 use Rattle.bib_names.specs.Scanning.{AreBraces, IsSpecial, IsChar, IsBareBrace, IsFresh, IsCharPlace, chars_at, chars_from}
-use Rattle.bib_names.proofs.BoolLemmas.{both}
-use Rattle.bib_names.proofs.BraceLemmas.{one_if, opened_more, closed_more}
+use Rattle.bib_names.proofs.BraceLemmas.{opened_more, closed_more}
 use Rattle.bib_names.proofs.PlaceLemmas.{places_here, places_past, places_none, places_skip_to}
 
 -- ---- places before this one
@@ -59,7 +58,7 @@ outside_on text place outside none front lt =
 joined_next : (text : Text) (place : ℕ) → is_joined text (place + 1) ≡ (goes_on (get_or text (place + 1) 0) && (is_plain (get_or text place 0) || is_joined text place))
 joined_next text place = ap (is_joined text) (add-one place) ∙ ap (λ n. goes_on (get_or text n 0) && (is_plain (get_or text place 0) || is_joined text place)) (sym (add-one place))
 
-joined-no : (text : Text) (place : ℕ) → goes_on (get_or text place 0) ≡ false → is_joined text place ≡ false
+pub joined-no : (text : Text) (place : ℕ) → goes_on (get_or text place 0) ≡ false → is_joined text place ≡ false
 joined-no text zero alone = refl
 joined-no text (suc place) alone = ap (λ b. b && (is_plain (get_or text place 0) || is_joined text place)) alone
 
@@ -82,14 +81,14 @@ brace_from b plain alone = go (is_brace b) refl
     go true e = refl
     go false e = let h : is_plain b ≡ true = ap (λ x. not (x || goes_on b)) e ∙ ap not alone in absurd (cc)
 
-plain_no_brace : (b : ℕ) → is_plain b ≡ true → is_brace b ≡ false
+pub plain_no_brace : (b : ℕ) → is_plain b ≡ true → is_brace b ≡ false
 plain_no_brace b plain = go (is_brace b) refl
   where
     go : (x : Bool) → is_brace b ≡ x → x ≡ false
     go false e = refl
     go true e = let h : is_plain b ≡ false = ap (λ x. not (x || goes_on b)) e in absurd (cc)
 
-plain_alone : (b : ℕ) → is_plain b ≡ true → goes_on b ≡ false
+pub plain_alone : (b : ℕ) → is_plain b ≡ true → goes_on b ≡ false
 plain_alone b plain = go (goes_on b) refl
   where
     go : (x : Bool) → goes_on b ≡ x → x ≡ false
@@ -112,7 +111,7 @@ on_not_special text place on =
 begins-special : (text : Text) (place : ℕ) → begins_special text place ≡ true → begins_char text place ≡ true
 begins-special text place special = ap (λ b. b || (not (is_within_special text place) && not (is_brace (get_or text place 0)) && not (is_joined text place))) special
 
-begins-byte : (text : Text) (place : ℕ) → IsFresh text place → begins_special text place ≡ false → is_brace (get_or text place 0) ≡ false → begins_char text place ≡ true
+pub begins-byte : (text : Text) (place : ℕ) → IsFresh text place → begins_special text place ≡ false → is_brace (get_or text place 0) ≡ false → begins_char text place ≡ true
 begins-byte text place fresh special brace = rw (special, within-no text place fresh.outside, brace, fresh.alone) refl
 
 begins-brace : (text : Text) (place : ℕ) → begins_special text place ≡ false → is_brace (get_or text place 0) ≡ true → begins_char text place ≡ false

@@ -8,6 +8,8 @@ pub mod CommaLemmas
 pub mod SpecialLemmas
 pub mod CaseLemmas
 pub mod CharLemmas
+pub mod OutputLemmas
+pub mod PrintLemmas
 pub mod TemplateLaws
 pub mod BalanceLaws
 pub mod MadeKeyLaws

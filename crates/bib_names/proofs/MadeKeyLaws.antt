@@ -1,9 +1,9 @@
 -- The base of a made key is a short key.
-use Rattle.std.proofs.Common.{◌≡◌, ℕ, zero, suc, ◌+◌, ◌≤◌, ◌<◌, Bool, true, false, cond, eqb, List, [], ◌∷◌, length, take, refl, sym, ap, ◌∙◌, arith}
-use Rattle.std.specs.Prelude.{◌&&◌, ◌||◌, not, nat_lt, nat_le, filter, codes}
-use Rattle.std.specs.List.{list_all, list_any}
+use Rattle.std.proofs.Common.{◌≡◌, ℕ, zero, suc, ◌≤◌, ◌<◌, Bool, true, false, cond, eqb, [], ◌∷◌, length, take, refl, ap, ◌∙◌, arith}
+use Rattle.std.specs.Prelude.{◌&&◌, filter, codes}
+use Rattle.std.specs.List.{list_all}
 use Rattle.std.specs.Char.{is_ascii_alphanumeric}
-use Rattle.std.proofs.Math.Dec.{leb, ltb}
+use Rattle.std.proofs.Math.Dec.{leb}
 use Rattle.std.proofs.lemmas.Bool.{leb-true, le-leb, lt-ltb, ne_eqb, leb-false, lt-leb}
 use Rattle.std.proofs.lemmas.List.{length-take}
 use Rattle.bib_spec.specs.Text.{Text, is_new_key_byte, is_new_key}

@@ -1,6 +1,6 @@
 -- What is read of a template is one, and what is a template is read as that one.
 use Rattle.std.proofs.Common.{◌≡◌, ℕ, suc, ◌+◌, ◌<◌, Bool, true, false, cond, eqb, List, [], ◌∷◌, ◌++◌, length, take, drop, refl, sym, ap, ◌∙◌, subst, arith, append_assoc, append-nil, Option, Some, None}
-use Rattle.std.specs.Prelude.{◌&&◌, ◌||◌, not, option_map, option_and_then}
+use Rattle.std.specs.Prelude.{◌&&◌, not, option_map, option_and_then}
 use Rattle.std.specs.List.{prefix_len, take_while, flat_map, list_all, AllByRecursion}
 use Rattle.std.specs.Char.{is_ascii_alphabetic}
 use Rattle.std.proofs.lemmas.List.{take-append-drop, length-append}

@@ -12,5 +12,6 @@ pub mod FirstComma
 pub mod Template
 pub mod TemplateReading
 pub mod Printing
+pub mod Outputs
 pub mod Label
 pub mod Counts

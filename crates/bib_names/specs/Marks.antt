@@ -1,5 +1,5 @@
 -- The bytes that names and templates give a meaning.
-use Rattle.std.specs.Prelude.{ℕ, Bool, ◌&&◌, ◌||◌, not, ◌==◌, nat_le, nat_lt}
+use Rattle.std.specs.Prelude.{ℕ, Bool, ◌&&◌, ◌||◌, ◌==◌, nat_le, nat_lt}
 use Rattle.bib_spec.specs.Bytes.{comma, open_brace, close_brace}
 use Rattle.bib_spec.specs.Text.{is_space}
 

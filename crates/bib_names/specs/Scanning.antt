@@ -1,6 +1,6 @@
 -- What the private functions find from left to right: where groups, special characters and text characters end, and the
 -- commas and text characters that are left from a place on.
-use Rattle.std.specs.Prelude.{◌≡◌, ◌<◌, ◌≤◌, ℕ, ◌+◌, ◌-◌, true, false, ◌⊎◌, List, ◌∷◌, length, slice_index, map}
+use Rattle.std.specs.Prelude.{◌≡◌, ◌<◌, ◌≤◌, ℕ, ◌+◌, ◌-◌, true, false, ◌⊎◌, List, length, slice_index, map}
 use Rattle.std.specs.List.{slice_range}
 use Rattle.bib_spec.specs.Text.{Text, opened_before, closed_before}
 use Rattle.bib_names.specs.Marks.{goes_on}

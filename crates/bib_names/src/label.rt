@@ -9,11 +9,11 @@ use crate::fault::NameFault;
 use crate::name::parts_of;
 use crate::name_list::names_of;
 use crate::printing::printed;
-use crate::record::Record;
 use crate::special::{Chars, char_count};
 use crate::template::{Form, Group, Part, Template};
 use crate::text::is_balanced;
 use bib_scan::{Seq, Text};
+use bib_store::Record;
 use std::alloc::{AllocError, Global};
 
 /// The text of the first field of exactly this name, empty if there is none.

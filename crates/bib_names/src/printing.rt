@@ -4,6 +4,7 @@ ghost use Rattle.std.specs.Prelude.{◌≡◌, ◌≤◌, ◌<◌, ◌++◌, ◌
 ghost use Rattle.bib_names.specs.Printing.{shown, dot, is_short, joint, tied, joined, finished, printed_words, printed_group, part_of, printed_with_trail, printed};
 
 use crate::fault::NameFault;
+use crate::group_output::Output;
 use crate::initial::initial;
 use crate::name::Name;
 use crate::special::char_count;
@@ -41,12 +42,12 @@ fn is_short(text: &[u8]) -> bool
 }
 
 /// The byte between the output so far and the next word.
-fn joint(out: &[u8], sep: u8, is_last: bool) -> u8
+fn joint(out: &Output, sep: u8, is_last: bool) -> u8
     ensures { result ≡ joint out.now sep is_last }
 {
     if sep == b'-' || sep == b'~' {
         sep
-    } else if is_last || is_short(out) {
+    } else if is_last || out.is_short() {
         b'~'
     } else {
         b' '
@@ -54,33 +55,33 @@ fn joint(out: &[u8], sep: u8, is_last: bool) -> u8
 }
 
 /// Adds what stands between a word and the next, where the template says nothing else.
+#[tactic(auto, using(crate::proofs::OutputLemmas::joint_plain))]
 fn push_tie(
-    out: &mut Vec<u8>,
+    out: &mut Output,
     form: Form,
     shown: &[u8],
     sep: u8,
     is_last: bool,
 ) -> Result<(), AllocError>
-    ensures { OnOk result (out.new.items ≡ tied form out.old.items shown.now sep is_last) }
+    ensures { OnOk result (out.new ≡ tied form out.old shown.now sep is_last) }
 {
-    out.extend_from_slice(dot(form, shown))?;
-    let joint = joint(out.as_slice(), sep, is_last);
-    out.push(joint)?;
-    Ok(())
+    out.push_text(dot(form, shown))?;
+    let joint = joint(out, sep, is_last);
+    out.push_joint(joint)
 }
 
 /// Adds what stands between a word and the next.
 fn push_between(
-    out: &mut Vec<u8>,
+    out: &mut Output,
     group: &Group,
     shown: &[u8],
     sep: u8,
     is_last: bool,
 ) -> Result<(), AllocError>
-    ensures { OnOk result (out.new.items ≡ joined group.now out.old.items shown.now sep is_last) }
+    ensures { OnOk result (out.new ≡ joined group.now out.old shown.now sep is_last) }
 {
     match &group.between {
-        Some(between) => out.extend_from_slice(between.as_slice()),
+        Some(between) => out.push_text(between.as_slice()),
         None => push_tie(out, group.form, shown, sep, is_last),
     }
 }
@@ -109,16 +110,17 @@ fn finished(mut out: Vec<u8>) -> Result<Vec<u8>, AllocError>
 fn printed_words(alloc: Global, group: &Group, words: &[Word<'_>]) -> Result<Vec<u8>, AllocError>
     ensures { IfOk result (λ r. r.items ≡ printed_words group.now group.now.pre words.now) }
 {
-    let mut out = Vec::from_slice(alloc, group.pre.as_slice())?;
+    let mut out = Output::none(alloc);
+    out.push_text(group.pre.as_slice())?;
     for (n, word) in words.iter().enumerate() {
         let shown = shown(group.form, word.text);
-        out.extend_from_slice(shown)?;
+        out.push_text(shown)?;
         if n + 1 < words.len() {
             let next = &words[n + 1];
             push_between(&mut out, group, shown, next.sep, n + 2 == words.len())?;
         }
     }
-    Ok(out)
+    Ok(out.into_vec())
 }
 
 /// What a group prints of these words.

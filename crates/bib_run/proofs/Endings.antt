@@ -1,5 +1,5 @@
 -- The ways in which a run ends.
-use Rattle.std.proofs.Common.{◌≡◌, ◌+◌, true, length, Option, refl, subst, sym, arith}
+use Rattle.std.proofs.Common.{◌≡◌, ◌+◌, true, [], length, take, Option, refl, subst, sym, arith}
 use Rattle.std.proofs.lemmas.List.{take_all}
 use Rattle.std.specs.Io.KnownBytes.{Appends}
 use Rattle.bib_spec.specs.Bytes.{file_limit}
@@ -7,20 +7,37 @@ use Rattle.bib_spec.specs.Text.{Text}
 use Rattle.bib_words.specs.declared.commands.Command.{Command}
 use Rattle.bib_run.specs.declared.answers.Answer.{Answer}
 use Rattle.bib_run.specs.Answers.{IsAnswer}
-use Rattle.bib_run.specs.Runs.{HasAnswer, TapView}
+use Rattle.bib_run.specs.Runs.{HasAnswer, HasInput, ReadsInput, TapView, TapsView, read, unread, front, nothing}
 use Rattle.bib_run.specs.Transfers.{ReadsUpTo, WritesPrefix}
-use Rattle.bib_run.proofs.WholeFile.{source_bytes, IsAnswer-front}
+use Rattle.bib_run.proofs.WholeFile.{source_bytes, IsAnswer-front, IsAnswer-input_front}
+
+-- the input, of which so much was read
+pub record IsInputFrom (command : Command) (old new : TapView) (v : Text) : Type 0 where
+  pub bytes : Text
+  pub has : HasInput command old new bytes
+  pub start : take (file_limit + 1) bytes ≡ v
+
+input_bytes : (command : Command) (old new : TapView) (v : Text) → ReadsInput command old new v → IsInputFrom command old new v
+input_bytes command old new v (front named reads sound) =
+    let from = source_bytes (file_limit + 1) old.bytes new.bytes v reads in
+    record { bytes = from.bytes; has = read named (record { read = from.has; sound = sound }); start = from.front }
+input_bytes command old new v (nothing named same none) = record { bytes = []; has = unread named same refl; start = sym none }
 
 -- the answer to what was read
-pub has_answer : (command : Command) (file_old file_new : TapView) (v : Text) (answer : Answer) → ReadsUpTo (file_limit + 1) file_old.bytes file_new.bytes v
-    → file_new.failed ≡ file_old.failed → IsAnswer command v answer → HasAnswer command file_old file_new answer
-has_answer command file_old file_new v answer read sound answers =
-    let from = source_bytes (file_limit + 1) file_old.bytes file_new.bytes v read in
+pub has_answer : (command : Command) (old new : TapsView) (v w : Text) (answer : Answer) → ReadsUpTo (file_limit + 1) old.file.bytes new.file.bytes v
+    → new.file.failed ≡ old.file.failed → ReadsInput command old.input new.input w → IsAnswer command v w answer → HasAnswer command old new answer
+has_answer command old new v w answer reads sound reads_input answers =
+    let from = source_bytes (file_limit + 1) old.file.bytes new.file.bytes v reads in
+    let input = input_bytes command old.input new.input w reads_input in
     record {
       file = from.bytes;
-      read = from.has;
-      sound = sound;
-      answers = IsAnswer-front command from.bytes answer (subst (λ t. IsAnswer command t answer) (sym from.front) answers);
+      input = input.bytes;
+      file_read = record { read = from.has; sound = sound };
+      input_read = input.has;
+      answers = IsAnswer-front command from.bytes input.bytes answer
+          (IsAnswer-input_front command (take (file_limit + 1) from.bytes) input.bytes answer
+          (subst (λ t. IsAnswer command t (take (file_limit + 1) input.bytes) answer) (sym from.front)
+          (subst (λ t. IsAnswer command v t answer) (sym input.start) answers)));
     }
 
 -- all was written

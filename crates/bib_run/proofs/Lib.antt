@@ -1,3 +1,15 @@
+pub mod ItemCounts
+pub mod ReportSteps
+pub mod ItemFields
+pub mod LineLists
+pub mod CitedLines
+pub mod CitedNumbers
+pub mod MarkSteps
+pub mod Shown
+pub mod EntryNumbers
+pub mod Refusals
 pub mod Progress
 pub mod WholeFile
 pub mod Endings
+pub mod LabelLines
+pub mod NameLines

@@ -1,19 +1,49 @@
 -- What each command answers to the bytes of its sources.
-use Rattle.std.specs.Prelude.{◌≡◌, ◌≢◌, ◌≤◌, ℕ, [], length, codes}
+use Rattle.std.specs.Prelude.{◌≡◌, ◌≢◌, ◌≤◌, ℕ, List, [], length, drop, slice_index_or, codes, Option}
 use Rattle.bib_spec.specs.Bytes.{file_limit}
 use Rattle.bib_spec.specs.Text.{Text}
-use Rattle.bib_spec.specs.Reading.{HasReading}
+use Rattle.bib_spec.specs.Reading.{Reading, HasReading}
 use Rattle.bib_spec.specs.Fault.{IsReadFault}
+use Rattle.bib_names.specs.Template.{Pattern}
 use Rattle.bib_words.specs.declared.commands.Command.{Command}
 use Rattle.bib_run.specs.declared.answers.Answer.{Answer}
 use Rattle.bib_run.specs.Messages.{refusal_line}
 use Rattle.bib_run.specs.Outcome.{answer_of}
+use Rattle.bib_run.specs.Opened.{AnswersFile}
+use Rattle.bib_run.specs.Check.{check_answer}
+use Rattle.bib_run.specs.Show.{show_answer}
+use Rattle.bib_run.specs.Cite.{cite_answer}
+use Rattle.bib_run.specs.Labels.{labels_answer}
+use Rattle.bib_run.specs.Names.{Spells, names_answer}
+use Rattle.bib_run.specs.EditAnswer.{IsEditAnswer}
 
 -- `cat`: the file again, or, with nothing written, why it is no file (dialect)
 pub data IsCatAnswer (file : Text) : Answer → Type 0 where
   copied : length file ≤ file_limit → HasReading file → IsCatAnswer file (answer_of file [] 0)
   refused : (kind place : ℕ) → kind ≢ 10 → IsReadFault file kind place → IsCatAnswer file (answer_of [] (refusal_line kind place) 1)
 
--- the answer of a command to a file
-pub data IsAnswer (command : Command) (file : Text) (answer : Answer) : Type 0 where
-  cat : command.name ≡ codes "cat" → IsCatAnswer file answer → IsAnswer command file answer
+-- the word behind the file
+abbrev pub key_word : Command → Text
+key_word command = slice_index_or command.words 1 []
+
+-- the word behind that
+abbrev pub template_word : Command → Text
+template_word command = slice_index_or command.words 2 []
+
+-- the words behind the file
+abbrev pub key_words : Command → List Text
+key_words command = drop 1 command.words
+
+-- what the command answers to what a file says
+pub data IsAnswerTo (command : Command) : (Reading → Answer) → Type 0 where
+  check : command.name ≡ codes "check" → IsAnswerTo command check_answer
+  show : command.name ≡ codes "show" → IsAnswerTo command (show_answer (key_word command))
+  cite : command.name ≡ codes "cite" → IsAnswerTo command (cite_answer (key_words command) command.n)
+  labels : command.name ≡ codes "labels" → IsAnswerTo command (labels_answer (key_words command))
+  names : command.name ≡ codes "names" → (pattern : Option Pattern) → Spells (template_word command) pattern → IsAnswerTo command (names_answer (key_word command) pattern)
+
+-- the answer of a command to a file, and to its input where it reads that
+pub data IsAnswer (command : Command) (file input : Text) (answer : Answer) : Type 0 where
+  cat : command.name ≡ codes "cat" → IsCatAnswer file answer → IsAnswer command file input answer
+  of_reading : (answers : Reading → Answer) → IsAnswerTo command answers → AnswersFile answers file answer → IsAnswer command file input answer
+  edit : command.name ≡ codes "edit" → IsEditAnswer file input answer → IsAnswer command file input answer

@@ -28,3 +28,7 @@ read_fault_line = codes "bibkeep: read fault\n"
 -- a writer failed (dialect)
 abbrev pub write_fault_line : Text
 write_fault_line = codes "bibkeep: write fault\n"
+
+-- no entry has the key (dialect)
+abbrev pub no_such_entry_line : Text
+no_such_entry_line = codes "bibkeep: 11 NoSuchEntry\n"

@@ -1,5 +1,5 @@
 -- How a run ends.
-use Rattle.std.specs.Prelude.{◌≡◌, ◌+◌, Bool, true, false, [], Option}
+use Rattle.std.specs.Prelude.{◌≡◌, ◌≢◌, ◌+◌, ◌⊎◌, Bool, true, false, [], Option, codes}
 use Rattle.std.specs.Io.KnownBytes.{Appends}
 use Rattle.bib_spec.specs.Bytes.{file_limit}
 use Rattle.bib_spec.specs.Text.{Text}
@@ -8,7 +8,7 @@ use Rattle.bib_run.specs.declared.answers.Outcome.{Outcome}
 use Rattle.bib_run.specs.declared.answers.Answer.{Answer}
 use Rattle.bib_run.specs.declared.taps.Tap.{Tap}
 use Rattle.bib_run.specs.Taps.{tap_inner, has_failed}
-use Rattle.bib_run.specs.Transfers.{HasBytes, WritesPrefix}
+use Rattle.bib_run.specs.Transfers.{ReadsUpTo, HasBytes, WritesPrefix}
 use Rattle.bib_run.specs.Messages.{read_fault_line, write_fault_line}
 use Rattle.bib_run.specs.Outcome.{outcome_of}
 use Rattle.bib_run.specs.Answers.{IsAnswer}
@@ -22,26 +22,55 @@ pub record TapView : Type 0 where
 abbrev pub view_of : {T : Type 0} → (T → Option Text) → Tap T → TapView
 view_of bytes t = record { bytes = bytes (tap_inner t); failed = has_failed t }
 
--- the file was read, to its end or to one byte past the limit, and the command has this answer to it
-pub record HasAnswer (command : Command) (file_old file_new : TapView) (answer : Answer) : Type 0 where
-  pub file : Text
-  pub read : HasBytes (file_limit + 1) file_old.bytes file_new.bytes file
-  pub sound : file_new.failed ≡ file_old.failed
-  pub answers : IsAnswer command file answer
+-- the taps of a run at one moment
+pub record TapsView : Type 0 where
+  pub file : TapView
+  pub input : TapView
+  pub out : TapView
 
--- How a run of a command ends, told by its outcome, and by file and output before and after it. (dialect)
-pub data IsRun (command : Command) (file_old file_new out_old out_new : TapView) : Outcome → Type 0 where
+abbrev pub taps : TapView → TapView → TapView → TapsView
+taps file input out = record { file = file; input = input; out = out }
+
+-- a source was read, to its end or to one byte past the limit
+pub record WasRead (old new : TapView) (bytes : Text) : Type 0 where
+  pub read : HasBytes (file_limit + 1) old.bytes new.bytes bytes
+  pub sound : new.failed ≡ old.failed
+
+-- of all commands, `edit` alone reads its input; nothing is read of it for another one
+pub data HasInput (command : Command) (old new : TapView) (input : Text) : Type 0 where
+  read : command.name ≡ codes "edit" → WasRead old new input → HasInput command old new input
+  unread : command.name ≢ codes "edit" → new ≡ old → input ≡ [] → HasInput command old new input
+
+-- so much of its input was read by a command: by `edit` up to its end or one byte past the limit, and nothing by another one
+pub data ReadsInput (command : Command) (old new : TapView) (input : Text) : Type 0 where
+  front : command.name ≡ codes "edit" → ReadsUpTo (file_limit + 1) old.bytes new.bytes input → new.failed ≡ old.failed → ReadsInput command old new input
+  nothing : command.name ≢ codes "edit" → new ≡ old → input ≡ [] → ReadsInput command old new input
+
+-- the file was read, and the input where the command reads it, and the command has this answer to them
+pub record HasAnswer (command : Command) (old new : TapsView) (answer : Answer) : Type 0 where
+  pub file : Text
+  pub input : Text
+  pub file_read : WasRead old.file new.file file
+  pub input_read : HasInput command old.input new.input input
+  pub answers : IsAnswer command file input answer
+
+-- no call on a source failed
+pub record AreSound (old new : TapsView) : Type 0 where
+  pub file : new.file.failed ≡ old.file.failed
+  pub input : new.input.failed ≡ old.input.failed
+
+-- How a run of a command ends, told by its outcome, and by its taps before and after it. (dialect)
+pub data IsRun (command : Command) (old new : TapsView) : Outcome → Type 0 where
   -- no call failed, and the answer's output was written whole
-  answered : (answer : Answer) → HasAnswer command file_old file_new answer
-      → Appends out_old.bytes out_new.bytes answer.output → out_new.failed ≡ out_old.failed
-      → IsRun command file_old file_new out_old out_new answer.outcome
-  -- a call on the file failed, and nothing was written
-  read_fault : file_new.failed ≡ true → out_new ≡ out_old
-      → IsRun command file_old file_new out_old out_new (outcome_of read_fault_line 3)
+  answered : (answer : Answer) → HasAnswer command old new answer
+      → Appends old.out.bytes new.out.bytes answer.output → new.out.failed ≡ old.out.failed
+      → IsRun command old new answer.outcome
+  -- a call on a source failed, and nothing was written
+  read_fault : (new.file.failed ≡ true) ⊎ (new.input.failed ≡ true) → new.out ≡ old.out
+      → IsRun command old new (outcome_of read_fault_line 3)
   -- a call on the output failed, and a prefix of the answer's output was written
-  write_fault : (answer : Answer) → HasAnswer command file_old file_new answer
-      → WritesPrefix out_old.bytes out_new.bytes answer.output false → out_new.failed ≡ true
-      → IsRun command file_old file_new out_old out_new (outcome_of write_fault_line 3)
+  write_fault : (answer : Answer) → HasAnswer command old new answer
+      → WritesPrefix old.out.bytes new.out.bytes answer.output false → new.out.failed ≡ true
+      → IsRun command old new (outcome_of write_fault_line 3)
   -- no call failed, and nothing was written
-  no_memory : file_new.failed ≡ file_old.failed → out_new ≡ out_old
-      → IsRun command file_old file_new out_old out_new (outcome_of [] 4)
+  no_memory : AreSound old new → new.out ≡ old.out → IsRun command old new (outcome_of [] 4)

@@ -1,11 +1,16 @@
 //! What a command answers.
 
-ghost use Rattle.std.specs.Prelude.{◌≡◌, [], IfOk};
+ghost use Rattle.std.specs.Prelude.{◌≡◌, ◌≢◌, [], IfOk};
+ghost use Rattle.bib_run.specs.Messages.{refusal_line};
 ghost use Rattle.bib_run.specs.Outcome.{outcome_of, answer_of};
 
-use bib_scan::Text;
+use crate::messages::refusal_line;
+use bib_scan::{ReadFault, Text};
 use bib_words::status;
-use std::alloc::Global;
+use std::alloc::{AllocError, Global};
+
+/// The number of the fault that is want of memory.
+pub const MEMORY: u8 = 10;
 
 /// What the program has to write besides the output, and the status in which it ends.
 #[derive(Drop)]
@@ -53,4 +58,14 @@ pub fn refused(alloc: Global, message: Text) -> Answer
         output: Text::from_vec(Vec::new(alloc)),
         outcome: outcome_of(message, status::REFUSED),
     }
+}
+
+/// Nothing is output, and the message says why the file is not read; want of memory is no answer.
+pub fn unread(alloc: Global, fault: ReadFault) -> Result<Answer, AllocError>
+    ensures { IfOk result (λ answer. (fault.kind ≢ 10) × (answer ≡ answer_of [] (refusal_line fault.kind fault.place) 1)) }
+{
+    if fault.kind == MEMORY {
+        return Err(AllocError);
+    }
+    Ok(refused(alloc, refusal_line(alloc, fault)?))
 }

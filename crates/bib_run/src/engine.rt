@@ -1,15 +1,22 @@
 //! One run of a command: all sources are read, then the answer is made, then it is written.
 
-ghost use Rattle.std.specs.Prelude.{◌≡◌, IfOk, OnErr};
+ghost use Rattle.std.specs.Prelude.{◌≡◌, ◌≢◌, true, codes, IfOk, OnErr, Err};
 ghost use Rattle.bib_words.specs.Command.{IsCommand};
 ghost use Rattle.bib_run.specs.Answers.{IsAnswer};
 ghost use Rattle.bib_run.specs.Outcome.{outcome_of};
 ghost use Rattle.bib_run.specs.Lent.{held_before, held_after};
-ghost use Rattle.bib_run.specs.Runs.{IsRun, view_of};
+ghost use Rattle.bib_run.specs.Runs.{IsRun, ReadsInput, taps, view_of};
 ghost use Rattle.bib_run.specs.Taps.{has_failed};
+ghost use Rattle.bib_run.specs.declared.source.SourceFault.TheVariants.{Failed, OutOfMemory};
 
 use crate::answers::{Answer, outcome_of};
 use crate::commands::cat::answer_cat;
+use crate::commands::check::answer_check;
+use crate::commands::cite::answer_cite;
+use crate::commands::edit::answer_edit;
+use crate::commands::labels::answer_labels;
+use crate::commands::names::answer_names;
+use crate::commands::show::answer_show;
 use crate::messages::{READ_FAULT, WRITE_FAULT};
 use crate::sink::write_whole;
 use crate::source::{SourceFault, read_up_to};
@@ -20,8 +27,9 @@ use std::alloc::{AllocError, Global};
 use std::io::{Read, Write};
 
 /// Runs a command over its file, its journal, its input and its output. It reads the file to its end or to one byte
-/// past the limit, and keeps it in memory once, beside two places for each item. Calls that are interrupted are made
-/// again, up to 100 times on each tap. Memory is refused only before anything is written.
+/// past the limit, and keeps it in memory once, beside what the command makes of it; and so the input, for the one
+/// command that reads it. Calls that are interrupted are made again, up to 100 times on each tap. Memory is refused only
+/// before anything is written.
 pub fn run<F: Read, J: Read, I: Read, W: Write>(
     alloc: Global,
     command: &Command,
@@ -31,49 +39,56 @@ pub fn run<F: Read, J: Read, I: Read, W: Write>(
     out: &mut Tap<W>,
 ) -> Outcome
     requires { IsCommand command.now }
-    ensures ran { IsRun command.now (view_of F.remaining file.old) (view_of F.remaining file.new)
-        (view_of W.contents out.old) (view_of W.contents out.new) result }
+    ensures ran { IsRun command.now
+        (taps (view_of F.remaining file.old) (view_of I.remaining input.old) (view_of W.contents out.old))
+        (taps (view_of F.remaining file.new) (view_of I.remaining input.new) (view_of W.contents out.new)) result }
 
-    // No command reads its journal or its input.
+    // No command reads its journal, and but for `edit` none its input.
     ensures journal { held_after journal.exit ≡ held_before journal.entry }
-    ensures input { input.new ≡ input.old }
+    ensures input { command.now.name ≢ codes "edit" → input.new ≡ input.old }
 {
-    let _ = input;
     match journal {
-        Some(_unread) => perform(alloc, command, file, out),
-        None => perform(alloc, command, file, out),
+        Some(_unread) => perform(alloc, command, file, input, out),
+        None => perform(alloc, command, file, input, out),
     }
 }
 
-/// The run of a command that reads neither journal nor input.
-fn perform<F: Read, W: Write>(
+/// The run of a command that does not read its journal.
+fn perform<F: Read, I: Read, W: Write>(
     alloc: Global,
     command: &Command,
     file: &mut Tap<F>,
+    input: &mut Tap<I>,
     out: &mut Tap<W>,
 ) -> Outcome
     requires { IsCommand command.now }
-    ensures { IsRun command.now (view_of F.remaining file.old) (view_of F.remaining file.new)
-        (view_of W.contents out.old) (view_of W.contents out.new) result }
+    ensures ran { IsRun command.now
+        (taps (view_of F.remaining file.old) (view_of I.remaining input.old) (view_of W.contents out.old))
+        (taps (view_of F.remaining file.new) (view_of I.remaining input.new) (view_of W.contents out.new)) result }
+    ensures input { command.now.name ≢ codes "edit" → input.new ≡ input.old }
 {
-    match try_perform(alloc, command, file, out) {
+    match try_perform(alloc, command, file, input, out) {
         Ok(outcome) => outcome,
         Err(AllocError) => outcome_of(Text::from_vec(Vec::new(alloc)), status::MEMORY),
     }
 }
 
 /// The same, up to want of memory, which comes before anything is written and never after a fault.
-fn try_perform<F: Read, W: Write>(
+fn try_perform<F: Read, I: Read, W: Write>(
     alloc: Global,
     command: &Command,
     file: &mut Tap<F>,
+    input: &mut Tap<I>,
     out: &mut Tap<W>,
 ) -> Result<Outcome, AllocError>
     requires { IsCommand command.now }
-    ensures ran { IfOk result (IsRun command.now (view_of F.remaining file.old) (view_of F.remaining file.new)
-        (view_of W.contents out.old) (view_of W.contents out.new)) }
-    ensures sound { OnErr result (has_failed file.new ≡ has_failed file.old) }
+    ensures ran { IfOk result (IsRun command.now
+        (taps (view_of F.remaining file.old) (view_of I.remaining input.old) (view_of W.contents out.old))
+        (taps (view_of F.remaining file.new) (view_of I.remaining input.new) (view_of W.contents out.new))) }
+    ensures file { OnErr result (has_failed file.new ≡ has_failed file.old) }
+    ensures failed { OnErr result (has_failed input.new ≡ has_failed input.old) }
     ensures silent { OnErr result (out.new ≡ out.old) }
+    ensures input { command.now.name ≢ codes "edit" → input.new ≡ input.old }
 {
     let read_fault = fault(alloc, READ_FAULT)?;
     let write_fault = fault(alloc, WRITE_FAULT)?;
@@ -82,11 +97,33 @@ fn try_perform<F: Read, W: Write>(
         Err(SourceFault::Failed) => return Ok(read_fault),
         Err(SourceFault::OutOfMemory) => return Err(AllocError),
     };
-    let answer = answer_of(alloc, command, bytes)?;
+    let script = match read_input(alloc, command, input) {
+        Ok(script) => script,
+        Err(SourceFault::Failed) => return Ok(read_fault),
+        Err(SourceFault::OutOfMemory) => return Err(AllocError),
+    };
+    let answer = answer_of(alloc, command, bytes, script.as_slice())?;
     if !write_whole(out, answer.output.as_slice()) {
         return Ok(write_fault);
     }
     Ok(answer.outcome)
+}
+
+/// The input of a command, if it reads that.
+fn read_input<I: Read>(
+    alloc: Global,
+    command: &Command,
+    input: &mut Tap<I>,
+) -> Result<Vec<u8>, SourceFault>
+    ensures ok { IfOk result (λ bytes. ReadsInput command.now (view_of I.remaining input.old) (view_of I.remaining input.new) bytes.items) }
+    ensures failed { result ≡ Err Failed → has_failed input.new ≡ true }
+    ensures memory { result ≡ Err OutOfMemory → has_failed input.new ≡ has_failed input.old }
+    ensures unread { command.now.name ≢ codes "edit" → input.new ≡ input.old }
+{
+    if command.is_named(b"edit") {
+        return read_up_to(alloc, input, FILE_LIMIT + 1);
+    }
+    Ok(Vec::new(alloc))
 }
 
 /// The outcome of a read or write fault.
@@ -96,13 +133,37 @@ fn fault(alloc: Global, line: &[u8]) -> Result<Outcome, AllocError>
     Ok(outcome_of(Text::from_vec(Vec::from_slice(alloc, line)?), status::FAULT))
 }
 
-/// The command's answer to the bytes of its file.
-fn answer_of(alloc: Global, command: &Command, file: Vec<u8>) -> Result<Answer, AllocError>
+/// The command's answer to the bytes of its file and of its input.
+fn answer_of(
+    alloc: Global,
+    command: &Command,
+    file: Vec<u8>,
+    input: &[u8],
+) -> Result<Answer, AllocError>
     requires { IsCommand command.now }
-    ensures { IfOk result (IsAnswer command.now file.items) }
+    ensures { IfOk result (IsAnswer command.now file.items input.now) }
 {
-    if command.name.as_slice() == b"cat".as_slice() {
+    if command.is_named(b"cat") {
         return answer_cat(alloc, file);
+    }
+    if command.is_named(b"check") {
+        return answer_check(alloc, file);
+    }
+    if command.is_named(b"edit") {
+        return answer_edit(alloc, file, input);
+    }
+    let words = command.words.as_slice();
+    if command.is_named(b"show") {
+        return answer_show(alloc, file, words[1].as_slice());
+    }
+    if command.is_named(b"cite") {
+        return answer_cite(alloc, file, &words[1..], command.n);
+    }
+    if command.is_named(b"labels") {
+        return answer_labels(alloc, file, &words[1..]);
+    }
+    if command.is_named(b"names") {
+        return answer_names(alloc, file, words[1].as_slice(), words[2].as_slice());
     }
     unreachable!()
 }

@@ -7,6 +7,7 @@ mod answers;
 mod commands;
 mod engine;
 mod messages;
+mod opening;
 mod sink;
 mod source;
 mod taps;

@@ -12,6 +12,9 @@ pub const READ_FAULT: &[u8] = b"bibkeep: read fault\n";
 /// The message of a writer that failed.
 pub const WRITE_FAULT: &[u8] = b"bibkeep: write fault\n";
 
+/// The message of a key that no entry has.
+pub const NO_SUCH_ENTRY: &[u8] = b"bibkeep: 11 NoSuchEntry\n";
+
 /// Why a file is not read: `bibkeep: N Name at P`, a line.
 pub fn refusal_line(alloc: Global, fault: ReadFault) -> Result<Text, AllocError>
     ensures { IfOk result (λ line. line ≡ refusal_line fault.kind fault.place) }
@@ -22,7 +25,7 @@ pub fn refusal_line(alloc: Global, fault: ReadFault) -> Result<Text, AllocError>
 }
 
 /// The name of a fault of reading, by its number.
-fn fault_name(kind: u8) -> &'static str
+pub fn fault_name(kind: u8) -> &'static str
     ensures { result.now ≡ fault_name kind }
 {
     match kind {

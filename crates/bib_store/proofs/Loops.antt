@@ -5,76 +5,92 @@ use Rattle.std.proofs.lemmas.List.Sums.{sum_by-cons}
 use Rattle.std.specs.List.{AllByRecursion}
 use Rattle.bib_spec.specs.Bytes.{file_limit}
 use Rattle.bib_spec.specs.Text.{Text}
-use Rattle.bib_spec.specs.Pieces.{Piece, end_of, Stands, AscendFrom, Fit, applied_from, applied, reversed_from, reversed}
+use Rattle.bib_spec.specs.Pieces.{Piece, end_of, Stands, AscendFrom, BeginFrom, applied_from, applied, reversed_from, reversed}
 use Rattle.bib_store.specs.Reversing.{new_bytes_limit}
+use Rattle.bib_store.specs.Shifting.{moved_back, all_moved_back, FitBehind}
 
 -- what is left begins with the piece at i
 pub drop-next : (ps : List Piece) (i : ℕ) (p : Piece) → i < length ps → p ≡ get_or ps i p → drop i ps ≡ p ∷ drop (i + 1) ps
 drop-next ps i p h e = drop_more ps i p h ∙ ap (λ q. q ∷ drop (i + 1) ps) (sym e)
 
--- the pieces from i on fit the text from this place on
-pub record FitFrom (at : ℕ) (ps : List Piece) (text : Text) : Type 0 where
-  pub ascending : AscendFrom at ps
-  pub standing : AllByRecursion (Stands text) ps
+-- the pieces fit the bytes, which begin at `at`, from this place of them on
+pub record FitFrom (at end : ℕ) (ps : List Piece) (bytes : Text) : Type 0 where
+  pub begin : BeginFrom at ps
+  pub ascending : AscendFrom end (all_moved_back at ps)
+  pub standing : AllByRecursion (Stands bytes) (all_moved_back at ps)
 
 -- what a fitting piece and those behind it say
-pub record NextFits (at : ℕ) (p : Piece) (ps : List Piece) (text : Text) : Type 0 where
-  pub below : at ≤ p.place
-  pub stands : Stands text p
-  pub others : FitFrom (end_of p) ps text
+pub record NextFits (at end : ℕ) (p : Piece) (ps : List Piece) (bytes : Text) : Type 0 where
+  pub begins : at ≤ p.place
+  pub below : end ≤ p.place - at
+  pub stands : Stands bytes (moved_back at p)
+  pub others : FitFrom at (end_of (moved_back at p)) ps bytes
 
-pub next_fits : (at : ℕ) (p : Piece) (ps : List Piece) (text : Text) → FitFrom at (p ∷ ps) text → NextFits at p ps text
-next_fits at p ps text f = record {
+pub next_fits : (at end : ℕ) (p : Piece) (ps : List Piece) (bytes : Text) → FitFrom at end (p ∷ ps) bytes → NextFits at end p ps bytes
+next_fits at end p ps bytes f = record {
+  begins = f.begin.0;
   below = f.ascending.0;
   stands = f.standing.0;
-  others = record { ascending = f.ascending.1; standing = f.standing.1 };
+  others = record { begin = f.begin.1; ascending = f.ascending.1; standing = f.standing.1 };
 }
 
-pub fits_next : (at : ℕ) (p : Piece) (ps : List Piece) (text : Text) → NextFits at p ps text → FitFrom at (p ∷ ps) text
-fits_next at p ps text n = record { ascending = (n.below, n.others.ascending); standing = (n.stands, n.others.standing) }
+pub fits_next : (at end : ℕ) (p : Piece) (ps : List Piece) (bytes : Text) → NextFits at end p ps bytes → FitFrom at end (p ∷ ps) bytes
+fits_next at end p ps bytes n = record { begin = (n.begins, n.others.begin); ascending = (n.below, n.others.ascending); standing = (n.stands, n.others.standing) }
 
-pub next_at : (at : ℕ) (ps : List Piece) (text : Text) (i : ℕ) (p : Piece) → FitFrom at (drop i ps) text → i < length ps → p ≡ get_or ps i p
-    → NextFits at p (drop (i + 1) ps) text
-next_at at ps text i p f h e = next_fits at p (drop (i + 1) ps) text (subst (λ (qs : List Piece). FitFrom at qs text) (drop-next ps i p h e) f)
+pub next_at : (at end : ℕ) (ps : List Piece) (bytes : Text) (i : ℕ) (p : Piece) → FitFrom at end (drop i ps) bytes → i < length ps → p ≡ get_or ps i p
+    → NextFits at end p (drop (i + 1) ps) bytes
+next_at at end ps bytes i p f h e = next_fits at end p (drop (i + 1) ps) bytes (subst (λ (qs : List Piece). FitFrom at end qs bytes) (drop-next ps i p h e) f)
+
+pub fit_from_start : (at : ℕ) (ps : List Piece) (bytes : Text) → FitBehind at ps bytes → FitFrom at 0 ps bytes
+fit_from_start at ps bytes f = record { begin = f.begin; ascending = f.fit.ascending; standing = f.fit.standing }
+
+pub fit_behind : (at : ℕ) (ps : List Piece) (bytes : Text) → FitFrom at 0 ps bytes → FitBehind at ps bytes
+fit_behind at ps bytes f = record { begin = f.begin; fit = record { ascending = f.ascending; standing = f.standing } }
 
 -- what is written, and what the pieces from i on make of the rest, is the new text
-pub record IsApplied (ps : List Piece) (text out : Text) (at i : ℕ) : Type 0 where
-  pub fit : FitFrom at (drop i ps) text
-  pub inside : at ≤ length text
-  pub so_far : out ++ applied_from at (drop i ps) text ≡ applied ps text
+pub record IsApplied (at : ℕ) (ps : List Piece) (bytes out : Text) (end i : ℕ) : Type 0 where
+  pub fit : FitFrom at end (drop i ps) bytes
+  pub inside : end ≤ length bytes
+  pub so_far : out ++ applied_from end (all_moved_back at (drop i ps)) bytes ≡ applied (all_moved_back at ps) bytes
 
-pub applied_more : (ps : List Piece) (text out : Text) (at i : ℕ) (p : Piece) → IsApplied ps text out at i → i < length ps → p ≡ get_or ps i p
-    → IsApplied ps text (out ++ take (p.place - at) (drop at text) ++ p.new) (end_of p) (i + 1)
-applied_more ps text out at i p w h e =
-    let n : NextFits at p (drop (i + 1) ps) text = next_at at ps text i p w.fit h e in
-    let g : Text = take (p.place - at) (drop at text) in
-    let rest : Text = applied_from (end_of p) (drop (i + 1) ps) text in
+pub applied_start : (at : ℕ) (ps : List Piece) (bytes : Text) → FitBehind at ps bytes → IsApplied at ps bytes [] 0 0
+applied_start at ps bytes f = record { fit = fit_from_start at ps bytes f; inside = omega arith; so_far = refl }
+
+pub applied_more : (at : ℕ) (ps : List Piece) (bytes out : Text) (end i : ℕ) (p : Piece) → IsApplied at ps bytes out end i → i < length ps → p ≡ get_or ps i p
+    → IsApplied at ps bytes (out ++ take (p.place - at - end) (drop end bytes) ++ p.new) (p.place - at + length p.old) (i + 1)
+applied_more at ps bytes out end i p w h e =
+    let n : NextFits at end p (drop (i + 1) ps) bytes = next_at at end ps bytes i p w.fit h e in
+    let g : Text = take (p.place - at - end) (drop end bytes) in
+    let rest : Text = applied_from (end_of (moved_back at p)) (all_moved_back at (drop (i + 1) ps)) bytes in
     let regrouped : out ++ g ++ p.new ++ rest ≡ out ++ (g ++ p.new ++ rest) = simp append_assoc in
     record {
       fit = n.others;
       inside = n.stands.inside;
-      so_far = regrouped ∙ sym (ap (λ qs. out ++ applied_from at qs text) (drop-next ps i p h e)) ∙ w.so_far;
+      so_far = regrouped ∙ sym (ap (λ qs. out ++ applied_from end (all_moved_back at qs) bytes) (drop-next ps i p h e)) ∙ w.so_far;
     }
 
-pub applied_all : (ps : List Piece) (text out : Text) (at i : ℕ) → IsApplied ps text out at i → length ps ≤ i → out ++ drop at text ≡ applied ps text
-applied_all ps text out at i w h = sym (ap (λ qs. out ++ applied_from at qs text) (drop_all i ps h)) ∙ w.so_far
+pub applied_all : (at : ℕ) (ps : List Piece) (bytes out : Text) (end i : ℕ) → IsApplied at ps bytes out end i → length ps ≤ i → out ++ drop end bytes ≡ applied (all_moved_back at ps) bytes
+applied_all at ps bytes out end i w h = sym (ap (λ qs. out ++ applied_from end (all_moved_back at qs) bytes) (drop_all i ps h)) ∙ w.so_far
 
 -- all fit exactly where those from i on fit behind this place
-pub record IsFitting (ps : List Piece) (text : Text) (at i : ℕ) : Type 0 where
-  pub whole : FitFrom at (drop i ps) text → Fit ps text
-  pub rest : Fit ps text → FitFrom at (drop i ps) text
-  pub inside : at ≤ length text
+pub record IsFitting (at : ℕ) (ps : List Piece) (bytes : Text) (end i : ℕ) : Type 0 where
+  pub whole : FitFrom at end (drop i ps) bytes → FitBehind at ps bytes
+  pub rest : FitBehind at ps bytes → FitFrom at end (drop i ps) bytes
+  pub inside : end ≤ length bytes
 
-pub fitting_more : (ps : List Piece) (text : Text) (at i : ℕ) (p : Piece) → IsFitting ps text at i → i < length ps → p ≡ get_or ps i p → at ≤ p.place → Stands text p
-    → IsFitting ps text (end_of p) (i + 1)
-fitting_more ps text at i p w h e below s = record {
-  whole = λ f. w.whole (subst (λ (qs : List Piece). FitFrom at qs text) (sym (drop-next ps i p h e)) (fits_next at p (drop (i + 1) ps) text (record { below = below; stands = s; others = f })));
-  rest = λ f. (next_at at ps text i p (w.rest f) h e).others;
+pub fitting_start : (at : ℕ) (ps : List Piece) (bytes : Text) → IsFitting at ps bytes 0 0
+fitting_start at ps bytes = record { whole = fit_behind at ps bytes; rest = fit_from_start at ps bytes; inside = omega arith }
+
+pub fitting_more : (at : ℕ) (ps : List Piece) (bytes : Text) (end i : ℕ) (p : Piece) → IsFitting at ps bytes end i → i < length ps → p ≡ get_or ps i p
+    → at ≤ p.place → end ≤ p.place - at → Stands bytes (moved_back at p) → IsFitting at ps bytes (p.place - at + length p.old) (i + 1)
+fitting_more at ps bytes end i p w h e begins below s = record {
+  whole = λ f. w.whole (subst (λ (qs : List Piece). FitFrom at end qs bytes) (sym (drop-next ps i p h e)) (fits_next at end p (drop (i + 1) ps) bytes (record { begins = begins; below = below; stands = s; others = f })));
+  rest = λ f. (next_at at end ps bytes i p (w.rest f) h e).others;
   inside = s.inside;
 }
 
-pub fitting_all : (ps : List Piece) (text : Text) (at i : ℕ) → IsFitting ps text at i → length ps ≤ i → Fit ps text
-fitting_all ps text at i w h = w.whole (subst (λ (qs : List Piece). FitFrom at qs text) (sym (drop_all i ps h)) (record { ascending = tt; standing = tt }))
+pub fitting_all : (at : ℕ) (ps : List Piece) (bytes : Text) (end i : ℕ) → IsFitting at ps bytes end i → length ps ≤ i → FitBehind at ps bytes
+fitting_all at ps bytes end i w h = w.whole (subst (λ (qs : List Piece). FitFrom at end qs bytes) (sym (drop_all i ps h)) (record { begin = tt; ascending = tt; standing = tt }))
 
 -- the largest u64
 abbrev cap : ℕ

@@ -1,3 +1,15 @@
 pub mod Faults
 pub mod Items
 pub mod Reversing
+pub mod Meaning
+pub mod Defined
+pub mod Definitions
+pub mod Tables
+pub mod Citing
+pub mod Gathering
+pub mod Shifting
+pub mod Windows
+pub mod ItemTexts
+pub mod KeyIndex
+pub mod Beside
+pub mod Stored

@@ -1,20 +1,26 @@
 //! Replacing pieces of a text.
 
 ghost use Rattle.std.specs.Prelude.{◌≡◌, IfOk};
-ghost use Rattle.bib_spec.specs.Pieces.{Fit, applied};
+ghost use Rattle.bib_spec.specs.Pieces.{applied};
+ghost use Rattle.bib_store.specs.Shifting.{all_moved_back, FitBehind};
 
 use crate::piece::Piece;
 use std::alloc::{AllocError, Global};
 
-/// The bytes with each piece's new bytes for its old.
-pub fn apply(alloc: Global, bytes: &[u8], pieces: &[Piece]) -> Result<Vec<u8>, AllocError>
-    requires { Fit pieces.now bytes.now }
-    ensures { IfOk result (λ text. text.items ≡ applied pieces.now bytes.now) }
+/// The bytes, which begin at `at`, with each piece's new bytes for its old.
+pub fn apply(
+    alloc: Global,
+    bytes: &[u8],
+    at: usize,
+    pieces: &[Piece],
+) -> Result<Vec<u8>, AllocError>
+    requires { FitBehind at pieces.now bytes.now }
+    ensures { IfOk result (λ text. text.items ≡ applied (all_moved_back at pieces.now) bytes.now) }
 {
     let mut out = Vec::new(alloc);
     let mut end: usize = 0;
     for piece in pieces {
-        let place = piece.place as usize;
+        let place = piece.place as usize - at;
         out.extend_from_slice(&bytes[end..place])?;
         out.extend_from_slice(piece.new.as_slice())?;
         end = place + piece.old.as_slice().len();

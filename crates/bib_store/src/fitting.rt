@@ -1,28 +1,32 @@
 //! Whether pieces fit.
 
-ghost use Rattle.std.specs.Prelude.{◌↔◌, IsTrue};
-ghost use Rattle.bib_spec.specs.Pieces.{Fit, Stands};
+ghost use Rattle.std.specs.Prelude.{◌≤◌, ◌↔◌, IsTrue};
+ghost use Rattle.bib_spec.specs.Pieces.{Stands};
+ghost use Rattle.bib_store.specs.Shifting.{moved_back, FitBehind};
 
 use crate::piece::Piece;
 
-/// Whether the piece lies inside the bytes, and its old bytes stand there.
-fn stands(piece: &Piece, bytes: &[u8]) -> bool
-    ensures { IsTrue result ↔ Stands bytes.now piece.now }
+/// Whether the piece lies inside the bytes, which begin at `at`, and its old bytes stand there.
+fn stands(piece: &Piece, at: usize, bytes: &[u8]) -> bool
+    ensures { IsTrue result ↔ (at ≤ piece.now.place) × Stands bytes.now (moved_back at piece.now) }
 {
-    let place = piece.place as usize;
+    if (piece.place as usize) < at {
+        return false;
+    }
+    let place = piece.place as usize - at;
     place <= bytes.len() && bytes[place..].starts_with(piece.old.as_slice())
 }
 
-/// Whether the pieces ascend without overlap, and each stands in the bytes.
-pub fn fits(pieces: &[Piece], bytes: &[u8]) -> bool
-    ensures { IsTrue result ↔ Fit pieces.now bytes.now }
+/// Whether the pieces ascend without overlap, and each stands in the bytes, which begin at `at`.
+pub fn fits(pieces: &[Piece], at: usize, bytes: &[u8]) -> bool
+    ensures { IsTrue result ↔ FitBehind at pieces.now bytes.now }
 {
     let mut end: usize = 0;
     for piece in pieces {
-        if (piece.place as usize) < end || !stands(piece, bytes) {
+        if !stands(piece, at, bytes) || (piece.place as usize - at) < end {
             return false;
         }
-        end = piece.place as usize + piece.old.as_slice().len();
+        end = piece.place as usize - at + piece.old.as_slice().len();
     }
     true
 }

@@ -1,11 +1,15 @@
 //! The plain list of items.
 
-ghost use Rattle.std.specs.Prelude.{◌≡◌, [], IfOk};
+ghost use Rattle.std.specs.Prelude.{◌≡◌, ◌++◌, [], length, take, IfOk, IfErr, OnOk};
+ghost use Rattle.bib_spec.specs.Reading.{Reading, Reads};
+ghost use Rattle.bib_scan.specs.Layout.{IsLayoutOf};
+ghost use Rattle.bib_store.specs.Tables.{all_stored};
+ghost use Rattle.bib_store.specs.declared.fault.StoreFault.TheVariants.{Memory};
 ghost use Rattle.bib_store.specs.Items.{item};
 
 use crate::fault::StoreFault;
 use crate::list::{Item, ItemList};
-use bib_scan::Seq;
+use bib_scan::{Layout, Seq};
 use std::alloc::{AllocError, Global};
 use std::marker::Model;
 
@@ -47,6 +51,25 @@ fn item_of(alloc: Global, body: &[u8], trail: &[u8]) -> Result<Item, AllocError>
     })
 }
 
+/// Puts the items of a text that is read behind all others. Where memory runs out, some may stand there.
+fn push_all(
+    alloc: Global,
+    members: &mut Vec<Item>,
+    text: &[u8],
+    layout: &Layout,
+) -> Result<(), StoreFault>
+    requires { IsLayoutOf text.now layout.now }
+    ensures ok { OnOk result ((db : Reading) → Reads text.now db → members.new.items ≡ members.old.items ++ all_stored db.items) }
+    ensures err { take (length members.old.items) members.new.items ≡ members.old.items }
+    ensures only { IfErr result (λ fault. fault ≡ Memory) }
+{
+    'push: for n in 0..layout.len() {
+        let item = layout.item(text, n);
+        members.push(item_of(alloc, item.body(), item.trail())?)?;
+    }
+    Ok(())
+}
+
 impl ItemList for Flat {
     ghost items = { λ f. f };
 
@@ -75,5 +98,22 @@ impl ItemList for Flat {
 
     fn remove(&mut self, n: usize) {
         self.members.remove(n);
+    }
+
+    fn remove_range(&mut self, from: usize, to: usize) {
+        let count = to - from;
+        self.members[from..].rotate_left(count);
+        self.members.truncate(self.members.len() - count);
+    }
+
+    fn insert_all(&mut self, at: usize, text: &[u8], layout: &Layout) -> Result<(), StoreFault> {
+        let count = self.members.len();
+        if let Err(fault) = push_all(self.alloc, &mut self.members, text, layout) {
+            self.members.truncate(count);
+            return Err(fault);
+        }
+        let added = self.members.len() - count;
+        self.members[at..].rotate_right(added);
+        Ok(())
     }
 }

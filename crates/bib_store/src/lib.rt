@@ -4,15 +4,37 @@
 #![tactic(auto)]
 
 mod applying;
+mod change;
+mod citing;
+mod crossrefs;
+mod database;
+mod definitions;
+mod exchanging;
+mod expanding;
 mod fault;
 mod fitting;
 mod flat;
+mod gathering;
+mod index;
+mod item_fault;
+mod joining;
+mod keeping;
 mod list;
+mod measuring;
 mod piece;
+mod preambles;
+mod record;
 mod reversing;
+mod splicing;
+mod tables;
+mod touching;
+mod window;
 
+pub use database::Database;
+pub use definitions::MacrosAt;
 pub use fault::StoreFault;
 pub use flat::Flat;
 pub use list::{Item, ItemList};
 pub use piece::Piece;
+pub use record::{Cited, Expanded, Record};
 pub use reversing::reverse;

@@ -1,9 +1,8 @@
 //! Names split and printed, and labels made.
 
-use bib_names::{
-    NameFault, Record, Template, Word, key_base, label_base, labels, split_name, split_names,
-};
+use bib_names::{NameFault, Template, Word, key_base, label_base, labels, split_name, split_names};
 use bib_scan::{Seq, Text};
+use bib_store::Record;
 use std::alloc::Global;
 use std::test::Fail;
 

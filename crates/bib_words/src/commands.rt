@@ -2,6 +2,9 @@
 
 use bib_scan::{Seq, Text};
 
+/// The greatest number that a command takes.
+const NUMBER_LIMIT: u32 = 65_535;
+
 /// A command: its name, its positional words in order, the file first where there is one, and its number, which is 0
 /// where the command takes none.
 #[derive(Drop)]
@@ -12,13 +15,30 @@ pub struct Command {
 }
 
 impl Command {
-    ghost use Rattle.std.specs.Prelude.{◌↔◌, IsTrue};
+    ghost use Rattle.std.specs.Prelude.{◌≡◌, ◌↔◌, IsTrue};
     ghost use Rattle.bib_words.specs.Command.{IsCommand};
+
+    /// Whether this is the command's name. It takes no memory.
+    pub fn is_named(&self, name: &[u8]) -> bool
+        ensures { IsTrue result ↔ (self.now.name ≡ name.now) }
+    {
+        self.name.as_slice() == name
+    }
 
     /// Whether the program has such a command, with as many words and such a number. It takes no memory.
     pub fn is_known(&self) -> bool
         ensures { IsTrue result ↔ IsCommand self.now }
     {
-        self.name.as_slice() == b"cat".as_slice() && self.words.as_slice().len() <= 1 && self.n == 0
+        let words = self.words.as_slice().len();
+        match self.name.as_slice() {
+            b"cat" => words <= 1 && self.n == 0,
+            b"check" => words == 1 && self.n == 0,
+            b"show" => words == 2 && self.n == 0,
+            b"cite" => words >= 2 && self.n >= 1 && self.n <= NUMBER_LIMIT,
+            b"labels" => words >= 2 && self.n == 0,
+            b"names" => words == 3 && self.n == 0,
+            b"edit" => words == 1 && self.n == 0,
+            _ => false,
+        }
     }
 }

@@ -1,7 +1,6 @@
-use Rattle.std.proofs.Common.{◌≡◌, get_or, sym, ap, ◌∙◌, subst, arith, cond, ◌+◌}
+use Rattle.std.proofs.Common.{◌≡◌, get_or, sym, ap, ◌∙◌, subst, cond, ◌+◌}
 use Rattle.std.specs.Str.{bytes_eq}
 use Rattle.bib_spec.specs.Text.{Text}
-use Rattle.bib_names.specs.Label.{count_of}
 use Rattle.bib_names.proofs.LabelLaws.{count_of_more, labels_more}
 use Rattle.bib_names.proofs.labelling.labels_of.Goals as goal
 

@@ -1,4 +1,3 @@
-use Rattle.std.proofs.Common.{refl}
 use Rattle.bib_names.proofs.MadeKeyLaws.{key_base-short, key_base-is_key}
 use Rattle.bib_names.proofs.made_key.key_base.Goals as goal
 

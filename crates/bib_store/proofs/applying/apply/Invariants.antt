@@ -2,4 +2,4 @@ use Rattle.bib_store.proofs.Loops.{IsApplied}
 use Rattle.bib_store.proofs.applying.apply.Given as goal
 
 abbrev pub invariant-loop-piece : goal.invariant-loop-piece
-invariant-loop-piece l = IsApplied l.pieces l.bytes l.out.items l.end l.piece-index
+invariant-loop-piece l = IsApplied l.at l.pieces l.bytes l.out.items l.end l.piece-index

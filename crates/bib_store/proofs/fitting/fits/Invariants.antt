@@ -2,4 +2,4 @@ use Rattle.bib_store.proofs.Loops.{IsFitting}
 use Rattle.bib_store.proofs.fitting.fits.Given as goal
 
 abbrev pub invariant-loop-piece : goal.invariant-loop-piece
-invariant-loop-piece l = IsFitting l.pieces l.bytes l.end l.piece-index
+invariant-loop-piece l = IsFitting l.at l.pieces l.bytes l.end l.piece-index

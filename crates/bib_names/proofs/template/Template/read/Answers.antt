@@ -1,5 +1,5 @@
-use Rattle.std.proofs.Common.{◌≡◌, ◌++◌, ◌∷◌, [], length, sym, ◌∙◌, subst, ap, arith, refl, List, ℕ}
-use Rattle.bib_names.proofs.TemplateLaws.{IsReadSoFar, read_front, read_more, read_stuck, read_left, read_all, after_byte-found, group_at-found, length-after, not_empty}
+use Rattle.std.proofs.Common.{sym, ◌∙◌, subst, List, ℕ}
+use Rattle.bib_names.proofs.TemplateLaws.{IsReadSoFar, read_front, read_more, read_stuck, read_left, after_byte-found, length-after, not_empty}
 use Rattle.bib_names.proofs.template.Template.read.Goals as goal
 
 pub loop-inside-init : goal.loop-inside-init

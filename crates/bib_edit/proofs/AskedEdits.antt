@@ -1,0 +1,54 @@
+-- What is asked for, by the kind of edit.
+use Rattle.std.proofs.Common.{ℕ, List, [], ◌∷◌, ⊎_elim, refl, append-nil}
+use Rattle.bib_spec.specs.Tree.{Digits}
+use Rattle.bib_scan.proofs.PlaceOfFault.{value_or_hopeless}
+use Rattle.bib_edit.specs.Laws.{EditsAreAskedFor}
+use Rattle.bib_spec.specs.Text.{Text}
+use Rattle.bib_spec.specs.Tree.{Value}
+use Rattle.bib_spec.specs.Edits as edits
+use Rattle.bib_spec.specs.Edits.{Spells}
+use Rattle.bib_edit.specs.declared.edit.Edit.TheVariants.{SetField, DropField, AddEntry, RemoveEntry, MoveEntry}
+use Rattle.bib_edit.specs.declared.edit.NewEntry.{NewEntry}
+use Rattle.bib_edit.specs.Asking.{SpellFields, SpellsEntry, OfEdit, set_field, drop_field, add_entry, remove_entry, move_entry}
+
+pub of-set_field : (key field value : Text) (P : edits.Edit → Type 0) → ((v : Value) → Spells value v → P (edits.SetField key field v)) → OfEdit (SetField key field value) P
+of-set_field key field value P h e (set_field k f t v s) = h v s
+
+pub of-drop_field : (key field : Text) (P : edits.Edit → Type 0) → P (edits.DropField key field) → OfEdit (DropField key field) P
+of-drop_field key field P h e (drop_field k f) = h
+
+-- ---- some edit is asked for
+
+some_value : (t : Text) → (v : Value) × Spells t v
+some_value t = ⊎_elim
+    (λ is. (is.0, record { bytes = is.2; value = λ _. is.1 }))
+    (λ none. (record { first = Digits t; links = [] }, record { bytes = append-nil t; value = λ is. absurd (none.1.fails is) }))
+    (value_or_hopeless t)
+
+some_fields : (asked : List (Text × Text)) → (fields : List (Text × Value)) × SpellFields asked fields
+some_fields [] = ([], tt)
+some_fields (field ∷ asked) =
+    let value = some_value field.1 in
+    let rest = some_fields asked in
+    ((field.0, value.0) ∷ rest.0, (refl, value.1, rest.1))
+
+some_entry : (asked : NewEntry) → (new : edits.NewEntry) × SpellsEntry asked new
+some_entry asked =
+    let fields = some_fields asked.fields in
+    (record { kind_name = asked.kind_name; key = asked.key; fields = fields.0 }, record { kind_name = refl; key = refl; fields = fields.1 })
+
+pub asked_for : EditsAreAskedFor
+asked_for (SetField key field value) = let v = some_value value in (edits.SetField key field v.0, set_field key field value v.0 v.1)
+asked_for (DropField key field) = (edits.DropField key field, drop_field key field)
+asked_for (AddEntry place entry) = let new = some_entry entry in (edits.AddEntry place new.0, add_entry place entry new.0 new.1)
+asked_for (RemoveEntry key) = (edits.RemoveEntry key, remove_entry key)
+asked_for (MoveEntry key place) = (edits.MoveEntry key place, move_entry key place)
+
+pub of-add_entry : (place : ℕ) (asked : NewEntry) (P : edits.Edit → Type 0) → ((new : edits.NewEntry) → SpellsEntry asked new → P (edits.AddEntry place new)) → OfEdit (AddEntry place asked) P
+of-add_entry place asked P h e (add_entry n a new spells) = h new spells
+
+pub of-remove_entry : (key : Text) (P : edits.Edit → Type 0) → P (edits.RemoveEntry key) → OfEdit (RemoveEntry key) P
+of-remove_entry key P h e (remove_entry k) = h
+
+pub of-move_entry : (key : Text) (place : ℕ) (P : edits.Edit → Type 0) → P (edits.MoveEntry key place) → OfEdit (MoveEntry key place) P
+of-move_entry key place P h e (move_entry k n) = h

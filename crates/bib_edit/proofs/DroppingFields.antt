@@ -1,0 +1,205 @@
+-- When dropping a field is refused, and for which reason.
+use Rattle.std.proofs.Common.{◌≡◌, ℕ, ◌+◌, ◌<◌, ◌≤◌, ◌&&◌, Bool, true, false, List, [], ◌∷◌, Some, None, is_some, find, slice_get, length, count_by, inl, inr, ⊎_elim, true≢false, refl, sym, ◌∙◌, ap, subst, arith, option_and_then}
+use Rattle.std.specs.Option.{option_map_or}
+use Rattle.std.proofs.lemmas.Bool.{cases_Bool, cond-true, cond-false, false≢true}
+use Rattle.std.proofs.lemmas.Option.{none-some}
+use Rattle.std.proofs.lemmas.List.Elements.{All-nil}
+use Rattle.bib_spec.specs.Bytes.{name_limit, file_limit}
+use Rattle.bib_spec.specs.Text.{Text, is_name}
+use Rattle.bib_spec.specs.Tree.{EntryTree, IsValue}
+use Rattle.bib_spec.specs.Reading.{Item, Reading, bytes_of, Reads}
+use Rattle.bib_spec.specs.Texts.{months, macros_at, too_long_at, Opens}
+use Rattle.bib_spec.specs.Steps.{IsFile}
+use Rattle.bib_spec.specs.Records.{entries_of, has_name, entry_named}
+use Rattle.bib_spec.specs.Pieces.{end_of}
+use Rattle.bib_spec.specs.Edits as edits
+use Rattle.bib_spec.specs.Edits.{holders, fields_named, entry_without_field, IsAccepted, IsFirstRefusal}
+use Rattle.bib_spec.specs.EditChunks.{pieces_of}
+use Rattle.bib_spec.proofs.Counts.{count-yes, count-no}
+use Rattle.bib_scan.specs.View.{Field, View, view_of}
+use Rattle.bib_scan.specs.Layout.{start_of}
+use Rattle.bib_scan.proofs.OneReading.{one_reading}
+use Rattle.bib_store.specs.Meaning.{OfReading}
+use Rattle.bib_edit.specs.declared.edit.Edit.{Edit}
+use Rattle.bib_edit.specs.declared.edit.Edit.TheVariants.{DropField}
+use Rattle.bib_edit.specs.declared.fault.EditFault.TheVariants.{BadName, NotFound, Ambiguous, WouldMerge}
+use Rattle.bib_edit.specs.Asking.{made_base}
+use Rattle.bib_edit.specs.Planning.{IsAllowedEdit, ArePiecesOf, IsRefusal}
+use Rattle.bib_edit.specs.Addressing.{item_named, is_field, field_end}
+use Rattle.bib_edit.specs.FieldPieces.{cut_piece, joins_key, OfItem}
+use Rattle.bib_edit.proofs.Ranks.{IsClear, clear_none, clear_more, first_refusal, all_clear}
+use Rattle.bib_edit.proofs.NamedEntries.{IsNamedEntry, named-entry, no-entry}
+use Rattle.bib_edit.proofs.PieceLists.{length-one_piece, within-one_piece}
+use Rattle.bib_edit.proofs.SettingPieces.{item_at, fields-seen}
+use Rattle.bib_edit.proofs.LongTexts.{too_long-changed, short-entry, short-dropped}
+use Rattle.bib_edit.proofs.CuttingRows.{row-begins, row-within, key-before, drop-one_piece, joins-found}
+use Rattle.bib_edit.proofs.AskedEdits.{of-drop_field}
+
+-- ---- the reasons in their order
+
+module _ (db : Reading) (key name : Text) where
+  abbrev drop : edits.Edit
+  drop = edits.DropField key name
+
+  clear_name : IsClear made_base db drop 1
+  clear_name = clear_more made_base db drop edits.BadKey (λ h. true≢false h) (clear_none made_base db drop)
+
+  clear_field : is_name name ≡ true → IsClear made_base db drop 4
+  clear_field n =
+      clear_more made_base db drop edits.BadPosition (λ h. h)
+      (clear_more made_base db drop edits.BadValue (λ h. h (All-nil (IsValue name_limit)))
+      (clear_more made_base db drop edits.BadName (λ h. true≢false (sym (ap (λ b. (b && true) && true) n) ∙ h)) clear_name))
+
+  clear_ambiguous : is_name name ≡ true → (fields_named key name db ≡ 0 → ⊥) → IsClear made_base db drop 5
+  clear_ambiguous n there = clear_more made_base db drop edits.NotFound there (clear_field n)
+
+  clear_merge : is_name name ≡ true → (fields_named key name db ≡ 0 → ⊥) → holders key db ≤ 1 → fields_named key name db ≤ 1 → IsClear made_base db drop 9
+  clear_merge n there once few =
+      clear_more made_base db drop edits.Referred (λ h. h)
+      (clear_more made_base db drop edits.NameInUse (λ h. h)
+      (clear_more made_base db drop edits.KeyInUse (λ h. h)
+      (clear_more made_base db drop edits.Ambiguous (λ h. ⊎_elim (λ many. omega (arith, many, once)) (λ many. omega (arith, many, few)) h)
+      (clear_ambiguous n there))))
+
+-- ---- counts
+
+none-counted : {X : Type 0} (p : X → Bool) (xs : List X) → find p xs ≡ None → count_by p xs ≡ 0
+none-counted p [] e = refl
+none-counted p (x ∷ xs) e = ⊎_elim
+    (λ t. absurd (none-some x (sym e ∙ cond-true (p x) (Some x) (find p xs) t)))
+    (λ t. count-no p x xs t ∙ none-counted p xs (sym (cond-false (p x) (Some x) (find p xs) t) ∙ e))
+    (cases_Bool (p x))
+
+some-counted : {X : Type 0} (p : X → Bool) (xs : List X) (y : X) → find p xs ≡ Some y → 1 ≤ count_by p xs
+some-counted p [] y e = absurd (none-some y e)
+some-counted p (x ∷ xs) y e = ⊎_elim
+    (λ t. let more = count-yes p x xs t in omega (arith, more))
+    (λ t. let less = count-no p x xs t in let rest = some-counted p xs y (sym (cond-false (p x) (Some x) (find p xs) t) ∙ e) in omega (arith, less, rest))
+    (cases_Bool (p x))
+
+-- ---- refusals
+
+module _ (file key name : Text) where
+  abbrev asked : Edit
+  asked = DropField key name
+
+  pub refused-name : is_name name ≡ false → IsRefusal file asked BadName
+  refused-name bad db reads = of-drop_field key name (λ e. IsFirstRefusal made_base db e edits.BadName)
+      (first_refusal made_base db (drop db key name) edits.BadName (ap (λ b. (b && true) && true) bad) (clear_name db key name))
+
+  -- what is known once the name is one
+  module _ (valid : is_name name ≡ true) where
+    pub refused-key : OfReading file (λ db. None ≡ item_named key db) → IsRefusal file asked NotFound
+    refused-key none db reads = of-drop_field key name (λ e. IsFirstRefusal made_base db e edits.NotFound)
+        (first_refusal made_base db (drop db key name) edits.NotFound
+        (ap (λ o. option_map_or (λ entry. count_by (has_name name) entry.fields) (option_and_then (slice_get (entries_of db)) o) 0) (no-entry key db (sym (none db reads))))
+        (clear_field db key name valid))
+
+    -- and that the key names the item, of which this is seen
+    module _ (n : ℕ) (held : OfReading file (λ db. Some n ≡ item_named key db)) (start : ℕ) (view : View) (seen : OfItem file n (λ s v. view ≡ v)) where
+      fields : (db : Reading) → Reads file db → fields_named key name db ≡ count_by (is_field name) view.fields
+      fields db reads =
+          let entry = named-entry key db n (sym (held db reads)) in
+          let item : Item = item_at (EntryTree entry.entry) entry.trail in
+          fields-seen db key name n item (sym (held db reads)) entry.at ∙ sym (ap (λ v. count_by (is_field name) v.fields) (seen db reads item entry.at))
+
+      pub refused-field : None ≡ find (is_field name) view.fields → IsRefusal file asked NotFound
+      refused-field none db reads = of-drop_field key name (λ e. IsFirstRefusal made_base db e edits.NotFound)
+          (first_refusal made_base db (drop db key name) edits.NotFound (fields db reads ∙ none-counted (is_field name) view.fields (sym none)) (clear_field db key name valid))
+
+      -- and that the field is there
+      module _ (field : Field) (found : Some field ≡ find (is_field name) view.fields) where
+        there : (db : Reading) → Reads file db → fields_named key name db ≡ 0 → ⊥
+        there db reads none =
+            let count = fields db reads in let some = some-counted (is_field name) view.fields field (sym found) in omega (arith, none, count, some)
+
+        pub refused-holders : (count : ℕ) → OfReading file (λ db. count ≡ holders key db) → 1 < count → IsRefusal file asked Ambiguous
+        refused-holders count counted many db reads = of-drop_field key name (λ e. IsFirstRefusal made_base db e edits.Ambiguous)
+            (let same_count = counted db reads in
+            first_refusal made_base db (drop db key name) edits.Ambiguous (inl (omega (arith, many, same_count))) (clear_ambiguous db key name valid (there db reads)))
+
+        pub refused-twice : 1 < count_by (is_field name) view.fields → IsRefusal file asked Ambiguous
+        refused-twice many db reads = of-drop_field key name (λ e. IsFirstRefusal made_base db e edits.Ambiguous)
+            (let same_count = fields db reads in
+            first_refusal made_base db (drop db key name) edits.Ambiguous (inr (omega (arith, many, same_count))) (clear_ambiguous db key name valid (there db reads)))
+
+        -- the entry, in the file
+        abbrev entry : (db : Reading) → Reads file db → IsNamedEntry key (option_and_then (slice_get (entries_of db)) (entry_named (entries_of db) key)) db.items n
+        entry db reads = named-entry key db n (sym (held db reads))
+
+        module _ (db : Reading) (reads : Reads file db) where
+          its_view : view ≡ view_of (item_at (EntryTree (entry db reads).entry) (entry db reads).trail)
+          its_view = seen db reads (item_at (EntryTree (entry db reads).entry) (entry db reads).trail) (entry db reads).at
+
+          found_in : Some field ≡ find (is_field name) (view_of (item_at (EntryTree (entry db reads).entry) (entry db reads).trail)).fields
+          found_in = found ∙ ap (λ v. find (is_field name) v.fields) its_view
+
+          one_piece : pieces_of made_base db (drop db key name) ≡ cut_piece (start_of db n) view.body field ∷ []
+          one_piece =
+              drop-one_piece name (entry db reads).entry (entry db reads).trail field found_in db key n (sym (held db reads)) (entry db reads).at made_base
+              ∙ sym (ap (λ v. cut_piece (start_of db n) v.body field ∷ []) its_view)
+
+          merges : edits.MergesText db (drop db key name) → joins_key view field ≡ true
+          merges h =
+              ap (λ v. joins_key v field) its_view
+              ∙ sym (joins-found name (entry db reads).entry (entry db reads).trail field found_in db key n (sym (held db reads)) (entry db reads).at (entry db reads).named) ∙ h
+
+          merged : joins_key view field ≡ true → edits.MergesText db (drop db key name)
+          merged h =
+              joins-found name (entry db reads).entry (entry db reads).trail field found_in db key n (sym (held db reads)) (entry db reads).at (entry db reads).named
+              ∙ sym (ap (λ v. joins_key v field) its_view) ∙ h
+
+          pub field-end : field_end field ≤ length view.body
+          field-end = subst (λ (v : View). field_end field ≤ length v.body) (sym its_view) (row-within name (entry db reads).entry (entry db reads).trail field found_in)
+
+          pub field-begins : field.start ≤ field_end field
+          field-begins = row-begins name (entry db reads).entry (entry db reads).trail field found_in
+
+          pub key-within : view.key_at + length view.key ≤ field.start
+          key-within = subst (λ (v : View). v.key_at + length v.key ≤ field.start) (sym its_view) (key-before name (entry db reads).entry (entry db reads).trail field found_in)
+
+          cut-within : end_of (cut_piece (start_of db n) view.body field) ≤ length (bytes_of db)
+          cut-within = within-one_piece made_base db (drop db key name) (cut_piece (start_of db n) view.body field) one_piece
+
+        pub refused-merge : (count : ℕ) → OfReading file (λ db. count ≡ holders key db) → count ≤ 1 → count_by (is_field name) view.fields ≤ 1 → joins_key view field ≡ true → IsRefusal file asked WouldMerge
+        refused-merge count counted once few joins db reads = of-drop_field key name (λ e. IsFirstRefusal made_base db e edits.WouldMerge)
+            (let same_count = counted db reads in let same_fields = fields db reads in
+            first_refusal made_base db (drop db key name) edits.WouldMerge (merged db reads joins)
+            (clear_merge db key name valid (there db reads) (omega (arith, once, same_count)) (omega (arith, few, same_fields))))
+
+        pub pieces-drop_field : (begins : OfReading file (λ db. start ≡ start_of db n)) → ArePiecesOf file asked (cut_piece start view.body field ∷ [])
+        pieces-drop_field begins db reads = of-drop_field key name (λ e. (cut_piece start view.body field ∷ []) ≡ pieces_of made_base db e)
+            (ap (λ s. cut_piece s view.body field ∷ []) (begins db reads) ∙ sym (one_piece db reads))
+
+        pub start-within : IsFile file → OfReading file (λ db. start ≡ start_of db n) → start + field.start ≤ file_limit
+        start-within is begins =
+            let inside = cut-within is.0 is.1.reads in let long : length (bytes_of is.0) ≡ length file = ap length is.1.reads.bytes in
+            let short = is.1.short in let same_start = begins is.0 is.1.reads in omega (arith, inside, long, short, same_start)
+
+        pub key-small : IsFile file → view.key_at + length view.key ≤ file_limit
+        key-small is =
+            let inside = cut-within is.0 is.1.reads in let long : length (bytes_of is.0) ≡ length file = ap length is.1.reads.bytes in
+            let short = is.1.short in let key_first = key-within is.0 is.1.reads in omega (arith, inside, long, short, key_first)
+
+        opens_as : IsFile file → (db : Reading) → Reads file db → Opens file db
+        opens_as is db reads = subst (λ (r : Reading). Opens file r) (one_reading name_limit file is.0 db is.1.reads reads) is.1
+
+        short_file : IsFile file → (db : Reading) → Reads file db → length (bytes_of (edits.edited made_base db (drop db key name))) ≤ file_limit
+        short_file is db reads =
+            let lengths = length-one_piece made_base db (drop db key name) (cut_piece (start_of db n) view.body field) (one_piece db reads) in
+            let long : length (bytes_of db) ≡ length file = ap length reads.bytes in let short = is.1.short in omega (arith, lengths, long, short)
+
+        short_texts : IsFile file → (db : Reading) → Reads file db → is_some (too_long_at (edits.edited made_base db (drop db key name))) ≡ false
+        short_texts is db reads =
+            let opens = opens_as is db reads in
+            too_long-changed key (entry_without_field name) db n (entry db reads).entry (entry db reads).trail (sym (held db reads)) (entry db reads).at opens.texts
+            ∙ short-dropped (macros_at months db.items n) name (entry db reads).entry (short-entry db n (entry db reads).entry (entry db reads).trail (entry db reads).at opens.texts)
+
+        pub allowed-drop_field : IsFile file → (count : ℕ) → OfReading file (λ db. count ≡ holders key db) → count ≤ 1 → count_by (is_field name) view.fields ≤ 1 → joins_key view field ≡ false → IsAllowedEdit file asked
+        allowed-drop_field is count counted once few apart db reads = of-drop_field key name (λ e. IsAccepted made_base db e)
+            (let same_count = counted db reads in let same_fields = fields db reads in let short = short_file is db reads in
+            all_clear made_base db (drop db key name)
+            (clear_more made_base db (drop db key name) edits.TextTooLong (λ h. false≢true (sym (short_texts is db reads) ∙ h))
+            (clear_more made_base db (drop db key name) edits.FileTooLong (λ h. omega (arith, h, short))
+            (clear_more made_base db (drop db key name) edits.WouldMerge (λ h. false≢true (sym apart ∙ merges db reads h))
+            (clear_merge db key name valid (there db reads) (omega (arith, once, same_count)) (omega (arith, few, same_fields)))))))

@@ -1,0 +1,106 @@
+-- The first item that passes a test, with the items before and behind it.
+use Rattle.std.proofs.Common.{◌≡◌, ℕ, suc, ◌+◌, Bool, true, false, List, [], ◌∷◌, ◌++◌, Some, option_map, slice_get, length, take, find, ⊎_elim, refl, sym, ◌∙◌, ap, ap₂}
+use Rattle.std.specs.List.{flat_map, AllByRecursion}
+use Rattle.std.proofs.lemmas.Bool.{cases_Bool, cond-true, cond-false}
+use Rattle.std.proofs.lemmas.Option.{none-some, same_Some}
+use Rattle.bib_spec.specs.Tree.{Tree}
+use Rattle.bib_spec.specs.Reading.{Item, Reading, item_bytes}
+use Rattle.bib_spec.specs.Pieces.{Chunk}
+use Rattle.bib_spec.specs.Edits.{from_first, with_first_tree}
+use Rattle.bib_spec.specs.EditChunks.{kept_item, kept_items, chunks_from_first}
+use Rattle.bib_spec.proofs.Places.{suc_some}
+use Rattle.bib_scan.specs.Layout.{start_of}
+use Rattle.bib_edit.specs.Addressing.{first_item}
+
+module _ (test : Tree → Bool) where
+  -- item n is the first that passes the test
+  pub record IsFirstItem (items : List Item) (n : ℕ) : Type 0 where
+    pub before : List Item
+    pub item : Item
+    pub behind : List Item
+    pub is : items ≡ before ++ item ∷ behind
+    pub passes : test item.tree ≡ true
+    pub none : AllByRecursion (λ i. test i.tree ≡ false) before
+    pub number : length before ≡ n
+
+  pub found_first : (items : List Item) (n : ℕ) → first_item test items ≡ Some n → IsFirstItem items n
+  found_first [] n e = absurd (none-some n e)
+  found_first (item ∷ items) n e = ⊎_elim
+      (λ t. record {
+        before = [];
+        item = item;
+        behind = items;
+        is = refl;
+        passes = t;
+        none = tt;
+        number = same_Some 0 n (sym (cond-true (test item.tree) (Some 0) (option_map suc (first_item test items)) t) ∙ e);
+      })
+      (λ t. let found = suc_some (first_item test items) n (sym (cond-false (test item.tree) (Some 0) (option_map suc (first_item test items)) t) ∙ e) in
+      let rest = found_first items found.0 found.1 in
+      record {
+        before = item ∷ rest.before;
+        item = rest.item;
+        behind = rest.behind;
+        is = ap (λ l. item ∷ l) rest.is;
+        passes = rest.passes;
+        none = (t, rest.none);
+        number = ap suc rest.number ∙ found.2;
+      })
+      (cases_Bool (test item.tree))
+
+  module _ (change : Item → List Item → List Chunk) where
+    chunks_behind : (before : List Item) (item : Item) (behind : List Item) → test item.tree ≡ true → AllByRecursion (λ i. test i.tree ≡ false) before →
+        chunks_from_first test change (before ++ item ∷ behind) ≡ kept_items before ++ change item behind
+    chunks_behind [] item behind t none = cond-true (test item.tree) (change item behind) (kept_item item ∷ chunks_from_first test change behind) t
+    chunks_behind (x ∷ before) item behind t none =
+        cond-false (test x.tree) (change x (before ++ item ∷ behind)) (kept_item x ∷ chunks_from_first test change (before ++ item ∷ behind)) none.0
+        ∙ ap (λ l. kept_item x ∷ l) (chunks_behind before item behind t none.1)
+
+    -- the items before it are kept, and it and those behind it are as said
+    pub chunks-first : (items : List Item) (n : ℕ) (first : IsFirstItem items n) → chunks_from_first test change items ≡ kept_items first.before ++ change first.item first.behind
+    chunks-first items n first = ap (chunks_from_first test change) first.is ∙ chunks_behind first.before first.item first.behind first.passes first.none
+
+  module _ (change : List Item → List Item) where
+    items_behind : (before : List Item) (item : Item) (behind : List Item) → test item.tree ≡ true → AllByRecursion (λ i. test i.tree ≡ false) before →
+        from_first test change (before ++ item ∷ behind) ≡ before ++ change (item ∷ behind)
+    items_behind [] item behind t none = cond-true (test item.tree) (change (item ∷ behind)) (item ∷ from_first test change behind) t
+    items_behind (x ∷ before) item behind t none =
+        cond-false (test x.tree) (change (x ∷ (before ++ item ∷ behind))) (x ∷ from_first test change (before ++ item ∷ behind)) none.0
+        ∙ ap (λ l. x ∷ l) (items_behind before item behind t none.1)
+
+    pub items-first : (items : List Item) (n : ℕ) (first : IsFirstItem items n) → from_first test change items ≡ first.before ++ change (first.item ∷ first.behind)
+    items-first items n first = ap (from_first test change) first.is ∙ items_behind first.before first.item first.behind first.passes first.none
+
+item_behind : (before : List Item) (item : Item) (behind : List Item) → slice_get (before ++ item ∷ behind) (length before) ≡ Some item
+item_behind [] item behind = refl
+item_behind (x ∷ before) item behind = item_behind before item behind
+
+before_at : (before : List Item) (item : Item) (behind : List Item) → take (length before) (before ++ item ∷ behind) ≡ before
+before_at [] item behind = refl
+before_at (x ∷ before) item behind = ap (λ l. x ∷ l) (before_at before item behind)
+
+module _ (test : Tree → Bool) (items : List Item) (n : ℕ) (first : IsFirstItem test items n) where
+  pub item-first : slice_get items n ≡ Some first.item
+  item-first = ap₂ slice_get first.is (sym first.number) ∙ item_behind first.before first.item first.behind
+
+  pub before-first : take n items ≡ first.before
+  before-first = ap₂ take (sym first.number) first.is ∙ before_at first.before first.item first.behind
+
+-- an item stands behind the front and those before it
+pub start-first : (test : Tree → Bool) (db : Reading) (n : ℕ) (first : IsFirstItem test db.items n) → start_of db n ≡ length db.front + length (flat_map item_bytes first.before)
+start-first test db n first = ap (λ l. length db.front + length (flat_map item_bytes l)) (before-first test db.items n first)
+
+find_behind : (test : Tree → Bool) (before : List Item) (item : Item) (behind : List Item) → test item.tree ≡ true → AllByRecursion (λ i. test i.tree ≡ false) before →
+    find (λ i. test i.tree) (before ++ item ∷ behind) ≡ Some item
+find_behind test [] item behind t none = cond-true (test item.tree) (Some item) (find (λ i. test i.tree) behind) t
+find_behind test (x ∷ before) item behind t none = cond-false (test x.tree) (Some x) (find (λ i. test i.tree) (before ++ item ∷ behind)) none.0 ∙ find_behind test before item behind t none.1
+
+-- where the first item stays one that passes the test, it is found again
+pub found-again : (test : Tree → Bool) (change : Tree → Tree) (items : List Item) (n : ℕ) (item : Item) → first_item test items ≡ Some n → slice_get items n ≡ Some item → test (change item.tree) ≡ true →
+    find (λ i. test i.tree) (from_first test (with_first_tree change) items) ≡ Some (record item { tree = change item.tree })
+found-again test change items n item e at still =
+    let first : IsFirstItem test items n = found_first test items n e in
+    let it : item ≡ first.item = same_Some item first.item (sym at ∙ item-first test items n first) in
+    ap (find (λ i. test i.tree)) (items-first test (with_first_tree change) items n first
+    ∙ sym (ap (λ (i : Item). let new : Item = record i { tree = change i.tree } in first.before ++ new ∷ first.behind) it))
+    ∙ find_behind test first.before (record item { tree = change item.tree }) first.behind still first.none

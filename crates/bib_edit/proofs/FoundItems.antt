@@ -1,0 +1,26 @@
+-- The first item that passes a test, by its number.
+use Rattle.std.proofs.Common.{◌≡◌, ℕ, zero, suc, ◌<◌, Bool, List, [], ◌∷◌, Some, option_map, length, ⊎_elim, sym, ◌∙◌, subst, suc-le-suc, zero-lt-suc}
+use Rattle.std.proofs.lemmas.Bool.{cases_Bool, cond-true, cond-false}
+use Rattle.std.proofs.lemmas.Option.{none-some, same_Some}
+use Rattle.bib_spec.specs.Tree.{Tree}
+use Rattle.bib_spec.specs.Reading.{Item}
+use Rattle.bib_spec.proofs.Places.{suc_some}
+use Rattle.bib_edit.specs.Addressing.{first_item}
+use Rattle.bib_edit.specs.Removal.{IsFirstAt}
+
+pub first-within : (test : Tree → Bool) (items : List Item) (n : ℕ) → IsFirstAt test items n → n < length items
+first-within test [] n f = absurd f
+first-within test (item ∷ items) zero f = zero-lt-suc (length items)
+first-within test (item ∷ items) (suc n) f = suc-le-suc (first-within test items n f.1)
+
+-- the first item that passes the test, by its number
+pub first-at : (test : Tree → Bool) (items : List Item) (n : ℕ) → first_item test items ≡ Some n → IsFirstAt test items n
+first-at test [] n e = absurd (none-some n e)
+first-at test (item ∷ items) n e = ⊎_elim
+    (λ t.
+    let here : zero ≡ n = same_Some zero n (sym (cond-true (test item.tree) (Some zero) (option_map suc (first_item test items)) t) ∙ e) in
+    subst (λ (n : ℕ). IsFirstAt test (item ∷ items) n) here t)
+    (λ t.
+    let later = suc_some (first_item test items) n (sym (cond-false (test item.tree) (Some zero) (option_map suc (first_item test items)) t) ∙ e) in
+    subst (λ (n : ℕ). IsFirstAt test (item ∷ items) n) later.2 (t, first-at test items later.0 later.1))
+    (cases_Bool (test item.tree))

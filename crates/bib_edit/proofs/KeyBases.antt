@@ -1,0 +1,18 @@
+-- Made keys have a base, whatever the edit.
+use Rattle.bib_spec.specs.Edits as edits
+use Rattle.bib_spec.specs.EditLaws.{HasKeyBase}
+use Rattle.bib_names.proofs.MadeKeyLaws.{key_bases_are_keys}
+use Rattle.bib_edit.specs.Asking.{made_base}
+
+pub has_key_base : (e : edits.Edit) → HasKeyBase made_base e
+has_key_base (edits.RegenerateKeys depth) = key_bases_are_keys
+has_key_base (edits.SetField key field v) = tt
+has_key_base (edits.DropField key field) = tt
+has_key_base (edits.AddEntry place new) = tt
+has_key_base (edits.RemoveEntry key) = tt
+has_key_base (edits.MoveEntry key place) = tt
+has_key_base (edits.RenameKey from to) = tt
+has_key_base (edits.RenameMacro from to) = tt
+has_key_base (edits.InlineMacro name) = tt
+has_key_base (edits.IntroduceMacro name text) = tt
+has_key_base (edits.AddMany news) = tt

@@ -1,0 +1,145 @@
+-- The pieces of a move, with their places.
+use Rattle.std.proofs.Common.{◌≡◌, ℕ, zero, suc, ◌+◌, ◌<◌, ◌≤◌, nat_lt, Bool, true, List, [], ◌∷◌, ◌++◌, Some, find, slice_get, insert, length, map, take, drop, ⊎_elim, refl, sym, ◌∙◌, ap, ap₂, arith, length-append, zero-add, le_of_suc-le-suc, not-suc-le-zero}
+use Rattle.std.specs.List.{flat_map}
+use Rattle.std.specs.Option.{option_map_or}
+use Rattle.std.proofs.lemmas.Bool.{cases_Bool, cond-true, cond-false, ltb-true, ltb-false}
+use Rattle.bib_spec.specs.Text.{Text}
+use Rattle.bib_spec.specs.Tree.{Tree, tree_bytes}
+use Rattle.bib_spec.specs.Reading.{Item, Reading, item_bytes}
+use Rattle.bib_spec.specs.Pieces.{Piece, Chunk, Kept, Replaced, pieces_from}
+use Rattle.bib_spec.specs.Edits.{MoveEntry, is_entry, in_line, line_end}
+use Rattle.bib_spec.specs.EditChunks.{kept_item, kept_items, groups_without, moved, pieces_of}
+use Rattle.bib_edit.specs.Asking.{made_base}
+use Rattle.bib_edit.specs.Removal.{IsFirstAt, body_at, removal_of}
+use Rattle.bib_edit.specs.NewEntries.{insertion_of}
+use Rattle.bib_edit.specs.Moving.{line_of, moved_pieces}
+use Rattle.bib_edit.proofs.PiecePlaces.{items_bytes}
+use Rattle.bib_edit.proofs.PieceLists.{pieces-behind_items, pieces-kept_items}
+
+-- the first item that passes the test, itself
+pub first-item : (test : Tree → Bool) (items : List Item) (n : ℕ) → IsFirstAt test items n →
+    (item : Item) × (find (λ item. test item.tree) items ≡ Some item) × (slice_get items n ≡ Some item) × (test item.tree ≡ true)
+first-item test [] n f = absurd f
+first-item test (item ∷ items) zero f = (item, cond-true (test item.tree) (Some item) (find (λ item. test item.tree) items) f, refl, f)
+first-item test (item ∷ items) (suc n) f =
+    let rest = first-item test items n f.1 in
+    (rest.0, cond-false (test item.tree) (Some item) (find (λ item. test item.tree) items) f.0 ∙ rest.1, rest.2, rest.3)
+
+abbrev all_of : List (List Chunk) → List Chunk
+all_of groups = flat_map (λ chunks. chunks) groups
+
+abbrev single : Item → List Chunk
+single kept = kept_item kept ∷ []
+
+singles : (items : List Item) → all_of (map single items) ≡ kept_items items
+singles [] = refl
+singles (item ∷ items) = ap (λ l. kept_item item ∷ l) (singles items)
+
+singles-with : (items : List Item) (place : ℕ) (new : List Chunk) → all_of (insert (map single items) place new) ≡ kept_items (take place items) ++ (new ++ kept_items (drop place items))
+singles-with items zero new = ap (λ l. new ++ l) (singles items)
+singles-with [] (suc place) new = refl
+singles-with (item ∷ items) (suc place) new = ap (λ l. kept_item item ∷ l) (singles-with items place new)
+
+-- a piece that takes old bytes out, and one that puts new bytes in
+abbrev out_at : ℕ → Text → Piece
+out_at at old = record { place = at; old = old; new = [] }
+
+abbrev in_at : ℕ → Text → Piece
+in_at at new = record { place = at; old = []; new = new }
+
+module _ (test : Tree → Bool) (text : Text) where
+  abbrev new : List Chunk
+  new = Replaced [] text ∷ []
+
+  abbrev gone : Item → List Item → List Chunk × List (List Chunk)
+  gone item items = (Replaced (tree_bytes item.tree) [] ∷ Kept item.trail ∷ [], map single items)
+
+  abbrev stays : Item → List Item → List Chunk × List (List Chunk)
+  stays item items = let rest = groups_without test items in ([], (kept_item item ∷ rest.0) ∷ rest.1)
+
+  abbrev chunks_at : ℕ → List Chunk × List (List Chunk) → List Chunk
+  chunks_at place groups = groups.0 ++ all_of (insert groups.1 place new)
+
+  abbrev chunks_alone : List Chunk × List (List Chunk) → List Chunk
+  chunks_alone groups = groups.0 ++ all_of groups.1
+
+  -- the item's bytes go, and nothing comes
+  alone : (at : ℕ) (items : List Item) (n : ℕ) → IsFirstAt test items n →
+      pieces_from at (chunks_alone (groups_without test items)) ≡ out_at (at + length (items_bytes (take n items))) (body_at items n) ∷ []
+  alone at [] n f = absurd f
+  alone at (item ∷ items) zero f =
+      let here : at ≡ at + 0 = omega arith in
+      ap (λ groups. pieces_from at (chunks_alone groups)) (cond-true (test item.tree) (gone item items) (stays item items) f)
+      ∙ ap (λ l. out_at at (tree_bytes item.tree) ∷ pieces_from (at + length (tree_bytes item.tree) + length item.trail) l) (singles items)
+      ∙ ap (λ l. out_at at (tree_bytes item.tree) ∷ l) (pieces-kept_items (at + length (tree_bytes item.tree) + length item.trail) items)
+      ∙ ap (λ k. out_at k (tree_bytes item.tree) ∷ []) here
+  alone at (item ∷ items) (suc n) f =
+      let long = length-append (item_bytes item) (items_bytes (take n items)) in
+      let same : at + length (item_bytes item) + length (items_bytes (take n items)) ≡ at + length (items_bytes (take (suc n) (item ∷ items))) = omega (arith, long) in
+      ap (λ groups. pieces_from at (chunks_alone groups)) (cond-false (test item.tree) (gone item items) (stays item items) f.0)
+      ∙ alone (at + length (item_bytes item)) items n f.1
+      ∙ ap (λ k. out_at k (body_at items n) ∷ []) same
+
+  -- the place is before the item
+  before : (at : ℕ) (items : List Item) (n place : ℕ) → IsFirstAt test items n → place < n →
+      pieces_from at (chunks_at place (groups_without test items))
+      ≡ in_at (at + length (items_bytes (take place items))) text ∷ out_at (at + length (items_bytes (take n items))) (body_at items n) ∷ []
+  before at [] n place f lt = absurd f
+  before at (item ∷ items) zero place f lt = absurd (not-suc-le-zero lt)
+  before at (item ∷ items) (suc n) zero f lt =
+      let long = length-append (item_bytes item) (items_bytes (take n items)) in
+      let here : at ≡ at + 0 = omega arith in
+      let same : at + 0 + length (item_bytes item) + length (items_bytes (take n items)) ≡ at + length (items_bytes (take (suc n) (item ∷ items))) = omega (arith, long) in
+      ap (λ groups. pieces_from at (chunks_at 0 groups)) (cond-false (test item.tree) (gone item items) (stays item items) f.0)
+      ∙ ap (λ l. in_at at text ∷ l) (alone (at + 0 + length (item_bytes item)) items n f.1)
+      ∙ ap₂ (λ k j. in_at k text ∷ out_at j (body_at items n) ∷ []) here same
+  before at (item ∷ items) (suc n) (suc place) f lt =
+      let long = length-append (item_bytes item) (items_bytes (take n items)) in
+      let long_in = length-append (item_bytes item) (items_bytes (take place items)) in
+      let same : at + length (item_bytes item) + length (items_bytes (take n items)) ≡ at + length (items_bytes (take (suc n) (item ∷ items))) = omega (arith, long) in
+      let same_in : at + length (item_bytes item) + length (items_bytes (take place items)) ≡ at + length (items_bytes (take (suc place) (item ∷ items))) = omega (arith, long_in) in
+      ap (λ groups. pieces_from at (chunks_at (suc place) groups)) (cond-false (test item.tree) (gone item items) (stays item items) f.0)
+      ∙ before (at + length (item_bytes item)) items n place f.1 (le_of_suc-le-suc lt)
+      ∙ ap₂ (λ k j. in_at k text ∷ out_at j (body_at items n) ∷ []) same_in same
+
+  -- the place is that of the item, or behind it
+  behind : (at : ℕ) (items : List Item) (n place : ℕ) → IsFirstAt test items n → n ≤ place →
+      pieces_from at (chunks_at place (groups_without test items))
+      ≡ out_at (at + length (items_bytes (take n items))) (body_at items n) ∷ in_at (at + length (items_bytes (take (suc place) items))) text ∷ []
+  behind at [] n place f le = absurd f
+  behind at (item ∷ items) zero place f le =
+      let inside : ℕ = at + length (tree_bytes item.tree) + length item.trail in
+      let here : at ≡ at + 0 = omega arith in
+      let own = length-append (tree_bytes item.tree) item.trail in
+      let long = length-append (item_bytes item) (items_bytes (take place items)) in
+      let same : at + length (tree_bytes item.tree) + length item.trail + length (items_bytes (take place items)) ≡ at + length (items_bytes (take (suc place) (item ∷ items))) = omega (arith, own, long) in
+      ap (λ groups. pieces_from at (chunks_at place groups)) (cond-true (test item.tree) (gone item items) (stays item items) f)
+      ∙ ap (λ l. out_at at (tree_bytes item.tree) ∷ pieces_from inside l) (singles-with items place new)
+      ∙ ap (λ l. out_at at (tree_bytes item.tree) ∷ l) (pieces-behind_items inside (take place items) (new ++ kept_items (drop place items))
+      ∙ ap (λ l. in_at (inside + length (items_bytes (take place items))) text ∷ l) (pieces-kept_items (inside + length (items_bytes (take place items)) + 0) (drop place items)))
+      ∙ ap₂ (λ k j. out_at k (tree_bytes item.tree) ∷ in_at j text ∷ []) here same
+  behind at (item ∷ items) (suc n) zero f le = absurd (not-suc-le-zero le)
+  behind at (item ∷ items) (suc n) (suc place) f le =
+      let long = length-append (item_bytes item) (items_bytes (take n items)) in
+      let long_in = length-append (item_bytes item) (items_bytes (take (suc place) items)) in
+      let same : at + length (item_bytes item) + length (items_bytes (take n items)) ≡ at + length (items_bytes (take (suc n) (item ∷ items))) = omega (arith, long) in
+      let same_in : at + length (item_bytes item) + length (items_bytes (take (suc place) items)) ≡ at + length (items_bytes (take (suc (suc place)) (item ∷ items))) = omega (arith, long_in) in
+      ap (λ groups. pieces_from at (chunks_at (suc place) groups)) (cond-false (test item.tree) (gone item items) (stays item items) f.0)
+      ∙ behind (at + length (item_bytes item)) items n place f.1 (le_of_suc-le-suc le)
+      ∙ ap₂ (λ k j. out_at k (body_at items n) ∷ in_at j text ∷ []) same same_in
+
+-- the pieces of a move, where the entry is item n
+pub move-pieces : (key : Text) (db : Reading) (n place : ℕ) → IsFirstAt (is_entry key) db.items n → pieces_of made_base db (MoveEntry key place) ≡ moved_pieces db n place
+move-pieces key db n place f =
+    let item = first-item (is_entry key) db.items n f in
+    let text : item_bytes (in_line item.0.tree) ≡ line_of db n = sym (ap (λ o. option_map_or (λ i. tree_bytes i.tree) o [] ++ line_end) item.2) in
+    let start : 0 + length db.front ≡ length db.front = zero-add (length db.front) in
+    ap (λ o. pieces_from (0 + length db.front) (option_map_or (moved key place db.items) o (kept_items db.items))) item.1
+    ∙ ap₂ (λ (k : ℕ) (t : Text). pieces_from k ((groups_without (is_entry key) db.items).0 ++ flat_map (λ chunks. chunks) (insert (groups_without (is_entry key) db.items).1 place (Replaced [] t ∷ [])))) start text
+    ∙ ⊎_elim
+    (λ t. before (is_entry key) (line_of db n) (length db.front) db.items n place f (ltb-true place n t)
+    ∙ sym (cond-true (nat_lt place n) (insertion_of db place (line_of db n) ∷ removal_of db n ∷ []) (removal_of db n ∷ insertion_of db (place + 1) (line_of db n) ∷ []) t))
+    (λ t. behind (is_entry key) (line_of db n) (length db.front) db.items n place f (ltb-false place n t)
+    ∙ (let more : suc place ≡ place + 1 = omega arith in ap (λ k. removal_of db n ∷ insertion_of db k (line_of db n) ∷ []) more)
+    ∙ sym (cond-false (nat_lt place n) (insertion_of db place (line_of db n) ∷ removal_of db n ∷ []) (removal_of db n ∷ insertion_of db (place + 1) (line_of db n) ∷ []) t))
+    (cases_Bool (nat_lt place n))

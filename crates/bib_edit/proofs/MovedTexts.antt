@@ -1,0 +1,130 @@
+-- What a moved entry says where it then stands.
+use Rattle.std.proofs.Common.{◌≡◌, ℕ, zero, suc, ◌+◌, ◌<◌, ◌≤◌, nat_lt, Bool, true, false, ◌||◌, List, [], ◌∷◌, ◌++◌, map, ⊎_elim, inr, refl, sym, ◌∙◌, ap, ap₂, subst, arith, All, le_of_suc-le-suc, not-suc-le-zero}
+use Rattle.std.specs.List.{list_any}
+use Rattle.std.proofs.lemmas.Bool.{cases_Bool, cond-true, cond-false, false≢true, ltb-true, ltb-false}
+use Rattle.std.proofs.lemmas.List.Elements.{All-head, All-tail}
+use Rattle.bib_spec.specs.Bytes.{name_limit}
+use Rattle.bib_spec.specs.Text.{Text}
+use Rattle.bib_spec.specs.Tree.{Row, Entry, Tree, CommentTree, DefinitionTree, PreambleTree, EntryTree, IsTree, IsRow, row_bytes}
+use Rattle.bib_spec.specs.Reading.{Item, Reading}
+use Rattle.bib_spec.specs.Texts.{Macros, months, macros_at, macros_after, raw_text}
+use Rattle.bib_spec.specs.Edits.{is_entry, without_first}
+use Rattle.bib_scan.specs.View.{Field, fields_behind, fields_of}
+use Rattle.bib_edit.specs.Removal.{IsFirstAt}
+use Rattle.bib_edit.specs.NewEntries.{IsLong}
+use Rattle.bib_edit.specs.Moving.{seat, FieldsHaveValues, IsFieldLong}
+use Rattle.bib_edit.proofs.LongTexts.{is_long}
+use Rattle.bib_edit.proofs.PlacedTexts.{is_long_in}
+
+-- ---- macros
+
+entry_defines_none : (key : Text) (m : Macros) (tree : Tree) → is_entry key tree ≡ true → macros_after m tree ≡ m
+entry_defines_none key m (EntryTree e) h = refl
+entry_defines_none key m (CommentTree c) h = absurd (false≢true h)
+entry_defines_none key m (DefinitionTree d) h = absurd (false≢true h)
+entry_defines_none key m (PreambleTree p) h = absurd (false≢true h)
+
+module _ (key : Text) where
+  abbrev gone : Text → Item → List Item → Reading
+  gone front item items = record { front = front ++ item.trail; items = items }
+
+  abbrev stays : Text → Item → List Item → Reading
+  stays front item items =
+      let rest = without_first (is_entry key) item.trail items in
+      record { front = front; items = record item { trail = rest.front } ∷ rest.items }
+
+  macros_before : (m : Macros) (front : Text) (items : List Item) (n place : ℕ) → IsFirstAt (is_entry key) items n → place < n →
+      macros_at m (without_first (is_entry key) front items).items place ≡ macros_at m items place
+  macros_before m front [] n place f lt = absurd f
+  macros_before m front (item ∷ items) zero place f lt = absurd (not-suc-le-zero lt)
+  macros_before m front (item ∷ items) (suc n) zero f lt = refl
+  macros_before m front (item ∷ items) (suc n) (suc place) f lt =
+      ap (λ (db : Reading). macros_at m db.items (suc place)) (cond-false (is_entry key item.tree) (gone front item items) (stays front item items) f.0)
+      ∙ macros_before (macros_after m item.tree) item.trail items n place f.1 (le_of_suc-le-suc lt)
+
+  macros_behind : (m : Macros) (front : Text) (items : List Item) (n place : ℕ) → IsFirstAt (is_entry key) items n → n ≤ place →
+      macros_at m (without_first (is_entry key) front items).items place ≡ macros_at m items (suc place)
+  macros_behind m front [] n place f le = absurd f
+  macros_behind m front (item ∷ items) zero place f le =
+      ap (λ (db : Reading). macros_at m db.items place) (cond-true (is_entry key item.tree) (gone front item items) (stays front item items) f)
+      ∙ ap (λ (a : Macros). macros_at a items place) (sym (entry_defines_none key m item.tree f))
+  macros_behind m front (item ∷ items) (suc n) zero f le = absurd (not-suc-le-zero le)
+  macros_behind m front (item ∷ items) (suc n) (suc place) f le =
+      ap (λ (db : Reading). macros_at m db.items (suc place)) (cond-false (is_entry key item.tree) (gone front item items) (stays front item items) f.0)
+      ∙ macros_behind (macros_after m item.tree) item.trail items n place f.1 (le_of_suc-le-suc le)
+
+  -- the macros before the place among what remains
+  pub macros-seat : (m : Macros) (front : Text) (items : List Item) (n place : ℕ) → IsFirstAt (is_entry key) items n →
+      macros_at m (without_first (is_entry key) front items).items place ≡ macros_at m items (seat n place)
+  macros-seat m front items n place f = ⊎_elim
+      (λ t. macros_before m front items n place f (ltb-true place n t) ∙ ap (macros_at m items) (sym (cond-true (nat_lt place n) place (place + 1) t)))
+      (λ t. macros_behind m front items n place f (ltb-false place n t)
+      ∙ (let more : suc place ≡ place + 1 = omega arith in ap (macros_at m items) (more ∙ sym (cond-false (nat_lt place n) place (place + 1) t))))
+      (cases_Bool (nat_lt place n))
+
+-- ---- fields that are seen
+
+rows-have_values : (before : Text) (rows : List Row) → All (IsRow name_limit) rows → FieldsHaveValues (fields_behind before rows)
+rows-have_values before [] are = tt
+rows-have_values before (row ∷ rows) are = (
+  (row.assignment.value, (All-head (IsRow name_limit) row rows are).assignment.value, refl),
+  rows-have_values (before ++ row_bytes row) rows (All-tail (IsRow name_limit) row rows are),
+)
+
+module _ (db : Reading) (n : ℕ) where
+  abbrev m : Macros
+  m = macros_at months db.items n
+
+  abbrev rows_long : List Row → Bool
+  rows_long rows = list_any is_long (map (raw_text m) (map (λ row. row.assignment.value) rows))
+
+  or_true : (b : Bool) → (b || true) ≡ true
+  or_true true = refl
+  or_true false = refl
+
+  rows-long : (long : Bool) (before : Text) (rows : List Row) → All (IsRow name_limit) rows → IsFieldLong long db n (fields_behind before rows) → rows_long rows ≡ long
+  rows-long long before [] are h = h
+  rows-long false before (row ∷ rows) are h =
+      ap₂ ◌||◌ (h.0 row.assignment.value (All-head (IsRow name_limit) row rows are).assignment.value refl) (rows-long false (before ++ row_bytes row) rows (All-tail (IsRow name_limit) row rows are) h.1)
+  rows-long true before (row ∷ rows) are h = ⊎_elim
+      (λ this. ap (λ b. b || rows_long rows) (this row.assignment.value (All-head (IsRow name_limit) row rows are).assignment.value refl))
+      (λ other. ap (λ b. is_long (raw_text m row.assignment.value) || b) (rows-long true (before ++ row_bytes row) rows (All-tail (IsRow name_limit) row rows are) other)
+      ∙ or_true (is_long (raw_text m row.assignment.value)))
+      h
+
+module _ (key : Text) where
+  pub entry-values : (tree : Tree) → is_entry key tree ≡ true → IsTree name_limit tree → FieldsHaveValues (fields_of tree)
+  entry-values (EntryTree e) h is = rows-have_values _ e.rows is.rows
+  entry-values (CommentTree c) h is = absurd (false≢true h)
+  entry-values (DefinitionTree d) h is = absurd (false≢true h)
+  entry-values (PreambleTree p) h is = absurd (false≢true h)
+
+  pub entry-long : (db : Reading) (n : ℕ) (long : Bool) (tree : Tree) → is_entry key tree ≡ true → IsTree name_limit tree → IsFieldLong long db n (fields_of tree) → is_long_in (macros_at months db.items n) tree ≡ long
+  entry-long db n long (EntryTree e) h is fields = rows-long db n long _ e.rows is.rows fields
+  entry-long db n long (CommentTree c) h is fields = absurd (false≢true h)
+  entry-long db n long (DefinitionTree d) h is fields = absurd (false≢true h)
+  entry-long db n long (PreambleTree p) h is fields = absurd (false≢true h)
+
+  pub entry-is : (tree : Tree) → is_entry key tree ≡ true → (e : Entry) × (tree ≡ EntryTree e)
+  entry-is (EntryTree e) h = (e, refl)
+  entry-is (CommentTree c) h = absurd (false≢true h)
+  entry-is (DefinitionTree d) h = absurd (false≢true h)
+  entry-is (PreambleTree p) h = absurd (false≢true h)
+
+-- ---- one field after another
+
+pub no-field-long : (db : Reading) (n : ℕ) (fields : List Field) → fields ≡ [] → IsFieldLong false db n fields
+no-field-long db n fields e = subst (IsFieldLong false db n) (sym e) refl
+
+-- what is found of the rest is found of all, behind fields that are short
+pub field-short : (db : Reading) (n : ℕ) (field : Field) (fields : List Field) → IsLong false db n field.value → (long : Bool) → IsFieldLong long db n fields → IsFieldLong long db n (field ∷ fields)
+field-short db n field fields short false h = (short, h)
+field-short db n field fields short true h = inr h
+
+-- ---- the seat
+
+pub seat-within : (n place count : ℕ) → place < count → seat n place ≤ count
+seat-within n place count lt = ⊎_elim
+    (λ t. let is = cond-true (nat_lt place n) place (place + 1) t in omega (arith, lt, is))
+    (λ t. let is = cond-false (nat_lt place n) place (place + 1) t in omega (arith, lt, is))
+    (cases_Bool (nat_lt place n))

@@ -1,0 +1,90 @@
+-- The pieces of lists of chunks.
+use Rattle.std.proofs.Common.{◌≡◌, ℕ, ◌+◌, ◌≤◌, false, List, [], ◌∷◌, ◌++◌, length, refl, sym, ◌∙◌, ap, ap₂, subst, arith, append-nil, length-append}
+use Rattle.std.specs.List.{flat_map}
+use Rattle.bib_spec.specs.Text.{Text}
+use Rattle.bib_spec.specs.Tree.{Row, Entry, row_bytes, opening_bytes}
+use Rattle.bib_spec.specs.Reading.{Item, Reading, item_bytes, bytes_of}
+use Rattle.bib_spec.specs.Records.{Record}
+use Rattle.bib_spec.specs.Pieces.{Piece, end_of, Fit, Chunk, Kept, Replaced, old_of, new_of, pieces_from}
+use Rattle.bib_spec.specs.Edits.{Edit, edited}
+use Rattle.bib_spec.specs.EditChunks.{kept_items, kept_rows, behind_rows, entry_chunks, chunks, pieces_of}
+use Rattle.bib_spec.proofs.EditFiles.{chunks-are-files, pieces-lead}
+use Rattle.bib_spec.proofs.TreeChunks.{old-read, items-kept}
+
+pub pieces-append : (at : ℕ) (xs ys : List Chunk) → pieces_from at (xs ++ ys) ≡ pieces_from at xs ++ pieces_from (at + length (old_of xs)) ys
+pieces-append at [] ys = ap (λ n. pieces_from n ys) (omega arith)
+pieces-append at (Kept text ∷ xs) ys =
+    pieces-append (at + length text) xs ys
+    ∙ ap (λ n. pieces_from (at + length text) xs ++ pieces_from n ys) (omega (arith, length-append text (old_of xs)))
+pieces-append at (Replaced old new ∷ xs) ys =
+    ap (λ l. record { place = at; old = old; new = new } ∷ l)
+    (pieces-append (at + length old) xs ys
+    ∙ ap (λ n. pieces_from (at + length old) xs ++ pieces_from n ys) (omega (arith, length-append old (old_of xs))))
+
+pub pieces-kept_items : (at : ℕ) (items : List Item) → pieces_from at (kept_items items) ≡ []
+pieces-kept_items at [] = refl
+pieces-kept_items at (item ∷ items) = pieces-kept_items (at + length (item_bytes item)) items
+
+pub pieces-kept_rows : (at : ℕ) (rows : List Row) → pieces_from at (kept_rows rows) ≡ []
+pieces-kept_rows at [] = refl
+pieces-kept_rows at (row ∷ rows) = pieces-kept_rows (at + length (row_bytes row)) rows
+
+pub old-kept_items : (items : List Item) → old_of (kept_items items) ≡ flat_map item_bytes items
+old-kept_items items = old-read (kept_items items) ∙ items-kept false items
+
+-- kept items stand before other chunks
+pub pieces-behind_items : (at : ℕ) (items : List Item) (chunks : List Chunk) → pieces_from at (kept_items items ++ chunks) ≡ pieces_from (at + length (flat_map item_bytes items)) chunks
+pieces-behind_items at items chunks =
+    pieces-append at (kept_items items) chunks
+    ∙ ap₂ (λ (ps : List Piece) (t : Text). ps ++ pieces_from (at + length t) chunks) (pieces-kept_items at items) (old-kept_items items)
+
+-- kept items stand behind other chunks
+pub pieces-before_items : (at : ℕ) (chunks : List Chunk) (trail : Text) (items : List Item) → pieces_from at (chunks ++ (Kept trail ∷ kept_items items)) ≡ pieces_from at chunks
+pieces-before_items at chunks trail items =
+    pieces-append at chunks (Kept trail ∷ kept_items items)
+    ∙ ap (λ l. pieces_from at chunks ++ l) (pieces-kept_items (at + length (old_of chunks) + length trail) items)
+    ∙ append-nil (pieces_from at chunks)
+
+-- in an entry whose key is kept, the pieces are those of its rows
+pub pieces-entry : (at : ℕ) (rows : List Chunk) (e : Entry) → pieces_from at (entry_chunks (Kept e.key) rows e) ≡ pieces_from (at + length (opening_bytes e.opening) + length e.key) rows
+pieces-entry at rows e =
+    let inside : ℕ = at + length (opening_bytes e.opening) + length e.key in
+    pieces-append inside rows (Kept (behind_rows e) ∷ []) ∙ append-nil (pieces_from inside rows)
+
+-- ---- lengths
+
+abbrev pub olds_len : List Piece → ℕ
+olds_len [] = 0
+olds_len (p ∷ ps) = length p.old + olds_len ps
+
+abbrev pub news_len : List Piece → ℕ
+news_len [] = 0
+news_len (p ∷ ps) = length p.new + news_len ps
+
+-- what is replaced goes, and what replaces it comes
+pub lengths-chunks : (at : ℕ) (chunks : List Chunk) → length (new_of chunks) + olds_len (pieces_from at chunks) ≡ length (old_of chunks) + news_len (pieces_from at chunks)
+lengths-chunks at [] = refl
+lengths-chunks at (Kept text ∷ chunks) = omega (arith, length-append text (new_of chunks), length-append text (old_of chunks), lengths-chunks (at + length text) chunks)
+lengths-chunks at (Replaced old new ∷ chunks) = omega (arith, length-append new (new_of chunks), length-append old (old_of chunks), lengths-chunks (at + length old) chunks)
+
+-- the length of the file that an edit makes
+pub lengths-edited : (base : Record → Text) (db : Reading) (e : Edit) →
+    length (bytes_of (edited base db e)) + olds_len (pieces_of base db e) ≡ length (bytes_of db) + news_len (pieces_of base db e)
+lengths-edited base db e =
+    let files = chunks-are-files base db e in
+    ap (λ (t : Text). length t + olds_len (pieces_of base db e)) (sym files.1)
+    ∙ lengths-chunks 0 (chunks base db e)
+    ∙ ap (λ (t : Text). length t + news_len (pieces_of base db e)) files.0
+
+-- ---- an edit of one piece
+
+module _ (base : Record → Text) (db : Reading) (e : Edit) (p : Piece) (is : pieces_of base db e ≡ p ∷ []) where
+  pub length-one_piece : length (bytes_of (edited base db e)) + length p.old ≡ length (bytes_of db) + length p.new
+  length-one_piece =
+      let lengths = subst (λ (ps : List Piece). length (bytes_of (edited base db e)) + olds_len ps ≡ length (bytes_of db) + news_len ps) is (lengths-edited base db e) in
+      omega (arith, lengths)
+
+  pub within-one_piece : end_of p ≤ length (bytes_of db)
+  within-one_piece =
+      let fit : Fit (p ∷ []) (bytes_of db) = subst (λ (ps : List Piece). Fit ps (bytes_of db)) is (pieces-lead base db e).0 in
+      fit.standing.0.inside

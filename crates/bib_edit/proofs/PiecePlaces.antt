@@ -1,0 +1,57 @@
+-- The pieces of chunks that mostly are kept, with their places; and the length of what pieces make.
+use Rattle.std.proofs.Common.{◌≡◌, ℕ, zero, suc, ◌+◌, Bool, List, [], ◌∷◌, ◌++◌, length, take, drop, sym, ◌∙◌, ap, zero-add}
+use Rattle.std.specs.List.{flat_map}
+use Rattle.std.proofs.lemmas.Bool.{cond-true, cond-false}
+use Rattle.bib_spec.specs.Text.{Text}
+use Rattle.bib_spec.specs.Tree.{Tree}
+use Rattle.bib_spec.specs.Reading.{Item, Reading, item_bytes, bytes_of}
+use Rattle.bib_spec.specs.Pieces.{Kept, Replaced, pieces_from, pieces_of_chunks}
+use Rattle.bib_spec.specs.Records.{Record}
+use Rattle.bib_spec.specs.Edits.{Edit, edited}
+use Rattle.bib_spec.specs.EditChunks.{kept_item, kept_items, chunks_from_first, without_body, chunks, pieces_of}
+use Rattle.bib_spec.proofs.EditFiles.{chunks-are-files}
+use Rattle.bib_scan.specs.Layout.{start_of}
+use Rattle.bib_edit.specs.Removal.{IsFirstAt, body_at, trail_at}
+use Rattle.bib_edit.proofs.PieceLists.{pieces-behind_items, pieces-kept_items, olds_len, news_len, lengths-chunks}
+
+abbrev pub items_bytes : List Item → Text
+items_bytes items = flat_map item_bytes items
+
+-- ---- a removal
+
+removed_chunks : (test : Tree → Bool) (items : List Item) (n : ℕ) → IsFirstAt test items n →
+    chunks_from_first test without_body items ≡ kept_items (take n items) ++ (Replaced (body_at items n) [] ∷ Kept (trail_at items n) ∷ kept_items (drop (suc n) items))
+removed_chunks test [] n f = absurd f
+removed_chunks test (item ∷ items) zero f = cond-true (test item.tree) (without_body item items) (kept_item item ∷ chunks_from_first test without_body items) f
+removed_chunks test (item ∷ items) (suc n) f =
+    cond-false (test item.tree) (without_body item items) (kept_item item ∷ chunks_from_first test without_body items) f.0 ∙ ap (λ l. kept_item item ∷ l) (removed_chunks test items n f.1)
+
+pub removal-pieces : (test : Tree → Bool) (db : Reading) (n : ℕ) → IsFirstAt test db.items n →
+    pieces_of_chunks (Kept db.front ∷ chunks_from_first test without_body db.items) ≡ record { place = start_of db n; old = body_at db.items n; new = [] } ∷ []
+removal-pieces test db n f =
+    let rest = Replaced (body_at db.items n) [] ∷ Kept (trail_at db.items n) ∷ kept_items (drop (suc n) db.items) in
+    ap (λ l. pieces_from (0 + length db.front) l) (removed_chunks test db.items n f)
+    ∙ ap (λ k. pieces_from k (kept_items (take n db.items) ++ rest)) (zero-add (length db.front))
+    ∙ pieces-behind_items (length db.front) (take n db.items) rest
+    ∙ ap (λ l. record { place = start_of db n; old = body_at db.items n; new = [] } ∷ l) (pieces-kept_items (start_of db n + length (body_at db.items n) + length (trail_at db.items n)) (drop (suc n) db.items))
+
+-- ---- an insertion
+
+pub insertion-pieces : (new : Text) (db : Reading) (n : ℕ) →
+    pieces_of_chunks (Kept db.front ∷ (kept_items (take n db.items) ++ ((Replaced [] new ∷ []) ++ kept_items (drop n db.items)))) ≡ record { place = start_of db n; old = []; new = new } ∷ []
+insertion-pieces new db n =
+    let rest = Replaced [] new ∷ kept_items (drop n db.items) in
+    ap (λ k. pieces_from k (kept_items (take n db.items) ++ rest)) (zero-add (length db.front))
+    ∙ pieces-behind_items (length db.front) (take n db.items) rest
+    ∙ ap (λ l. record { place = start_of db n; old = []; new = new } ∷ l) (pieces-kept_items (start_of db n + 0) (drop n db.items))
+
+-- ---- lengths
+
+-- what an edit makes is as much longer as its pieces' new bytes are than their old
+pub length-edited : (key_base : Record → Text) (db : Reading) (e : Edit) →
+    length (bytes_of (edited key_base db e)) + olds_len (pieces_of key_base db e) ≡ length (bytes_of db) + news_len (pieces_of key_base db e)
+length-edited key_base db e =
+    let files = chunks-are-files key_base db e in
+    ap (λ (t : Text). length t + olds_len (pieces_of key_base db e)) (sym files.1)
+    ∙ lengths-chunks 0 (chunks key_base db e)
+    ∙ ap (λ (t : Text). length t + news_len (pieces_of key_base db e)) files.0

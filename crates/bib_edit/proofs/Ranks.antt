@@ -1,0 +1,73 @@
+-- The reasons in their order: an edit that the first so many do not refuse.
+use Rattle.std.proofs.Common.{◌≡◌, ℕ, zero, suc, ◌<◌, ◌==◌, ⊎_elim, refl, sym, ◌∙◌, ap, subst, arith, not-suc-le-zero}
+use Rattle.std.proofs.lemmas.Bool.{cases_Bool, eqb-true, eqb-false}
+use Rattle.bib_spec.specs.Reading.{Reading}
+use Rattle.bib_spec.specs.Records.{Record}
+use Rattle.bib_spec.specs.Text.{Text}
+use Rattle.bib_spec.specs.Edits.{Edit, EditFault, BadKey, BadName, BadValue, BadPosition, NotFound, Ambiguous, KeyInUse, NameInUse, Referred, WouldMerge, FileTooLong, TextTooLong, rank, Refuses, IsAccepted, IsFirstRefusal}
+
+fault_at : ℕ → EditFault
+fault_at zero = BadKey
+fault_at (suc zero) = BadName
+fault_at (suc (suc zero)) = BadValue
+fault_at (suc (suc (suc zero))) = BadPosition
+fault_at (suc (suc (suc (suc zero)))) = NotFound
+fault_at (suc (suc (suc (suc (suc zero))))) = Ambiguous
+fault_at (suc (suc (suc (suc (suc (suc zero)))))) = KeyInUse
+fault_at (suc (suc (suc (suc (suc (suc (suc zero))))))) = NameInUse
+fault_at (suc (suc (suc (suc (suc (suc (suc (suc zero)))))))) = Referred
+fault_at (suc (suc (suc (suc (suc (suc (suc (suc (suc zero))))))))) = WouldMerge
+fault_at (suc (suc (suc (suc (suc (suc (suc (suc (suc (suc zero)))))))))) = FileTooLong
+fault_at (suc (suc (suc (suc (suc (suc (suc (suc (suc (suc (suc n))))))))))) = TextTooLong
+
+fault_at-rank : (fault : EditFault) → fault_at (rank fault) ≡ fault
+unfolding fault_at
+fault_at-rank BadKey = refl
+fault_at-rank BadName = refl
+fault_at-rank BadValue = refl
+fault_at-rank BadPosition = refl
+fault_at-rank NotFound = refl
+fault_at-rank Ambiguous = refl
+fault_at-rank KeyInUse = refl
+fault_at-rank NameInUse = refl
+fault_at-rank Referred = refl
+fault_at-rank WouldMerge = refl
+fault_at-rank FileTooLong = refl
+fault_at-rank TextTooLong = refl
+
+rank_below : (fault : EditFault) → rank fault < 12
+rank_below BadKey = omega arith
+rank_below BadName = omega arith
+rank_below BadValue = omega arith
+rank_below BadPosition = omega arith
+rank_below NotFound = omega arith
+rank_below Ambiguous = omega arith
+rank_below KeyInUse = omega arith
+rank_below NameInUse = omega arith
+rank_below Referred = omega arith
+rank_below WouldMerge = omega arith
+rank_below FileTooLong = omega arith
+rank_below TextTooLong = omega arith
+
+module _ (base : Record → Text) (db : Reading) (e : Edit) where
+  -- none of the first so many reasons refuses the edit
+  pub record IsClear (n : ℕ) : Type 0 where
+    pub of : (other : EditFault) → rank other < n → Refuses base other db e → ⊥
+
+  pub clear_none : IsClear 0
+  clear_none = record { of = λ other lt h. absurd (not-suc-le-zero lt) }
+
+  pub clear_more : (fault : EditFault) → (Refuses base fault db e → ⊥) → IsClear (rank fault) → IsClear (suc (rank fault))
+  clear_more fault not clear = record { of = of }
+    where
+      of : (other : EditFault) → rank other < suc (rank fault) → Refuses base other db e → ⊥
+      of other lt h = ⊎_elim
+          (λ t. not (subst (λ (f : EditFault). Refuses base f db e) (sym (fault_at-rank other) ∙ ap fault_at (eqb-true (rank other) (rank fault) t) ∙ fault_at-rank fault) h))
+          (λ t. let ne = eqb-false (rank other) (rank fault) t in clear.of other (omega (arith, ne, lt)) h)
+          (cases_Bool (rank other == rank fault))
+
+  pub first_refusal : (fault : EditFault) → Refuses base fault db e → IsClear (rank fault) → IsFirstRefusal base db e fault
+  first_refusal fault h clear = record { holds = h; first = clear.of }
+
+  pub all_clear : IsClear 12 → IsAccepted base db e
+  all_clear clear fault h = clear.of fault (rank_below fault) h

@@ -1,0 +1,31 @@
+-- What is seen of item n, and what of that goes.
+use Rattle.std.proofs.Common.{◌≡◌, ◌↔◌, ℕ, zero, suc, ◌<◌, ◌++◌, Bool, IsTrue, List, [], ◌∷◌, Some, slice_get, length, refl, sym, ◌∙◌, ap, subst, not-suc-le-zero, le_of_suc-le-suc}
+use Rattle.std.specs.Option.{option_map_or}
+use Rattle.bib_spec.specs.Text.{Text}
+use Rattle.bib_spec.specs.Tree.{tree_bytes}
+use Rattle.bib_spec.specs.Clean.{IsCleanTrail}
+use Rattle.bib_spec.specs.Reading.{Item, Reading}
+use Rattle.bib_scan.specs.View.{View, view_of}
+use Rattle.bib_edit.specs.Removal.{body_at, trail_at, is_behind_comment, text_before, JoinsCleanly}
+
+pub slice_get-within : {X : Type 0} (xs : List X) (n : ℕ) → n < length xs → (x : X) × (slice_get xs n ≡ Some x)
+slice_get-within [] n lt = absurd (not-suc-le-zero lt)
+slice_get-within (x ∷ xs) zero lt = (x, refl)
+slice_get-within (x ∷ xs) (suc n) lt = slice_get-within xs n (le_of_suc-le-suc lt)
+
+module _ (items : List Item) (n : ℕ) (view : View) (lt : n < length items) (seen : (i : Item) → slice_get items n ≡ Some i → view ≡ view_of i) where
+  pub body-seen : view.body ≡ body_at items n
+  body-seen =
+      let i = slice_get-within items n lt in
+      ap (λ (v : View). v.body) (seen i.0 i.1) ∙ sym (ap (λ o. option_map_or (λ item. tree_bytes item.tree) o []) i.1)
+
+  pub trail-seen : view.trail ≡ trail_at items n
+  trail-seen =
+      let i = slice_get-within items n lt in
+      ap (λ (v : View). v.trail) (seen i.0 i.1) ∙ sym (ap (λ o. option_map_or (λ item. item.trail) o []) i.1)
+
+pub tested-joined : (db : Reading) (n : ℕ) (clean comment : Bool) (bytes : Text) → (IsTrue clean ↔ IsCleanTrail comment bytes) →
+    comment ≡ is_behind_comment db.items n → bytes ≡ text_before db.front db.items n ++ trail_at db.items n → IsTrue clean ↔ JoinsCleanly db n
+tested-joined db n clean comment bytes tested c b =
+    subst (λ (x : Bool). IsTrue clean ↔ IsCleanTrail x (text_before db.front db.items n ++ trail_at db.items n)) c
+    (subst (λ (t : Text). IsTrue clean ↔ IsCleanTrail comment t) b tested)

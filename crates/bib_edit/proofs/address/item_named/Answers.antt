@@ -1,0 +1,12 @@
+use Rattle.bib_edit.proofs.NamedEntries.{named-item, named-within, unnamed-item}
+use Rattle.bib_edit.proofs.address.item_named.Goals as goal
+use Rattle.std.proofs.Common.{sym}
+
+pub entry_item-requires : goal.entry_item-requires
+entry_item-requires g c db reads = named-within c.args.key.now db c.in-Ok.n (c.in-Ok.ensures.found db reads)
+
+pub returns-in-Ok : goal.returns-in-Ok
+returns-in-Ok g c db reads = sym (named-item c.args.key.now db c.in-Ok.n c.entry_item.result (c.in-Ok.ensures.found db reads) (c.entry_item.ensures db reads))
+
+pub returns-in-Err : goal.returns-in-Err
+returns-in-Err g c db reads = sym (unnamed-item c.args.key.now db (c.in-Err.ensures.none.1 db reads))

@@ -1,0 +1,6 @@
+use Rattle.bib_store.specs.Meaning.{OfReading}
+use Rattle.bib_edit.specs.NewEntries.{AreShortTo}
+use Rattle.bib_edit.proofs.new_fields.is_any_long.Given as goal
+
+abbrev pub invariant-loop-field : goal.invariant-loop-field
+invariant-loop-field g l = OfReading l.db (λ r. AreShortTo r l.n l.fields l.field-index)

@@ -1,0 +1,42 @@
+-- What an edit addresses: items, fields, and where their bytes lie.
+use Rattle.std.specs.Prelude.{ℕ, suc, ◌≡◌, ◌+◌, ◌<◌, Bool, List, [], ◌∷◌, Option, Some, None, option_map, if◌then◌else◌, length}
+use Rattle.bib_spec.specs.Text.{Text, same}
+use Rattle.bib_spec.specs.Tree.{Tree}
+use Rattle.bib_spec.specs.Reading.{Item, Reading}
+use Rattle.bib_spec.specs.Edits.{is_entry, holders}
+use Rattle.bib_scan.specs.View.{Field}
+use Rattle.bib_edit.specs.declared.fault.EditFault.{EditFault}
+use Rattle.bib_edit.specs.declared.fault.EditFault.TheVariants.{NotFound, Ambiguous}
+
+-- the number of the first item that passes the test
+abbrev pub first_item : (Tree → Bool) → List Item → Option ℕ
+first_item test [] = None
+first_item test (item ∷ items) = if test item.tree then Some 0 else option_map suc (first_item test items)
+
+-- the number of the item that the key names
+abbrev pub item_named : Text → Reading → Option ℕ
+item_named key db = first_item (is_entry key) db.items
+
+-- one entry has the key, and it is this item
+pub record IsHeldAt (key : Text) (db : Reading) (n : ℕ) : Type 0 where
+  pub item : item_named key db ≡ Some n
+  pub once : holders key db ≡ 1
+
+-- no entry has the key, or several do
+abbrev pub IsHolderFault : Text → Reading → EditFault → Type 0
+IsHolderFault key db NotFound = holders key db ≡ 0
+IsHolderFault key db Ambiguous = 1 < holders key db
+IsHolderFault key db other = ⊥
+
+-- the field has this name
+abbrev pub is_field : Text → Field → Bool
+is_field name field = same field.name name
+
+-- the place behind a field's value
+abbrev pub field_end : Field → ℕ
+field_end field = field.value_at + length field.value
+
+-- the place behind the last value, or, where there is none, this one
+abbrev pub fields_end : ℕ → List Field → ℕ
+fields_end end [] = end
+fields_end end (field ∷ fields) = fields_end (field_end field) fields

@@ -1,0 +1,40 @@
+-- The edits of the definitions, as they are asked for: with bytes.
+use Rattle.std.specs.Prelude.{ℕ, List, [], ◌∷◌, ◌≡◌}
+use Rattle.bib_spec.specs.Text.{Text}
+use Rattle.bib_spec.specs.Tree.{Value}
+use Rattle.bib_spec.specs.Records.{Record}
+use Rattle.bib_spec.specs.Edits as edits
+use Rattle.bib_spec.specs.Edits.{Spells}
+use Rattle.bib_names.specs.Label.{key_base}
+use Rattle.bib_edit.specs.declared.edit.Edit.{Edit}
+use Rattle.bib_edit.specs.declared.edit.Edit.TheVariants.{SetField, DropField, AddEntry, RemoveEntry, MoveEntry}
+use Rattle.bib_edit.specs.declared.edit.NewEntry.{NewEntry}
+
+-- the base of a made key, which is that of the record's label
+abbrev pub made_base : Record → Text
+made_base r = key_base r.fields
+
+-- the values are what the bytes of the fields say
+abbrev pub SpellFields : List (Text × Text) → List (Text × Value) → Type 0
+SpellFields [] [] = Unit {0}
+SpellFields [] (field ∷ fields) = ⊥
+SpellFields (asked ∷ others) [] = ⊥
+SpellFields (asked ∷ others) (field ∷ fields) = (field.0 ≡ asked.0) × Spells asked.1 field.1 × SpellFields others fields
+
+-- the entry is what the bytes say
+pub record SpellsEntry (asked : NewEntry) (new : edits.NewEntry) : Type 0 where
+  pub kind_name : new.kind_name ≡ asked.kind_name
+  pub key : new.key ≡ asked.key
+  pub fields : SpellFields asked.fields new.fields
+
+-- the edit is what is asked for
+pub data AsksFor : Edit → edits.Edit → Type 0 where
+  set_field : (key field value : Text) (v : Value) → Spells value v → AsksFor (SetField key field value) (edits.SetField key field v)
+  drop_field : (key field : Text) → AsksFor (DropField key field) (edits.DropField key field)
+  add_entry : (place : ℕ) (asked : NewEntry) (new : edits.NewEntry) → SpellsEntry asked new → AsksFor (AddEntry place asked) (edits.AddEntry place new)
+  remove_entry : (key : Text) → AsksFor (RemoveEntry key) (edits.RemoveEntry key)
+  move_entry : (key : Text) (place : ℕ) → AsksFor (MoveEntry key place) (edits.MoveEntry key place)
+
+-- it holds of the edit that is asked for
+abbrev pub OfEdit : Edit → (edits.Edit → Type 0) → Type 0
+OfEdit asked P = (e : edits.Edit) → AsksFor asked e → P e

@@ -1,0 +1,10 @@
+pub mod Faults
+pub mod Asking
+pub mod Planning
+pub mod Addressing
+pub mod Judging
+pub mod Removal
+pub mod NewEntries
+pub mod Moving
+pub mod FieldPieces
+pub mod Laws

@@ -1,0 +1,36 @@
+-- An entry that is moved: where it then stands, its pieces, and its raw texts there.
+use Rattle.std.specs.Prelude.{ℕ, ◌≡◌, ◌+◌, ◌⊎◌, nat_lt, Bool, true, false, List, [], ◌∷◌, ◌++◌, if◌then◌else◌}
+use Rattle.std.specs.List.{AllByRecursion}
+use Rattle.bib_spec.specs.Bytes.{name_limit}
+use Rattle.bib_spec.specs.Text.{Text}
+use Rattle.bib_spec.specs.Reading.{Reading, IsValueWithin}
+use Rattle.bib_spec.specs.Pieces.{Piece}
+use Rattle.bib_spec.specs.Edits.{line_end}
+use Rattle.bib_scan.specs.View.{Field}
+use Rattle.bib_edit.specs.NewEntries.{IsLong, insertion_of}
+use Rattle.bib_edit.specs.Removal.{body_at, removal_of}
+
+-- the item before which it stands, counted with the moved one still there
+abbrev pub seat : ℕ → ℕ → ℕ
+seat n place = if nat_lt place n then place else place + 1
+
+-- an item's body, in a line of its own
+abbrev pub line_of : Reading → ℕ → Text
+line_of db n = body_at db.items n ++ line_end
+
+-- the body of item n goes, and is put before item `place` of what remains
+abbrev pub moved_pieces : Reading → ℕ → ℕ → List Piece
+moved_pieces db n place =
+    if nat_lt place n
+    then insertion_of db place (line_of db n) ∷ removal_of db n ∷ []
+    else removal_of db n ∷ insertion_of db (place + 1) (line_of db n) ∷ []
+
+-- each field has a value
+abbrev pub FieldsHaveValues : List Field → Type 0
+FieldsHaveValues fields = AllByRecursion (λ field. IsValueWithin name_limit field.value) fields
+
+-- none of the fields has a raw text that is too long before item n, or one has
+abbrev pub IsFieldLong : Bool → Reading → ℕ → List Field → Type 0
+IsFieldLong long db n [] = false ≡ long
+IsFieldLong false db n (field ∷ fields) = IsLong false db n field.value × IsFieldLong false db n fields
+IsFieldLong true db n (field ∷ fields) = IsLong true db n field.value ⊎ IsFieldLong true db n fields

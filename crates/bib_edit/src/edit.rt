@@ -1,0 +1,27 @@
+//! What may be asked of a database.
+
+use bib_scan::{Seq, Text};
+
+/// An entry to be added: its type, its key, and its fields' names and values, as bytes.
+#[derive(Debug, Drop)]
+pub struct NewEntry {
+    pub kind_name: Text,
+    pub key: Text,
+    pub fields: Seq<(Text, Text)>,
+}
+
+/// What may be asked of a database. A key names the first entry that has it, folded; a place is the number of an item,
+/// from 0.
+#[derive(Debug, Drop)]
+pub enum Edit {
+    /// The field of this entry gets this value; where it has none, it is added behind the last one.
+    SetField { key: Text, field: Text, value: Text },
+    /// The field of this entry goes, with the comma before it.
+    DropField { key: Text, field: Text },
+    /// The entry stands before item `place`.
+    AddEntry { place: usize, entry: NewEntry },
+    /// The entry goes; the text behind it stays.
+    RemoveEntry { key: Text },
+    /// The entry goes, and then stands before item `place` of what remains.
+    MoveEntry { key: Text, place: usize },
+}

@@ -1,0 +1,28 @@
+//! Plans edits: the pieces that make one, or why it is refused. It knows what each edit means; it changes nothing. It
+//! promises exactly the pieces of the definitions, or the first reason that refuses the edit.
+#![tactic(auto)]
+
+mod add_entry;
+mod address;
+mod drop_field;
+mod edit;
+mod fault;
+mod laws;
+mod limits;
+mod move_entry;
+mod moving;
+mod new_entry;
+mod new_fields;
+mod new_text;
+mod pieces;
+mod planning;
+mod referring;
+mod remove_entry;
+mod set_field;
+mod taking_out;
+mod values;
+
+pub use edit::{Edit, NewEntry};
+pub use fault::EditFault;
+pub use laws::edits_are_asked_for;
+pub use planning::plan;

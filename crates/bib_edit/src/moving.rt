@@ -1,0 +1,102 @@
+//! The body of an item goes, and stands elsewhere in a line of its own.
+
+ghost use Rattle.std.specs.Prelude.{◌≡◌, [], ◌∷◌, IfOk, IfErr};
+ghost use Rattle.bib_spec.specs.Edits.{MoveEntry, last_place};
+ghost use Rattle.bib_store.specs.Meaning.{OfReading, IsItemNumber, IsItemPlace};
+ghost use Rattle.bib_edit.specs.Moving.{seat, line_of, moved_pieces, FieldsHaveValues, IsFieldLong};
+ghost use Rattle.bib_edit.specs.declared.fault.EditFault.TheVariants.{Memory};
+
+use crate::fault::EditFault;
+use crate::limits::is_text_too_long;
+use crate::new_entry::insertion_of;
+use crate::taking_out::{body_of, removal_of};
+use crate::values::value_parts;
+use bib_scan::{Fields, Seq, Text};
+use bib_store::{Database, ItemList, Piece};
+use std::alloc::{AllocError, Global};
+
+/// The highest place before which a moved entry can stand: where the key is there, its entry is not counted.
+pub(crate) fn last_place<L: ItemList>(db: &Database<L>, key: &[u8]) -> usize
+    ensures { OfReading db.now (λ r. result ≡ last_place r (MoveEntry key.now 0)) }
+{
+    match db.find(key) {
+        Ok(_) => db.item_count().saturating_sub(1),
+        Err(_) => db.item_count(),
+    }
+}
+
+/// The number of the item before which item `n` stands once it is moved, counted with item `n` where it was.
+pub(crate) fn seat<L: ItemList>(db: &Database<L>, n: usize, place: usize) -> usize
+    requires { IsItemNumber db.now place }
+    ensures { result ≡ seat n place }
+{
+    // A place below the count of the items can grow by one.
+    db.opens();
+    let _ = db.item_count();
+    if place < n { place } else { place + 1 }
+}
+
+/// The body of item `n`, in a line of its own.
+fn line_of<L: ItemList>(alloc: Global, db: &Database<L>, n: usize) -> Result<Text, AllocError>
+    requires { IsItemNumber db.now n }
+    ensures { IfOk result (λ text. OfReading db.now (λ r. text ≡ line_of r n)) }
+{
+    let mut text = Vec::from_slice(alloc, body_of(db, n))?;
+    text.extend_from_slice(b"\n")?;
+    Ok(Seq::from_vec(text))
+}
+
+/// Two pieces as a list.
+fn two_pieces(alloc: Global, first: Piece, second: Piece) -> Result<Seq<Piece>, EditFault>
+    ensures pieces { IfOk result (λ pieces. pieces ≡ first ∷ second ∷ []) }
+    ensures only { IfErr result (λ fault. fault ≡ Memory) }
+{
+    let mut pieces = Vec::new(alloc);
+    pieces.push(first)?;
+    pieces.push(second)?;
+    Ok(Seq::from_vec(pieces))
+}
+
+/// The pieces that take the body of item `n` out and put it before item `place` of what remains.
+pub(crate) fn moved_pieces<L: ItemList>(
+    alloc: Global,
+    db: &Database<L>,
+    n: usize,
+    place: usize,
+) -> Result<Seq<Piece>, EditFault>
+    requires number { IsItemNumber db.now n }
+    requires place { IsItemNumber db.now place }
+    ensures pieces { IfOk result (λ pieces. OfReading db.now (λ r. pieces ≡ moved_pieces r n place)) }
+    ensures only { IfErr result (λ fault. fault ≡ Memory) }
+{
+    let removal = removal_of(alloc, db, n)?;
+    let line = line_of(alloc, db, n)?;
+    let insertion = insertion_of(alloc, db, seat(db, n, place), line);
+    if place < n {
+        return two_pieces(alloc, insertion, removal);
+    }
+    two_pieces(alloc, removal, insertion)
+}
+
+/// Whether the raw text of a field would be too long before item `n`. It takes time in the number of parts, and memory for
+/// those of one value at a time.
+pub(crate) fn is_field_long<L: ItemList>(
+    alloc: Global,
+    db: &Database<L>,
+    n: usize,
+    fields: Fields<'_>,
+) -> Result<bool, EditFault>
+    requires place { IsItemPlace db.now n }
+    requires values { FieldsHaveValues fields }
+    ensures long { IfOk result (λ long. OfReading db.now (λ r. IsFieldLong long r n fields.entry)) }
+    ensures only { IfErr result (λ fault. fault ≡ Memory) }
+{
+    let mut rest = fields;
+    'fields: while let Some(field) = rest.next() {
+        let parts = value_parts(alloc, field.value)?;
+        if is_text_too_long(db, n, &parts, field.value) {
+            return Ok(true);
+        }
+    }
+    Ok(false)
+}

@@ -1,0 +1,26 @@
+//! Pieces that are made of bytes.
+
+ghost use Rattle.std.specs.Prelude.{◌≡◌, [], ◌∷◌, IfOk, IfErr};
+ghost use Rattle.bib_edit.specs.declared.fault.EditFault.TheVariants.{Memory};
+
+use crate::fault::EditFault;
+use bib_scan::{Seq, Text};
+use bib_store::Piece;
+use std::alloc::{AllocError, Global};
+
+/// The bytes as a text of their own.
+pub(crate) fn copied(alloc: Global, bytes: &[u8]) -> Result<Text, AllocError>
+    ensures { IfOk result (λ text. text ≡ bytes.now) }
+{
+    Ok(Seq::from_vec(bytes.to_vec(alloc)?))
+}
+
+/// The list of this one piece.
+pub(crate) fn one_piece(alloc: Global, piece: Piece) -> Result<Seq<Piece>, EditFault>
+    ensures pieces { IfOk result (λ pieces. pieces ≡ piece ∷ []) }
+    ensures only { IfErr result (λ fault. fault ≡ Memory) }
+{
+    let mut pieces = Vec::new(alloc);
+    pieces.push(piece)?;
+    Ok(Seq::from_vec(pieces))
+}

@@ -1,0 +1,44 @@
+//! Plans an edit.
+
+ghost use Rattle.std.specs.Prelude.{OnOk, IfOk, IfErr};
+ghost use Rattle.bib_edit.specs.Planning.{IsAllowedEdit, ArePiecesOf, IsRefusal};
+
+use crate::add_entry::add_entry;
+use crate::drop_field::drop_field;
+use crate::edit::Edit;
+use crate::fault::EditFault;
+use crate::move_entry::move_entry;
+use crate::remove_entry::remove_entry;
+use crate::set_field::set_field;
+use bib_scan::Seq;
+use bib_store::{Database, ItemList, Piece};
+use std::alloc::Global;
+
+/// The pieces that make the edit, or the first reason that refuses it. Nothing has changed yet. It takes time in the
+/// length of the edit and of the entry that it names, beside what the database takes to find that entry and its place;
+/// a removal takes time in the number of entries too. Want of memory may come before any other reason. (dialect)
+pub fn plan<L: ItemList>(
+    alloc: Global,
+    db: &Database<L>,
+    edit: &Edit,
+) -> Result<Seq<Piece>, EditFault>
+    ensures pieces { IfOk result (ArePiecesOf db.now edit.now) }
+    ensures allowed { OnOk result (IsAllowedEdit db.now edit.now) }
+    ensures refused { IfErr result (IsRefusal db.now edit.now) }
+{
+    match edit {
+        Edit::SetField { key, field, value } => set_field(
+            alloc,
+            db,
+            key.as_slice(),
+            field.as_slice(),
+            value.as_slice(),
+        ),
+        Edit::DropField { key, field } => {
+            drop_field(alloc, db, key.as_slice(), field.as_slice())
+        }
+        Edit::AddEntry { place, entry } => add_entry(alloc, db, *place, entry),
+        Edit::RemoveEntry { key } => remove_entry(alloc, db, key.as_slice()),
+        Edit::MoveEntry { key, place } => move_entry(alloc, db, key.as_slice(), *place),
+    }
+}

@@ -1,0 +1,4 @@
+pub mod TextLemmas
+pub mod Turning
+pub mod Moves
+pub mod OneMoreRequest

@@ -1,0 +1,116 @@
+-- What a session answers to what it is asked.
+use Rattle.std.specs.Prelude.{ℕ, ◌≡◌, ◌≤◌, List, [], ◌∷◌, length, take, drop, Option, Some, None}
+use Rattle.bib_spec.specs.Text.{Text}
+use Rattle.bib_spec.specs.Reading.{bytes_of}
+use Rattle.bib_spec.specs.History.{Edits, Undoes, Redoes}
+use Rattle.bib_spec.specs.Steps.{Step, KeptSteps, history_of, IsFull, Adds, GoesBack, GoesOn}
+use Rattle.bib_spec.specs.Edits.{edited}
+use Rattle.bib_spec.specs.EditChunks.{pieces_of}
+use Rattle.bib_store.specs.Meaning.{OfReading, IsOpenFault}
+use Rattle.bib_edit.specs.declared.edit.Edit.{Edit}
+use Rattle.bib_edit.specs.Asking.{OfEdit, made_base}
+use Rattle.bib_edit.specs.Planning.{IsAllowedEdit, IsRefusal}
+use Rattle.bib_journal.specs.declared.fault.SessionFault.{SessionFault}
+use Rattle.bib_journal.specs.declared.fault.SessionFault.TheVariants.{Unopened, Refused, JournalFull, NothingToUndo, NothingToRedo, Memory}
+use Rattle.bib_journal.specs.declared.request.Request.{Request}
+use Rattle.bib_journal.specs.declared.request.Request.TheVariants as request
+
+-- ---- opening
+
+-- a file to which nothing was done yet
+abbrev pub started : Text → KeptSteps
+started file = record { past = []; present = file; future = [] }
+
+-- why no session is started
+abbrev pub RefusesStart : SessionFault → Text → Type 0
+RefusesStart Memory file = Unit {0}
+RefusesStart (Unopened fault) file = IsOpenFault file fault.kind fault.place
+RefusesStart (Refused fault) file = ⊥
+RefusesStart JournalFull file = ⊥
+RefusesStart NothingToUndo file = ⊥
+RefusesStart NothingToRedo file = ⊥
+
+-- ---- edits
+
+-- the edit's pieces are too many to be kept, or too long
+abbrev pub IsOverfull : Edit → KeptSteps → Type 0
+IsOverfull edit kept = OfReading kept.present (λ db. OfEdit edit (λ e. IsFull kept (pieces_of made_base db e)))
+
+-- Nothing refuses the edit, and there is room for it. Its pieces go to the end of the past, and the present is the file of
+-- what it makes.
+pub record MakesEdit (edit : Edit) (old new : KeptSteps) : Type 0 where
+  pub allowed : IsAllowedEdit old.present edit
+  pub room : OfReading old.present (λ db. OfEdit edit (λ e. IsFull old (pieces_of made_base db e) → ⊥))
+  pub step : OfReading old.present (λ db. OfEdit edit (λ e. Adds (pieces_of made_base db e) old new))
+  pub file : OfReading old.present (λ db. OfEdit edit (λ e. Edits (bytes_of (edited made_base db e)) (history_of old) (history_of new)))
+
+-- why an edit is not made: a reason of its own, or else that it can't be kept; or memory was refused
+abbrev pub RefusesEdit : SessionFault → Edit → KeptSteps → Type 0
+RefusesEdit Memory edit kept = Unit {0}
+RefusesEdit (Refused fault) edit kept = IsRefusal kept.present edit fault
+RefusesEdit JournalFull edit kept = IsAllowedEdit kept.present edit × IsOverfull edit kept
+RefusesEdit (Unopened fault) edit kept = ⊥
+RefusesEdit NothingToUndo edit kept = ⊥
+RefusesEdit NothingToRedo edit kept = ⊥
+
+-- ---- undo and redo
+
+-- the last change is taken back
+pub record TakesBack (old new : KeptSteps) : Type 0 where
+  pub step : Step
+  pub carried : GoesBack step old new
+  pub file : Undoes (history_of old) (history_of new)
+
+-- the change that was taken back last is made again
+pub record MakesAgain (old new : KeptSteps) : Type 0 where
+  pub step : Step
+  pub carried : GoesOn step old new
+  pub file : Redoes (history_of old) (history_of new)
+
+abbrev pub RefusesUndo : SessionFault → KeptSteps → Type 0
+RefusesUndo Memory kept = Unit {0}
+RefusesUndo NothingToUndo kept = kept.past ≡ []
+RefusesUndo (Unopened fault) kept = ⊥
+RefusesUndo (Refused fault) kept = ⊥
+RefusesUndo JournalFull kept = ⊥
+RefusesUndo NothingToRedo kept = ⊥
+
+abbrev pub RefusesRedo : SessionFault → KeptSteps → Type 0
+RefusesRedo Memory kept = Unit {0}
+RefusesRedo NothingToRedo kept = kept.future ≡ []
+RefusesRedo (Unopened fault) kept = ⊥
+RefusesRedo (Refused fault) kept = ⊥
+RefusesRedo JournalFull kept = ⊥
+RefusesRedo NothingToUndo kept = ⊥
+
+-- ---- requests
+
+-- what an accepted request does
+abbrev pub Does : Request → KeptSteps → KeptSteps → Type 0
+Does (request.Edit edit) old new = MakesEdit edit old new
+Does request.Undo old new = TakesBack old new
+Does request.Redo old new = MakesAgain old new
+
+-- why a request is refused
+abbrev pub Refuses : SessionFault → Request → KeptSteps → Type 0
+Refuses fault (request.Edit edit) kept = RefusesEdit fault edit kept
+Refuses fault request.Undo kept = RefusesUndo fault kept
+Refuses fault request.Redo kept = RefusesRedo fault kept
+
+-- the requests are accepted, one after another
+abbrev pub DoesAll : List Request → KeptSteps → KeptSteps → Type 0
+DoesAll [] old new = new ≡ old
+DoesAll (request ∷ requests) old new = (mid : KeptSteps) × Does request old mid × DoesAll requests mid new
+
+-- the first of these requests is refused with this fault, if there is one; else none is left
+abbrev pub StopsAt : Option SessionFault → List Request → KeptSteps → Type 0
+StopsAt None [] kept = Unit {0}
+StopsAt None (request ∷ requests) kept = ⊥
+StopsAt (Some fault) [] kept = ⊥
+StopsAt (Some fault) (request ∷ requests) kept = Refuses fault request kept
+
+-- so many requests are accepted, one after another; the next one, if there is one, is refused and changes nothing
+pub record Performs (requests : List Request) (done : ℕ) (fault : Option SessionFault) (old new : KeptSteps) : Type 0 where
+  pub within : done ≤ length requests
+  pub did : DoesAll (take done requests) old new
+  pub stops : StopsAt fault (drop done requests) new

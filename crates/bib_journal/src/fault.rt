@@ -1,0 +1,102 @@
+//! Why a session refuses a call.
+
+ghost use Rattle.std.specs.Prelude.{◌≡◌};
+ghost use Rattle.bib_journal.specs.Faults.{fault_number, fault_place, unopened, refused};
+
+use bib_edit::EditFault;
+use bib_scan::ReadFault;
+use bib_store::StoreFault;
+use std::alloc::{AllocError, AllocFailed};
+use thiserror::Error;
+
+/// Why a session refuses a call. After a refusal it is as it was before.
+#[derive(Clone, Copy, Debug, PartialEq, Eq, Error)]
+pub enum SessionFault {
+    /// The bytes can't be opened.
+    #[error("{0}")]
+    Unopened(ReadFault),
+    /// The edit is refused.
+    #[error("{0}")]
+    Refused(EditFault),
+    /// 65,535 changes can be undone already, or the texts of their steps would be longer than 67,108,864 bytes.
+    #[error("41 JournalFull")]
+    JournalFull,
+    /// There is no change to take back.
+    #[error("51 NothingToUndo")]
+    NothingToUndo,
+    /// There is no change to make again.
+    #[error("52 NothingToRedo")]
+    NothingToRedo,
+    /// A request for memory was refused.
+    #[error("10 Memory")]
+    Memory,
+}
+
+impl SessionFault {
+    /// The fault's number, as docs/FAULTS.md lists them.
+    pub fn number(&self) -> u16
+        ensures { result ≡ fault_number self.now }
+    {
+        match self {
+            SessionFault::Unopened(fault) => fault.number(),
+            SessionFault::Refused(fault) => fault.number(),
+            SessionFault::JournalFull => 41,
+            SessionFault::NothingToUndo => 51,
+            SessionFault::NothingToRedo => 52,
+            SessionFault::Memory => 10,
+        }
+    }
+
+    /// The first byte at which no file continues, or of the first value that is too long, where the bytes can't be opened.
+    pub fn place(&self) -> Option<usize>
+        ensures { result ≡ fault_place self.now }
+    {
+        match self {
+            SessionFault::Unopened(fault) => fault.place(),
+            _ => None,
+        }
+    }
+}
+
+impl From<AllocError> for SessionFault {
+    ghost use Rattle.std.specs.Prelude.{◌≡◌};
+    ghost use Rattle.bib_journal.specs.declared.fault.SessionFault.TheVariants.{Memory};
+
+    ghost from_gives = { λ _ fault. fault ≡ Memory };
+
+    fn from(_error: AllocError) -> SessionFault {
+        SessionFault::Memory
+    }
+}
+
+impl<T: Drop> From<AllocFailed<T>> for SessionFault {
+    ghost use Rattle.std.specs.Prelude.{◌≡◌};
+    ghost use Rattle.bib_journal.specs.declared.fault.SessionFault.TheVariants.{Memory};
+
+    ghost from_gives = { λ _ fault. fault ≡ Memory };
+
+    fn from(_failed: AllocFailed<T>) -> SessionFault {
+        SessionFault::Memory
+    }
+}
+
+/// What a refused opening is to a session.
+pub(crate) fn unopened(fault: ReadFault) -> SessionFault
+    ensures { result ≡ unopened fault }
+{
+    if fault.kind == 10 {
+        SessionFault::Memory
+    } else {
+        SessionFault::Unopened(fault)
+    }
+}
+
+/// What a refused edit is to a session.
+pub(crate) fn refused(fault: EditFault) -> SessionFault
+    ensures { result ≡ refused fault }
+{
+    match fault {
+        EditFault::Memory => SessionFault::Memory,
+        fault => SessionFault::Refused(fault),
+    }
+}

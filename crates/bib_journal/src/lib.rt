@@ -1,0 +1,16 @@
+//! Keeps an open file with its history. It knows edits, undo and redo, and the steps that each of them makes; it does
+//! not know what an edit means. It is the one owner of a database that changes. It promises the present file of the
+//! history, and that a refusal changes nothing.
+#![tactic(auto)]
+
+mod fault;
+mod performing;
+mod request;
+mod session;
+mod step_text;
+mod stepping;
+
+pub use fault::SessionFault;
+pub use performing::{Performed, perform};
+pub use request::Request;
+pub use session::{CHANGE_LIMIT, STEP_TEXTS_LIMIT, Session};

@@ -1,0 +1,47 @@
+//! Doing what is asked of a session, one request after another.
+
+ghost use Rattle.std.specs.Prelude.{◌≡◌, IfErr, OnOk, OnErr};
+ghost use Rattle.bib_journal.specs.Session.{Does, Refuses, Performs};
+
+use crate::fault::SessionFault;
+use crate::request::Request;
+use crate::session::Session;
+use bib_store::ItemList;
+
+/// How many requests were done, and why the next one was refused, if one was.
+#[derive(Clone, Copy, Debug, PartialEq, Eq)]
+pub struct Performed {
+    pub done: usize,
+    pub fault: Option<SessionFault>,
+}
+
+/// Does one request.
+fn obey<L: ItemList>(session: &mut Session<L>, request: &Request) -> Result<(), SessionFault>
+    ensures done { OnOk result (Does request.now session.old session.new) }
+    ensures refused { IfErr result (λ fault. Refuses fault request.now session.old) }
+    ensures err { OnErr result (session.new ≡ session.old) }
+{
+    match request {
+        Request::Edit(edit) => session.edit(edit),
+        Request::Undo => session.undo(),
+        Request::Redo => session.redo(),
+    }
+}
+
+/// Does the requests in order, up to the first that is refused; those before it stand, and it changes nothing.
+pub fn perform<L: ItemList>(session: &mut Session<L>, requests: &[Request]) -> Performed
+    ensures { Performs requests.now result.done result.fault session.old session.new }
+{
+    'obey: for n in 0..requests.len() {
+        if let Err(fault) = obey(session, &requests[n]) {
+            return Performed {
+                done: n,
+                fault: Some(fault),
+            };
+        }
+    }
+    Performed {
+        done: requests.len(),
+        fault: None,
+    }
+}

@@ -1,0 +1,63 @@
+-- How many of the items so far pass a test.
+use Rattle.std.proofs.Common.{◌≡◌, ◌∙◌, ℕ, ◌+◌, ◌<◌, ◌≤◌, Bool, true, false, cond, List, length, take, drop, filter, Some, slice_get, count_by, sym, ap, ⊎_elim, arith, length-append}
+use Rattle.std.proofs.lemmas.Option.{slice_get_cases, same_Some}
+use Rattle.std.proofs.lemmas.List.{take_all, take-append-drop}
+use Rattle.std.proofs.lemmas.List.Sums.{length-filter}
+use Rattle.std.proofs.lemmas.List.Filters.{length-filter_more}
+use Rattle.std.proofs.lemmas.List.Elements.{filter-append}
+use Rattle.bib_spec.specs.Reading.{Item, Reading}
+use Rattle.bib_spec.specs.Records.{entries_of}
+use Rattle.bib_store.specs.Meaning.{is_entry_tree}
+use Rattle.bib_run.specs.Check.{entries_before}
+use Rattle.bib_run.proofs.EntryNumbers.{count_of_entries}
+
+-- what is said of item n
+abbrev pub Tells : (Item → Bool) → List Item → ℕ → Bool → Type 0
+Tells test items n told = (item : Item) → slice_get items n ≡ Some item → told ≡ test item
+
+pub passing_more : (test : Item → Bool) (items : List Item) (n : ℕ) (told : Bool) → n < length items → Tells test items n told
+    → length (filter test (take (n + 1) items)) ≡ length (filter test (take n items)) + cond told 1 0
+passing_more test items n told within tells = ⊎_elim
+    (λ a. length-filter_more test items n a.0 within
+    ∙ ap (λ (b : Bool). length (filter test (take n items)) + cond b 1 0) (ap test a.3 ∙ sym (tells a.0 a.2)))
+    (λ b. absurd (let few = b.0 in omega (arith, within, few)))
+    (slice_get_cases items n).1
+
+pub counted_more : (test : Item → Bool) (items : List Item) (n : ℕ) (told : Bool) → n < length items → Tells test items n told
+    → count_by test (take (n + 1) items) ≡ count_by test (take n items) + cond told 1 0
+counted_more test items n told within tells =
+    sym (length-filter test (take (n + 1) items))
+    ∙ passing_more test items n told within tells
+    ∙ ap (λ (k : ℕ). k + cond told 1 0) (length-filter test (take n items))
+
+pub counted_all : (test : Item → Bool) (items : List Item) (n : ℕ) → length items ≤ n → count_by test (take n items) ≡ count_by test items
+counted_all test items n all = ap (count_by test) (take_all n items all)
+
+passing_within : (test : Item → Bool) (items : List Item) (k : ℕ) → length (filter test (take k items)) ≤ length (filter test items)
+passing_within test items k =
+    let parts : length (filter test items) ≡ length (filter test (take k items)) + length (filter test (drop k items)) =
+    ap (λ (xs : List Item). length (filter test xs)) (sym (take-append-drop k items))
+    ∙ ap (length {A = Item}) (filter-append test (take k items) (drop k items))
+    ∙ length-append (filter test (take k items)) (filter test (drop k items)) in
+    omega (arith, parts)
+
+-- an item that is an entry has the number of the entries before it
+pub number_within : (db : Reading) (n : ℕ) (item : Item) → n < length db.items → slice_get db.items n ≡ Some item → is_entry_tree item.tree ≡ true
+    → entries_before db n < length (entries_of db)
+number_within db n item within at is =
+    let one = passing_more (λ i. is_entry_tree i.tree) db.items n true within (λ other that. sym is ∙ ap (λ (i : Item). is_entry_tree i.tree) (same_Some item other (sym at ∙ that))) in
+    let few = passing_within (λ i. is_entry_tree i.tree) db.items (n + 1) in
+    omega (arith, one, few, count_of_entries db)
+
+-- ---- how many entries stand before the next item
+
+module _ (db : Reading) (n : ℕ) (told : Bool) (entries : ℕ) (within : n < length db.items) (tells : Tells (λ item. is_entry_tree item.tree) db.items n told) (before : entries ≡ entries_before db n) where
+  pub entries_more : told ≡ true → entries + 1 ≡ entries_before db (n + 1)
+  entries_more is =
+      let more = passing_more (λ item. is_entry_tree item.tree) db.items n told within tells ∙ ap (λ (b : Bool). entries_before db n + cond b 1 0) is in
+      omega (arith, more, before)
+
+  pub entries_same : told ≡ false → entries ≡ entries_before db (n + 1)
+  entries_same is =
+      let more = passing_more (λ item. is_entry_tree item.tree) db.items n told within tells ∙ ap (λ (b : Bool). entries_before db n + cond b 1 0) is in
+      omega (arith, more, before)

@@ -1,0 +1,62 @@
+use Rattle.std.proofs.Common.{◌≡◌, ◌∙◌, ◌<◌, ◌-◌, List, [], length, drop, get_or, codes, rules, refl, sym, ap, subst, arith, length-drop}
+use Rattle.std.proofs.lemmas.List.{take_all}
+use Rattle.std.proofs.lemmas.Option.{get_or_from_slice_get, slice_get_read}
+use Rattle.std.proofs.lemmas.Result.{IfOk-weaker}
+use Rattle.bib_spec.specs.Text.{Text}
+use Rattle.bib_run.specs.Opened.{AnswersFile}
+use Rattle.bib_run.specs.Show.{show_answer}
+use Rattle.bib_run.specs.Cite.{cite_answer}
+use Rattle.bib_run.specs.Labels.{labels_answer}
+use Rattle.bib_run.specs.Names.{Spells, names_answer}
+use Rattle.bib_run.specs.Answers.{of_reading, check, show, cite, labels, names, edit, key_word, template_word}
+use Rattle.bib_run.proofs.engine.answer_of.Goals as goal
+
+pub returns-then-is_named-2 : goal.returns-then-is_named-2
+returns-then-is_named-2 c =
+    let named : c.args.command.now.name ≡ codes "check" = search rules in
+    IfOk-weaker c.answer_check.result _ _ (λ answer h. of_reading _ (check named) h) c.answer_check.ensures
+
+pub returns-then-is_named-3 : goal.returns-then-is_named-3
+returns-then-is_named-3 c =
+    let named : c.args.command.now.name ≡ codes "edit" = search rules in
+    IfOk-weaker c.answer_edit.result _ _ (λ answer h. edit named h) c.answer_edit.ensures
+
+pub returns-then-is_named-4 : goal.returns-then-is_named-4
+returns-then-is_named-4 c =
+    let named : c.args.command.now.name ≡ codes "show" = search rules in
+    let key : c.as_slice.result.now ≡ key_word c.args.command.now =
+    let within : 1 < length c.as_slice-words.result.now = search rules in
+    c.as_slice.ensures
+    ∙ sym (get_or_from_slice_get c.as_slice-words.result.now 1 c.index-words-1.result [] (slice_get_read c.as_slice-words.result.now (length c.as_slice-words.result.now) 1 c.index-words-1.result refl within c.index-words-1.is))
+    ∙ ap (λ (words : List Text). get_or words 1 []) c.as_slice-words.ensures in
+    IfOk-weaker c.answer_show.result _ _ (λ answer h. of_reading _ (show named) (subst (λ k. AnswersFile (show_answer k) c.args.file.items answer) key h)) c.answer_show.ensures
+
+pub returns-then-is_named-5 : goal.returns-then-is_named-5
+returns-then-is_named-5 c =
+    let named : c.args.command.now.name ≡ codes "cite" = search rules in
+    IfOk-weaker c.answer_cite.result _ _ (λ answer h. of_reading _ (cite named) (subst (λ keys. AnswersFile (cite_answer keys c.args.command.now.n) c.args.file.items answer)
+    (take_all (length c.as_slice-words.result.now - 1) (drop 1 c.as_slice-words.result.now) (omega (arith, length-drop 1 c.as_slice-words.result.now))
+    ∙ ap (λ (words : List Text). drop 1 words) c.as_slice-words.ensures) h)) c.answer_cite.ensures
+
+pub returns-then-is_named-6 : goal.returns-then-is_named-6
+returns-then-is_named-6 c =
+    let named : c.args.command.now.name ≡ codes "labels" = search rules in
+    IfOk-weaker c.answer_labels.result _ _ (λ answer h. of_reading _ (labels named) (subst (λ keys. AnswersFile (labels_answer keys) c.args.file.items answer)
+    (take_all (length c.as_slice-words.result.now - 1) (drop 1 c.as_slice-words.result.now) (omega (arith, length-drop 1 c.as_slice-words.result.now))
+    ∙ ap (λ (words : List Text). drop 1 words) c.as_slice-words.ensures) h)) c.answer_labels.ensures
+
+pub returns-then-is_named-7 : goal.returns-then-is_named-7
+returns-then-is_named-7 c =
+    let named : c.args.command.now.name ≡ codes "names" = search rules in
+    let key : c.as_slice-then-is_named-7.result.now ≡ key_word c.args.command.now =
+    let within : 1 < length c.as_slice-words.result.now = search rules in
+    c.as_slice-then-is_named-7.ensures
+    ∙ sym (get_or_from_slice_get c.as_slice-words.result.now 1 c.index-words-1-then-is_named-7.result [] (slice_get_read c.as_slice-words.result.now (length c.as_slice-words.result.now) 1 c.index-words-1-then-is_named-7.result refl within c.index-words-1-then-is_named-7.is))
+    ∙ ap (λ (words : List Text). get_or words 1 []) c.as_slice-words.ensures in
+    let template : c.as_slice-then-is_named-7-2.result.now ≡ template_word c.args.command.now =
+    let within : 2 < length c.as_slice-words.result.now = search rules in
+    c.as_slice-then-is_named-7-2.ensures
+    ∙ sym (get_or_from_slice_get c.as_slice-words.result.now 2 c.index-words-2.result [] (slice_get_read c.as_slice-words.result.now (length c.as_slice-words.result.now) 2 c.index-words-2.result refl within c.index-words-2.is))
+    ∙ ap (λ (words : List Text). get_or words 2 []) c.as_slice-words.ensures in
+    IfOk-weaker c.answer_names.result _ _ (λ answer h. of_reading _ (names named h.pattern (subst (λ t. Spells t h.pattern) template h.spells))
+    (subst (λ k. AnswersFile (names_answer k h.pattern) c.args.file.items answer) key h.answers)) c.answer_names.ensures

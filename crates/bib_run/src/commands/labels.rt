@@ -1,0 +1,86 @@
+//! `labels`: short names for the entries that keys cite.
+
+ghost use Rattle.std.specs.Prelude.{◌≡◌, ◌++◌, codes, IfOk, OnOk};
+ghost use Rattle.std.specs.List.{flat_map};
+ghost use Rattle.bib_spec.specs.Records.{entries_of};
+ghost use Rattle.bib_store.specs.Meaning.{OfReading};
+ghost use Rattle.bib_run.specs.Opened.{AnswersFile};
+ghost use Rattle.bib_run.specs.Labels.{label_line, labelled, records_at, labels_answer};
+ghost use Rattle.bib_run.specs.Marks.{AreEntryNumbers};
+
+use crate::answers::{Answer, done, refused, unread};
+use crate::messages::NO_SUCH_ENTRY;
+use crate::opening::open;
+use bib_names::labels;
+use bib_scan::Text;
+use bib_store::{Database, Flat, Record};
+use std::alloc::{AllocError, Global};
+
+/// How many children list a parent. (btxdoc 2.1)
+const MIN_CROSSREFS: u32 = 2;
+
+/// The labels of the entries that the keys cite, or that a key finds none.
+pub fn answer_labels(alloc: Global, file: Vec<u8>, keys: &[Text]) -> Result<Answer, AllocError>
+    ensures { IfOk result (AnswersFile (labels_answer keys.now) file.items) }
+{
+    match open(alloc, file) {
+        Ok(db) => label(alloc, &db, keys),
+        Err(fault) => unread(alloc, fault),
+    }
+}
+
+fn label(alloc: Global, db: &Database<Flat>, keys: &[Text]) -> Result<Answer, AllocError>
+    ensures { IfOk result (λ answer. OfReading db.now (λ r. answer ≡ labels_answer keys.now r)) }
+{
+    let Ok(cited) = db.cited(keys, MIN_CROSSREFS) else {
+        return Err(AllocError);
+    };
+    if !cited.unknown.as_slice().is_empty() {
+        return Ok(refused(
+            alloc,
+            Text::from_vec(Vec::from_slice(alloc, NO_SUCH_ENTRY)?),
+        ));
+    }
+    let records = records_at(alloc, db, cited.listed.as_slice())?;
+    Ok(done(alloc, label_lines(alloc, records.as_slice())?))
+}
+
+/// The records of these entries.
+fn records_at(alloc: Global, db: &Database<Flat>, list: &[usize]) -> Result<Vec<Record>, AllocError>
+    requires { AreEntryNumbers db.now list.now }
+    ensures { IfOk result (λ records. OfReading db.now (λ r. records.items ≡ records_at (entries_of r) list.now)) }
+{
+    let mut records = Vec::new(alloc);
+    'expand: for n in list {
+        let Ok(expanded) = db.expanded(*n) else {
+            return Err(AllocError);
+        };
+        records.push(expanded.rec)?;
+    }
+    Ok(records)
+}
+
+/// A line for each record, with its label.
+fn label_lines(alloc: Global, records: &[Record]) -> Result<Text, AllocError>
+    ensures { IfOk result (λ text. text ≡ flat_map label_line (labelled records.now)) }
+{
+    let Ok(labels) = labels(alloc, records) else {
+        return Err(AllocError);
+    };
+    let labels = labels.as_slice();
+    let mut out = Vec::new(alloc);
+    'line: for n in 0..labels.len().min(records.len()) {
+        let record = &records[n];
+        add_label(&mut out, labels[n].as_slice(), record.key.as_slice())?;
+    }
+    Ok(Text::from_vec(out))
+}
+
+fn add_label(out: &mut Vec<u8>, label: &[u8], key: &[u8]) -> Result<(), AllocError>
+    ensures { OnOk result (out.new.items ≡ out.old.items ++ (label.now ++ (codes "\t" ++ (key.now ++ codes "\n")))) }
+{
+    out.extend_from_slice(label)?;
+    out.extend_from_slice(b"\t")?;
+    out.extend_from_slice(key)?;
+    out.extend_from_slice(b"\n")
+}

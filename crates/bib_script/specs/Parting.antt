@@ -1,0 +1,37 @@
+-- Texts between bytes that part them.
+use Rattle.std.specs.Prelude.{ℕ, ◌==◌, if◌then◌else◌, List, [], ◌∷◌}
+use Rattle.bib_spec.specs.Bytes.{line_feed}
+use Rattle.bib_spec.specs.Text.{Text}
+use Rattle.bib_spec.specs.Texts.{is_empty, onto_first}
+
+abbrev pub tab : ℕ
+tab = 9
+
+abbrev pub carriage_return : ℕ
+carriage_return = 13
+
+-- the texts before, between and behind the bytes that are this one; they may be empty
+abbrev pub parted : ℕ → Text → List Text
+parted byte [] = [] ∷ []
+parted byte (b ∷ t) = if b == byte then [] ∷ parted byte t else onto_first b (parted byte t)
+
+-- the words of a line, parted by tabs
+abbrev pub words_of : Text → List Text
+words_of line = parted tab line
+
+-- a line without the carriage return at its end, if there is one
+abbrev pub without_return : Text → Text
+without_return [] = []
+without_return (b ∷ []) = if b == carriage_return then [] else b ∷ []
+without_return (b ∷ c ∷ t) = b ∷ without_return (c ∷ t)
+
+-- Each text before a line feed is a line, but for a carriage return at its end; what stands behind the last one is a
+-- line as it is, unless it is empty.
+abbrev pub as_lines : List Text → List Text
+as_lines [] = []
+as_lines (last ∷ []) = if is_empty last then [] else last ∷ []
+as_lines (line ∷ next ∷ texts) = without_return line ∷ as_lines (next ∷ texts)
+
+-- the lines of a text
+abbrev pub lines_of : Text → List Text
+lines_of text = as_lines (parted line_feed text)

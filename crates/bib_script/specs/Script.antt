@@ -1,0 +1,99 @@
+-- The edits that the lines of a script say. (dialect)
+use Rattle.std.specs.Prelude.{ℕ, suc, ◌+◌, ◌-◌, ◌*◌, ◌&&◌, nat_le, if◌then◌else◌, List, [], ◌∷◌, length, Option, Some, None, option_map, option_and_then, bytes_eq, codes, fold}
+use Rattle.std.specs.List.{list_all}
+use Rattle.std.specs.Option.{option_map_or}
+use Rattle.std.specs.Char.{is_ascii_digit}
+use Rattle.bib_spec.specs.Text.{Text}
+use Rattle.bib_spec.specs.Texts.{is_empty}
+use Rattle.bib_edit.specs.declared.edit.Edit.{Edit}
+use Rattle.bib_edit.specs.declared.edit.Edit.TheVariants.{SetField, DropField, AddEntry, RemoveEntry, MoveEntry}
+use Rattle.bib_edit.specs.declared.edit.NewEntry.{NewEntry}
+use Rattle.bib_journal.specs.declared.request.Request.{Request}
+use Rattle.bib_journal.specs.declared.request.Request.TheVariants as request
+use Rattle.bib_script.specs.Parting.{words_of, lines_of}
+
+-- ---- numbers
+
+abbrev pub with_digit : ℕ → ℕ → ℕ
+with_digit n digit = n * 10 + (digit - 48)
+
+-- the number that 1 to 9 digits say; leading zeros are allowed
+abbrev pub number_of : Text → Option ℕ
+number_of word = if (nat_le 1 (length word) && nat_le (length word) 9) && list_all is_ascii_digit word then Some (fold with_digit 0 word) else None
+
+-- ---- words
+
+-- names and values in turn
+abbrev pub fields_of : List Text → Option (List (Text × Text))
+fields_of [] = Some []
+fields_of (name ∷ []) = None
+fields_of (name ∷ value ∷ words) = option_map (λ fields. (name, value) ∷ fields) (fields_of words)
+
+-- `set KEY FIELD VALUE`
+abbrev pub set_of : List Text → Option Edit
+set_of (key ∷ field ∷ value ∷ []) = Some (SetField key field value)
+set_of _ = None
+
+-- `drop KEY FIELD`
+abbrev pub drop_of : List Text → Option Edit
+drop_of (key ∷ field ∷ []) = Some (DropField key field)
+drop_of _ = None
+
+abbrev pub new_entry : Text → Text → List (Text × Text) → NewEntry
+new_entry kind_name key fields = record { kind_name = kind_name; key = key; fields = fields }
+
+-- `add PLACE TYPE KEY FIELD VALUE ..`
+abbrev pub add_of : List Text → Option Edit
+add_of (place ∷ kind_name ∷ key ∷ words) =
+    option_and_then (λ n. option_map (λ fields. AddEntry n (new_entry kind_name key fields)) (fields_of words)) (number_of place)
+add_of _ = None
+
+-- `remove KEY`
+abbrev pub remove_of : List Text → Option Edit
+remove_of (key ∷ []) = Some (RemoveEntry key)
+remove_of _ = None
+
+-- `move KEY PLACE`
+abbrev pub move_of : List Text → Option Edit
+move_of (key ∷ place ∷ []) = option_map (MoveEntry key) (number_of place)
+move_of _ = None
+
+-- the edit that a line's words say
+abbrev pub edit_of : List Text → Option Edit
+edit_of [] = None
+edit_of (verb ∷ words) =
+    if bytes_eq verb (codes "set") then set_of words
+    else if bytes_eq verb (codes "drop") then drop_of words
+    else if bytes_eq verb (codes "add") then add_of words
+    else if bytes_eq verb (codes "remove") then remove_of words
+    else if bytes_eq verb (codes "move") then move_of words
+    else None
+
+-- ---- lines
+
+-- what a script says: what it asks for, in order, the number of the line of each, counted from 1, and the line that says
+-- nothing that can be asked for, at which it ends, if there is one
+pub record Said : Type 0 where
+  pub requests : List Request
+  pub lines : List ℕ
+  pub bad_line : Option ℕ
+
+abbrev pub said : List Request → List ℕ → Option ℕ → Said
+said requests lines bad_line = record { requests = requests; lines = lines; bad_line = bad_line }
+
+abbrev pub nothing_said : Option ℕ → Said
+nothing_said bad_line = said [] [] bad_line
+
+abbrev pub said_first : ℕ → Edit → Said → Said
+said_first line edit rest = said (request.Edit edit ∷ rest.requests) (line ∷ rest.lines) rest.bad_line
+
+-- what the lines say, where the first has this number; an empty line says nothing
+abbrev pub said_by : ℕ → List Text → Said
+said_by n [] = nothing_said None
+said_by n (line ∷ lines) =
+    if is_empty line then said_by (suc n) lines
+    else option_map_or (λ edit. said_first n edit (said_by (suc n) lines)) (edit_of (words_of line)) (nothing_said (Some n))
+
+-- what the script says
+abbrev pub said_of : Text → Said
+said_of script = said_by 1 (lines_of script)

@@ -1,0 +1,36 @@
+//! Names and values in turn.
+
+ghost use Rattle.std.specs.Prelude.{◌≡◌, Some, None, map, IfOk};
+ghost use Rattle.bib_spec.specs.Text.{Text as Bytes};
+ghost use Rattle.bib_script.specs.Script.{fields_of};
+
+use bib_scan::{Seq, Text};
+use std::alloc::{AllocError, Global};
+
+/// The bytes, copied.
+pub(crate) fn copied(alloc: Global, word: &[u8]) -> Result<Text, AllocError>
+    ensures { IfOk result (λ text. text ≡ word.now) }
+{
+    Ok(Seq::from_vec(word.to_vec(alloc)?))
+}
+
+/// The fields that words say, names and values in turn, if their number is even.
+pub(crate) fn fields_of(
+    alloc: Global,
+    words: &[&[u8]],
+) -> Result<Option<Seq<(Text, Text)>>, AllocError>
+    ensures { IfOk result (λ fields. fields ≡ fields_of (map (λ w. w.now) words.now)) }
+{
+    let mut fields = Vec::new(alloc);
+    let mut rest = words;
+    'pair: loop {
+        match rest {
+            [name, value, others @ ..] => {
+                fields.push((copied(alloc, name)?, copied(alloc, value)?))?;
+                rest = others;
+            }
+            [_name] => return Ok(None),
+            [] => return Ok(Some(Seq::from_vec(fields))),
+        }
+    }
+}

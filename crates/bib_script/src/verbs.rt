@@ -1,0 +1,107 @@
+//! The words of each edit.
+
+ghost use Rattle.std.specs.Prelude.{◌≡◌, map, IfOk};
+ghost use Rattle.bib_script.specs.Script.{set_of, drop_of, add_of, remove_of, move_of, edit_of};
+
+use crate::fields::{copied, fields_of};
+use crate::numbers::number_of;
+use bib_edit::{Edit, NewEntry};
+use std::alloc::{AllocError, Global};
+
+/// `set KEY FIELD VALUE`
+fn set_of(alloc: Global, words: &[&[u8]]) -> Result<Option<Edit>, AllocError>
+    ensures { IfOk result (λ edit. edit ≡ set_of (map (λ w. w.now) words.now)) }
+{
+    let [key, field, value] = words else {
+        return Ok(None);
+    };
+    Ok(Some(Edit::SetField {
+        key: copied(alloc, key)?,
+        field: copied(alloc, field)?,
+        value: copied(alloc, value)?,
+    }))
+}
+
+/// `drop KEY FIELD`
+fn drop_of(alloc: Global, words: &[&[u8]]) -> Result<Option<Edit>, AllocError>
+    ensures { IfOk result (λ edit. edit ≡ drop_of (map (λ w. w.now) words.now)) }
+{
+    let [key, field] = words else {
+        return Ok(None);
+    };
+    Ok(Some(Edit::DropField {
+        key: copied(alloc, key)?,
+        field: copied(alloc, field)?,
+    }))
+}
+
+/// `add PLACE TYPE KEY FIELD VALUE ..`
+fn add_of(alloc: Global, words: &[&[u8]]) -> Result<Option<Edit>, AllocError>
+    ensures { IfOk result (λ edit. edit ≡ add_of (map (λ w. w.now) words.now)) }
+{
+    let [place, kind_name, key, fields @ ..] = words else {
+        return Ok(None);
+    };
+    let Some(place) = number_of(place) else {
+        return Ok(None);
+    };
+    let Some(fields) = fields_of(alloc, fields)? else {
+        return Ok(None);
+    };
+    let entry = NewEntry {
+        kind_name: copied(alloc, kind_name)?,
+        key: copied(alloc, key)?,
+        fields,
+    };
+    Ok(Some(Edit::AddEntry { place, entry }))
+}
+
+/// `remove KEY`
+fn remove_of(alloc: Global, words: &[&[u8]]) -> Result<Option<Edit>, AllocError>
+    ensures { IfOk result (λ edit. edit ≡ remove_of (map (λ w. w.now) words.now)) }
+{
+    let [key] = words else {
+        return Ok(None);
+    };
+    Ok(Some(Edit::RemoveEntry {
+        key: copied(alloc, key)?,
+    }))
+}
+
+/// `move KEY PLACE`
+fn move_of(alloc: Global, words: &[&[u8]]) -> Result<Option<Edit>, AllocError>
+    ensures { IfOk result (λ edit. edit ≡ move_of (map (λ w. w.now) words.now)) }
+{
+    let [key, place] = words else {
+        return Ok(None);
+    };
+    let Some(place) = number_of(place) else {
+        return Ok(None);
+    };
+    Ok(Some(Edit::MoveEntry {
+        key: copied(alloc, key)?,
+        place,
+    }))
+}
+
+/// The edit that a line's words say.
+pub(crate) fn edit_of(alloc: Global, words: &[&[u8]]) -> Result<Option<Edit>, AllocError>
+    ensures { IfOk result (λ edit. edit ≡ edit_of (map (λ w. w.now) words.now)) }
+{
+    let [verb, words @ ..] = words else {
+        return Ok(None);
+    };
+    if *verb == b"set".as_slice() {
+        set_of(alloc, words)
+    } else if *verb == b"drop".as_slice() {
+        drop_of(alloc, words)
+    } else if *verb == b"add".as_slice() {
+        add_of(alloc, words)
+    } else if *verb == b"remove".as_slice() {
+        remove_of(alloc, words)
+    } else if *verb == b"move".as_slice() {
+        move_of(alloc, words)
+    } else {
+        Ok(None)
+    }
+}

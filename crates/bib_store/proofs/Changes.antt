@@ -1,0 +1,100 @@
+-- What replaces a window of a file.
+use Rattle.std.proofs.Common.{◌≡◌, ℕ, ◌+◌, ◌≤◌, ◌<◌, Bool, true, List, [], ◌++◌, length, take, sym, subst, ◌∙◌, ap, ap₂, arith, length-append}
+use Rattle.std.proofs.lemmas.List.{drop_all, append-nil}
+use Rattle.std.specs.List.{flat_map}
+use Rattle.bib_spec.specs.Bytes.{file_limit}
+use Rattle.bib_spec.specs.Text.{Text}
+use Rattle.bib_spec.specs.Reading.{HasReading}
+use Rattle.bib_spec.specs.Pieces.{Piece, Fit, applied}
+use Rattle.bib_store.specs.declared.list.Item.{Item}
+use Rattle.bib_store.specs.declared.window.Window.{Window}
+use Rattle.bib_store.specs.Shifting.{all_moved_back, FitBehind}
+use Rattle.bib_store.specs.Stored.{kept_bytes, file_of}
+use Rattle.bib_store.specs.Windows.{IsWindow, IsWhole, Serve, front_before, bytes_before, bytes_within, bytes_behind}
+use Rattle.bib_store.proofs.Shifts.{fit-behind, applied-behind, fit_behind_nothing}
+use Rattle.bib_store.proofs.WindowLaws.{file-around}
+
+-- the window is the file, with nothing before it and nothing behind
+pub record IsAll (front : Text) (items : List Item) (w : Window) : Type 0 where
+  pub before : bytes_before w front items ≡ []
+  pub within : bytes_within w front items ≡ file_of front items
+  pub behind : bytes_behind w items ≡ []
+
+nothing_before : (b : Bool) (n : ℕ) (front : Text) (items : List Item) → b ≡ true → n ≡ 0 → front_before b front ++ flat_map kept_bytes (take n items) ≡ []
+nothing_before b n front items e z = ap (λ x. front_before x front ++ flat_map kept_bytes (take n items)) e ∙ ap (λ m. flat_map kept_bytes (take m items)) z
+
+pub whole_is_all : (w : Window) (front : Text) (items : List Item) → IsWindow items w → IsWhole items w → IsAll front items w
+whole_is_all w front items is whole =
+    let before : bytes_before w front items ≡ [] = nothing_before w.with_front w.from front items whole.with_front (is.begins whole.with_front) in
+    let behind : bytes_behind w items ≡ [] = ap (flat_map kept_bytes) (drop_all w.to items (omega (arith, whole.to))) in
+    record {
+      before = before;
+      within =
+          sym (append-nil (bytes_within w front items))
+          ∙ sym (ap₂ (λ x y. x ++ (bytes_within w front items ++ y)) before behind)
+          ∙ sym (file-around w front items is);
+      behind = behind;
+    }
+
+-- ---- pieces in a window
+
+pub not_served : (ps : List Piece) (front : Text) (items : List Item) (w : Window) (place : ℕ) (old : Text) → IsWindow items w → IsWhole items w
+    → place ≡ length (bytes_before w front items) → old ≡ bytes_within w front items → (FitBehind place ps old → ⊥) → Serve ps (file_of front items) → ⊥
+not_served ps front items w place old is whole p o unfit s =
+    let all : IsAll front items w = whole_is_all w front items is whole in
+    let zero_place : place ≡ 0 = p ∙ ap length all.before in
+    let file : old ≡ file_of front items = o ∙ all.within in
+    unfit (subst (λ (n : ℕ). FitBehind n ps old) (sym zero_place) (subst (λ (t : Text). FitBehind 0 ps t) (sym file) (fit_behind_nothing ps (file_of front items) s.fit)))
+
+-- pieces that fit the window fit the file, and lead to one in which the window's new text stands
+pub record IsMade (ps : List Piece) (front : Text) (items : List Item) (w : Window) (text : Text) : Type 0 where
+  pub fit : Fit ps (file_of front items)
+  pub made : applied ps (file_of front items) ≡ bytes_before w front items ++ (text ++ bytes_behind w items)
+  pub long : length (applied ps (file_of front items)) ≡ length (bytes_before w front items) + (length text + length (bytes_behind w items))
+
+pub window_made : (ps : List Piece) (front : Text) (items : List Item) (w : Window) (place : ℕ) (old text : Text) → IsWindow items w
+    → place ≡ length (bytes_before w front items) → old ≡ bytes_within w front items → FitBehind place ps old → text ≡ applied (all_moved_back place ps) old
+    → IsMade ps front items w text
+window_made ps front items w place old text is p o f t =
+    let before : Text = bytes_before w front items in
+    let behind : Text = bytes_behind w items in
+    let around : file_of front items ≡ before ++ (old ++ behind) = file-around w front items is ∙ ap (λ l. before ++ (l ++ behind)) (sym o) in
+    let made : applied ps (file_of front items) ≡ before ++ (text ++ behind)
+    = ap (applied ps) around ∙ applied-behind before old behind place ps (sym p) f ∙ ap (λ l. before ++ (l ++ behind)) (sym t) in
+    record {
+      fit = subst (λ (x : Text). Fit ps x) (sym around) (fit-behind before old behind place ps (sym p) f);
+      made = made;
+      long = ap length made ∙ length-append before (text ++ behind) ∙ ap (λ n. length before + n) (length-append text behind);
+    }
+
+pub too_long_made : (ps : List Piece) (front : Text) (items : List Item) (w : Window) (place : ℕ) (text : Text) (behind : ℕ) → IsMade ps front items w text
+    → place ≡ length (bytes_before w front items) → behind ≡ length (bytes_behind w items) → file_limit < place + length text + behind → Serve ps (file_of front items) → ⊥
+too_long_made ps front items w place text behind m p b h s = absurd (omega (arith, m.long, s.short))
+
+-- where the whole file is made, it is the text
+pub whole_made : (ps : List Piece) (front : Text) (items : List Item) (w : Window) (text : Text) → IsWindow items w → IsWhole items w → IsMade ps front items w text
+    → applied ps (file_of front items) ≡ text
+whole_made ps front items w text is whole m =
+    let all : IsAll front items w = whole_is_all w front items is whole in
+    m.made ∙ ap₂ (λ x y. x ++ (text ++ y)) all.before all.behind ∙ append-nil text
+
+pub unread_made : (ps : List Piece) (front : Text) (items : List Item) (w : Window) (text : Text) → IsWindow items w → IsWhole items w → IsMade ps front items w text
+    → (w.with_front ≡ true → length text ≤ file_limit → HasReading text → ⊥) → Serve ps (file_of front items) → ⊥
+unread_made ps front items w text is whole m unread s =
+    let same : applied ps (file_of front items) ≡ text = whole_made ps front items w text is whole m in
+    unread whole.with_front (subst (λ (t : Text). length t ≤ file_limit) same s.short) (subst (λ (t : Text). HasReading t) same s.reads)
+
+-- the same, where the bytes are lent twice
+pub lent_made : (ps : List Piece) (front : Text) (items : List Item) (w : Window) (place : ℕ) (old first second text : Text) → IsWindow items w
+    → place ≡ length (bytes_before w front items) → old ≡ bytes_within w front items → first ≡ old → FitBehind place ps first → second ≡ old → text ≡ applied (all_moved_back place ps) second
+    → IsMade ps front items w text
+lent_made ps front items w place old first second text is p o e f d t =
+    window_made ps front items w place old text is p o (subst (λ (x : Text). FitBehind place ps x) e f) (t ∙ ap (applied (all_moved_back place ps)) d)
+
+-- the window begins within the file
+pub len-around : (w : Window) (front : Text) (items : List Item) → IsWindow items w
+    → length (file_of front items) ≡ length (bytes_before w front items) + (length (bytes_within w front items) + length (bytes_behind w items))
+len-around w front items is =
+    ap length (file-around w front items is)
+    ∙ length-append (bytes_before w front items) (bytes_within w front items ++ bytes_behind w items)
+    ∙ ap (λ n. length (bytes_before w front items) + n) (length-append (bytes_within w front items) (bytes_behind w items))

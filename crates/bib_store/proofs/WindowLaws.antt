@@ -1,0 +1,93 @@
+-- What stands before, in and behind a window.
+use Rattle.std.proofs.Common.{◌≡◌, ℕ, ◌+◌, ◌-◌, ◌≤◌, ◌<◌, Bool, true, false, List, [], ◌∷◌, ◌++◌, length, take, drop, get_or, refl, sym, ◌∙◌, ap, arith, append_assoc, length-append, length-drop, take-append-drop}
+use Rattle.std.proofs.lemmas.List.{drop-drop, take_more, take_all, append-nil, get_or-drop, flat_map_more}
+use Rattle.std.proofs.lemmas.List.Concat.{flat_map-append}
+use Rattle.std.specs.List.{flat_map, between}
+use Rattle.bib_spec.specs.Text.{Text}
+use Rattle.bib_store.specs.declared.list.Item.{Item}
+use Rattle.bib_store.specs.declared.window.Window.{Window}
+use Rattle.bib_store.specs.Items.{item, item_at}
+use Rattle.bib_store.specs.Stored.{kept_bytes, file_of}
+use Rattle.bib_store.specs.Windows.{IsWindow, front_before, front_within, bytes_before, bytes_within, bytes_behind}
+
+abbrev all_bytes : List Item → Text
+all_bytes items = flat_map kept_bytes items
+
+abbrev no_item : Item
+no_item = item [] []
+
+-- ---- walking over items
+
+-- one item more
+pub bytes-more : (items : List Item) (n : ℕ) → n < length items → all_bytes (take (n + 1) items) ≡ all_bytes (take n items) ++ kept_bytes (item_at items n)
+bytes-more items n h =
+    ap all_bytes (take_more items n no_item h)
+    ∙ flat_map-append kept_bytes (take n items) (item_at items n ∷ [])
+    ∙ ap (λ l. all_bytes (take n items) ++ l) (append-nil (kept_bytes (item_at items n)))
+
+-- what the items up to a number take of all
+pub bytes-split : (items : List Item) (n : ℕ) → all_bytes (take n items) ++ all_bytes (drop n items) ≡ all_bytes items
+bytes-split items n = sym (flat_map-append kept_bytes (take n items) (drop n items)) ∙ ap all_bytes (take-append-drop n items)
+
+pub len-split : (items : List Item) (n : ℕ) → length (all_bytes (take n items)) + length (all_bytes (drop n items)) ≡ length (all_bytes items)
+len-split items n = sym (length-append (all_bytes (take n items)) (all_bytes (drop n items))) ∙ ap length (bytes-split items n)
+
+pub len-more : (items : List Item) (n : ℕ) → n < length items
+    → length (all_bytes (take (n + 1) items)) ≡ length (all_bytes (take n items)) + (length (item_at items n).body + length (item_at items n).trail)
+len-more items n h =
+    ap length (bytes-more items n h)
+    ∙ length-append (all_bytes (take n items)) (kept_bytes (item_at items n))
+    ∙ ap (λ m. length (all_bytes (take n items)) + m) (length-append (item_at items n).body (item_at items n).trail)
+
+pub len-to : (items : List Item) (n : ℕ) → length (all_bytes (take n items)) ≤ length (all_bytes items)
+len-to items n = omega (arith, len-split items n)
+
+-- one item more from a number on
+pub between-more : (items : List Item) (from n : ℕ) → from ≤ n → n < length items → between from (n + 1) items ≡ between from n items ++ item_at items n ∷ []
+between-more items from n h k =
+    let far : n + 1 - from ≡ n - from + 1 = omega arith in
+    let here : from + (n - from) ≡ n = omega arith in
+    let room : n - from < length (drop from items) = omega (arith, length-drop from items) in
+    ap (λ m. take m (drop from items)) far
+    ∙ take_more (drop from items) (n - from) no_item room
+    ∙ ap (λ i. between from n items ++ i ∷ []) (get_or-drop from items (n - from) no_item ∙ ap (λ m. get_or items m no_item) here)
+
+pub joined-more : (items : List Item) (from n : ℕ) (front : Text) → from ≤ n → n < length items
+    → (front ++ all_bytes (between from n items)) ++ (item_at items n).body ++ (item_at items n).trail ≡ front ++ all_bytes (between from (n + 1) items)
+joined-more items from n front h k =
+    append_assoc (front ++ all_bytes (between from n items)) (item_at items n).body (item_at items n).trail
+    ∙ flat_map_more kept_bytes front (between from n items) (item_at items n)
+    ∙ ap (λ l. front ++ all_bytes l) (sym (between-more items from n h k))
+
+pub none_joined : (items : List Item) (from : ℕ) (front : Text) → front ++ all_bytes (between from from items) ≡ front
+none_joined items from front =
+    let none : from - from ≡ 0 = omega arith in
+    ap (λ m. front ++ all_bytes (take m (drop from items))) none ∙ append-nil front
+
+-- ---- the file around a window
+
+items-around : (items : List Item) (from to : ℕ) → from ≤ to → all_bytes items ≡ all_bytes (take from items) ++ (all_bytes (between from to items) ++ all_bytes (drop to items))
+items-around items from to h =
+    sym (bytes-split items from)
+    ∙ ap (λ l. all_bytes (take from items) ++ l)
+    (ap all_bytes (sym (take-append-drop (to - from) (drop from items))
+    ∙ ap (λ l. between from to items ++ l) (drop-drop (to - from) from items ∙ ap (λ n. drop n items) (omega_whole from to h)))
+    ∙ flat_map-append kept_bytes (between from to items) (drop to items))
+  where
+    omega_whole : (from to : ℕ) → from ≤ to → from + (to - from) ≡ to
+    omega_whole from to h = omega arith
+
+around_front : (b : Bool) (front x y z : Text) → (b ≡ true → x ≡ []) → front ++ (x ++ (y ++ z)) ≡ (front_before b front ++ x) ++ ((front_within b front ++ y) ++ z)
+around_front true front x y z e =
+    ap (λ l. front ++ (l ++ (y ++ z))) (e refl) ∙ sym (append_assoc front y z) ∙ ap (λ l. l ++ ((front ++ y) ++ z)) (sym (e refl))
+around_front false front x y z e = sym (append_assoc front x (y ++ z))
+
+pub file-around : (w : Window) (front : Text) (items : List Item) → IsWindow items w → file_of front items ≡ bytes_before w front items ++ (bytes_within w front items ++ bytes_behind w items)
+file-around w front items is =
+    ap (λ l. front ++ l) (items-around items w.from w.to is.ordered)
+    ∙ around_front w.with_front front (all_bytes (take w.from items)) (all_bytes (between w.from w.to items)) (all_bytes (drop w.to items))
+    (λ b. ap (λ n. all_bytes (take n items)) (is.begins b))
+
+-- all items end where the file does
+pub len_whole : (items : List Item) (n : ℕ) → n ≡ length items → length (all_bytes (take n items)) ≡ length (all_bytes items)
+len_whole items n e = ap (λ l. length (all_bytes l)) (take_all n items (omega arith))

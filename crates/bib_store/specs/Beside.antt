@@ -1,0 +1,56 @@
+-- The tables that are kept beside the items of a file.
+use Rattle.std.specs.Prelude.{ℕ, ◌≡◌, ◌≤◌, ◌++◌, List, [], ◌∷◌, length, map, Some, None, All}
+use Rattle.bib_spec.specs.Bytes.{name_limit, file_limit}
+use Rattle.bib_spec.specs.Text.{Text}
+use Rattle.bib_spec.specs.Tree.{Tree, IsTree}
+use Rattle.bib_spec.specs.Reading as reading
+use Rattle.bib_spec.specs.Reading.{Reading, bytes_of, IsItem}
+use Rattle.bib_spec.specs.Texts.{months, gathered}
+use Rattle.bib_spec.specs.Records.{entry_in, keys_of, crossref_text}
+use Rattle.bib_scan.specs.View.{View, view_of, kind_of}
+use Rattle.bib_scan.specs.declared.view.Kind.{Kind}
+use Rattle.bib_store.specs.declared.list.Item.{Item}
+use Rattle.bib_store.specs.declared.tables.Tables.{Tables}
+use Rattle.bib_store.specs.Meaning.{entry_numbers}
+use Rattle.bib_store.specs.Tables.{all_stored, preamble_numbers, IsIndexOf, AreDefinitionsOf}
+use Rattle.bib_store.specs.KeyIndex.{holding_in}
+use Rattle.bib_store.specs.Defined.{texts_at}
+use Rattle.bib_store.specs.ItemTexts.{first_too_long, placed_texts}
+
+-- the tables say of these items which are entries and preambles, which keys the entries have, what macros stand for
+-- where each item stands, and what the crossref of each entry says
+pub record AreTablesOf (items : List reading.Item) (t : Tables) : Type 0 where
+  pub entries : t.entries.items ≡ entry_numbers items
+  pub preambles : t.preambles.items ≡ preamble_numbers items
+  pub keys : IsIndexOf (keys_of (gathered entry_in months items)) (holding_in t.keys)
+  pub definitions : AreDefinitionsOf items (texts_at t.definitions)
+  pub crossrefs : t.crossrefs.items ≡ map crossref_text (gathered entry_in months items)
+
+-- the tables are those of this file
+abbrev pub AreTables : Reading → Tables → Type 0
+AreTables db t = AreTablesOf db.items t
+
+-- a file that is not too long has a front of this length, and these items
+pub record IsKept (front_len : ℕ) (kept : List Item) (db : Reading) : Type 0 where
+  pub items : All (IsItem name_limit) db.items
+  pub file : length (bytes_of db) ≤ file_limit
+  pub front : length db.front ≡ front_len
+  pub same : all_stored db.items ≡ kept
+
+-- ---- one item more
+
+abbrev pub item_with : Tree → Text → reading.Item
+item_with tree trail = record { tree = tree; trail = trail }
+
+-- item n stands behind those whose tables these were, and no raw text in it is too long
+pub record IsStep (n : ℕ) (tree : Tree) (old new : Tables) : Type 0 where
+  pub tables : (items : List reading.Item) (trail : Text) → length items ≡ n → AreTablesOf items old → AreTablesOf (items ++ item_with tree trail ∷ []) new
+  pub texts : first_too_long (placed_texts (texts_at old.definitions n) tree) ≡ None
+
+-- the first raw text that is too long in item n stands at this place of its body
+abbrev pub IsTooLongAt : ℕ → Tree → Tables → ℕ → Type 0
+IsTooLongAt n tree t place = first_too_long (placed_texts (texts_at t.definitions n) tree) ≡ Some place
+
+-- it holds of the tree of this kind that is seen
+abbrev pub OfView : Kind → View → (Tree → Type 0) → Type 0
+OfView kind view P = (tree : Tree) → IsTree name_limit tree → kind_of tree ≡ kind → view ≡ view_of (item_with tree []) → P tree

@@ -1,0 +1,30 @@
+-- How a file is kept.
+use Rattle.std.specs.Prelude.{◌≡◌, List, ◌++◌}
+use Rattle.std.specs.List.{flat_map}
+use Rattle.bib_spec.specs.Text.{Text}
+use Rattle.bib_spec.specs.Reading.{Reading}
+use Rattle.bib_spec.specs.Texts.{Opens}
+use Rattle.bib_store.specs.declared.list.Item.{Item}
+use Rattle.bib_store.specs.declared.tables.Tables.{Tables}
+use Rattle.bib_store.specs.Tables.{all_stored}
+use Rattle.bib_store.specs.Beside.{AreTables}
+
+-- an item's bytes
+abbrev pub kept_bytes : Item → Text
+kept_bytes i = i.body ++ i.trail
+
+-- the file that a front and the items behind it are
+abbrev pub file_of : Text → List Item → Text
+file_of front items = front ++ flat_map kept_bytes items
+
+-- the front, the items and the tables are those of the reading
+pub record IsKeptAs (db : Reading) (kept_front : Text) (kept_items : List Item) (kept_tables : Tables) : Type 0 where
+  pub opens : Opens (file_of kept_front kept_items) db
+  pub front : kept_front ≡ db.front
+  pub items : kept_items ≡ all_stored db.items
+  pub tables : AreTables db kept_tables
+
+-- the front, the items and the tables are those of a file that can be opened
+pub record IsKept (front : Text) (items : List Item) (tables : Tables) : Type 0 where
+  pub db : Reading
+  pub is : IsKeptAs db front items tables

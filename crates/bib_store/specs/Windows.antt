@@ -1,0 +1,74 @@
+-- A window on a file: items that lie together, and maybe the front before them.
+use Rattle.std.specs.Prelude.{◌≡◌, ◌≤◌, Bool, true, false, List, [], ◌++◌, length, take, drop}
+use Rattle.std.specs.List.{flat_map, between}
+use Rattle.bib_spec.specs.Bytes.{file_limit}
+use Rattle.bib_spec.specs.Text.{Text}
+use Rattle.bib_spec.specs.Reading as reading
+use Rattle.bib_spec.specs.Reading.{Reading, Reads, HasReading}
+use Rattle.bib_spec.specs.Pieces.{Piece, Fit, applied}
+use Rattle.bib_scan.specs.Layout.{IsLayoutOf}
+use Rattle.bib_store.specs.declared.list.Item.{Item}
+use Rattle.bib_store.specs.declared.window.Window.{Window}
+use Rattle.bib_store.specs.declared.change.Change.{Change}
+use Rattle.bib_store.specs.Stored.{kept_bytes, file_of}
+use Rattle.bib_store.specs.Tables.{all_stored}
+
+-- the window lies in the items, and it begins the file if it has the front
+pub record IsWindow (items : List Item) (w : Window) : Type 0 where
+  pub ordered : w.from ≤ w.to
+  pub within : w.to ≤ length items
+  pub begins : w.with_front ≡ true → w.from ≡ 0
+
+-- the front, where it is before the window
+abbrev pub front_before : Bool → Text → Text
+front_before true front = []
+front_before false front = front
+
+-- the front, where it is in the window
+abbrev pub front_within : Bool → Text → Text
+front_within true front = front
+front_within false front = []
+
+-- what stands before the window
+abbrev pub bytes_before : Window → Text → List Item → Text
+bytes_before w front items = file_of (front_before w.with_front front) (take w.from items)
+
+-- what stands in it
+abbrev pub bytes_within : Window → Text → List Item → Text
+bytes_within w front items = file_of (front_within w.with_front front) (between w.from w.to items)
+
+-- what stands behind it
+abbrev pub bytes_behind : Window → List Item → Text
+bytes_behind w items = flat_map kept_bytes (drop w.to items)
+
+-- The pieces lead from the file to one in which another text stands in the window. The text is read, and begins with
+-- an item unless it begins the file.
+pub record IsChange (pieces : List Piece) (front : Text) (items : List Item) (c : Change) : Type 0 where
+  pub window : IsWindow items c.window
+  pub fit : Fit pieces (file_of front items)
+  pub made : applied pieces (file_of front items) ≡ bytes_before c.window front items ++ (c.text ++ bytes_behind c.window items)
+  pub short : length (applied pieces (file_of front items)) ≤ file_limit
+  pub layout : IsLayoutOf c.text c.layout
+  pub begins : c.window.with_front ≡ false → (db : Reading) → Reads c.text db → db.front ≡ []
+
+-- the window is the whole file
+pub record IsWhole (items : List Item) (w : Window) : Type 0 where
+  pub with_front : w.with_front ≡ true
+  pub to : w.to ≡ length items
+
+-- pieces fit the file, and lead to one that is read, of at most the length that files have
+pub record Serve (pieces : List Piece) (file : Text) : Type 0 where
+  pub fit : Fit pieces file
+  pub reads : HasReading (applied pieces file)
+  pub short : length (applied pieces file) ≤ file_limit
+
+-- ---- what a change makes
+
+-- the front of the file afterwards
+abbrev pub front_after : Bool → Text → Text → Text
+front_after true old new = new
+front_after false old new = old
+
+-- the items of the list afterwards: these stand in the window
+abbrev pub exchanged : Window → List reading.Item → List Item → List Item
+exchanged w inner items = take w.from items ++ (all_stored inner ++ drop w.to items)

@@ -1,0 +1,125 @@
+//! What replaces a window of a file.
+
+ghost use Rattle.std.specs.Prelude.{◌≡◌, ◌≤◌, ◌⊎◌, true, false, [], length, None, IfOk, IfErr};
+ghost use Rattle.std.specs.Option.{IfSome};
+ghost use Rattle.bib_spec.specs.Bytes.{file_limit};
+ghost use Rattle.bib_spec.specs.Reading.{Reading, Reads, HasReading};
+ghost use Rattle.bib_scan.specs.Layout.{IsLayoutOf};
+ghost use Rattle.bib_store.specs.Stored.{file_of};
+ghost use Rattle.bib_store.specs.Windows.{IsWindow, IsWhole, IsChange, Serve, front_after};
+ghost use Rattle.bib_store.specs.declared.fault.StoreFault.TheVariants.{Memory, BadSplice};
+
+use crate::applying::apply;
+use crate::fault::StoreFault;
+use crate::fitting::fits;
+use crate::list::ItemList;
+use crate::piece::Piece;
+use crate::touching::touched;
+use crate::window::{Window, len_behind, place_of, text_of};
+use bib_scan::{FILE_LIMIT, Layout, Seq, Text, read};
+use std::alloc::{AllocError, Global};
+
+/// The text that replaces a window, and where its items stand.
+#[derive(Drop)]
+pub(crate) struct Change {
+    pub(crate) window: Window,
+    pub(crate) text: Text,
+    pub(crate) layout: Layout,
+}
+
+/// Where everything stands in the text, unless it is no part of a file: it is not read, or it begins with no item, and
+/// not the file either.
+fn read_part(alloc: Global, text: &[u8], with_front: bool) -> Result<Option<Layout>, StoreFault>
+    ensures layout { IfOk result (λ part. IfSome part (IsLayoutOf text.now)) }
+    ensures begins { IfOk result (λ part. IfSome part (λ layout. with_front ≡ false → (db : Reading) → Reads text.now db → db.front ≡ [])) }
+    ensures none { IfOk result (λ part. part ≡ None → with_front ≡ true → length text.now ≤ file_limit → HasReading text.now → ⊥) }
+    ensures only { IfErr result (λ fault. fault ≡ Memory) }
+{
+    match read(alloc, text) {
+        Ok(layout) => {
+            if with_front || layout.front(text).is_empty() {
+                return Ok(Some(layout));
+            }
+            Ok(None)
+        }
+        Err(fault) => {
+            if fault.kind == 10 {
+                return Err(StoreFault::Memory);
+            }
+            Ok(None)
+        }
+    }
+}
+
+/// What replaces the window, unless the pieces don't serve there: they reach out of it or don't fit, what they make of
+/// it is no part of a file, or the file would be too long. They serve nowhere where they don't in the whole file.
+pub(crate) fn change_of<L: ItemList>(
+    alloc: Global,
+    front: &[u8],
+    items: &L,
+    window: Window,
+    pieces: &[Piece],
+) -> Result<Option<Change>, StoreFault>
+    requires window { IsWindow (L.items items.now) window }
+    requires short { length (file_of front.now (L.items items.now)) ≤ file_limit }
+    ensures change { IfOk result (λ change. IfSome change (IsChange pieces.now front.now (L.items items.now))) }
+    ensures none { IfOk result (λ change. change ≡ None → IsWhole (L.items items.now) window → Serve pieces.now (file_of front.now (L.items items.now)) → ⊥) }
+    ensures only { IfErr result (λ fault. fault ≡ Memory) }
+{
+    let old = text_of(alloc, front, items, window)?;
+    let place = place_of(front, items, window);
+    if !fits(pieces, place, &old) {
+        return Ok(None);
+    }
+    let text = apply(alloc, &old, place, pieces)?;
+    if place + text.len() + len_behind(front, items, window) > FILE_LIMIT {
+        return Ok(None);
+    }
+    match read_part(alloc, &text, window.with_front)? {
+        Some(layout) => Ok(Some(Change {
+            window,
+            text: Seq::from_vec(text),
+            layout,
+        })),
+        None => Ok(None),
+    }
+}
+
+/// What replaces the window that the pieces touch, or where they don't serve there the whole file.
+pub(crate) fn find_change<L: ItemList>(
+    alloc: Global,
+    front: &[u8],
+    items: &L,
+    pieces: &[Piece],
+) -> Result<Change, StoreFault>
+    requires { length (file_of front.now (L.items items.now)) ≤ file_limit }
+    ensures change { IfOk result (IsChange pieces.now front.now (L.items items.now)) }
+    ensures refused { IfErr result (λ fault. fault ≡ BadSplice → Serve pieces.now (file_of front.now (L.items items.now)) → ⊥) }
+    ensures only { IfErr result (λ fault. (fault ≡ BadSplice) ⊎ (fault ≡ Memory)) }
+{
+    let touched = touched(front.len(), items, pieces);
+    if let Some(change) = change_of(alloc, front, items, touched, pieces)? {
+        return Ok(change);
+    }
+    let whole = Window {
+        from: 0,
+        to: items.count(),
+        with_front: true,
+    };
+    match change_of(alloc, front, items, whole, pieces)? {
+        Some(change) => Ok(change),
+        None => Err(StoreFault::BadSplice),
+    }
+}
+
+/// The front that the file has afterwards, in memory of its own.
+pub(crate) fn new_front(alloc: Global, front: &[u8], change: &Change) -> Result<Text, AllocError>
+    requires { IsLayoutOf change.now.text change.now.layout }
+    ensures { IfOk result (λ after. (inner : Reading) → Reads change.now.text inner → after ≡ front_after change.now.window.with_front front.now inner.front) }
+{
+    if change.window.with_front {
+        let inner = change.layout.front(change.text.as_slice());
+        return Ok(Seq::from_vec(inner.to_vec(alloc)?));
+    }
+    Ok(Seq::from_vec(front.to_vec(alloc)?))
+}

@@ -1,0 +1,69 @@
+//! What the crossref of an entry says.
+
+ghost use Rattle.std.specs.Prelude.{◌≡◌, ◌<◌, ◌≤◌, ℕ, Some, None, length, IfOk, IfErr, OnOk};
+ghost use Rattle.std.specs.Option.{option_or};
+ghost use Rattle.bib_spec.specs.Texts.{raw_text, raw_limit};
+ghost use Rattle.bib_value.specs.Raw.{OfValue};
+ghost use Rattle.bib_store.specs.ItemTexts.{said_by, crossref_in, row_texts, first_too_long, OfRows};
+ghost use Rattle.bib_value.specs.declared.fault.ValueFault.TheVariants.{TextTooLong};
+ghost use Rattle.bib_store.specs.declared.item_fault.ItemFault.TheVariants.{TooLong as ItemTooLong};
+
+use crate::item_fault::ItemFault;
+use crate::measuring::{measure, value_field_text};
+use bib_scan::{FieldView, Fields, Text, same_folded};
+use bib_value::{MacroTable, ValueFault};
+use std::alloc::Global;
+
+/// What the crossref says with one more field, whose text is measured: the first such field counts.
+fn with_value<M: MacroTable>(
+    alloc: Global,
+    found: Option<Text>,
+    name: &[u8],
+    value: &[u8],
+    macros: &M,
+) -> Result<Option<Text>, ValueFault>
+    ensures found { IfOk result (λ text. OfValue value.now (λ v. text ≡ option_or found (said_by (M.macros macros.now) name.now v))) }
+    ensures short { OnOk result (OfValue value.now (λ v. length (raw_text (M.macros macros.now) v) ≤ raw_limit)) }
+    ensures too_long { IfErr result (λ fault. fault ≡ TextTooLong → OfValue value.now (λ v. raw_limit < length (raw_text (M.macros macros.now) v))) }
+{
+    if found.is_none() && same_folded(name, b"crossref") {
+        return Ok(Some(value_field_text(alloc, value, macros)?));
+    }
+    measure(alloc, value, macros)?;
+    Ok(found)
+}
+
+/// What the crossref says with one more field.
+fn with_field<M: MacroTable>(
+    alloc: Global,
+    found: Option<Text>,
+    field: FieldView<'_>,
+    macros: &M,
+) -> Result<Option<Text>, ItemFault>
+    ensures found { IfOk result (λ text. OfValue field.entry.value.now (λ v. text ≡ option_or found (said_by (M.macros macros.now) field.entry.name.now v))) }
+    ensures short { OnOk result (OfValue field.entry.value.now (λ v. length (raw_text (M.macros macros.now) v) ≤ raw_limit)) }
+    ensures too_long { IfErr result (λ fault. (n : ℕ) → fault ≡ ItemTooLong n → (n ≡ field.entry.value_at) × OfValue field.entry.value.now (λ v. raw_limit < length (raw_text (M.macros macros.now) v))) }
+{
+    match with_value(alloc, found, field.name, field.value, macros) {
+        Ok(text) => Ok(text),
+        Err(fault) => Err(ItemFault::of_value(fault, field.value_at)),
+    }
+}
+
+/// What the crossref of an entry with these fields says. Each field's text is measured.
+pub(crate) fn crossref_of<M: MacroTable>(
+    alloc: Global,
+    fields: Fields<'_>,
+    macros: &M,
+) -> Result<Option<Text>, ItemFault>
+    ensures text { IfOk result (λ text. OfRows fields.entry (λ before rows. text ≡ crossref_in (M.macros macros.now) rows)) }
+    ensures short { OnOk result (OfRows fields.entry (λ before rows. first_too_long (row_texts (length before) (M.macros macros.now) rows) ≡ None)) }
+    ensures too_long { IfErr result (λ fault. (n : ℕ) → fault ≡ ItemTooLong n → OfRows fields.entry (λ before rows. first_too_long (row_texts (length before) (M.macros macros.now) rows) ≡ Some n)) }
+{
+    let mut fields = fields;
+    let mut found = None;
+    'rows: while let Some(field) = fields.next() {
+        found = with_field(alloc, found, field, macros)?;
+    }
+    Ok(found)
+}

@@ -1,0 +1,232 @@
+//! The file as a list of items, with entries, keys and crossrefs.
+
+use crate::definitions::MacrosAt;
+use crate::fault::StoreFault;
+use crate::joining::{join, start_of};
+use crate::keeping::keep_all;
+use crate::list::ItemList;
+use crate::preambles::{preamble_text, preamble_value};
+use crate::tables::Tables;
+use bib_scan::{ItemView, ReadFault, Seq, Text, read};
+use bib_value::MacroTable;
+use std::alloc::Global;
+use std::marker::Model;
+
+/// A file that is open: its items, and what they say together. A contract sees the file's bytes; what they say is that
+/// of their one reading.
+#[derive(Drop)]
+pub struct Database<L: ItemList> {
+    pub(crate) alloc: Global,
+    pub(crate) front: Text,
+    pub(crate) items: L,
+    pub(crate) tables: Tables,
+}
+
+impl<L: ItemList> Model for Database<L> {
+    ghost use Rattle.bib_spec.specs.Text.{Text as Bytes};
+    ghost use Rattle.bib_store.specs.Stored.{file_of, IsKept};
+
+    ghost Value = { Bytes };
+
+    ghost view = { λ d. file_of d.front (L.items d.items) };
+
+    ghost invariant = { λ d. IsKept d.front (L.items d.items) d.tables };
+}
+
+impl<L: ItemList> Database<L> {
+    ghost use Rattle.std.specs.Prelude.{◌≡◌, ◌≤◌, [], Some, None, length, slice_get, option_and_then, count_by, IfOk, IfErr, OnOk};
+    ghost use Rattle.std.specs.Option.{option_copied};
+    ghost use Rattle.bib_spec.specs.Steps.{IsFile};
+    ghost use Rattle.bib_spec.specs.Reading.{Item};
+    ghost use Rattle.bib_spec.specs.Texts.{months, macros_at, seen};
+    ghost use Rattle.bib_spec.specs.Records.{entries_of, preambles_of, keys_of, entry_named, is_named, is_repeated, crossref_text, target};
+    ghost use Rattle.bib_scan.specs.View.{view_of};
+    ghost use Rattle.bib_scan.specs.Layout.{start_of};
+    ghost use Rattle.bib_store.specs.Definitions.{macros_seen};
+    ghost use Rattle.bib_store.specs.Meaning.{OfReading, IsItemNumber, IsItemPlace, IsEntryNumber, IsPreambleNumber, entry_items, entry_numbers, IsOpenFault};
+    ghost use Rattle.bib_store.specs.declared.fault.StoreFault.TheVariants.{Memory, NoSuchEntry};
+
+    /// Opens the file that these bytes are. The list that is handed in holds no item; it keeps the items from now on.
+    /// It takes time and memory in the file's length and the number of items. Refused as reading refuses (1 to 7, 9),
+    /// with 8 at the first value whose raw text is longer than 1,048,576 bytes, and with 10 where memory ran out.
+    pub fn open_bytes(alloc: Global, bytes: &[u8], empty: L) -> Result<Database<L>, ReadFault>
+        requires { L.items empty ≡ [] }
+        ensures opened { IfOk result (λ db. db ≡ bytes.now) }
+        ensures file { OnOk result (IsFile bytes.now) }
+        ensures fault { IfErr result (λ fault. IsOpenFault bytes.now fault.kind fault.place) }
+    {
+        let layout = read(alloc, bytes)?;
+        let Ok((front, items)) = keep_all(alloc, &layout, bytes, empty) else {
+            return Err(ReadFault { kind: 10, place: 0 });
+        };
+        let tables = Tables::of(alloc, front.as_slice().len(), &items, 0, 0)?;
+        Ok(Database {
+            alloc,
+            front,
+            items,
+            tables,
+        })
+    }
+
+    /// The file's bytes: a copy of them, in memory for them alone.
+    pub fn bytes(&self) -> Result<Text, StoreFault>
+        ensures bytes { IfOk result (λ text. text ≡ self.now) }
+        ensures only { IfErr result (λ fault. fault ≡ Memory) }
+    {
+        let file = join(self.alloc, self.front.as_slice(), &self.items)?;
+        Ok(Seq::from_vec(file))
+    }
+
+    /// The file is one that can be opened: it has a reading, and no raw text in it is too long.
+    pub fn opens(&self)
+        ensures { IsFile self.now }
+    {
+        let _ = &self.front;
+    }
+
+    /// How many items there are.
+    pub fn item_count(&self) -> usize
+        ensures { OfReading self.now (λ db. result ≡ length db.items) }
+    {
+        self.items.count()
+    }
+
+    /// How many entries there are.
+    pub fn entry_count(&self) -> usize
+        ensures { OfReading self.now (λ db. result ≡ length (entries_of db)) }
+    {
+        self.tables.entries.len()
+    }
+
+    /// How many preambles there are.
+    pub fn preamble_count(&self) -> usize
+        ensures { OfReading self.now (λ db. result ≡ length (preambles_of db)) }
+    {
+        self.tables.preambles.len()
+    }
+
+    /// The text before the first item.
+    pub fn front(&self) -> &[u8]
+        ensures { OfReading self.now (λ db. result.now ≡ db.front) }
+    {
+        self.front.as_slice()
+    }
+
+    /// Item `n`. Its head is read again, in time of its length.
+    pub fn item(&self, n: usize) -> ItemView<'_>
+        requires { IsItemNumber self.now n }
+        ensures { OfReading self.now (λ db. (i : Item) → slice_get db.items n ≡ Some i → result ≡ view_of i) }
+    {
+        ItemView::of(self.items.body(n), self.items.trail(n))
+    }
+
+    /// Where item `n` begins in the file, or where the file ends: a place in bytes. It takes time in the number of
+    /// items before it.
+    pub fn item_place(&self, n: usize) -> usize
+        requires { IsItemPlace self.now n }
+        ensures { OfReading self.now (λ db. result ≡ start_of db n) }
+    {
+        start_of(self.front.as_slice().len(), &self.items, n)
+    }
+
+    /// Entry `n`, as an item.
+    pub fn entry(&self, n: usize) -> ItemView<'_>
+        requires { IsEntryNumber self.now n }
+        ensures { OfReading self.now (λ db. (i : Item) → slice_get (entry_items db.items) n ≡ Some i → result ≡ view_of i) }
+    {
+        self.item(self.entry_item(n))
+    }
+
+    /// The number that entry `n` has among the items.
+    pub fn entry_item(&self, n: usize) -> usize
+        requires { IsEntryNumber self.now n }
+        ensures { OfReading self.now (λ db. slice_get (entry_numbers db.items) n ≡ Some result) }
+    {
+        self.tables.entries[n]
+    }
+
+    /// The number of the first entry that has this key, folded. It takes time in the key's length.
+    pub fn find(&self, key: &[u8]) -> Result<usize, StoreFault>
+        ensures found { IfOk result (λ n. OfReading self.now (λ db. entry_named (entries_of db) key.now ≡ Some n)) }
+        ensures none { IfErr result (λ fault. (fault ≡ NoSuchEntry) × OfReading self.now (λ db. entry_named (entries_of db) key.now ≡ None)) }
+    {
+        match self.tables.keys.first(key) {
+            Some(n) => Ok(n),
+            None => Err(StoreFault::NoSuchEntry),
+        }
+    }
+
+    /// How many entries have this key, folded. None has the empty key.
+    pub fn holders(&self, key: &[u8]) -> usize
+        ensures { OfReading self.now (λ db. result ≡ count_by (is_named key.now) (keys_of (entries_of db))) }
+    {
+        self.tables.keys.count(key)
+    }
+
+    /// Whether an earlier entry has the key of entry `n`, folded.
+    pub fn is_repeated(&self, n: usize) -> bool
+        requires { IsEntryNumber self.now n }
+        ensures { OfReading self.now (λ db. result ≡ is_repeated (entries_of db) n) }
+    {
+        match self.find(self.entry(n).key()) {
+            Ok(first) => first < n,
+            Err(_) => false,
+        }
+    }
+
+    /// The field text of the effective `crossref` of entry `n`.
+    pub fn crossref_text(&self, n: usize) -> Option<&[u8]>
+        requires { IsEntryNumber self.now n }
+        ensures { OfReading self.now (λ db. option_copied result ≡ option_and_then crossref_text (slice_get (entries_of db) n)) }
+    {
+        match &self.tables.crossrefs[n] {
+            Some(text) => Some(text.as_slice()),
+            None => None,
+        }
+    }
+
+    /// The entry that the crossref of entry `n` names.
+    pub fn target(&self, n: usize) -> Option<usize>
+        requires { IsEntryNumber self.now n }
+        ensures { OfReading self.now (λ db. result ≡ target (entries_of db) n) }
+    {
+        match self.crossref_text(n) {
+            Some(key) => self.find(key).ok(),
+            None => None,
+        }
+    }
+
+    /// The raw text of preamble `n`. It takes time and memory in the length of the text and of the preamble.
+    pub fn preamble_text(&self, n: usize) -> Result<Text, StoreFault>
+        requires { IsPreambleNumber self.now n }
+        ensures text { IfOk result (λ text. OfReading self.now (λ db. slice_get (preambles_of db) n ≡ Some text)) }
+        ensures only { IfErr result (λ fault. fault ≡ Memory) }
+    {
+        let m = self.tables.preambles[n];
+        let value = preamble_value(&self.item(m));
+        preamble_text(self.alloc, value, &self.macros_at(m))
+    }
+
+    /// What macros stand for before item `n`, or at the end of the file.
+    pub fn macros_at(&self, n: usize) -> MacrosAt<'_>
+        requires { IsItemPlace self.now n }
+        ensures { OfReading self.now (λ db. macros_seen result ≡ macros_at months db.items n) }
+    {
+        self.tables.definitions.at(n)
+    }
+
+    /// What the name stands for as item `n` sees it, or at the end of the file.
+    pub fn macro_text(&self, n: usize, name: &[u8]) -> Result<Option<Text>, StoreFault>
+        requires { IsItemPlace self.now n }
+        ensures text { IfOk result (λ text. OfReading self.now (λ db. text ≡ seen db n name.now)) }
+        ensures only { IfErr result (λ fault. fault ≡ Memory) }
+    {
+        match self.macros_at(n).text_of(name) {
+            Some(text) => {
+                let text = Vec::from_slice(self.alloc, text)?;
+                Ok(Some(Seq::from_vec(text)))
+            }
+            None => Ok(None),
+        }
+    }
+}

@@ -1,0 +1,58 @@
+//! Exchanging items for others.
+
+ghost use Rattle.std.specs.Prelude.{◌≡◌, ◌⊎◌, None, IfOk, IfErr, OnOk, OnErr};
+ghost use Rattle.bib_spec.specs.Reading.{Reading, Reads};
+ghost use Rattle.bib_spec.specs.Texts.{too_long_at};
+ghost use Rattle.bib_scan.specs.Layout.{IsLayoutOf};
+ghost use Rattle.bib_store.specs.Beside.{IsKept as HasItems, AreTables};
+ghost use Rattle.bib_store.specs.Windows.{IsWindow, exchanged};
+ghost use Rattle.bib_store.specs.declared.fault.StoreFault.TheVariants.{Memory, BadSplice};
+
+use crate::change::Change;
+use crate::fault::StoreFault;
+use crate::list::ItemList;
+use crate::tables::Tables;
+use std::alloc::Global;
+
+/// Puts the items of a change in place of those in its window, and makes the tables of all items. It is refused where
+/// memory runs out, or where a raw text is too long; the list is then as it was.
+pub(crate) fn exchange<L: ItemList>(
+    alloc: Global,
+    front_len: usize,
+    items: &mut L,
+    change: &Change,
+) -> Result<Tables, StoreFault>
+    requires window { IsWindow (L.items items.old) change.now.window }
+    requires layout { IsLayoutOf change.now.text change.now.layout }
+    ensures items { OnOk result ((inner : Reading) → Reads change.now.text inner → L.items items.new ≡ exchanged change.now.window inner.items (L.items items.old)) }
+    ensures tables { IfOk result (λ tables. (inner db : Reading) → Reads change.now.text inner → HasItems front_len (exchanged change.now.window inner.items (L.items items.old)) db
+        → AreTables db tables × (too_long_at db ≡ None)) }
+    ensures refused { IfErr result (λ fault. fault ≡ BadSplice → (inner db : Reading) → Reads change.now.text inner
+        → HasItems front_len (exchanged change.now.window inner.items (L.items items.old)) db → too_long_at db ≡ None → ⊥) }
+    ensures only { IfErr result (λ fault. (fault ≡ BadSplice) ⊎ (fault ≡ Memory)) }
+    ensures err { OnErr result (L.items items.new ≡ L.items items.old) }
+{
+    let window = change.window;
+    let old_count = items.count();
+    items.insert_all(window.from, change.text.as_slice(), &change.layout)?;
+    let count = items.count() - old_count;
+    match Tables::of(
+        alloc,
+        front_len,
+        &*items,
+        window.from + count,
+        window.to + count,
+    ) {
+        Ok(tables) => {
+            items.remove_range(window.from + count, window.to + count);
+            Ok(tables)
+        }
+        Err(fault) => {
+            items.remove_range(window.from, window.from + count);
+            if fault.kind == 8 {
+                return Err(StoreFault::BadSplice);
+            }
+            Err(StoreFault::Memory)
+        }
+    }
+}

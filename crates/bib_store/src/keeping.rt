@@ -1,0 +1,45 @@
+//! Taking a file's items into a list.
+
+ghost use Rattle.std.specs.Prelude.{◌≡◌, [], IfOk, IfErr};
+ghost use Rattle.bib_scan.specs.Layout.{IsLayoutOf};
+ghost use Rattle.bib_store.specs.Meaning.{OfReading};
+ghost use Rattle.bib_store.specs.Tables.{all_stored};
+ghost use Rattle.bib_store.specs.declared.fault.StoreFault.TheVariants.{Memory};
+
+use crate::fault::StoreFault;
+use crate::list::ItemList;
+use bib_scan::{Layout, Seq, Text};
+use std::alloc::Global;
+
+/// The list with the items of a file, in order.
+fn keep<L: ItemList>(layout: &Layout, bytes: &[u8], empty: L) -> Result<L, StoreFault>
+    requires layout { IsLayoutOf bytes.now layout.now }
+    requires empty { L.items empty ≡ [] }
+    ensures kept { IfOk result (λ items. OfReading bytes.now (λ db. L.items items ≡ all_stored db.items)) }
+    ensures only { IfErr result (λ fault. fault ≡ Memory) }
+{
+    let mut items = empty;
+    'keep: for n in 0..layout.len() {
+        let item = layout.item(bytes, n);
+        items.insert(n, item.body(), item.trail())?;
+    }
+    Ok(items)
+}
+
+/// The front and the items of a file, as they are kept.
+pub(crate) fn keep_all<L: ItemList>(
+    alloc: Global,
+    layout: &Layout,
+    bytes: &[u8],
+    empty: L,
+) -> Result<(Text, L), StoreFault>
+    requires layout { IsLayoutOf bytes.now layout.now }
+    requires empty { L.items empty ≡ [] }
+    ensures front { IfOk result (λ kept. OfReading bytes.now (λ db. kept.0 ≡ db.front)) }
+    ensures items { IfOk result (λ kept. OfReading bytes.now (λ db. L.items kept.1 ≡ all_stored db.items)) }
+    ensures only { IfErr result (λ fault. fault ≡ Memory) }
+{
+    let front = Vec::from_slice(alloc, layout.front(bytes))?;
+    let items = keep(layout, bytes, empty)?;
+    Ok((Seq::from_vec(front), items))
+}

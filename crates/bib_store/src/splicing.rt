@@ -1,0 +1,33 @@
+//! Replacing pieces of a file.
+
+use crate::change::{find_change, new_front};
+use crate::database::Database;
+use crate::exchanging::exchange;
+use crate::fault::StoreFault;
+use crate::list::ItemList;
+use crate::piece::Piece;
+
+impl<L: ItemList> Database<L> {
+    ghost use Rattle.std.specs.Prelude.{◌≡◌, ◌⊎◌, IfErr, OnOk, OnErr};
+    ghost use Rattle.bib_spec.specs.Steps.{IsFile};
+    ghost use Rattle.bib_spec.specs.Pieces.{Fit, applied};
+    ghost use Rattle.bib_store.specs.declared.fault.StoreFault.TheVariants.{Memory, BadSplice};
+
+    /// Replaces pieces of the file, all at once. The items that the pieces touch are read again, and those between
+    /// them; where that shows no file, the whole file is. The tables of all items are made again. It takes time and
+    /// memory in the length of the items that are read and in the number of all items.
+    pub fn splice(&mut self, pieces: &[Piece]) -> Result<(), StoreFault>
+        ensures fit { OnOk result (Fit pieces.now self.old) }
+        ensures spliced { OnOk result (self.new ≡ applied pieces.now self.old) }
+        ensures file { OnOk result (IsFile self.new) }
+        ensures refused { IfErr result (λ fault. fault ≡ BadSplice → Fit pieces.now self.old → IsFile (applied pieces.now self.old) → ⊥) }
+        ensures only { IfErr result (λ fault. (fault ≡ BadSplice) ⊎ (fault ≡ Memory)) }
+        ensures err { OnErr result (self.new ≡ self.old) }
+    {
+        let change = find_change(self.alloc, self.front.as_slice(), &self.items, pieces)?;
+        let front = new_front(self.alloc, self.front.as_slice(), &change)?;
+        self.tables = exchange(self.alloc, front.as_slice().len(), &mut self.items, &change)?;
+        self.front = front;
+        Ok(())
+    }
+}

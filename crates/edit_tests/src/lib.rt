@@ -1,0 +1,13 @@
+//! Worked examples of edits, undo and redo, and what no contract says: that the calls succeed with ample memory.
+#![tactic(auto)]
+
+#[cfg(test)]
+mod given;
+#[cfg(test)]
+mod lengths;
+#[cfg(test)]
+mod sessions;
+#[cfg(test)]
+mod splicing;
+#[cfg(test)]
+mod stores;
