@@ -26,7 +26,7 @@ entry_speaks m (DefinitionTree d) e = absurd (both_ways (is_entry_tree (Definiti
 entry_speaks m (PreambleTree p) e = absurd (both_ways (is_entry_tree (PreambleTree p)) refl e)
 entry_speaks m (EntryTree entry) e = (texts_of m entry, refl)
 
-entry_tree : (t : Tree) → is_entry_tree t ≡ true → (e : Entry) × (t ≡ EntryTree e)
+pub entry_tree : (t : Tree) → is_entry_tree t ≡ true → (e : Entry) × (t ≡ EntryTree e)
 entry_tree (CommentTree h) e = absurd (both_ways (is_entry_tree (CommentTree h)) refl e)
 entry_tree (DefinitionTree d) e = absurd (both_ways (is_entry_tree (DefinitionTree d)) refl e)
 entry_tree (PreambleTree p) e = absurd (both_ways (is_entry_tree (PreambleTree p)) refl e)

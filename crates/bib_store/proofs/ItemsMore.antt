@@ -17,12 +17,16 @@ use Rattle.bib_store.specs.ItemTexts.{first_too_long, placed_texts}
 
 -- ---- what is gathered
 
+pub gathered-append : {X : Type 0} (say : Macros → Tree → List X) (m : Macros) (items more : List Item)
+    → gathered say m (items ++ more) ≡ gathered say m items ++ gathered say (macros_at m items (length items)) more
+gathered-append say m [] more = refl
+gathered-append say m (item ∷ items) more =
+    ap (λ rest. say m item.tree ++ rest) (gathered-append say (macros_after m item.tree) items more)
+    ∙ sym (append_assoc (say m item.tree) (gathered say (macros_after m item.tree) items) (gathered say (macros_at (macros_after m item.tree) items (length items)) more))
+
 pub gathered-more : {X : Type 0} (say : Macros → Tree → List X) (m : Macros) (items : List Item) (i : Item)
     → gathered say m (items ++ i ∷ []) ≡ gathered say m items ++ say (macros_at m items (length items)) i.tree
-gathered-more say m [] i = append-nil (say m i.tree)
-gathered-more say m (item ∷ items) i =
-    ap (λ rest. say m item.tree ++ rest) (gathered-more say (macros_after m item.tree) items i)
-    ∙ sym (append_assoc (say m item.tree) (gathered say (macros_after m item.tree) items) (say (macros_at (macros_after m item.tree) items (length items)) i.tree))
+gathered-more say m items i = gathered-append say m items (i ∷ []) ∙ ap (λ rest. gathered say m items ++ rest) (append-nil (say (macros_at m items (length items)) i.tree))
 
 -- ---- numbers
 

@@ -28,3 +28,5 @@ pub mod SplicedFiles
 pub mod DefinitionTables
 pub mod MacrosBehind
 pub mod NumberedLists
+pub mod Amended
+pub mod AmendedFiles

@@ -19,15 +19,8 @@ use Rattle.bib_store.specs.declared.tables.Tables.{Tables}
 use Rattle.bib_store.specs.Tables.{stored, all_stored}
 use Rattle.bib_store.specs.Beside.{IsKept as HasItems, AreTables}
 use Rattle.bib_store.specs.Stored.{kept_bytes, file_of, IsKept}
-use Rattle.bib_store.specs.Windows.{IsWindow, IsChange, Serve, front_before, front_after, bytes_before, bytes_behind, exchanged}
+use Rattle.bib_store.specs.Windows.{IsWindow, IsChange, Serve, front_before, front_after, bytes_before, bytes_behind, exchanged, joined, OfJoined}
 use Rattle.bib_store.proofs.KeptItems.{bytes-stored, file-stored}
-
--- the file with the items of another text in the window
-abbrev pub joined : Window → Reading → Reading → Reading
-joined w db inner = record {
-  front = front_after w.with_front db.front inner.front;
-  items = take w.from db.items ++ (inner.items ++ drop w.to db.items);
-}
 
 -- its items are kept where the others were
 pub stored-joined : (w : Window) (db inner : Reading) (items : List Item) → items ≡ all_stored db.items → all_stored (joined w db inner).items ≡ exchanged w inner.items items
@@ -132,7 +125,7 @@ pub record IsAfter (ps : List Piece) (file front : Text) (items : List Item) (t 
 pub after_splice : (ps : List Piece) (file front first second third new_front : Text) (items new_items : List Item) (t new_t : Tables) (c : Change) → IsKept front items t → file_of front items ≡ file
     → first ≡ front → IsChange ps first items c → second ≡ front → ((inner : Reading) → Reads c.text inner → new_front ≡ front_after c.window.with_front second inner.front) → third ≡ new_front
     → ((inner : Reading) → Reads c.text inner → new_items ≡ exchanged c.window inner.items items)
-    → ((inner db : Reading) → Reads c.text inner → HasItems (length third) (exchanged c.window inner.items items) db → AreTables db new_t × (too_long_at db ≡ None))
+    → OfJoined c (length third) items t (λ db. AreTables db new_t × (too_long_at db ≡ None))
     → IsAfter ps file new_front new_items new_t
 after_splice ps file front first second third new_front items new_items t new_t c k same e change f begins g puts made =
     let is : IsChange ps front items c = subst (λ (x : Text). IsChange ps x items c) e change in
@@ -142,7 +135,7 @@ after_splice ps file front first second third new_front items new_items t new_t 
     let s : IsSpliced ps front items t c inner db = spliced ps front items t c inner k is reads in
     let front_is : new_front ≡ front_after c.window.with_front front inner.front = begins inner reads ∙ ap (λ x. front_after c.window.with_front x inner.front) f in
     let long : length third ≡ length (front_after c.window.with_front front inner.front) = ap length (g ∙ front_is) in
-    let both = made inner db reads (subst (λ (n : ℕ). HasItems n (exchanged c.window inner.items items) db) (sym long) s.has) in
+    let both = made front k.db inner k.is reads (subst (λ (n : ℕ). HasItems n (exchanged c.window inner.items items) db) (sym long) s.has) in
     record {
       made = ap₂ file_of front_is (puts inner reads) ∙ s.made ∙ ap (applied ps) same;
       kept = spliced_kept ps front new_front items new_items t new_t c inner db is s front_is (puts inner reads) both.0 both.1;
@@ -150,7 +143,7 @@ after_splice ps file front first second third new_front items new_items t new_t 
 
 pub after_refusal : (ps : List Piece) (file front first second third new_front : Text) (items : List Item) (t : Tables) (c : Change) → IsKept front items t → file_of front items ≡ file
     → first ≡ front → IsChange ps first items c → second ≡ front → ((inner : Reading) → Reads c.text inner → new_front ≡ front_after c.window.with_front second inner.front) → third ≡ new_front
-    → ((inner db : Reading) → Reads c.text inner → HasItems (length third) (exchanged c.window inner.items items) db → too_long_at db ≡ None → ⊥)
+    → OfJoined c (length third) items t (λ db. too_long_at db ≡ None → ⊥)
     → IsFile (applied ps file) → ⊥
 after_refusal ps file front first second third new_front items t c k same e change f begins g refused file_is =
     let is : IsChange ps front items c = subst (λ (x : Text). IsChange ps x items c) e change in
@@ -160,5 +153,5 @@ after_refusal ps file front first second third new_front items t c k same e chan
     let s : IsSpliced ps front items t c inner db = spliced ps front items t c inner k is reads in
     let front_is : new_front ≡ front_after c.window.with_front front inner.front = begins inner reads ∙ ap (λ x. front_after c.window.with_front x inner.front) f in
     let long : length third ≡ length (front_after c.window.with_front front inner.front) = ap length (g ∙ front_is) in
-    spliced_refused ps front items t c inner db s (refused inner db reads (subst (λ (n : ℕ). HasItems n (exchanged c.window inner.items items) db) (sym long) s.has))
+    spliced_refused ps front items t c inner db s (refused front k.db inner k.is reads (subst (λ (n : ℕ). HasItems n (exchanged c.window inner.items items) db) (sym long) s.has))
     (subst (λ (x : Text). IsFile (applied ps x)) (sym same) file_is)

@@ -25,13 +25,13 @@ use Rattle.bib_store.proofs.ItemsMore.{gathered-more, number_more, number_same}
 
 -- ---- kinds
 
-abbrev kind_number : Kind → ℕ
+abbrev pub kind_number : Kind → ℕ
 kind_number kind.Entry = 0
 kind_number kind.Macro = 1
 kind_number kind.Preamble = 2
 kind_number kind.Comment = 3
 
-other_kind : {X : Type 0} (a b : Kind) → a ≡ b → (kind_number a < kind_number b) → X
+pub other_kind : {X : Type 0} (a b : Kind) → a ≡ b → (kind_number a < kind_number b) → X
 other_kind a b same apart = absurd (omega (arith, ap kind_number same, apart))
 
 -- ---- entries are counted by their numbers
@@ -43,7 +43,7 @@ counted_step (CommentTree c) k item rest m more h = h
 counted_step (DefinitionTree d) k item rest m more h = h
 counted_step (PreambleTree p) k item rest m more h = h
 
-entries_counted : (k : ℕ) (m : Macros) (items : List Item)
+pub entries_counted : (k : ℕ) (m : Macros) (items : List Item)
     → length (map (λ (p : ℕ × Item). p.0) (filter (λ (p : ℕ × Item). is_entry_tree p.1.tree) (enumerate_from k items))) ≡ length (gathered entry_in m items)
 entries_counted k m [] = refl
 entries_counted k m (item ∷ items) =

@@ -13,3 +13,4 @@ pub mod ItemTexts
 pub mod KeyIndex
 pub mod Beside
 pub mod Stored
+pub mod Amending

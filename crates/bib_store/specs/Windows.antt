@@ -1,5 +1,5 @@
 -- A window on a file: items that lie together, and maybe the front before them.
-use Rattle.std.specs.Prelude.{◌≡◌, ◌≤◌, Bool, true, false, List, [], ◌++◌, length, take, drop}
+use Rattle.std.specs.Prelude.{ℕ, ◌≡◌, ◌≤◌, Bool, true, false, List, [], ◌++◌, length, take, drop}
 use Rattle.std.specs.List.{flat_map, between}
 use Rattle.bib_spec.specs.Bytes.{file_limit}
 use Rattle.bib_spec.specs.Text.{Text}
@@ -10,8 +10,10 @@ use Rattle.bib_scan.specs.Layout.{IsLayoutOf}
 use Rattle.bib_store.specs.declared.list.Item.{Item}
 use Rattle.bib_store.specs.declared.window.Window.{Window}
 use Rattle.bib_store.specs.declared.change.Change.{Change}
-use Rattle.bib_store.specs.Stored.{kept_bytes, file_of}
+use Rattle.bib_store.specs.declared.tables.Tables.{Tables}
+use Rattle.bib_store.specs.Stored.{kept_bytes, file_of, IsKeptAs}
 use Rattle.bib_store.specs.Tables.{all_stored}
+use Rattle.bib_store.specs.Beside.{IsKept as HasItems}
 
 -- the window lies in the items, and it begins the file if it has the front
 pub record IsWindow (items : List Item) (w : Window) : Type 0 where
@@ -72,3 +74,15 @@ front_after false old new = old
 -- the items of the list afterwards: these stand in the window
 abbrev pub exchanged : Window → List reading.Item → List Item → List Item
 exchanged w inner items = take w.from items ++ (all_stored inner ++ drop w.to items)
+
+-- the file with the items of another text in the window
+abbrev pub joined : Window → Reading → Reading → Reading
+joined w db inner = record {
+  front = front_after w.with_front db.front inner.front;
+  items = take w.from db.items ++ (inner.items ++ drop w.to db.items);
+}
+
+-- it holds of the file that the change makes of a kept one, with a front of this length
+abbrev pub OfJoined : Change → ℕ → List Item → Tables → (Reading → Type 0) → Type 0
+OfJoined c front_len items t P = (front : Text) (db inner : Reading) → IsKeptAs db front items t → Reads c.text inner
+    → HasItems front_len (exchanged c.window inner.items items) (joined c.window db inner) → P (joined c.window db inner)

@@ -1,16 +1,22 @@
 //! What the crossref of an entry says.
 
-ghost use Rattle.std.specs.Prelude.{◌≡◌, ◌<◌, ◌≤◌, ℕ, Some, None, length, IfOk, IfErr, OnOk};
+ghost use Rattle.std.specs.Prelude.{◌≡◌, ◌<◌, ◌≤◌, ℕ, [], ◌∷◌, true, Some, None, length, map, IfOk, IfErr, OnOk};
 ghost use Rattle.std.specs.Option.{option_or};
 ghost use Rattle.bib_spec.specs.Texts.{raw_text, raw_limit};
+ghost use Rattle.bib_spec.specs.Bytes.{name_limit};
+ghost use Rattle.bib_spec.specs.Tree.{IsTree};
+ghost use Rattle.bib_spec.specs.Reading.{Item};
+ghost use Rattle.bib_spec.specs.Records.{entry_in, crossref_text};
+ghost use Rattle.bib_scan.specs.View.{view_of};
 ghost use Rattle.bib_value.specs.Raw.{OfValue};
-ghost use Rattle.bib_store.specs.ItemTexts.{said_by, crossref_in, row_texts, first_too_long, OfRows};
+ghost use Rattle.bib_store.specs.Meaning.{is_entry_tree};
+ghost use Rattle.bib_store.specs.ItemTexts.{said_by, crossref_in, row_texts, first_too_long, placed_texts, OfRows};
 ghost use Rattle.bib_value.specs.declared.fault.ValueFault.TheVariants.{TextTooLong};
 ghost use Rattle.bib_store.specs.declared.item_fault.ItemFault.TheVariants.{TooLong as ItemTooLong};
 
 use crate::item_fault::ItemFault;
 use crate::measuring::{measure, value_field_text};
-use bib_scan::{FieldView, Fields, Text, same_folded};
+use bib_scan::{FieldView, Fields, ItemView, Text, same_folded};
 use bib_value::{MacroTable, ValueFault};
 use std::alloc::Global;
 
@@ -66,4 +72,17 @@ pub(crate) fn crossref_of<M: MacroTable>(
         found = with_field(alloc, found, field, macros)?;
     }
     Ok(found)
+}
+
+/// What the crossref of an entry says. Each field's text is measured.
+pub(crate) fn entry_crossref<M: MacroTable>(
+    alloc: Global,
+    entry: &ItemView<'_>,
+    macros: &M,
+) -> Result<Option<Text>, ItemFault>
+    ensures text { IfOk result (λ text. (i : Item) → IsTree name_limit i.tree → is_entry_tree i.tree ≡ true → entry.now ≡ view_of i → map crossref_text (entry_in (M.macros macros.now) i.tree) ≡ text ∷ []) }
+    ensures short { OnOk result ((i : Item) → IsTree name_limit i.tree → is_entry_tree i.tree ≡ true → entry.now ≡ view_of i → first_too_long (placed_texts (M.macros macros.now) i.tree) ≡ None) }
+    ensures too_long { IfErr result (λ fault. (n : ℕ) → fault ≡ ItemTooLong n → (i : Item) → IsTree name_limit i.tree → is_entry_tree i.tree ≡ true → entry.now ≡ view_of i → first_too_long (placed_texts (M.macros macros.now) i.tree) ≡ Some n) }
+{
+    crossref_of(alloc, entry.fields(), macros)
 }

@@ -1,22 +1,50 @@
 //! Exchanging items for others.
 
-ghost use Rattle.std.specs.Prelude.{◌≡◌, ◌⊎◌, None, IfOk, IfErr, OnOk, OnErr};
+ghost use Rattle.std.specs.Prelude.{◌≡◌, ◌⊎◌, None, length, IfOk, IfErr, OnOk, OnErr};
 ghost use Rattle.bib_spec.specs.Reading.{Reading, Reads};
 ghost use Rattle.bib_spec.specs.Texts.{too_long_at};
 ghost use Rattle.bib_scan.specs.Layout.{IsLayoutOf};
 ghost use Rattle.bib_store.specs.Beside.{IsKept as HasItems, AreTables};
-ghost use Rattle.bib_store.specs.Windows.{IsWindow, exchanged};
+ghost use Rattle.bib_store.specs.Windows.{IsWindow, OfJoined, exchanged};
 ghost use Rattle.bib_store.specs.declared.fault.StoreFault.TheVariants.{Memory, BadSplice};
 
+use crate::amending::{amend, amended};
 use crate::change::Change;
 use crate::fault::StoreFault;
 use crate::list::ItemList;
 use crate::tables::Tables;
 use std::alloc::Global;
 
+/// Puts the items of a change in place of those in its window, and lets the tables say what holds of all items then. It
+/// is refused where memory runs out, or where a raw text is too long; nothing has changed then.
+pub(crate) fn exchange<L: ItemList>(
+    alloc: Global,
+    front_len: usize,
+    items: &mut L,
+    tables: &mut Tables,
+    change: &Change,
+) -> Result<(), StoreFault>
+    requires window { IsWindow (L.items items.old) change.now.window }
+    requires layout { IsLayoutOf change.now.text change.now.layout }
+    requires counted { length tables.old.crossrefs.items ≡ length tables.old.entries.items }
+    ensures items { OnOk result ((inner : Reading) → Reads change.now.text inner → L.items items.new ≡ exchanged change.now.window inner.items (L.items items.old)) }
+    ensures tables { OnOk result (OfJoined change.now front_len (L.items items.old) tables.old (λ db. AreTables db tables.new × (too_long_at db ≡ None))) }
+    ensures refused { IfErr result (λ fault. fault ≡ BadSplice → OfJoined change.now front_len (L.items items.old) tables.old (λ db. too_long_at db ≡ None → ⊥)) }
+    ensures only { IfErr result (λ fault. (fault ≡ BadSplice) ⊎ (fault ≡ Memory)) }
+    ensures err { OnErr result ((L.items items.new ≡ L.items items.old) × (tables.new ≡ tables.old)) }
+{
+    match amended(&*items, tables.entries.as_slice(), change) {
+        Some(m) => amend(alloc, items, tables, change, m),
+        None => {
+            *tables = exchange_all(alloc, front_len, items, change)?;
+            Ok(())
+        }
+    }
+}
+
 /// Puts the items of a change in place of those in its window, and makes the tables of all items. It is refused where
 /// memory runs out, or where a raw text is too long; the list is then as it was.
-pub(crate) fn exchange<L: ItemList>(
+fn exchange_all<L: ItemList>(
     alloc: Global,
     front_len: usize,
     items: &mut L,

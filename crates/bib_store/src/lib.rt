@@ -3,6 +3,7 @@
 //! the reading of the new bytes.
 #![tactic(auto)]
 
+mod amending;
 mod applying;
 mod change;
 mod citing;

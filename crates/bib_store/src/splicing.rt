@@ -26,7 +26,13 @@ impl<L: ItemList> Database<L> {
     {
         let change = find_change(self.alloc, self.front.as_slice(), &self.items, pieces)?;
         let front = new_front(self.alloc, self.front.as_slice(), &change)?;
-        self.tables = exchange(self.alloc, front.as_slice().len(), &mut self.items, &change)?;
+        exchange(
+            self.alloc,
+            front.as_slice().len(),
+            &mut self.items,
+            &mut self.tables,
+            &change,
+        )?;
         self.front = front;
         Ok(())
     }

@@ -1,32 +1,36 @@
 use Rattle.std.proofs.lemmas.Result.{err_from_is_err_and}
 use Rattle.bib_store.proofs.SplicedFiles.{after_splice, after_refusal}
+use Rattle.bib_store.proofs.AmendedFiles.{crossrefs_counted}
 use Rattle.bib_store.proofs.database.Database.splice.Goals as goal
 
-pub returns-in_err-self-inside-clause-refused : goal.returns-in_err-self-inside-clause-refused
-returns-in_err-self-inside-clause-refused g c =
-    let p = err_from_is_err_and c.from_residual-in_err-self-inside.result c.from_residual-in_err-self-inside.ensures.1 in
+pub exchange-requires-clause-counted : goal.exchange-requires-clause-counted
+exchange-requires-clause-counted g c = crossrefs_counted c.self.inside.front (g.L.ItemList.items c.self.inside.items) c.self.inside.tables c.self.invariant
+
+pub returns-in_err-exchange-clause-refused : goal.returns-in_err-exchange-clause-refused
+returns-in_err-exchange-clause-refused g c =
+    let p = err_from_is_err_and c.from_residual-in_err-exchange.result c.from_residual-in_err-exchange.ensures.1 in
     rw (p.1, p.2) (λ bad _ file.
     after_refusal c.args.pieces.now c.args.self.now c.self.inside.front c.as_slice.result.now c.as_slice-2.result.now c.as_slice-3.result.now c.in_ok-front.front (g.L.ItemList.items c.self.inside.items)
     c.self.inside.tables c.in_ok-change.change c.self.invariant c.self.view_is c.as_slice.ensures c.in_ok-change.ensures.change c.as_slice-2.ensures c.in_ok-front.ensures c.as_slice-3.ensures
-    (c.in_err-self-inside.ensures.refused bad) file)
+    (c.in_err-exchange.ensures.refused bad) file)
 
 pub invariant_of-self-2 : goal.invariant_of-self-2
 invariant_of-self-2 g c =
     let after = after_splice c.args.pieces.now c.args.self.now c.self.inside.front c.as_slice.result.now c.as_slice-2.result.now c.as_slice-3.result.now c.in_ok-front.front (g.L.ItemList.items c.self.inside.items)
-    (g.L.ItemList.items c.exchange.new.items) c.self.inside.tables c.in_ok-self-inside.field-0 c.in_ok-change.change c.self.invariant c.self.view_is c.as_slice.ensures c.in_ok-change.ensures.change
-    c.as_slice-2.ensures c.in_ok-front.ensures c.as_slice-3.ensures c.in_ok-self-inside.ensures.items c.in_ok-self-inside.ensures.tables in
+    (g.L.ItemList.items c.exchange.new.items) c.self.inside.tables c.exchange.new.tables c.in_ok-change.change c.self.invariant c.self.view_is c.as_slice.ensures c.in_ok-change.ensures.change
+    c.as_slice-2.ensures c.in_ok-front.ensures c.as_slice-3.ensures c.in_ok-exchange.ensures.items c.in_ok-exchange.ensures.tables in
     after.kept
 
 pub returns-clause-spliced : goal.returns-clause-spliced
 returns-clause-spliced g c =
     let after = after_splice c.args.pieces.now c.args.self.now c.self.inside.front c.as_slice.result.now c.as_slice-2.result.now c.as_slice-3.result.now c.in_ok-front.front (g.L.ItemList.items c.self.inside.items)
-    (g.L.ItemList.items c.exchange.new.items) c.self.inside.tables c.in_ok-self-inside.field-0 c.in_ok-change.change c.self.invariant c.self.view_is c.as_slice.ensures c.in_ok-change.ensures.change
-    c.as_slice-2.ensures c.in_ok-front.ensures c.as_slice-3.ensures c.in_ok-self-inside.ensures.items c.in_ok-self-inside.ensures.tables in
+    (g.L.ItemList.items c.exchange.new.items) c.self.inside.tables c.exchange.new.tables c.in_ok-change.change c.self.invariant c.self.view_is c.as_slice.ensures c.in_ok-change.ensures.change
+    c.as_slice-2.ensures c.in_ok-front.ensures c.as_slice-3.ensures c.in_ok-exchange.ensures.items c.in_ok-exchange.ensures.tables in
     after.made
 
 pub returns-clause-file : goal.returns-clause-file
 returns-clause-file g c =
     let after = after_splice c.args.pieces.now c.args.self.now c.self.inside.front c.as_slice.result.now c.as_slice-2.result.now c.as_slice-3.result.now c.in_ok-front.front (g.L.ItemList.items c.self.inside.items)
-    (g.L.ItemList.items c.exchange.new.items) c.self.inside.tables c.in_ok-self-inside.field-0 c.in_ok-change.change c.self.invariant c.self.view_is c.as_slice.ensures c.in_ok-change.ensures.change
-    c.as_slice-2.ensures c.in_ok-front.ensures c.as_slice-3.ensures c.in_ok-self-inside.ensures.items c.in_ok-self-inside.ensures.tables in
+    (g.L.ItemList.items c.exchange.new.items) c.self.inside.tables c.exchange.new.tables c.in_ok-change.change c.self.invariant c.self.view_is c.as_slice.ensures c.in_ok-change.ensures.change
+    c.as_slice-2.ensures c.in_ok-front.ensures c.as_slice-3.ensures c.in_ok-exchange.ensures.items c.in_ok-exchange.ensures.tables in
     (after.kept.db, after.kept.is.opens)

@@ -1,0 +1,182 @@
+-- An entry gives way to another with the same key: what is said of the items stays, but for its crossref and its texts.
+use Rattle.std.proofs.Common.{◌≡◌, ℕ, zero, suc, ◌+◌, ◌<◌, ◌≤◌, cond, Bool, true, false, List, [], ◌∷◌, ◌++◌, length, take, drop, map, set, slice_get, get_or, Option, Some, None, option_map, refl, sym, ◌∙◌, ap, ap₂, subst, arith, take-append-drop}
+use Rattle.std.proofs.Math.Seq.{set-append_seam}
+use Rattle.std.specs.List.{zip, flat_map}
+use Rattle.std.specs.Option.{option_or}
+use Rattle.std.proofs.lemmas.Option.{none-some, same_Some, slice_get_within, get_or_from_slice_get}
+use Rattle.std.proofs.lemmas.List.{map-append, length-map, drop_more, length-take-le}
+use Rattle.bib_spec.specs.Text.{Text}
+use Rattle.bib_spec.specs.Tree.{Tree, Entry, EntryTree}
+use Rattle.bib_spec.specs.Reading.{Item, item_bytes}
+use Rattle.bib_spec.specs.Texts.{Macros, months, macros_after, macros_at, gathered, raw_texts_from, raw_texts_in, value_places}
+use Rattle.bib_spec.specs.Records.{EntryTexts, texts_of, entry_in, keys_of, crossref_text}
+use Rattle.bib_store.specs.declared.tables.Tables.{Tables}
+use Rattle.bib_store.specs.Meaning.{is_entry_tree, entry_numbers}
+use Rattle.bib_store.specs.Tables.{is_preamble_tree, IsIndexOf, AreDefinitionsOf}
+use Rattle.bib_store.specs.KeyIndex.{holding_in}
+use Rattle.bib_store.specs.Defined.{texts_at}
+use Rattle.bib_store.specs.ItemTexts.{first_too_long, placed_texts}
+use Rattle.bib_store.specs.Beside.{AreTablesOf}
+use Rattle.bib_store.proofs.Numbered.{numbered, numbers}
+use Rattle.bib_store.proofs.TableSteps.{entries_counted}
+use Rattle.bib_store.proofs.ItemsMore.{gathered-append, raw_texts-append, first-append, first-shift}
+
+-- ---- numbers
+
+abbrev first_of : List (ℕ × Item) → List ℕ
+first_of ps = map (λ (p : ℕ × Item). p.0) ps
+
+first_kept : (b : Bool) (p q : ℕ × Item) (ps qs : List (ℕ × Item)) → p.0 ≡ q.0 → first_of ps ≡ first_of qs → first_of (cond b (p ∷ ps) ps) ≡ first_of (cond b (q ∷ qs) qs)
+first_kept true p q ps qs e h = ap₂ (λ (n : ℕ) (ns : List ℕ). n ∷ ns) e h
+first_kept false p q ps qs e h = h
+
+first_from : (b : Bool) (k n j : ℕ) (p : ℕ × Item) (ps : List (ℕ × Item)) → p.0 ≡ k → ((j : ℕ) → slice_get (first_of ps) j ≡ Some n → k + 1 ≤ n) → slice_get (first_of (cond b (p ∷ ps) ps)) j ≡ Some n → k ≤ n
+first_from true k n zero p ps e rest at = omega (arith, e, same_Some p.0 n at)
+first_from true k n (suc j) p ps e rest at = omega (arith, rest j at)
+first_from false k n j p ps e rest at = omega (arith, rest j at)
+
+first_behind : (b : Bool) (k n m : ℕ) (p : ℕ × Item) (all some : List (ℕ × Item)) → p.0 ≡ k → k < n → ((j : ℕ) → slice_get (first_of all) j ≡ Some n → j ≡ length (first_of some))
+    → slice_get (first_of (cond b (p ∷ all) all)) m ≡ Some n → m ≡ length (first_of (cond b (p ∷ some) some))
+first_behind true k n zero p all some e h rest at = absurd (omega (arith, e, h, same_Some p.0 n at))
+first_behind true k n (suc j) p all some e h rest at = ap suc (rest j at)
+first_behind false k n m p all some e h rest at = rest m at
+
+module _ (test : Tree → Bool) where
+  -- an item in the place of another of its kind changes no number
+  numbers_same : (k : ℕ) (before behind : List Item) (x y : Item) → test x.tree ≡ test y.tree → numbers test k (before ++ x ∷ behind) ≡ numbers test k (before ++ y ∷ behind)
+  numbers_same k [] behind x y e =
+      let rest : List (ℕ × Item) = numbered test (k + 1) behind in
+      ap (λ (b : Bool). first_of (cond b ((k, x) ∷ rest) rest)) e ∙ first_kept (test y.tree) (k, x) (k, y) rest rest refl refl
+  numbers_same k (z ∷ before) behind x y e =
+      first_kept (test z.tree) (k, z) (k, z) (numbered test (k + 1) (before ++ x ∷ behind)) (numbered test (k + 1) (before ++ y ∷ behind)) refl (numbers_same (k + 1) before behind x y e)
+
+  number_from : (k : ℕ) (items : List Item) (n j : ℕ) → slice_get (numbers test k items) j ≡ Some n → k ≤ n
+  number_from k [] n j at = absurd (none-some n at)
+  number_from k (x ∷ items) n j at = first_from (test x.tree) k n j (k, x) (numbered test (k + 1) items) refl (λ i. number_from (k + 1) items n i) at
+
+  -- an item of the kind has as many before it as its number is listed behind
+  listed_behind : (k : ℕ) (before behind : List Item) (x : Item) (n m : ℕ) → test x.tree ≡ true → n ≡ k + length before → slice_get (numbers test k (before ++ x ∷ behind)) m ≡ Some n → m ≡ length (numbers test k before)
+  listed_behind k [] behind x n zero t is at = refl
+  listed_behind k [] behind x n (suc m) t is at =
+      let rest : List (ℕ × Item) = numbered test (k + 1) behind in
+      absurd (omega (arith, is, number_from (k + 1) behind n m (ap (λ (b : Bool). slice_get (first_of (cond b ((k, x) ∷ rest) rest)) (suc m)) (sym t) ∙ at)))
+  listed_behind k (z ∷ before) behind x n m t is at =
+      first_behind (test z.tree) k n m (k, z) (numbered test (k + 1) (before ++ x ∷ behind)) (numbered test (k + 1) before) refl (omega (arith, is))
+      (λ i e. listed_behind (k + 1) before behind x n i t (omega (arith, is)) e) at
+
+-- ---- macros
+
+macros_same : (m : Macros) (before behind : List Item) (x y : Item) → ((m : Macros) → macros_after m x.tree ≡ macros_after m y.tree) → (k : ℕ) → macros_at m (before ++ x ∷ behind) k ≡ macros_at m (before ++ y ∷ behind) k
+macros_same m [] behind x y same zero = refl
+macros_same m [] behind x y same (suc k) = ap (λ (n : Macros). macros_at n behind k) (same m)
+macros_same m (z ∷ before) behind x y same zero = refl
+macros_same m (z ∷ before) behind x y same (suc k) = macros_same (macros_after m z.tree) before behind x y same k
+
+-- ---- texts that are too long
+
+none_both : (a b : Option ℕ) → option_or a b ≡ None → (a ≡ None) × (b ≡ None)
+none_both None b e = (refl, e)
+none_both (Some n) b e = absurd (none-some n (sym e))
+
+none_shifted : (f : ℕ → ℕ) (a : Option ℕ) → option_map f a ≡ None → a ≡ None
+none_shifted f None e = refl
+none_shifted f (Some n) e = absurd (none-some (f n) (sym e))
+
+-- the texts of an item are no longer where it stands elsewhere
+here_fits : (at : ℕ) (m : Macros) (item : Item) → first_too_long (placed_texts m item.tree) ≡ None → first_too_long (zip (map (λ place. at + place) (value_places item.tree)) (raw_texts_in m item.tree)) ≡ None
+here_fits at m item e = first-shift at (value_places item.tree) (raw_texts_in m item.tree) ∙ ap (option_map (λ place. at + place)) e
+
+fits_here : (at : ℕ) (m : Macros) (item : Item) → first_too_long (zip (map (λ place. at + place) (value_places item.tree)) (raw_texts_in m item.tree)) ≡ None → first_too_long (placed_texts m item.tree) ≡ None
+fits_here at m item e = none_shifted (λ place. at + place) (first_too_long (placed_texts m item.tree)) (sym (first-shift at (value_places item.tree) (raw_texts_in m item.tree)) ∙ e)
+
+-- the first of some items, and the others
+fit_parts : (at : ℕ) (m : Macros) (item : Item) (items : List Item) → first_too_long (raw_texts_from at m (item ∷ items)) ≡ None
+    → (first_too_long (placed_texts m item.tree) ≡ None) × (first_too_long (raw_texts_from (at + length (item_bytes item)) (macros_after m item.tree) items) ≡ None)
+fit_parts at m item items e =
+    let here = zip (map (λ place. at + place) (value_places item.tree)) (raw_texts_in m item.tree) in
+    let later = raw_texts_from (at + length (item_bytes item)) (macros_after m item.tree) items in
+    let both = none_both (first_too_long here) (first_too_long later) (sym (first-append here later) ∙ e) in
+    (fits_here at m item both.0, both.1)
+
+fit_joined : (at : ℕ) (m : Macros) (item : Item) (items : List Item) → first_too_long (placed_texts m item.tree) ≡ None
+    → first_too_long (raw_texts_from (at + length (item_bytes item)) (macros_after m item.tree) items) ≡ None → first_too_long (raw_texts_from at m (item ∷ items)) ≡ None
+fit_joined at m item items e f =
+    let here = zip (map (λ place. at + place) (value_places item.tree)) (raw_texts_in m item.tree) in
+    let later = raw_texts_from (at + length (item_bytes item)) (macros_after m item.tree) items in
+    first-append here later ∙ ap₂ option_or (here_fits at m item e) f
+
+fit_elsewhere : (at there : ℕ) (m : Macros) (items : List Item) → first_too_long (raw_texts_from at m items) ≡ None → first_too_long (raw_texts_from there m items) ≡ None
+fit_elsewhere at there m [] e = refl
+fit_elsewhere at there m (item ∷ items) e =
+    let parts = fit_parts at m item items e in
+    fit_joined there m item items parts.0 (fit_elsewhere (at + length (item_bytes item)) (there + length (item_bytes item)) (macros_after m item.tree) items parts.1)
+
+-- ---- an entry in the place of another
+
+module _ (before behind : List Item) (x y : Item) (e f : Entry) (x_is : x.tree ≡ EntryTree e) (y_is : y.tree ≡ EntryTree f) where
+  abbrev here : Macros
+  here = macros_at months before (length before)
+
+  abbrev first : List EntryTexts
+  first = gathered entry_in months before
+
+  abbrev others : List EntryTexts
+  others = gathered entry_in here behind
+
+  after_same : (m : Macros) → macros_after m x.tree ≡ macros_after m y.tree
+  after_same m = ap (macros_after m) x_is ∙ sym (ap (macros_after m) y_is)
+
+  told : (i : Item) (g : Entry) → i.tree ≡ EntryTree g → gathered entry_in months (before ++ i ∷ behind) ≡ first ++ texts_of here g ∷ others
+  told i g is = gathered-append entry_in months before (i ∷ behind) ∙ ap (λ (t : Tree). first ++ (entry_in here t ++ gathered entry_in (macros_after here t) behind)) is
+
+  keys_told : (i : Item) (g : Entry) → i.tree ≡ EntryTree g → keys_of (gathered entry_in months (before ++ i ∷ behind)) ≡ keys_of first ++ g.key ∷ keys_of others
+  keys_told i g is = ap keys_of (told i g is) ∙ map-append (λ (entry : EntryTexts). entry.key) first (texts_of here g ∷ others)
+
+  crossrefs_told : (i : Item) (g : Entry) → i.tree ≡ EntryTree g → map crossref_text (gathered entry_in months (before ++ i ∷ behind)) ≡ map crossref_text first ++ crossref_text (texts_of here g) ∷ map crossref_text others
+  crossrefs_told i g is = ap (map crossref_text) (told i g is) ∙ map-append crossref_text first (texts_of here g ∷ others)
+
+  -- only the crossref of the one changes
+  pub amended_tables : (t new : Tables) (m n : ℕ) (text : Option Text) → e.key ≡ f.key → AreTablesOf (before ++ x ∷ behind) t → n ≡ length before → slice_get t.entries.items m ≡ Some n
+      → new.entries ≡ t.entries → new.preambles ≡ t.preambles → new.keys ≡ t.keys → new.definitions ≡ t.definitions → new.crossrefs.items ≡ set t.crossrefs.items m text
+      → text ≡ crossref_text (texts_of here f) → AreTablesOf (before ++ y ∷ behind) new
+  amended_tables t new m n text key are count listed entries preambles keys definitions crossrefs says =
+      let kind : is_entry_tree x.tree ≡ is_entry_tree y.tree = ap is_entry_tree x_is ∙ sym (ap is_entry_tree y_is) in
+      let other : is_preamble_tree x.tree ≡ is_preamble_tree y.tree = ap is_preamble_tree x_is ∙ sym (ap is_preamble_tree y_is) in
+      let at : slice_get (entry_numbers (before ++ x ∷ behind)) m ≡ Some n = ap (λ (ns : List ℕ). slice_get ns m) (sym are.entries) ∙ listed in
+      let place : m ≡ length first = listed_behind is_entry_tree 0 before behind x n m (ap is_entry_tree x_is) (omega (arith, count)) at ∙ entries_counted 0 months before in
+      let same_keys : keys_of (gathered entry_in months (before ++ x ∷ behind)) ≡ keys_of (gathered entry_in months (before ++ y ∷ behind))
+      = keys_told x e x_is ∙ ap (λ (k : Text). keys_of first ++ k ∷ keys_of others) key ∙ sym (keys_told y f y_is) in
+      record {
+        entries = ap (λ v. v.items) entries ∙ are.entries ∙ numbers_same is_entry_tree 0 before behind x y kind;
+        preambles = ap (λ v. v.items) preambles ∙ are.preambles ∙ numbers_same is_preamble_tree 0 before behind x y other;
+        keys = subst (λ k. IsIndexOf (keys_of (gathered entry_in months (before ++ y ∷ behind))) (holding_in k)) (sym keys) (subst (λ (ks : List Text). IsIndexOf ks (holding_in t.keys)) same_keys are.keys);
+        definitions = subst (λ d. AreDefinitionsOf (before ++ y ∷ behind) (texts_at d)) (sym definitions) (λ k. are.definitions k ∙ macros_same months before behind x y after_same k);
+        crossrefs = crossrefs
+            ∙ ap₂ (λ (texts : List (Option Text)) (k : ℕ). set texts k text) (are.crossrefs ∙ crossrefs_told x e x_is) (place ∙ sym (length-map first crossref_text))
+            ∙ set-append_seam (map crossref_text first) (crossref_text (texts_of here e)) (map crossref_text others) text
+            ∙ ap (λ (o : Option Text). map crossref_text first ++ o ∷ map crossref_text others) says
+            ∙ sym (crossrefs_told y f y_is);
+      }
+
+  -- the others are no longer than before
+  pub amended_fits : (at there : ℕ) → first_too_long (raw_texts_from at months (before ++ x ∷ behind)) ≡ None → first_too_long (placed_texts here y.tree) ≡ None
+      → first_too_long (raw_texts_from there months (before ++ y ∷ behind)) ≡ None
+  amended_fits at there fits fit =
+      let start : ℕ = at + length (flat_map item_bytes before) in
+      let new_start : ℕ = there + length (flat_map item_bytes before) in
+      let parts = none_both (first_too_long (raw_texts_from at months before)) (first_too_long (raw_texts_from start here (x ∷ behind)))
+      (sym (first-append (raw_texts_from at months before) (raw_texts_from start here (x ∷ behind))) ∙ sym (ap first_too_long (raw_texts-append at months before (x ∷ behind))) ∙ fits) in
+      let later = (fit_parts start here x behind parts.1).1 in
+      let elsewhere = fit_elsewhere (start + length (item_bytes x)) (new_start + length (item_bytes y)) (macros_after here x.tree) behind later in
+      let behind_fits = subst (λ (m : Macros). first_too_long (raw_texts_from (new_start + length (item_bytes y)) m behind) ≡ None) (after_same here) elsewhere in
+      ap first_too_long (raw_texts-append there months before (y ∷ behind))
+      ∙ first-append (raw_texts_from there months before) (raw_texts_from new_start here (y ∷ behind))
+      ∙ ap₂ option_or (fit_elsewhere at there months before parts.0) (fit_joined new_start here y behind fit behind_fits)
+
+  -- a text of the new one that is too long is too long for the file
+  pub amended_over : (there place : ℕ) → first_too_long (placed_texts here y.tree) ≡ Some place → first_too_long (raw_texts_from there months (before ++ y ∷ behind)) ≡ None → ⊥
+  amended_over there place over fits =
+      let new_start : ℕ = there + length (flat_map item_bytes before) in
+      let parts = none_both (first_too_long (raw_texts_from there months before)) (first_too_long (raw_texts_from new_start here (y ∷ behind)))
+      (sym (first-append (raw_texts_from there months before) (raw_texts_from new_start here (y ∷ behind))) ∙ sym (ap first_too_long (raw_texts-append there months before (y ∷ behind))) ∙ fits) in
+      none-some place (sym (fit_parts new_start here y behind parts.1).0 ∙ over)
