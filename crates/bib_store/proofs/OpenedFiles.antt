@@ -85,9 +85,9 @@ taken_fault bytes front items t kind place fault = ⊎_elim
     fault
 
 pub taken_kept : (bytes front : Text) (items : List Item) (t : IsTaken bytes front items) (tables : Tables) →
-    ((db : Reading) → HasItems (length front) (without_range 0 0 items) db → AreTables db tables) →
+    ((db : Reading) → HasItems (length front) (without_range 0 0 items) db → AreTables db tables) → tables.file_len ≡ length bytes →
     ((db : Reading) → HasItems (length front) (without_range 0 0 items) db → too_long_at db ≡ None) → IsKept front items tables
-taken_kept bytes front items t tables are short =
+taken_kept bytes front items t tables are len short =
     let has : HasItems (length front) (without_range 0 0 items) t.db = taken_items bytes front items t in
     let file : bytes ≡ file_of front items = sym (taken_file bytes front items t) in
     let kept : IsKeptAs t.db front items tables = record {
@@ -99,5 +99,6 @@ taken_kept bytes front items t tables are short =
       front = t.front_is;
       items = t.items_are;
       tables = are t.db has;
+      len = len ∙ ap (length {A = ℕ}) file;
     } in
     record { db = t.db; is = kept }

@@ -87,8 +87,8 @@ spliced ps front items t c inner k is reads =
 
 -- with its tables it is kept
 pub spliced_kept : (ps : List Piece) (front new_front : Text) (items new_items : List Item) (t new_t : Tables) (c : Change) (inner db : Reading) → IsChange ps front items c → IsSpliced ps front items t c inner db
-    → new_front ≡ front_after c.window.with_front front inner.front → new_items ≡ exchanged c.window inner.items items → AreTables db new_t → too_long_at db ≡ None → IsKept new_front new_items new_t
-spliced_kept ps front new_front items new_items t new_t c inner db is s f i tables short =
+    → new_front ≡ front_after c.window.with_front front inner.front → new_items ≡ exchanged c.window inner.items items → AreTables db new_t → new_t.file_len ≡ c.file_len → too_long_at db ≡ None → IsKept new_front new_items new_t
+spliced_kept ps front new_front items new_items t new_t c inner db is s f i tables len short =
     let made : file_of new_front new_items ≡ applied ps (file_of front items) = ap₂ file_of f i ∙ s.made in
     record {
       db = db;
@@ -101,6 +101,7 @@ spliced_kept ps front new_front items new_items t new_t c inner db is s f i tabl
         front = f ∙ s.front_is;
         items = i ∙ sym s.has.same;
         tables = tables;
+        len = len ∙ is.len ∙ ap (length {A = ℕ}) (sym made);
       };
     }
 
@@ -122,36 +123,35 @@ pub record IsAfter (ps : List Piece) (file front : Text) (items : List Item) (t 
   pub made : file_of front items ≡ applied ps file
   pub kept : IsKept front items t
 
-pub after_splice : (ps : List Piece) (file front first second third new_front : Text) (items new_items : List Item) (t new_t : Tables) (c : Change) → IsKept front items t → file_of front items ≡ file
-    → first ≡ front → IsChange ps first items c → second ≡ front → ((inner : Reading) → Reads c.text inner → new_front ≡ front_after c.window.with_front second inner.front) → third ≡ new_front
+pub after_splice : (ps : List Piece) (file front lent new_front : Text) (front_len : ℕ) (items new_items : List Item) (t new_t : Tables) (c : Change) → IsKept front items t → file_of front items ≡ file
+    → lent ≡ front → IsChange ps lent items c → ((inner : Reading) → Reads c.text inner → new_front ≡ front_after c.window.with_front front inner.front) → front_len ≡ length new_front
     → ((inner : Reading) → Reads c.text inner → new_items ≡ exchanged c.window inner.items items)
-    → OfJoined c (length third) items t (λ db. AreTables db new_t × (too_long_at db ≡ None))
+    → OfJoined c front_len items t (λ db. AreTables db new_t × (too_long_at db ≡ None)) → new_t.file_len ≡ c.file_len
     → IsAfter ps file new_front new_items new_t
-after_splice ps file front first second third new_front items new_items t new_t c k same e change f begins g puts made =
+after_splice ps file front lent new_front front_len items new_items t new_t c k same e change begins long puts made len =
     let is : IsChange ps front items c = subst (λ (x : Text). IsChange ps x items c) e change in
     let inner : Reading = is.layout.0 in
     let reads : Reads c.text inner = is.layout.1 in
     let db : Reading = joined c.window k.db inner in
     let s : IsSpliced ps front items t c inner db = spliced ps front items t c inner k is reads in
-    let front_is : new_front ≡ front_after c.window.with_front front inner.front = begins inner reads ∙ ap (λ x. front_after c.window.with_front x inner.front) f in
-    let long : length third ≡ length (front_after c.window.with_front front inner.front) = ap length (g ∙ front_is) in
-    let both = made front k.db inner k.is reads (subst (λ (n : ℕ). HasItems n (exchanged c.window inner.items items) db) (sym long) s.has) in
+    let front_is : new_front ≡ front_after c.window.with_front front inner.front = begins inner reads in
+    let has : HasItems front_len (exchanged c.window inner.items items) db = subst (λ (n : ℕ). HasItems n (exchanged c.window inner.items items) db) (sym (long ∙ ap length front_is)) s.has in
+    let both = made front k.db inner k.is reads has in
     record {
       made = ap₂ file_of front_is (puts inner reads) ∙ s.made ∙ ap (applied ps) same;
-      kept = spliced_kept ps front new_front items new_items t new_t c inner db is s front_is (puts inner reads) both.0 both.1;
+      kept = spliced_kept ps front new_front items new_items t new_t c inner db is s front_is (puts inner reads) both.0 len both.1;
     }
 
-pub after_refusal : (ps : List Piece) (file front first second third new_front : Text) (items : List Item) (t : Tables) (c : Change) → IsKept front items t → file_of front items ≡ file
-    → first ≡ front → IsChange ps first items c → second ≡ front → ((inner : Reading) → Reads c.text inner → new_front ≡ front_after c.window.with_front second inner.front) → third ≡ new_front
-    → OfJoined c (length third) items t (λ db. too_long_at db ≡ None → ⊥)
+pub after_refusal : (ps : List Piece) (file front lent new_front : Text) (front_len : ℕ) (items : List Item) (t : Tables) (c : Change) → IsKept front items t → file_of front items ≡ file
+    → lent ≡ front → IsChange ps lent items c → ((inner : Reading) → Reads c.text inner → new_front ≡ front_after c.window.with_front front inner.front) → front_len ≡ length new_front
+    → OfJoined c front_len items t (λ db. too_long_at db ≡ None → ⊥)
     → IsFile (applied ps file) → ⊥
-after_refusal ps file front first second third new_front items t c k same e change f begins g refused file_is =
+after_refusal ps file front lent new_front front_len items t c k same e change begins long refused file_is =
     let is : IsChange ps front items c = subst (λ (x : Text). IsChange ps x items c) e change in
     let inner : Reading = is.layout.0 in
     let reads : Reads c.text inner = is.layout.1 in
     let db : Reading = joined c.window k.db inner in
     let s : IsSpliced ps front items t c inner db = spliced ps front items t c inner k is reads in
-    let front_is : new_front ≡ front_after c.window.with_front front inner.front = begins inner reads ∙ ap (λ x. front_after c.window.with_front x inner.front) f in
-    let long : length third ≡ length (front_after c.window.with_front front inner.front) = ap length (g ∙ front_is) in
-    spliced_refused ps front items t c inner db s (refused front k.db inner k.is reads (subst (λ (n : ℕ). HasItems n (exchanged c.window inner.items items) db) (sym long) s.has))
+    let has : HasItems front_len (exchanged c.window inner.items items) db = subst (λ (n : ℕ). HasItems n (exchanged c.window inner.items items) db) (sym (long ∙ ap length (begins inner reads))) s.has in
+    spliced_refused ps front items t c inner db s (refused front k.db inner k.is reads has)
     (subst (λ (x : Text). IsFile (applied ps x)) (sym same) file_is)

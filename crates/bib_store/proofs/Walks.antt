@@ -235,6 +235,11 @@ walk_all front_len from to all n place t order within end so_far db kept =
       ap (λ (items : List reading.Item). first_too_long (raw_texts_from (length db.front) months items)) (sym taken) ∙ w.texts,
     )
 
+-- tables are tables of these items, however long the file is said to be
+pub with_len : (items : List reading.Item) (t : Tables) (n : ℕ) → AreTablesOf items t
+    → AreTablesOf items (record { file_len = n; entries = t.entries; preambles = t.preambles; keys = t.keys; definitions = t.definitions; crossrefs = t.crossrefs })
+with_len items t n are = record { entries = are.entries; preambles = are.preambles; keys = are.keys; definitions = are.definitions; crossrefs = are.crossrefs }
+
 pub fault_cases : (f : ItemFault) → (f ≡ Memory) ⊎ ((at : ℕ) × (f ≡ TooLong at))
 fault_cases Memory = inl refl
 fault_cases (TooLong at) = inr (at, refl)

@@ -1,5 +1,5 @@
 -- How a file is kept.
-use Rattle.std.specs.Prelude.{◌≡◌, List, ◌++◌}
+use Rattle.std.specs.Prelude.{◌≡◌, List, ◌++◌, length}
 use Rattle.std.specs.List.{flat_map}
 use Rattle.bib_spec.specs.Text.{Text}
 use Rattle.bib_spec.specs.Reading.{Reading}
@@ -17,12 +17,13 @@ kept_bytes i = i.body ++ i.trail
 abbrev pub file_of : Text → List Item → Text
 file_of front items = front ++ flat_map kept_bytes items
 
--- the front, the items and the tables are those of the reading
+-- the front, the items and the tables are those of the reading, and the tables say how long the file is
 pub record IsKeptAs (db : Reading) (kept_front : Text) (kept_items : List Item) (kept_tables : Tables) : Type 0 where
   pub opens : Opens (file_of kept_front kept_items) db
   pub front : kept_front ≡ db.front
   pub items : kept_items ≡ all_stored db.items
   pub tables : AreTables db kept_tables
+  pub len : kept_tables.file_len ≡ length (file_of kept_front kept_items)
 
 -- the front, the items and the tables are those of a file that can be opened
 pub record IsKept (front : Text) (items : List Item) (tables : Tables) : Type 0 where

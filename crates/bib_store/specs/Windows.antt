@@ -49,6 +49,7 @@ pub record IsChange (pieces : List Piece) (front : Text) (items : List Item) (c 
   pub window : IsWindow items c.window
   pub fit : Fit pieces (file_of front items)
   pub made : applied pieces (file_of front items) ≡ bytes_before c.window front items ++ (c.text ++ bytes_behind c.window items)
+  pub len : c.file_len ≡ length (applied pieces (file_of front items))
   pub short : length (applied pieces (file_of front items)) ≤ file_limit
   pub layout : IsLayoutOf c.text c.layout
   pub begins : c.window.with_front ≡ false → (db : Reading) → Reads c.text db → db.front ≡ []

@@ -70,7 +70,8 @@ fn coming_crossref(
     }
 }
 
-/// Puts the entry that comes in the place of entry `m`. Of the tables only its crossref changes. It is refused where
+/// Puts the entry that comes in the place of entry `m`. Of the tables only its crossref and the
+/// file's length change. It is refused where
 /// memory runs out, or where a raw text is too long; nothing has changed then.
 pub(crate) fn amend<L: ItemList>(
     alloc: Global,
@@ -85,6 +86,7 @@ pub(crate) fn amend<L: ItemList>(
     requires within { m < length tables.old.crossrefs.items }
     ensures items { OnOk result ((inner : Reading) → Reads change.now.text inner → L.items items.new ≡ exchanged change.now.window inner.items (L.items items.old)) }
     ensures tables { OnOk result ((front_len : ℕ) → OfJoined change.now front_len (L.items items.old) tables.old (λ db. AreTables db tables.new × (too_long_at db ≡ None))) }
+    ensures len { OnOk result (tables.new.file_len ≡ change.now.file_len) }
     ensures refused { IfErr result (λ fault. fault ≡ BadSplice → (front_len : ℕ) → OfJoined change.now front_len (L.items items.old) tables.old (λ db. too_long_at db ≡ None → ⊥)) }
     ensures only { IfErr result (λ fault. (fault ≡ BadSplice) ⊎ (fault ≡ Memory)) }
     ensures err { OnErr result ((L.items items.new ≡ L.items items.old) × (tables.new ≡ tables.old)) }
@@ -93,5 +95,6 @@ pub(crate) fn amend<L: ItemList>(
     let item = change.layout.item(change.text.as_slice(), 0);
     items.replace(change.window.from, item.body(), item.trail())?;
     tables.crossrefs[m] = crossref;
+    tables.file_len = change.file_len;
     Ok(())
 }

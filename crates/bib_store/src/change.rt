@@ -1,12 +1,13 @@
 //! What replaces a window of a file.
 
 ghost use Rattle.std.specs.Prelude.{◌≡◌, ◌≤◌, ◌⊎◌, true, false, [], length, None, IfOk, IfErr};
-ghost use Rattle.std.specs.Option.{IfSome};
+ghost use Rattle.std.specs.Option.{IfSome, unwrap_or};
 ghost use Rattle.bib_spec.specs.Bytes.{file_limit};
+ghost use Rattle.bib_spec.specs.Text.{Text as Bytes};
 ghost use Rattle.bib_spec.specs.Reading.{Reading, Reads, HasReading};
 ghost use Rattle.bib_scan.specs.Layout.{IsLayoutOf};
 ghost use Rattle.bib_store.specs.Stored.{file_of};
-ghost use Rattle.bib_store.specs.Windows.{IsWindow, IsWhole, IsChange, Serve, front_after};
+ghost use Rattle.bib_store.specs.Windows.{IsWindow, IsWhole, IsChange, Serve, front_after, bytes_before};
 ghost use Rattle.bib_store.specs.declared.fault.StoreFault.TheVariants.{Memory, BadSplice};
 
 use crate::applying::apply;
@@ -15,14 +16,15 @@ use crate::fitting::fits;
 use crate::list::ItemList;
 use crate::piece::Piece;
 use crate::touching::touched;
-use crate::window::{Window, len_behind, place_of, text_of};
+use crate::window::{Window, text_of};
 use bib_scan::{FILE_LIMIT, Layout, Seq, Text, read};
 use std::alloc::{AllocError, Global};
 
-/// The text that replaces a window, and where its items stand.
+/// The text that replaces a window, and where its items stand; and how many bytes the file has then.
 #[derive(Drop)]
 pub(crate) struct Change {
     pub(crate) window: Window,
+    pub(crate) file_len: usize,
     pub(crate) text: Text,
     pub(crate) layout: Layout,
 }
@@ -57,27 +59,31 @@ pub(crate) fn change_of<L: ItemList>(
     alloc: Global,
     front: &[u8],
     items: &L,
+    file_len: usize,
     window: Window,
     pieces: &[Piece],
 ) -> Result<Option<Change>, StoreFault>
     requires window { IsWindow (L.items items.now) window }
-    requires short { length (file_of front.now (L.items items.now)) ≤ file_limit }
+    requires place { window.place ≡ length (bytes_before window front.now (L.items items.now)) }
+    requires len { file_len ≡ length (file_of front.now (L.items items.now)) }
+    requires short { file_len ≤ file_limit }
     ensures change { IfOk result (λ change. IfSome change (IsChange pieces.now front.now (L.items items.now))) }
     ensures none { IfOk result (λ change. change ≡ None → IsWhole (L.items items.now) window → Serve pieces.now (file_of front.now (L.items items.now)) → ⊥) }
     ensures only { IfErr result (λ fault. fault ≡ Memory) }
 {
     let old = text_of(alloc, front, items, window)?;
-    let place = place_of(front, items, window);
-    if !fits(pieces, place, &old) {
+    if !fits(pieces, window.place, &old) {
         return Ok(None);
     }
-    let text = apply(alloc, &old, place, pieces)?;
-    if place + text.len() + len_behind(front, items, window) > FILE_LIMIT {
+    let text = apply(alloc, &old, window.place, pieces)?;
+    let file_len = file_len - old.len() + text.len();
+    if file_len > FILE_LIMIT {
         return Ok(None);
     }
     match read_part(alloc, &text, window.with_front)? {
         Some(layout) => Ok(Some(Change {
             window,
+            file_len,
             text: Seq::from_vec(text),
             layout,
         })),
@@ -90,36 +96,58 @@ pub(crate) fn find_change<L: ItemList>(
     alloc: Global,
     front: &[u8],
     items: &L,
+    file_len: usize,
     pieces: &[Piece],
 ) -> Result<Change, StoreFault>
-    requires { length (file_of front.now (L.items items.now)) ≤ file_limit }
+    requires len { file_len ≡ length (file_of front.now (L.items items.now)) }
+    requires short { file_len ≤ file_limit }
     ensures change { IfOk result (IsChange pieces.now front.now (L.items items.now)) }
     ensures refused { IfErr result (λ fault. fault ≡ BadSplice → Serve pieces.now (file_of front.now (L.items items.now)) → ⊥) }
     ensures only { IfErr result (λ fault. (fault ≡ BadSplice) ⊎ (fault ≡ Memory)) }
 {
-    let touched = touched(front.len(), items, pieces);
-    if let Some(change) = change_of(alloc, front, items, touched, pieces)? {
+    let touched = touched(front, items, pieces);
+    if let Some(change) = change_of(alloc, front, items, file_len, touched, pieces)? {
         return Ok(change);
     }
     let whole = Window {
         from: 0,
         to: items.count(),
         with_front: true,
+        place: 0,
     };
-    match change_of(alloc, front, items, whole, pieces)? {
+    match change_of(alloc, front, items, file_len, whole, pieces)? {
         Some(change) => Ok(change),
         None => Err(StoreFault::BadSplice),
     }
 }
 
-/// The front that the file has afterwards, in memory of its own.
-pub(crate) fn new_front(alloc: Global, front: &[u8], change: &Change) -> Result<Text, AllocError>
+/// The front that the file has afterwards, in memory of its own, if the change has one.
+pub(crate) fn new_front(alloc: Global, change: &Change) -> Result<Option<Text>, AllocError>
     requires { IsLayoutOf change.now.text change.now.layout }
-    ensures { IfOk result (λ after. (inner : Reading) → Reads change.now.text inner → after ≡ front_after change.now.window.with_front front.now inner.front) }
+    ensures { IfOk result (λ after. (front : Bytes) (inner : Reading) → Reads change.now.text inner → unwrap_or after front ≡ front_after change.now.window.with_front front inner.front) }
 {
-    if change.window.with_front {
-        let inner = change.layout.front(change.text.as_slice());
-        return Ok(Seq::from_vec(inner.to_vec(alloc)?));
+    if !change.window.with_front {
+        return Ok(None);
     }
-    Ok(Seq::from_vec(front.to_vec(alloc)?))
+    let front = change.layout.front(change.text.as_slice());
+    Ok(Some(Seq::from_vec(front.to_vec(alloc)?)))
+}
+
+/// How long the front is afterwards.
+pub(crate) fn front_len(front: &[u8], new: &Option<Text>) -> usize
+    ensures { result ≡ length (unwrap_or new.now front.now) }
+{
+    match new {
+        Some(new) => new.as_slice().len(),
+        None => front.len(),
+    }
+}
+
+/// Puts the new front, if there is one, in place of the old one.
+pub(crate) fn put_front(front: &mut Text, new: Option<Text>)
+    ensures { front.new ≡ unwrap_or new front.old }
+{
+    if let Some(new) = new {
+        *front = new;
+    }
 }

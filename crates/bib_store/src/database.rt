@@ -59,7 +59,7 @@ impl<L: ItemList> Database<L> {
         let Ok((front, items)) = keep_all(alloc, &layout, bytes, empty) else {
             return Err(ReadFault { kind: 10, place: 0 });
         };
-        let tables = Tables::of(alloc, front.as_slice().len(), &items, 0, 0)?;
+        let tables = Tables::of(alloc, bytes.len(), front.as_slice().len(), &items, 0, 0)?;
         Ok(Database {
             alloc,
             front,
@@ -75,6 +75,13 @@ impl<L: ItemList> Database<L> {
     {
         let file = join(self.alloc, self.front.as_slice(), &self.items)?;
         Ok(Seq::from_vec(file))
+    }
+
+    /// How many bytes the file has.
+    pub fn byte_count(&self) -> usize
+        ensures { result ≡ length self.now }
+    {
+        self.tables.file_len
     }
 
     /// The file is one that can be opened: it has a reading, and no raw text in it is too long.

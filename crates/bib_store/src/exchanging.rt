@@ -29,6 +29,7 @@ pub(crate) fn exchange<L: ItemList>(
     requires counted { length tables.old.crossrefs.items ≡ length tables.old.entries.items }
     ensures items { OnOk result ((inner : Reading) → Reads change.now.text inner → L.items items.new ≡ exchanged change.now.window inner.items (L.items items.old)) }
     ensures tables { OnOk result (OfJoined change.now front_len (L.items items.old) tables.old (λ db. AreTables db tables.new × (too_long_at db ≡ None))) }
+    ensures len { OnOk result (tables.new.file_len ≡ change.now.file_len) }
     ensures refused { IfErr result (λ fault. fault ≡ BadSplice → OfJoined change.now front_len (L.items items.old) tables.old (λ db. too_long_at db ≡ None → ⊥)) }
     ensures only { IfErr result (λ fault. (fault ≡ BadSplice) ⊎ (fault ≡ Memory)) }
     ensures err { OnErr result ((L.items items.new ≡ L.items items.old) × (tables.new ≡ tables.old)) }
@@ -55,6 +56,7 @@ fn exchange_all<L: ItemList>(
     ensures items { OnOk result ((inner : Reading) → Reads change.now.text inner → L.items items.new ≡ exchanged change.now.window inner.items (L.items items.old)) }
     ensures tables { IfOk result (λ tables. (inner db : Reading) → Reads change.now.text inner → HasItems front_len (exchanged change.now.window inner.items (L.items items.old)) db
         → AreTables db tables × (too_long_at db ≡ None)) }
+    ensures len { IfOk result (λ tables. tables.file_len ≡ change.now.file_len) }
     ensures refused { IfErr result (λ fault. fault ≡ BadSplice → (inner db : Reading) → Reads change.now.text inner
         → HasItems front_len (exchanged change.now.window inner.items (L.items items.old)) db → too_long_at db ≡ None → ⊥) }
     ensures only { IfErr result (λ fault. (fault ≡ BadSplice) ⊎ (fault ≡ Memory)) }
@@ -66,6 +68,7 @@ fn exchange_all<L: ItemList>(
     let count = items.count() - old_count;
     match Tables::of(
         alloc,
+        change.file_len,
         front_len,
         &*items,
         window.from + count,

@@ -1,6 +1,6 @@
 //! Replacing pieces of a file.
 
-use crate::change::{find_change, new_front};
+use crate::change::{find_change, front_len, new_front, put_front};
 use crate::database::Database;
 use crate::exchanging::exchange;
 use crate::fault::StoreFault;
@@ -24,16 +24,23 @@ impl<L: ItemList> Database<L> {
         ensures only { IfErr result (λ fault. (fault ≡ BadSplice) ⊎ (fault ≡ Memory)) }
         ensures err { OnErr result (self.new ≡ self.old) }
     {
-        let change = find_change(self.alloc, self.front.as_slice(), &self.items, pieces)?;
-        let front = new_front(self.alloc, self.front.as_slice(), &change)?;
+        let change = find_change(
+            self.alloc,
+            self.front.as_slice(),
+            &self.items,
+            self.tables.file_len,
+            pieces,
+        )?;
+        let front = new_front(self.alloc, &change)?;
+        let front_len = front_len(self.front.as_slice(), &front);
         exchange(
             self.alloc,
-            front.as_slice().len(),
+            front_len,
             &mut self.items,
             &mut self.tables,
             &change,
         )?;
-        self.front = front;
+        put_front(&mut self.front, front);
         Ok(())
     }
 }

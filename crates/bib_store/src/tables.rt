@@ -19,6 +19,8 @@ use std::alloc::Global;
 /// What is kept beside the items of a file.
 #[derive(Drop)]
 pub(crate) struct Tables {
+    /// How many bytes the file has.
+    pub file_len: usize,
     /// The numbers that the entries have among the items.
     pub entries: Vec<usize>,
     /// The numbers that the preambles have among the items.
@@ -44,11 +46,12 @@ impl Tables {
     ghost use Rattle.bib_store.specs.ItemTexts.{OfTree, own_text, first_too_long, placed_texts};
     ghost use Rattle.bib_store.specs.Beside.{AreTablesOf, AreTables, IsKept, IsStep, IsTooLongAt, OfView};
 
-    /// The tables of a file whose front has `front_len` bytes and whose items are these, but for those from number `from`
-    /// up to `to`. They take memory for the keys, the texts of macros and the texts of crossrefs. The file is refused if
+    /// The tables of a file of `file_len` bytes whose front has `front_len`, and whose items are these, but for those from
+    /// number `from` up to `to`. They take memory for the keys, the texts of macros and the texts of crossrefs. The file is refused if
     /// one of its raw texts is too long.
     pub(crate) fn of<L: ItemList>(
         alloc: Global,
+        file_len: usize,
         front_len: usize,
         items: &L,
         from: usize,
@@ -57,6 +60,7 @@ impl Tables {
         requires order { from ≤ to }
         requires within { to ≤ length (L.items items.now) }
         ensures tables { IfOk result (λ t. (db : Reading) → IsKept front_len (without_range from to (L.items items.now)) db → AreTables db t) }
+        ensures len { IfOk result (λ t. t.file_len ≡ file_len) }
         ensures texts { OnOk result ((db : Reading) → IsKept front_len (without_range from to (L.items items.now)) db → too_long_at db ≡ None) }
         ensures fault { IfErr result (λ fault. ((fault.kind ≡ 10) × (fault.place ≡ 0))
             ⊎ ((fault.kind ≡ 8) × ((db : Reading) → IsKept front_len (without_range from to (L.items items.now)) db → too_long_at db ≡ Some fault.place))) }
@@ -71,6 +75,7 @@ impl Tables {
             }
             start = behind(start, body, items.trail(k));
         }
+        tables.file_len = file_len;
         Ok(tables)
     }
 
@@ -80,6 +85,7 @@ impl Tables {
         ensures ends { EndsBy 0 result.definitions }
     {
         Tables {
+            file_len: 0,
             entries: Vec::new(alloc),
             preambles: Vec::new(alloc),
             keys: KeyIndex::new(alloc),

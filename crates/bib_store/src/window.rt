@@ -1,41 +1,19 @@
 //! A window on a file.
 
-ghost use Rattle.std.specs.Prelude.{◌≡◌, ◌≤◌, length, IfOk};
-ghost use Rattle.bib_spec.specs.Bytes.{file_limit};
-ghost use Rattle.bib_store.specs.Stored.{file_of};
-ghost use Rattle.bib_store.specs.Windows.{IsWindow, front_within, bytes_before, bytes_within, bytes_behind};
+ghost use Rattle.std.specs.Prelude.{◌≡◌, IfOk};
+ghost use Rattle.bib_store.specs.Windows.{IsWindow, front_within, bytes_within};
 
-use crate::joining::start_of;
 use crate::list::ItemList;
 use std::alloc::{AllocError, Global};
 
-/// Items that lie together, from one number up to another, and whether the front before them is in the window too.
+/// Items that lie together, from one number up to another, and whether the front before them is in the window too. It
+/// begins at this place of the file.
 #[derive(Clone, Copy, Debug)]
 pub(crate) struct Window {
     pub(crate) from: usize,
     pub(crate) to: usize,
     pub(crate) with_front: bool,
-}
-
-/// The place where the window begins in the file.
-pub(crate) fn place_of<L: ItemList>(front: &[u8], items: &L, window: Window) -> usize
-    requires window { IsWindow (L.items items.now) window }
-    requires short { length (file_of front.now (L.items items.now)) ≤ file_limit }
-    ensures { result ≡ length (bytes_before window front.now (L.items items.now)) }
-{
-    if window.with_front {
-        return 0;
-    }
-    start_of(front.len(), items, window.from)
-}
-
-/// How many bytes stand behind the window.
-pub(crate) fn len_behind<L: ItemList>(front: &[u8], items: &L, window: Window) -> usize
-    requires window { IsWindow (L.items items.now) window }
-    requires short { length (file_of front.now (L.items items.now)) ≤ file_limit }
-    ensures { result ≡ length (bytes_behind window (L.items items.now)) }
-{
-    start_of(front.len(), items, items.count()) - start_of(front.len(), items, window.to)
+    pub(crate) place: usize,
 }
 
 /// The front, where it is in the window.

@@ -3,42 +3,43 @@ use Rattle.bib_spec.specs.Bytes.{file_limit}
 use Rattle.bib_spec.specs.Text.{Text}
 use Rattle.bib_spec.specs.Reading.{Reading, Reads, HasReading}
 use Rattle.bib_scan.specs.Layout.{IsLayoutOf}
+use Rattle.bib_store.specs.Windows.{bytes_behind}
 use Rattle.bib_store.proofs.Changes.{not_served, lent_made, too_long_made, unread_made, len-around}
 use Rattle.bib_store.proofs.change.change_of.Goals as goal
 
 pub returns-then-not-fits-clause-none : goal.returns-then-not-fits-clause-none
 returns-then-not-fits-clause-none g c = λ _ whole.
-    not_served c.args.pieces.now c.args.front.now (g.L.ItemList.items c.args.items.now) c.args.window c.place_of-place.result c.deref.result.now
-    c.requires.window whole c.place_of-place.ensures (c.deref.ensures.value ∙ c.in_ok-old.ensures) (λ f. let e : false ≡ true = c.if-not-fits.ensures.1 f in cc)
+    not_served c.args.pieces.now c.args.front.now (g.L.ItemList.items c.args.items.now) c.args.window c.args.window.place c.deref.result.now
+    c.requires.window whole c.requires.place (c.deref.ensures.value ∙ c.in_ok-old.ensures) (λ f. let e : false ≡ true = c.if-not-fits.ensures.1 f in cc)
 
-pub overflow_add-place : goal.overflow_add-place
-overflow_add-place g c =
-    omega (arith, c.place_of-place.ensures, c.requires.short, c.len.ensures, c.in_ok-text.text.small, len-around c.args.window c.args.front.now (g.L.ItemList.items c.args.items.now) c.requires.window)
-
-pub overflow_add-place-2 : goal.overflow_add-place-2
-overflow_add-place-2 g c =
-    omega (arith, c.place_of-place.ensures, c.len_behind.ensures, c.requires.short, c.len.ensures, c.in_ok-text.text.small, len-around c.args.window c.args.front.now (g.L.ItemList.items c.args.items.now) c.requires.window)
-
-pub returns-then-place-len-gt-FILE_LIMIT-clause-none :
-    goal.returns-then-place-len-gt-FILE_LIMIT-clause-none
-returns-then-place-len-gt-FILE_LIMIT-clause-none g c = λ _ whole.
+pub overflow_sub-file_len : goal.overflow_sub-file_len
+overflow_sub-file_len g c =
     let items = g.L.ItemList.items c.args.items.now in
-    let made = lent_made c.args.pieces.now c.args.front.now items c.args.window c.place_of-place.result c.in_ok-old.old.items c.deref.result.now c.deref-2.result.now c.in_ok-text.text.items
-    c.requires.window c.place_of-place.ensures c.in_ok-old.ensures c.deref.ensures.value (c.if-not-fits.ensures.0 refl) c.deref-2.ensures.value c.in_ok-text.ensures in
-    too_long_made c.args.pieces.now c.args.front.now items c.args.window c.place_of-place.result c.in_ok-text.text.items c.len_behind.result made c.place_of-place.ensures c.len_behind.ensures (omega (arith, c.if-place-len-gt-FILE_LIMIT.true, c.len.ensures, c.in_ok-text.text.ok))
+    omega (arith, c.requires.len, c.len.ensures, ap (length {A = ℕ}) c.in_ok-old.ensures, len-around c.args.window c.args.front.now items c.requires.window)
+
+pub returns-then-file_len-gt-FILE_LIMIT-clause-none : goal.returns-then-file_len-gt-FILE_LIMIT-clause-none
+returns-then-file_len-gt-FILE_LIMIT-clause-none g c = λ _ whole.
+    let items = g.L.ItemList.items c.args.items.now in
+    let around = len-around c.args.window c.args.front.now items c.requires.window in
+    let made = lent_made c.args.pieces.now c.args.front.now items c.args.window c.args.window.place c.in_ok-old.old.items c.deref.result.now c.deref-2.result.now c.in_ok-text.text.items
+    c.requires.window c.requires.place c.in_ok-old.ensures c.deref.ensures.value (c.if-not-fits.ensures.0 refl) c.deref-2.ensures.value c.in_ok-text.ensures in
+    too_long_made c.args.pieces.now c.args.front.now items c.args.window c.args.window.place c.in_ok-text.text.items (length (bytes_behind c.args.window items)) made c.requires.place refl
+    (omega (arith, c.if-file_len-gt-FILE_LIMIT.true, around, c.requires.len, c.requires.place, c.len.ensures, c.len-2.ensures, ap (length {A = ℕ}) c.in_ok-old.ensures))
 
 pub returns-in-Some-clause-change : goal.returns-in-Some-clause-change
 returns-in-Some-clause-change g c =
     let items = g.L.ItemList.items c.args.items.now in
     let text : c.deref-3.result.now ≡ c.from_vec.result = c.deref-3.ensures.value ∙ sym c.from_vec.ensures in
-    let made = lent_made c.args.pieces.now c.args.front.now items c.args.window c.place_of-place.result c.in_ok-old.old.items c.deref.result.now c.deref-2.result.now c.from_vec.result
-    c.requires.window c.place_of-place.ensures c.in_ok-old.ensures c.deref.ensures.value (c.if-not-fits.ensures.0 refl) c.deref-2.ensures.value (c.from_vec.ensures ∙ c.in_ok-text.ensures) in
+    let made = lent_made c.args.pieces.now c.args.front.now items c.args.window c.args.window.place c.in_ok-old.old.items c.deref.result.now c.deref-2.result.now c.from_vec.result
+    c.requires.window c.requires.place c.in_ok-old.ensures c.deref.ensures.value (c.if-not-fits.ensures.0 refl) c.deref-2.ensures.value (c.from_vec.ensures ∙ c.in_ok-text.ensures) in
+    let around = len-around c.args.window c.args.front.now items c.requires.window in
     let layout : IsLayoutOf c.deref-3.result.now c.in-Some.layout = rw c.in-Some.is at c.in_ok-layout.ensures.layout in
     record {
       window = c.requires.window;
       fit = made.fit;
       made = made.made;
-      short = omega (arith, made.long, c.if-place-len-gt-FILE_LIMIT.false, c.place_of-place.ensures, c.len_behind.ensures, c.len.ensures, c.in_ok-text.text.ok, ap (length {A = ℕ}) c.from_vec.ensures);
+      len = omega (arith, made.long, around, c.requires.len, c.len.ensures, c.len-2.ensures, ap (length {A = ℕ}) c.in_ok-old.ensures, ap (length {A = ℕ}) c.from_vec.ensures);
+      short = omega (arith, made.long, around, c.if-file_len-gt-FILE_LIMIT.false, c.requires.len, c.len.ensures, c.len-2.ensures, ap (length {A = ℕ}) c.in_ok-old.ensures, ap (length {A = ℕ}) c.from_vec.ensures);
       layout = subst (λ (t : Text). IsLayoutOf t c.in-Some.layout) text layout;
       begins = λ inner db reads.
           let begins : c.args.window.with_front ≡ false → (db : Reading) → Reads c.deref-3.result.now db → db.front ≡ [] = rw c.in-Some.is at c.in_ok-layout.ensures.begins in
@@ -48,8 +49,8 @@ returns-in-Some-clause-change g c =
 pub returns-clause-none : goal.returns-clause-none
 returns-clause-none g c = λ _ whole.
     let items = g.L.ItemList.items c.args.items.now in
-    let made = lent_made c.args.pieces.now c.args.front.now items c.args.window c.place_of-place.result c.in_ok-old.old.items c.deref.result.now c.deref-2.result.now c.in_ok-text.text.items
-    c.requires.window c.place_of-place.ensures c.in_ok-old.ensures c.deref.ensures.value (c.if-not-fits.ensures.0 refl) c.deref-2.ensures.value c.in_ok-text.ensures in
+    let made = lent_made c.args.pieces.now c.args.front.now items c.args.window c.args.window.place c.in_ok-old.old.items c.deref.result.now c.deref-2.result.now c.in_ok-text.text.items
+    c.requires.window c.requires.place c.in_ok-old.ensures c.deref.ensures.value (c.if-not-fits.ensures.0 refl) c.deref-2.ensures.value c.in_ok-text.ensures in
     unread_made c.args.pieces.now c.args.front.now items c.args.window c.in_ok-text.text.items c.requires.window whole made
     (λ front short reads. c.in_ok-layout.ensures.none c.in-None.is front
     (subst (λ (t : Text). length t ≤ file_limit) (sym c.deref-3.ensures.value) short)

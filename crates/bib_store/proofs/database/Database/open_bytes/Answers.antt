@@ -21,7 +21,7 @@ invariant_of-result g c =
     let items = g.L.ItemList.items c.in-Ok.items in
     let t = taken c.args.bytes.now c.in-Ok.front items c.in_ok-layout.layout c.in_ok-layout.ensures.found c.in-Ok.ensures.front c.in-Ok.ensures.items in
     taken_kept c.args.bytes.now c.in-Ok.front items t c.in_ok-tables.tables
-    (λ db has. c.in_ok-tables.ensures.tables db (rw c.as_slice.ensures has)) (λ db has. c.in_ok-tables.ensures.texts db (rw c.as_slice.ensures has))
+    (λ db has. c.in_ok-tables.ensures.tables db (rw c.as_slice.ensures has)) c.in_ok-tables.ensures.len (λ db has. c.in_ok-tables.ensures.texts db (rw c.as_slice.ensures has))
 
 pub returns-clause-opened : goal.returns-clause-opened
 returns-clause-opened g c =

@@ -19,6 +19,7 @@ returns-in_err-crossref-clause-too_long c =
 pub returns-clause-step : goal.returns-clause-step
 returns-clause-step c =
     let new : Tables = record {
+      file_len = c.add_key.new.self.file_len;
       entries = c.push.new.self;
       preambles = c.add_key.new.self.preambles;
       keys = c.add_key.new.self.keys;

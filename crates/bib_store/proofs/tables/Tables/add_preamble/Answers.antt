@@ -7,6 +7,7 @@ pub returns-clause-step : goal.returns-clause-step
 returns-clause-step c =
     let old = c.args.self.now in
     let new : Tables = record {
+      file_len = c.args.self.now.file_len;
       entries = old.entries;
       preambles = c.push.new.self;
       keys = old.keys;
