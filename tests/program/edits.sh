@@ -45,6 +45,17 @@ given_edit '@inproceedings{c, crossref = {p}}@proceedings{p}' 'remove\tp'
 given wanted 'applied 0\n'
 edit; ends_with 1; writes wanted; says 'bibkeep: line 1: 39 Referred'
 
+# An edit sees the crossrefs that the edits before it left.
+given_edit '@misc{c}@misc{p}@misc{q}' 'set\tc\tcrossref\t{P}\nremove\tp'
+given wanted 'applied 1\n'
+edit; ends_with 1; writes wanted; says 'bibkeep: line 2: 39 Referred'; leaves '@misc{c,\n  crossref = {P}}@misc{p}@misc{q}'
+given_edit '@misc{c, crossref = {p}}@misc{p}@misc{q}' 'set\tc\tcrossref\t{q}\nremove\tp\nremove\tq'
+given wanted 'applied 2\n'
+edit; ends_with 1; writes wanted; says 'bibkeep: line 3: 39 Referred'; leaves '@misc{c, crossref = {q}}@misc{q}'
+given_edit '@misc{c, crossref = {p}}@misc{p}' 'drop\tc\tcrossref\nremove\tp'
+given wanted 'applied 2\n'
+edit; ends_with 0; writes wanted; says_nothing; leaves '@misc{c}'
+
 # Only the line that was asked for differs.
 given_edit '@string{m = 1}\n@Article( a ,\n\tT = {x}  # m,\n  y="z" ,\n)\ntail @ end\n' 'set\tA\ty\t{w}\n'
 cp edited.bib before.bib

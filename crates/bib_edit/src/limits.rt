@@ -11,14 +11,6 @@ use bib_scan::{FILE_LIMIT, Parts};
 use bib_store::{Database, ItemList};
 use bib_value::{RAW_LIMIT, raw_len};
 
-/// How long the file is, in bytes.
-fn file_len<L: ItemList>(db: &Database<L>) -> usize
-    ensures { result ≡ length db.now }
-{
-    db.opens();
-    db.item_place(db.item_count())
-}
-
 /// Whether the file would be too long if so many of its bytes went and so many others came.
 pub(crate) fn is_file_too_long<L: ItemList>(
     db: &Database<L>,
@@ -28,7 +20,7 @@ pub(crate) fn is_file_too_long<L: ItemList>(
     ensures { IsTrue result ↔ file_limit + old_len < length db.now + new_len }
 {
     db.opens();
-    new_len.saturating_sub(old_len) > FILE_LIMIT - file_len(db)
+    new_len.saturating_sub(old_len) > FILE_LIMIT - db.byte_count()
 }
 
 /// Whether the value's raw text would be too long in item `n`.
