@@ -1,6 +1,6 @@
 -- A change that lets an entry give way to another with the same key: the list, and the file that it makes.
-use Rattle.std.proofs.Common.{◌≡◌, ℕ, zero, suc, ◌+◌, ◌-◌, ◌<◌, ◌≤◌, Bool, true, false, List, [], ◌∷◌, ◌++◌, length, take, drop, map, set, slice_get, get_or, Option, Some, None, refl, sym, ◌∙◌, ap, ap₂, subst, arith, take-append-drop, append_assoc, length-append}
-use Rattle.std.proofs.lemmas.Option.{same_Some, slice_get-get_or, slice_get_within, get_or_from_slice_get}
+use Rattle.std.proofs.Common.{◌≡◌, ℕ, ◌+◌, ◌-◌, ◌<◌, ◌≤◌, true, false, List, [], ◌∷◌, ◌++◌, length, take, drop, map, set, slice_get, get_or, Option, Some, None, refl, sym, ◌∙◌, ap, ap₂, subst, arith, take-append-drop, append_assoc}
+use Rattle.std.proofs.lemmas.Option.{slice_get-get_or, slice_get_within, get_or_from_slice_get}
 use Rattle.std.proofs.lemmas.List.{drop_more, take-set, drop-set, length-take-le, length-map}
 use Rattle.std.proofs.lemmas.Cmp.{ranked}
 use Rattle.std.specs.Prelude.{Result, Ok, Err, IfOk, IfErr, OnOk, IfSome}
@@ -33,7 +33,7 @@ use Rattle.bib_store.specs.Defined.{texts_at}
 use Rattle.bib_store.specs.ItemTexts.{first_too_long, placed_texts, row_texts, crossref_in, OfRows}
 use Rattle.bib_store.specs.Beside.{AreTables, AreTablesOf}
 use Rattle.bib_store.specs.Stored.{IsKeptAs, IsKept}
-use Rattle.bib_store.specs.Windows.{IsWindow, OfJoined, exchanged, joined, front_after}
+use Rattle.bib_store.specs.Windows.{IsWindow, OfJoined, exchanged, joined}
 use Rattle.bib_store.specs.Amending.{HaveOneKey, IsAmendment, OfComing}
 use Rattle.bib_store.proofs.TableSteps.{other_kind, entries_counted}
 use Rattle.bib_store.proofs.MacrosBehind.{macros_taken}

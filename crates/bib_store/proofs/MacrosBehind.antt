@@ -47,17 +47,9 @@ definitions-same items item table same are n = ⊎_elim
     (λ before. are n ∙ sym (macros_before months items item n before))
     (cases_lt (length items) n)
 
--- so it is where the item is no definition
-pub definitions-other : (items : List Item) (item : Item) (table : ℕ → Macros) → ((d : Definition) → item.tree ≢ DefinitionTree d) → AreDefinitionsOf items table → AreDefinitionsOf (items ++ item ∷ []) table
-definitions-other items item table other are = definitions-same items item table (after_other (macros_at months items (length items)) item.tree other) are
-
 -- what follows does not change what macros stand for
 pub macros_taken : (m : Macros) (items : List Item) (k n : ℕ) → k ≤ n → macros_at m (take n items) k ≡ macros_at m items k
 macros_taken m items zero n h = refl
 macros_taken m items (suc k) zero h = absurd (not-suc-le-zero h)
 macros_taken m [] (suc k) (suc n) h = refl
 macros_taken m (x ∷ items) (suc k) (suc n) h = macros_taken (macros_after m x.tree) items k n (le_of_suc-le-suc h)
-
--- the table of the items read so far says what the next one sees
-pub definitions_so_far : (items : List Item) (n : ℕ) (table : ℕ → Macros) → AreDefinitionsOf (take n items) table → table n ≡ macros_at months items n
-definitions_so_far items n table are = are n ∙ macros_taken months items n n (let e : n ≤ n = omega arith in e)

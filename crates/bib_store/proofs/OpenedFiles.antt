@@ -17,7 +17,7 @@ use Rattle.bib_store.specs.declared.tables.Tables.{Tables}
 use Rattle.bib_store.specs.Items.{item}
 use Rattle.bib_store.specs.Meaning.{OfReading, IsTextFault, IsOpenFault}
 use Rattle.bib_store.specs.Tables.{stored, all_stored, without_range}
-use Rattle.bib_store.specs.Beside.{IsKept as HasItems, AreTables}
+use Rattle.bib_store.specs.Beside.{HasItems, AreTables}
 use Rattle.bib_store.specs.Stored.{file_of, IsKeptAs, IsKept}
 use Rattle.bib_store.proofs.KeptItems.{length-stored, file-stored}
 

@@ -21,7 +21,7 @@ use Rattle.bib_store.specs.Items.{item, item_at}
 use Rattle.bib_store.specs.Tables.{stored, without_range}
 use Rattle.bib_store.specs.Defined.{texts_at}
 use Rattle.bib_store.specs.ItemTexts.{first_too_long, placed_texts, OfTree}
-use Rattle.bib_store.specs.Beside.{AreTablesOf, AreTables, IsKept, IsStep, IsTooLongAt}
+use Rattle.bib_store.specs.Beside.{AreTablesOf, AreTables, HasItems, IsStep, IsTooLongAt}
 use Rattle.bib_store.proofs.ItemsMore.{first-append, first-shift, raw_texts-append, too_long_within}
 
 -- ---- lists
@@ -95,7 +95,7 @@ pub record IsItemAt (db : Reading) (n : ℕ) (kept : Item) : Type 0 where
   pub trail : it.trail ≡ kept.trail
 
 item_is : (front_len from to : ℕ) (all : List Item) (db : Reading) (n k : ℕ) → from ≤ to → to ≤ length all → k ≡ cond (nat_lt n from) n (n + (to - from)) → n < length all - (to - from)
-    → IsKept front_len (without_range from to all) db → IsItemAt db n (item_at all k)
+    → HasItems front_len (without_range from to all) db → IsItemAt db n (item_at all k)
 item_is front_len from to all db n k order within number low kept =
     let count : length db.items ≡ length all - (to - from) = sym (length-map db.items stored) ∙ ap (λ (l : List Item). length l) kept.same ∙ count_kept from to all order within in
     ⊎_elim
@@ -148,7 +148,7 @@ pub record IsWalked (db : Reading) (n place : ℕ) (t : Tables) : Type 0 where
   pub texts : first_too_long (raw_texts_from (length db.front) months (take n db.items)) ≡ None
 
 pub record WalkedTo (front_len : ℕ) (kept : List Item) (n place : ℕ) (t : Tables) : Type 0 where
-  pub walked : (db : Reading) → IsKept front_len kept db → IsWalked db n place t
+  pub walked : (db : Reading) → HasItems front_len kept db → IsWalked db n place t
 
 pub walk_start : (front_len : ℕ) (kept : List Item) (t : Tables) → AreTablesOf [] t → WalkedTo front_len kept 0 front_len t
 walk_start front_len kept t none = record {
@@ -209,7 +209,7 @@ module _ (front_len from to : ℕ) (all : List Item) (n k place : ℕ) (order : 
       → (place + at < 2 ^ 64 → result ≡ place + at)
       → OfTree body (λ tree. IsTooLongAt n tree t at)
       → WalkedTo front_len (without_range from to all) n place t
-      → (db : Reading) → IsKept front_len (without_range from to all) db → too_long_at db ≡ Some result
+      → (db : Reading) → HasItems front_len (without_range from to all) db → too_long_at db ≡ Some result
   walk_over body t at result body_is reaches over so_far db kept =
       let w = so_far.walked db kept in
       let i = item_is front_len from to all db n k order within number low kept in
@@ -226,7 +226,7 @@ module _ (front_len from to : ℕ) (all : List Item) (n k place : ℕ) (order : 
 
 pub walk_all : (front_len from to : ℕ) (all : List Item) (n place : ℕ) (t : Tables) → from ≤ to → to ≤ length all → length all - (to - from) ≤ n
     → WalkedTo front_len (without_range from to all) n place t
-    → (db : Reading) → IsKept front_len (without_range from to all) db → AreTables db t × (too_long_at db ≡ None)
+    → (db : Reading) → HasItems front_len (without_range from to all) db → AreTables db t × (too_long_at db ≡ None)
 walk_all front_len from to all n place t order within end so_far db kept =
     let w = so_far.walked db kept in
     let count : length db.items ≡ length all - (to - from) = sym (length-map db.items stored) ∙ ap (λ (l : List Item). length l) kept.same ∙ count_kept from to all order within in

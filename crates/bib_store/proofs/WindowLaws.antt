@@ -1,6 +1,6 @@
 -- What stands before, in and behind a window.
-use Rattle.std.proofs.Common.{◌≡◌, ℕ, ◌+◌, ◌-◌, ◌≤◌, ◌<◌, Bool, true, false, List, [], ◌∷◌, ◌++◌, length, take, drop, get_or, refl, sym, ◌∙◌, ap, arith, append_assoc, length-append, length-drop, take-append-drop}
-use Rattle.std.proofs.lemmas.List.{drop-drop, take_more, take_all, append-nil, get_or-drop, flat_map_more}
+use Rattle.std.proofs.Common.{◌≡◌, ℕ, ◌+◌, ◌-◌, ◌≤◌, ◌<◌, Bool, true, false, List, [], ◌∷◌, ◌++◌, length, take, drop, get_or, refl, sym, ◌∙◌, ap, arith, append_assoc, length-drop, take-append-drop}
+use Rattle.std.proofs.lemmas.List.{drop-drop, take_more, append-nil, get_or-drop, flat_map_more}
 use Rattle.std.proofs.lemmas.List.Concat.{flat_map-append}
 use Rattle.std.specs.List.{flat_map, between}
 use Rattle.bib_spec.specs.Text.{Text}
@@ -18,29 +18,9 @@ no_item = item [] []
 
 -- ---- walking over items
 
--- one item more
-pub bytes-more : (items : List Item) (n : ℕ) → n < length items → all_bytes (take (n + 1) items) ≡ all_bytes (take n items) ++ kept_bytes (item_at items n)
-bytes-more items n h =
-    ap all_bytes (take_more items n no_item h)
-    ∙ flat_map-append kept_bytes (take n items) (item_at items n ∷ [])
-    ∙ ap (λ l. all_bytes (take n items) ++ l) (append-nil (kept_bytes (item_at items n)))
-
 -- what the items up to a number take of all
 pub bytes-split : (items : List Item) (n : ℕ) → all_bytes (take n items) ++ all_bytes (drop n items) ≡ all_bytes items
 bytes-split items n = sym (flat_map-append kept_bytes (take n items) (drop n items)) ∙ ap all_bytes (take-append-drop n items)
-
-pub len-split : (items : List Item) (n : ℕ) → length (all_bytes (take n items)) + length (all_bytes (drop n items)) ≡ length (all_bytes items)
-len-split items n = sym (length-append (all_bytes (take n items)) (all_bytes (drop n items))) ∙ ap length (bytes-split items n)
-
-pub len-more : (items : List Item) (n : ℕ) → n < length items
-    → length (all_bytes (take (n + 1) items)) ≡ length (all_bytes (take n items)) + (length (item_at items n).body + length (item_at items n).trail)
-len-more items n h =
-    ap length (bytes-more items n h)
-    ∙ length-append (all_bytes (take n items)) (kept_bytes (item_at items n))
-    ∙ ap (λ m. length (all_bytes (take n items)) + m) (length-append (item_at items n).body (item_at items n).trail)
-
-pub len-to : (items : List Item) (n : ℕ) → length (all_bytes (take n items)) ≤ length (all_bytes items)
-len-to items n = omega (arith, len-split items n)
 
 -- one item more from a number on
 pub between-more : (items : List Item) (from n : ℕ) → from ≤ n → n < length items → between from (n + 1) items ≡ between from n items ++ item_at items n ∷ []
@@ -87,7 +67,3 @@ file-around w front items is =
     ap (λ l. front ++ l) (items-around items w.from w.to is.ordered)
     ∙ around_front w.with_front front (all_bytes (take w.from items)) (all_bytes (between w.from w.to items)) (all_bytes (drop w.to items))
     (λ b. ap (λ n. all_bytes (take n items)) (is.begins b))
-
--- all items end where the file does
-pub len_whole : (items : List Item) (n : ℕ) → n ≡ length items → length (all_bytes (take n items)) ≡ length (all_bytes items)
-len_whole items n e = ap (λ l. length (all_bytes l)) (take_all n items (omega arith))

@@ -31,7 +31,7 @@ abbrev pub AreTables : Reading → Tables → Type 0
 AreTables db t = AreTablesOf db.items t
 
 -- a file that is not too long has a front of this length, and these items
-pub record IsKept (front_len : ℕ) (kept : List Item) (db : Reading) : Type 0 where
+pub record HasItems (front_len : ℕ) (kept : List Item) (db : Reading) : Type 0 where
   pub items : All (IsItem name_limit) db.items
   pub file : length (bytes_of db) ≤ file_limit
   pub front : length db.front ≡ front_len

@@ -13,7 +13,7 @@ use Rattle.bib_store.specs.declared.change.Change.{Change}
 use Rattle.bib_store.specs.declared.tables.Tables.{Tables}
 use Rattle.bib_store.specs.Stored.{kept_bytes, file_of, IsKeptAs}
 use Rattle.bib_store.specs.Tables.{all_stored}
-use Rattle.bib_store.specs.Beside.{IsKept as HasItems}
+use Rattle.bib_store.specs.Beside.{HasItems}
 
 -- the window lies in the items, and it begins the file if it has the front
 pub record IsWindow (items : List Item) (w : Window) : Type 0 where

@@ -5,7 +5,8 @@ use crate::fault::StoreFault;
 use crate::joining::{join, start_of};
 use crate::keeping::keep_all;
 use crate::list::ItemList;
-use crate::preambles::{preamble_text, preamble_value};
+use crate::measuring::short_text;
+use crate::preambles::preamble_value;
 use crate::tables::Tables;
 use bib_scan::{ItemView, ReadFault, Seq, Text, read};
 use bib_value::MacroTable;
@@ -211,7 +212,7 @@ impl<L: ItemList> Database<L> {
     {
         let m = self.tables.preambles[n];
         let value = preamble_value(&self.item(m));
-        preamble_text(self.alloc, value, &self.macros_at(m))
+        short_text(self.alloc, value, &self.macros_at(m))
     }
 
     /// What macros stand for before item `n`, or at the end of the file.

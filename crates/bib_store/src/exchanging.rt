@@ -4,7 +4,7 @@ ghost use Rattle.std.specs.Prelude.{◌≡◌, ◌⊎◌, None, length, IfOk, If
 ghost use Rattle.bib_spec.specs.Reading.{Reading, Reads};
 ghost use Rattle.bib_spec.specs.Texts.{too_long_at};
 ghost use Rattle.bib_scan.specs.Layout.{IsLayoutOf};
-ghost use Rattle.bib_store.specs.Beside.{IsKept as HasItems, AreTables};
+ghost use Rattle.bib_store.specs.Beside.{HasItems, AreTables};
 ghost use Rattle.bib_store.specs.Windows.{IsWindow, OfJoined, exchanged};
 ghost use Rattle.bib_store.specs.declared.fault.StoreFault.TheVariants.{Memory, BadSplice};
 

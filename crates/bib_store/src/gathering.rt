@@ -5,9 +5,7 @@ ghost use Rattle.std.specs.List.{AllZip, AllByRecursion};
 ghost use Rattle.bib_spec.specs.Bytes.{name_limit};
 ghost use Rattle.bib_spec.specs.Text.{folded};
 ghost use Rattle.bib_spec.specs.Tree.{Row};
-ghost use Rattle.bib_spec.specs.Reading.{IsValueWithin};
-ghost use Rattle.bib_scan.specs.ValueParts.{IsPartsOf};
-ghost use Rattle.bib_spec.specs.Texts.{raw_text, field_text};
+ghost use Rattle.bib_spec.specs.Texts.{raw_text};
 ghost use Rattle.bib_spec.specs.Records.{field_of};
 ghost use Rattle.bib_value.specs.Raw.{OfValue};
 ghost use Rattle.bib_store.specs.Definitions.{macros_seen};
@@ -16,51 +14,10 @@ ghost use Rattle.bib_store.specs.declared.fault.StoreFault.TheVariants.{Memory};
 
 use crate::definitions::MacrosAt;
 use crate::fault::StoreFault;
-use bib_scan::{Fields, Parts, Seq, Text, read_value};
-use bib_value::{FoldedMap, ValueFault, field_text, raw_text};
+use crate::measuring::short_field_text;
+use bib_scan::{Fields, Seq, Text};
+use bib_value::FoldedMap;
 use std::alloc::{AllocError, Global};
-
-/// The parts of a value.
-fn parts_of(alloc: Global, value: &[u8]) -> Result<Parts, StoreFault>
-    requires { IsValueWithin name_limit value.now }
-    ensures parts { IfOk result (λ parts. IsPartsOf value.now parts) }
-    ensures only { IfErr result (λ fault. fault ≡ Memory) }
-{
-    match read_value(alloc, value) {
-        Ok(parts) => Ok(parts),
-        Err(fault) => {
-            prove!(fault.kind == 10);
-            Err(StoreFault::Memory)
-        }
-    }
-}
-
-/// The raw text of a value, which is not too long.
-fn raw_text_of(alloc: Global, value: &[u8], macros: &MacrosAt<'_>) -> Result<Text, StoreFault>
-    requires { IsShortValue (macros_seen macros.now) value.now }
-    ensures text { IfOk result (λ text. OfValue value.now (λ v. text ≡ raw_text (macros_seen macros.now) v)) }
-    ensures only { IfErr result (λ fault. fault ≡ Memory) }
-{
-    let parts = parts_of(alloc, value)?;
-    match raw_text(alloc, &parts, value, macros, None) {
-        Ok(text) => Ok(text),
-        Err(ValueFault::Memory) => Err(StoreFault::Memory),
-        Err(ValueFault::TextTooLong) => unreachable!(),
-    }
-}
-
-/// The field text of a value.
-fn field_text_of(alloc: Global, value: &[u8], macros: &MacrosAt<'_>) -> Result<Text, StoreFault>
-    requires { IsShortValue (macros_seen macros.now) value.now }
-    ensures text { IfOk result (λ text. OfValue value.now (λ v. text ≡ field_text (raw_text (macros_seen macros.now) v))) }
-    ensures only { IfErr result (λ fault. fault ≡ Memory) }
-{
-    let raw = raw_text_of(alloc, value, macros)?;
-    match field_text(alloc, raw.as_slice()) {
-        Ok(text) => Ok(text),
-        Err(_) => Err(StoreFault::Memory),
-    }
-}
 
 /// The text with its letters in lower case.
 pub(crate) fn lower(alloc: Global, text: &[u8]) -> Result<Text, AllocError>
@@ -113,7 +70,7 @@ impl Gathered {
         if self.names.get(name).is_some() {
             return Ok(());
         }
-        let text = field_text_of(self.alloc, value, macros)?;
+        let text = short_field_text(self.alloc, value, macros)?;
         let field = (lower(self.alloc, name)?, text);
         self.names.insert(name, ())?;
         self.fields.push(field)?;

@@ -6,10 +6,13 @@ ghost use Rattle.bib_spec.specs.Text.{folded};
 ghost use Rattle.bib_spec.specs.Texts.{raw_text, raw_limit, field_text};
 ghost use Rattle.bib_scan.specs.ValueParts.{IsPartsOf};
 ghost use Rattle.bib_value.specs.Macros.{without};
+ghost use Rattle.bib_store.specs.Gathering.{IsShortValue};
 ghost use Rattle.bib_store.specs.ItemTexts.{begins_text, longest, is_short};
 ghost use Rattle.bib_value.specs.Raw.{OfValue};
 ghost use Rattle.bib_value.specs.declared.fault.ValueFault.TheVariants.{TextTooLong, Memory};
+ghost use Rattle.bib_store.specs.declared.fault.StoreFault.TheVariants.{Memory as StoreMemory};
 
+use crate::fault::StoreFault;
 use bib_scan::{Parts, Text, read_value};
 use bib_value::{MacroTable, RAW_LIMIT, ValueFault, field_text, raw_len, raw_text};
 use std::alloc::Global;
@@ -110,4 +113,38 @@ pub(crate) fn value_field_text<M: MacroTable>(
 {
     let raw = value_text(alloc, bytes, macros, None)?;
     field_text(alloc, raw.as_slice())
+}
+
+/// The raw text of the value that these bytes are, which is not too long.
+pub(crate) fn short_text<M: MacroTable>(
+    alloc: Global,
+    bytes: &[u8],
+    macros: &M,
+) -> Result<Text, StoreFault>
+    requires { IsShortValue (M.macros macros.now) bytes.now }
+    ensures text { IfOk result (λ text. OfValue bytes.now (λ v. text ≡ raw_text (M.macros macros.now) v)) }
+    ensures only { IfErr result (λ fault. fault ≡ StoreMemory) }
+{
+    match value_text(alloc, bytes, macros, None) {
+        Ok(text) => Ok(text),
+        Err(ValueFault::Memory) => Err(StoreFault::Memory),
+        Err(ValueFault::TextTooLong) => unreachable!(),
+    }
+}
+
+/// The field text of the value that these bytes are, whose raw text is not too long.
+pub(crate) fn short_field_text<M: MacroTable>(
+    alloc: Global,
+    bytes: &[u8],
+    macros: &M,
+) -> Result<Text, StoreFault>
+    requires { IsShortValue (M.macros macros.now) bytes.now }
+    ensures text { IfOk result (λ text. OfValue bytes.now (λ v. text ≡ field_text (raw_text (M.macros macros.now) v))) }
+    ensures only { IfErr result (λ fault. fault ≡ StoreMemory) }
+{
+    let raw = short_text(alloc, bytes, macros)?;
+    match field_text(alloc, raw.as_slice()) {
+        Ok(text) => Ok(text),
+        Err(_) => Err(StoreFault::Memory),
+    }
 }

@@ -44,7 +44,7 @@ impl Tables {
     ghost use Rattle.bib_store.specs.KeyIndex.{holding_in};
     ghost use Rattle.bib_store.specs.Defined.{EndsBy, Defines, texts_at};
     ghost use Rattle.bib_store.specs.ItemTexts.{OfTree, own_text, first_too_long, placed_texts};
-    ghost use Rattle.bib_store.specs.Beside.{AreTablesOf, AreTables, IsKept, IsStep, IsTooLongAt, OfView};
+    ghost use Rattle.bib_store.specs.Beside.{AreTablesOf, AreTables, HasItems, IsStep, IsTooLongAt, OfView};
 
     /// The tables of a file of `file_len` bytes whose front has `front_len`, and whose items are these, but for those from
     /// number `from` up to `to`. They take memory for the keys, the texts of macros and the texts of crossrefs. The file is refused if
@@ -59,11 +59,11 @@ impl Tables {
     ) -> Result<Tables, ReadFault>
         requires order { from ≤ to }
         requires within { to ≤ length (L.items items.now) }
-        ensures tables { IfOk result (λ t. (db : Reading) → IsKept front_len (without_range from to (L.items items.now)) db → AreTables db t) }
+        ensures tables { IfOk result (λ t. (db : Reading) → HasItems front_len (without_range from to (L.items items.now)) db → AreTables db t) }
         ensures len { IfOk result (λ t. t.file_len ≡ file_len) }
-        ensures texts { OnOk result ((db : Reading) → IsKept front_len (without_range from to (L.items items.now)) db → too_long_at db ≡ None) }
+        ensures texts { OnOk result ((db : Reading) → HasItems front_len (without_range from to (L.items items.now)) db → too_long_at db ≡ None) }
         ensures fault { IfErr result (λ fault. ((fault.kind ≡ 10) × (fault.place ≡ 0))
-            ⊎ ((fault.kind ≡ 8) × ((db : Reading) → IsKept front_len (without_range from to (L.items items.now)) db → too_long_at db ≡ Some fault.place))) }
+            ⊎ ((fault.kind ≡ 8) × ((db : Reading) → HasItems front_len (without_range from to (L.items items.now)) db → too_long_at db ≡ Some fault.place))) }
     {
         let mut tables = Tables::new(alloc);
         let mut start = front_len;

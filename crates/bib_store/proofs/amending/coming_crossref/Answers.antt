@@ -1,4 +1,4 @@
-use Rattle.std.proofs.Common.{◌∷◌, [], map, sym, subst, ◌∙◌, ap}
+use Rattle.std.proofs.Common.{map, sym, subst, ◌∙◌, ap}
 use Rattle.bib_spec.specs.Text.{Text}
 use Rattle.bib_spec.specs.Reading.{Reads}
 use Rattle.bib_spec.specs.Texts.{Macros}
@@ -24,5 +24,5 @@ returns-in-Err-TooLong-clause-too_long c = λ _ inner i reads at entry.
     let lent = subst (λ (t : Text). Reads t inner) (sym c.as_slice.ensures) reads in (
       c.in-Err-TooLong.field-0-0,
       ap (λ (m : Macros). first_too_long (placed_texts m i.tree)) (sym c.at.ensures)
-      ∙ c.in-Err-TooLong.ensures.too_long c.in-Err-TooLong.field-0-0 c.in-Err-TooLong.field-0-is i (coming_tree c.args.change.now inner i reads at) entry (c.item-item.ensures inner i lent at),
+          ∙ c.in-Err-TooLong.ensures.too_long c.in-Err-TooLong.field-0-0 c.in-Err-TooLong.field-0-is i (coming_tree c.args.change.now inner i reads at) entry (c.item-item.ensures inner i lent at),
     )

@@ -30,26 +30,18 @@ macros_at-requires g c = λ db r.
     (number_read t.items (preamble_numbers db.items) t.len c.args.n c.index-m.result.now k.tables.preambles t.ok.0 (number_of_preamble db c.args.n (c.requires db r)) c.index-m.ensures) in
     omega (arith, h)
 
-pub preamble_text-requires-clause-value : goal.preamble_text-requires-clause-value
-preamble_text-requires-clause-value g c =
+pub short_text-requires : goal.short_text-requires
+short_text-requires g c =
     let k = kept_reading c.self.inside.front (g.L.ItemList.items c.self.inside.items) c.self.inside.tables c.args.self.now c.self.invariant c.self.view_is in
     let t = c.self.inside.tables.preambles in
     let numbered = number_read t.items (preamble_numbers k.0.items) t.len c.args.n c.index-m.result.now k.2.tables.preambles t.ok.0 (number_of_preamble k.0 c.args.n (c.requires k.0 k.1)) c.index-m.ensures in
     let p = preamble_read (file_of c.self.inside.front (g.L.ItemList.items c.self.inside.items)) k.0 c.args.n c.index-m.result.now c.preamble_value-value.result.now c.item.result k.2.opens (c.requires k.0 k.1) numbered (c.item.ensures k.0 k.1) c.preamble_value-value.ensures in
-    (p.value, p.ok, p.same)
-
-pub preamble_text-requires-clause-short : goal.preamble_text-requires-clause-short
-preamble_text-requires-clause-short g c =
-    let k = kept_reading c.self.inside.front (g.L.ItemList.items c.self.inside.items) c.self.inside.tables c.args.self.now c.self.invariant c.self.view_is in
-    let t = c.self.inside.tables.preambles in
-    let numbered = number_read t.items (preamble_numbers k.0.items) t.len c.args.n c.index-m.result.now k.2.tables.preambles t.ok.0 (number_of_preamble k.0 c.args.n (c.requires k.0 k.1)) c.index-m.ensures in
-    let p = preamble_read (file_of c.self.inside.front (g.L.ItemList.items c.self.inside.items)) k.0 c.args.n c.index-m.result.now c.preamble_value-value.result.now c.item.result k.2.opens (c.requires k.0 k.1) numbered (c.item.ensures k.0 k.1) c.preamble_value-value.ensures in
-    preamble_short k.0 c.args.n c.index-m.result.now c.preamble_value-value.result.now p (macros_seen c.macros_at.result) (c.macros_at.ensures k.0 k.1)
+    record { is = (p.value, p.ok, p.same); short = preamble_short k.0 c.args.n c.index-m.result.now c.preamble_value-value.result.now p (macros_seen c.macros_at.result) (c.macros_at.ensures k.0 k.1) }
 
 pub returns-clause-text : goal.returns-clause-text
-returns-clause-text g c = IfOk-weaker c.preamble_text.result _ _ (λ text said. λ db r.
+returns-clause-text g c = IfOk-weaker c.short_text.result _ _ (λ text said. λ db r.
     let k = kept_as c.self.inside.front (g.L.ItemList.items c.self.inside.items) c.self.inside.tables c.args.self.now c.self.invariant c.self.view_is db r in
     let t = c.self.inside.tables.preambles in
     let numbered = number_read t.items (preamble_numbers db.items) t.len c.args.n c.index-m.result.now k.tables.preambles t.ok.0 (number_of_preamble db c.args.n (c.requires db r)) c.index-m.ensures in
     let p = preamble_read (file_of c.self.inside.front (g.L.ItemList.items c.self.inside.items)) db c.args.n c.index-m.result.now c.preamble_value-value.result.now c.item.result k.opens (c.requires db r) numbered (c.item.ensures db r) c.preamble_value-value.ensures in
-    preamble_says db c.args.n c.index-m.result.now c.preamble_value-value.result.now p (macros_seen c.macros_at.result) (c.macros_at.ensures db r) text said) c.preamble_text.ensures.text
+    preamble_says db c.args.n c.index-m.result.now c.preamble_value-value.result.now p (macros_seen c.macros_at.result) (c.macros_at.ensures db r) text said) c.short_text.ensures.text

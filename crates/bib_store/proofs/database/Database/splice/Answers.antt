@@ -1,4 +1,4 @@
-use Rattle.std.proofs.Common.{length, refl, sym, ◌∙◌, ap}
+use Rattle.std.proofs.Common.{length, sym, ◌∙◌, ap}
 use Rattle.std.proofs.lemmas.Result.{err_from_is_err_and}
 use Rattle.std.specs.Option.{unwrap_or}
 use Rattle.bib_spec.specs.Text.{Text}
