@@ -16,8 +16,9 @@ use bib_scan::{Seq, Text};
 use bib_store::Record;
 use std::alloc::{AllocError, Global};
 
-/// The text of the first field of exactly this name, empty if there is none.
-fn text_in<'a>(fields: &'a [(Text, Text)], name: &[u8]) -> &'a [u8]
+/// The text of the first field of exactly this name, empty if there is none: a record has its names in lower case. It
+/// takes time in the number of fields, and no memory.
+pub fn text_in<'a>(fields: &'a [(Text, Text)], name: &[u8]) -> &'a [u8]
     ensures { result.now ≡ text_in fields.now name.now }
 {
     for field in fields {

@@ -1,6 +1,8 @@
 //! Names split and printed, and labels made.
 
-use bib_names::{NameFault, Template, Word, key_base, label_base, labels, split_name, split_names};
+use bib_names::{
+    NameFault, Template, Word, key_base, label_base, labels, split_name, split_names, text_in,
+};
 use bib_scan::{Seq, Text};
 use bib_store::Record;
 use std::alloc::Global;
@@ -150,6 +152,15 @@ fn by(alloc: Global, author: &[u8], year: &[u8]) -> Result<Record, NameFault> {
 fn has_base(alloc: Global, author: &[u8], year: &[u8], expected: &[u8]) -> Result<bool, NameFault> {
     let base = label_base(alloc, &by(alloc, author, year)?)?;
     Ok(base.as_slice() == expected)
+}
+
+#[test]
+fn a_text_is_that_of_the_first_field_of_its_name(rt: HostRuntime) -> Result<(), Fail> {
+    let alloc = rt.alloc();
+    let rec = given(alloc, &[(b"years", b"1"), (b"year", b"2"), (b"year", b"3")])?;
+    assert_eq!(rt; text_in(rec.fields.as_slice(), b"year"), b"2".as_slice());
+    assert_eq!(rt; text_in(rec.fields.as_slice(), b"Year"), b"".as_slice());
+    Ok(())
 }
 
 #[test]

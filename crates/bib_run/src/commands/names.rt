@@ -5,7 +5,6 @@ ghost use Rattle.std.specs.Option.{option_map_or};
 ghost use Rattle.bib_spec.specs.Records.{entries_of, default_depth, expanded};
 ghost use Rattle.bib_store.specs.Meaning.{OfReading, IsEntryNumber};
 ghost use Rattle.bib_names.specs.declared.fault.NameFault.TheVariants.{Memory};
-ghost use Rattle.bib_names.specs.Label.{text_in};
 ghost use Rattle.bib_run.specs.Messages.{no_such_entry_line};
 ghost use Rattle.bib_run.specs.Outcome.{answer_of};
 ghost use Rattle.bib_run.specs.Names.{name_fault_name, name_fault_line, listed_in, persons, parts_in, name_line, name_lines, lines_of, lines_answer, record_answer, names_answer, Spells, IsNamesAnswer};
@@ -13,7 +12,7 @@ ghost use Rattle.bib_run.specs.Names.{name_fault_name, name_fault_line, listed_i
 use crate::answers::{Answer, done, refused, unread};
 use crate::messages::NO_SUCH_ENTRY;
 use crate::opening::open;
-use bib_names::{Name, NameFault, Template, split_name, split_names};
+use bib_names::{Name, NameFault, Template, split_name, split_names, text_in};
 use bib_scan::{Seq, Text};
 use bib_store::{Database, Flat, Record};
 use std::alloc::{AllocError, Global};
@@ -139,18 +138,6 @@ fn persons<'a>(alloc: Global, fields: &'a [(Text, Text)]) -> Result<Seq<&'a [u8]
     } else {
         Ok(authors)
     }
-}
-
-/// The text of the first field of exactly this name, empty if there is none.
-fn text_in<'a>(fields: &'a [(Text, Text)], name: &[u8]) -> &'a [u8]
-    ensures { result.now ≡ text_in fields.now name.now }
-{
-    for field in fields {
-        if field.0.as_slice() == name {
-            return field.1.as_slice();
-        }
-    }
-    b""
 }
 
 /// The names of a list.
