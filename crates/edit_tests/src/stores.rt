@@ -42,6 +42,7 @@ fn a_macro_is_seen_behind_its_definition(rt: HostRuntime) -> Result<(), Fail> {
 #[test]
 fn a_preamble_has_a_text(rt: HostRuntime) -> Result<(), Fail> {
     let db = opened(rt.alloc(), b"@preamble{\"a\" # { b}}")?;
+    assert_eq!(rt; db.byte_count(), 21);
     assert_eq!(rt; db.preamble_count(), 1);
     if db.preamble_count() > 0 {
         assert_eq!(rt; db.preamble_text(0)?.as_slice(), b"a b".as_slice());
