@@ -64,7 +64,8 @@ impl<L: ItemList> Session<L> {
         }
     }
 
-    /// Makes an edit. What could be made again is forgotten. It takes time as `plan` and `Database::splice` do.
+    /// Makes an edit. What could be made again is forgotten. It takes time and memory as `plan` and `Database::splice`
+    /// do.
     pub fn edit(&mut self, edit: &Edit) -> Result<(), SessionFault>
         ensures made { OnOk result (MakesEdit edit.now self.old self.new) }
         ensures refused { IfErr result (λ fault. RefusesEdit fault edit.now self.old) }

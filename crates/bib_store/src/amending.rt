@@ -70,9 +70,8 @@ fn coming_crossref(
     }
 }
 
-/// Puts the entry that comes in the place of entry `m`. Of the tables only its crossref and the
-/// file's length change. It is refused where
-/// memory runs out, or where a raw text is too long; nothing has changed then.
+/// Puts the entry that comes in the place of entry `m`. Of the tables only its crossref and the file's length change. It
+/// is refused where memory runs out, or where a raw text is too long; nothing has changed then.
 pub(crate) fn amend<L: ItemList>(
     alloc: Global,
     items: &mut L,
