@@ -2,12 +2,14 @@
 #![tactic(auto)]
 
 #[cfg(test)]
-mod given;
-#[cfg(test)]
 mod lengths;
+#[cfg(test)]
+mod lists;
 #[cfg(test)]
 mod sessions;
 #[cfg(test)]
 mod splicing;
 #[cfg(test)]
 mod stores;
+#[cfg(test)]
+mod turns;

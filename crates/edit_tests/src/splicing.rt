@@ -1,9 +1,8 @@
 //! Pieces of edits, and pieces put into a file.
 
-use crate::given::given;
 use bib_edit::{Edit, EditFault, plan};
 use bib_scan::{ReadFault, Seq, Text};
-use bib_store::{Database, Flat, Piece, StoreFault, reverse};
+use bib_store::{Database, Flat, Piece, StoreFault};
 use std::alloc::{AllocError, Global};
 use std::test::Fail;
 
@@ -15,6 +14,12 @@ fn opened(alloc: Global, file: &[u8]) -> Result<Database<Flat>, ReadFault> {
     Database::open_bytes(alloc, file, Flat::new(alloc))
 }
 
+/// The pieces of an edit of the file.
+fn planned(alloc: Global, file: &[u8], edit: &Edit) -> Result<Seq<Piece>, Fail> {
+    let db = opened(alloc, file)?;
+    Ok(plan(alloc, &db, edit)?)
+}
+
 /// Whether the piece has this place, and these bytes.
 fn is_piece(piece: &Piece, place: u64, old: &[u8], new: &[u8]) -> bool {
     piece.place == place && piece.old.as_slice() == old && piece.new.as_slice() == new
@@ -23,13 +28,12 @@ fn is_piece(piece: &Piece, place: u64, old: &[u8], new: &[u8]) -> bool {
 #[test]
 fn a_new_field_is_one_piece(rt: HostRuntime) -> Result<(), Fail> {
     let alloc = rt.alloc();
-    let db = opened(alloc, b"@misc{a, t = 1,}")?;
     let edit = Edit::SetField {
         key: text(alloc, b"a")?,
         field: text(alloc, b"y")?,
         value: text(alloc, b"{2}")?,
     };
-    let pieces = plan(alloc, &db, &edit)?;
+    let pieces = planned(alloc, b"@misc{a, t = 1,}", &edit)?;
     assert_eq!(rt; pieces.as_slice().len(), 1);
     assert!(rt; is_piece(&pieces.as_slice()[0], 14, b"", b",\n  y = {2}"));
     Ok(())
@@ -38,12 +42,11 @@ fn a_new_field_is_one_piece(rt: HostRuntime) -> Result<(), Fail> {
 #[test]
 fn a_move_is_two_pieces(rt: HostRuntime) -> Result<(), Fail> {
     let alloc = rt.alloc();
-    let db = opened(alloc, b"@misc{a}\n@misc{b}\n")?;
     let edit = Edit::MoveEntry {
         key: text(alloc, b"a")?,
         place: 1,
     };
-    let pieces = plan(alloc, &db, &edit)?;
+    let pieces = planned(alloc, b"@misc{a}\n@misc{b}\n", &edit)?;
     assert_eq!(rt; pieces.as_slice().len(), 2);
     assert!(rt; is_piece(&pieces.as_slice()[0], 0, b"@misc{a}", b""));
     assert!(rt; is_piece(&pieces.as_slice()[1], 18, b"", b"@misc{a}\n"));
@@ -59,7 +62,22 @@ fn piece(alloc: Global, place: u64, old: &[u8], new: &[u8]) -> Result<Piece, All
     })
 }
 
-/// The number of the refusal of these pieces, or 0 and the file afterwards.
+fn one_piece(alloc: Global, place: u64, old: &[u8], new: &[u8]) -> Result<Seq<Piece>, AllocError> {
+    let mut pieces = Vec::new(alloc);
+    pieces.push(piece(alloc, place, old, new)?)?;
+    Ok(Seq::from_vec(pieces))
+}
+
+/// The number of the refusal of these pieces; else 0 if the file is this one afterwards, and 1 if not.
+fn outcome(db: &mut Database<Flat>, pieces: &[Piece], to: &[u8]) -> Result<u16, Fail> {
+    match db.splice(pieces) {
+        Ok(()) if db.bytes()?.as_slice() == to => Ok(0),
+        Ok(()) => Ok(1),
+        Err(fault) => Ok(fault.number()),
+    }
+}
+
+/// What comes of putting this piece into the file.
 fn spliced(
     alloc: Global,
     file: &[u8],
@@ -68,14 +86,9 @@ fn spliced(
     new: &[u8],
     to: &[u8],
 ) -> Result<u16, Fail> {
+    let pieces = one_piece(alloc, place, old, new)?;
     let mut db = opened(alloc, file)?;
-    let mut pieces = Vec::new(alloc);
-    pieces.push(piece(alloc, place, old, new)?)?;
-    match db.splice(pieces.as_slice()) {
-        Ok(()) if db.bytes()?.as_slice() == to => Ok(0),
-        Ok(()) => Ok(1),
-        Err(fault) => Ok(fault.number()),
-    }
+    outcome(&mut db, pieces.as_slice(), to)
 }
 
 #[test]
