@@ -1,5 +1,5 @@
 -- What a session answers to what it is asked.
-use Rattle.std.specs.Prelude.{ℕ, ◌≡◌, ◌≤◌, List, [], ◌∷◌, length, take, drop, Option, Some, None}
+use Rattle.std.specs.Prelude.{ℕ, ◌≡◌, ◌≢◌, ◌≤◌, List, [], ◌∷◌, length, take, drop, Option, Some, None}
 use Rattle.bib_spec.specs.Text.{Text}
 use Rattle.bib_spec.specs.Reading.{bytes_of}
 use Rattle.bib_spec.specs.History.{Edits, Undoes, Redoes}
@@ -8,6 +8,7 @@ use Rattle.bib_spec.specs.Edits.{edited}
 use Rattle.bib_spec.specs.EditChunks.{pieces_of}
 use Rattle.bib_store.specs.Meaning.{OfReading, IsOpenFault}
 use Rattle.bib_edit.specs.declared.edit.Edit.{Edit}
+use Rattle.bib_edit.specs.declared.fault.EditFault.TheVariants as edit_fault
 use Rattle.bib_edit.specs.Asking.{OfEdit, made_base}
 use Rattle.bib_edit.specs.Planning.{IsAllowedEdit, IsRefusal}
 use Rattle.bib_journal.specs.declared.fault.SessionFault.{SessionFault}
@@ -47,7 +48,7 @@ pub record MakesEdit (edit : Edit) (old new : KeptSteps) : Type 0 where
 -- why an edit is not made: a reason of its own, or else that it can't be kept; or memory was refused
 abbrev pub RefusesEdit : SessionFault → Edit → KeptSteps → Type 0
 RefusesEdit Memory edit kept = Unit {0}
-RefusesEdit (Refused fault) edit kept = IsRefusal kept.present edit fault
+RefusesEdit (Refused fault) edit kept = (fault ≢ edit_fault.Memory) × IsRefusal kept.present edit fault
 RefusesEdit JournalFull edit kept = IsAllowedEdit kept.present edit × IsOverfull edit kept
 RefusesEdit (Unopened fault) edit kept = ⊥
 RefusesEdit NothingToUndo edit kept = ⊥
