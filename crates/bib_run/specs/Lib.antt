@@ -1,5 +1,3 @@
-pub mod Interruptions
-pub mod Taps
 pub mod Transfers
 pub mod Messages
 pub mod Outcome

@@ -6,7 +6,7 @@ ghost use Rattle.bib_run.specs.Answers.{IsAnswer};
 ghost use Rattle.bib_run.specs.Outcome.{outcome_of};
 ghost use Rattle.bib_run.specs.Lent.{held_before, held_after};
 ghost use Rattle.bib_run.specs.Runs.{IsRun, ReadsInput, taps, view_of};
-ghost use Rattle.bib_run.specs.Taps.{has_failed};
+ghost use Rattle.bib_taps.specs.Taps.{has_failed};
 ghost use Rattle.bib_run.specs.declared.source.SourceFault.TheVariants.{Failed, OutOfMemory};
 
 use crate::answers::{Answer, outcome_of};

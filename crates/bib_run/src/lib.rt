@@ -10,9 +10,8 @@ mod messages;
 mod opening;
 mod sink;
 mod source;
-mod taps;
 
 pub use answers::Outcome;
+pub use bib_taps::Tap;
 pub use engine::run;
 pub use messages::{READ_FAULT, WRITE_FAULT};
-pub use taps::Tap;

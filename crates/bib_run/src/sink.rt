@@ -1,7 +1,7 @@
 //! Writing to a sink until it took all.
 
 ghost use Rattle.std.specs.Prelude.{◌≡◌, true, false};
-ghost use Rattle.bib_run.specs.Taps.{tap_inner, has_failed};
+ghost use Rattle.bib_taps.specs.Taps.{tap_inner, has_failed};
 ghost use Rattle.bib_run.specs.Transfers.{WritesPrefix};
 
 use crate::Tap;

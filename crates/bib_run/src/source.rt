@@ -1,7 +1,7 @@
 //! Reading a source up to a limit.
 
 ghost use Rattle.std.specs.Prelude.{◌≡◌, true, IfOk, OnOk, Err};
-ghost use Rattle.bib_run.specs.Taps.{tap_inner, has_failed};
+ghost use Rattle.bib_taps.specs.Taps.{tap_inner, has_failed};
 ghost use Rattle.bib_run.specs.Transfers.{ReadsUpTo};
 ghost use Rattle.bib_run.specs.declared.source.SourceFault.TheVariants.{Failed, OutOfMemory};
 

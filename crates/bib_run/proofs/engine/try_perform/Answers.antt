@@ -2,7 +2,7 @@ use Rattle.std.proofs.Common.{◌≡◌, true, false, rules, refl, subst, inl, i
 use Rattle.bib_spec.specs.Text.{Text}
 use Rattle.bib_run.specs.Answers.{IsAnswer}
 use Rattle.bib_run.specs.Runs.{answered, read_fault, write_fault}
-use Rattle.bib_run.specs.Taps.{has_failed}
+use Rattle.bib_taps.specs.Taps.{has_failed}
 use Rattle.bib_run.specs.Transfers.{WritesPrefix}
 use Rattle.bib_run.proofs.Endings.{has_answer, Appends-whole}
 use Rattle.bib_run.proofs.engine.try_perform.Goals as goal

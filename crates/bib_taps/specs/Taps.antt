@@ -2,8 +2,8 @@
 use Rattle.std.specs.Prelude.{◌≡◌, ℕ, ◌+◌, Bool, ◌||◌, ◌==◌, ◌&&◌, not, min, nat_le, nat_lt, if◌then◌else◌, List, length, Result, MatchResult}
 use Rattle.std.specs.IoError.{error_kind}
 use Rattle.std.specs.declared.io.Error.{Error}
-use Rattle.bib_run.specs.Interruptions.{is_interruption}
-use Rattle.bib_run.specs.declared.taps.Tap.{Tap}
+use Rattle.bib_taps.specs.Interruptions.{is_interruption}
+use Rattle.bib_taps.specs.declared.taps.Tap.{Tap}
 
 -- how often calls may be interrupted before that counts as a fault (dialect)
 abbrev pub interruption_limit : ℕ

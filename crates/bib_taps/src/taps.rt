@@ -4,7 +4,7 @@ ghost use Rattle.std.specs.Prelude.{◌≡◌};
 ghost use Rattle.std.specs.Io.{ReadsAtMost, WritesAtMost};
 ghost use Rattle.std.specs.Io.KnownBytes.{Keeps, ReadConsumes, WriteAppends};
 ghost use Rattle.std.specs.IoError.{error_kind};
-ghost use Rattle.bib_run.specs.Interruptions.{is_interruption};
+ghost use Rattle.bib_taps.specs.Interruptions.{is_interruption};
 
 use std::io;
 use std::io::{ErrorKind, Read, Write};
@@ -23,7 +23,7 @@ pub struct Tap<T> {
 
 impl<T> Tap<T> {
     ghost use Rattle.std.specs.Prelude.{false};
-    ghost use Rattle.bib_run.specs.Taps.{tap_inner, interruptions, has_failed, NotesError};
+    ghost use Rattle.bib_taps.specs.Taps.{tap_inner, interruptions, has_failed, NotesError};
 
     /// A tap that was not called yet.
     pub fn new(inner: T) -> Self
@@ -72,7 +72,7 @@ fn is_interruption(error: &io::Error) -> bool
 }
 
 impl<R: Read> Read for Tap<R> {
-    ghost use Rattle.bib_run.specs.Taps.{tap_inner, Notes};
+    ghost use Rattle.bib_taps.specs.Taps.{tap_inner, Notes};
 
     ghost remaining = { λ t. R.remaining (tap_inner t) };
 
@@ -90,7 +90,7 @@ impl<R: Read> Read for Tap<R> {
 }
 
 impl<W: Write> Write for Tap<W> {
-    ghost use Rattle.bib_run.specs.Taps.{tap_inner, Notes, NotesWrite};
+    ghost use Rattle.bib_taps.specs.Taps.{tap_inner, Notes, NotesWrite};
 
     ghost contents = { λ t. W.contents (tap_inner t) };
 

@@ -1,0 +1,2 @@
+pub mod Interruptions
+pub mod Taps
