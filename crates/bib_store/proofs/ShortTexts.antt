@@ -1,13 +1,14 @@
 -- In a file that can be opened, no raw text is too long.
-use Rattle.std.proofs.Common.{◌≡◌, ℕ, zero, suc, ◌+◌, ◌≤◌, Bool, false, nat_lt, List, [], ◌∷◌, ◌++◌, length, map, find, zip, slice_get, Option, Some, None, option_map, ⊎_elim, refl, sym, ◌∙◌, ap, subst, arith}
+use Rattle.std.proofs.Common.{◌≡◌, ℕ, zero, suc, ◌+◌, ◌≤◌, Bool, false, nat_lt, List, [], ◌∷◌, ◌++◌, length, map, find, zip, slice_get, Option, Some, None, option_map, bytes_eq, ⊎_elim, refl, sym, ◌∙◌, ap, subst, arith}
 use Rattle.std.specs.List.{AllByRecursion}
 use Rattle.std.proofs.lemmas.Bool.{cases_Bool, cond-true, cond-false}
 use Rattle.std.proofs.lemmas.Bool.Decides.{nat_tests}
 use Rattle.std.proofs.lemmas.List.{length-map}
 use Rattle.std.proofs.lemmas.Option.{none-some, same_Some}
-use Rattle.bib_spec.specs.Text.{Text}
+use Rattle.bib_spec.specs.Text.{Text, folded}
 use Rattle.bib_spec.specs.Tree.{Row, Tree, CommentTree, DefinitionTree, PreambleTree, EntryTree, row_bytes}
 use Rattle.bib_spec.specs.Reading.{Item, Reading, item_bytes}
+use Rattle.bib_value.proofs.MonthLemmas.{months_short}
 use Rattle.bib_spec.specs.Texts.{Macros, months, macros_after, macros_at, macros_in, raw_text, raw_texts_in, raw_limit, row_places, value_places, values_of, raw_texts_from, too_long_at}
 
 -- the text is no longer than a raw text may be
@@ -78,3 +79,34 @@ none_found (Some p) e = absurd (none-some p.0 (sym e))
 -- where no raw text of a file is too long, each text of each item is short
 pub texts_short : (db : Reading) → too_long_at db ≡ None → (n : ℕ) (i : Item) → slice_get db.items n ≡ Some i → AllByRecursion IsShort (raw_texts_in (macros_at months db.items n) i.tree)
 texts_short db e n i s = texts_from (length db.front) months db.items (none_found (find is_long (raw_texts_from (length db.front) months db.items)) e) n i s
+
+-- what the macros stand for is short
+abbrev AreShort : Macros → Type 0
+AreShort m = (name t : Text) → m name ≡ Some t → IsShort t
+
+after_short : (m : Macros) (tree : Tree) → AreShort m → AllByRecursion IsShort (raw_texts_in m tree) → AreShort (macros_after m tree)
+after_short m (CommentTree h) short texts = short
+after_short m (PreambleTree p) short texts = short
+after_short m (EntryTree e) short texts = short
+after_short m (DefinitionTree d) short texts = λ name t is.
+    let raw : Text = raw_text (macros_in m (DefinitionTree d)) d.assignment.value in
+    let named : Bool = bytes_eq name (folded d.assignment.name) in
+    ⊎_elim
+    (λ h. subst IsShort (same_Some raw t (sym (cond-true named (Some raw) (m name) h) ∙ is)) texts.0)
+    (λ h. short name t (sym (cond-false named (Some raw) (m name) h) ∙ is))
+    (cases_Bool named)
+
+seen_from : (at : ℕ) (m : Macros) (items : List Item) → AreShort m → find is_long (raw_texts_from at m items) ≡ None → (n : ℕ) → AreShort (macros_at m items n)
+seen_from at m [] short e zero = short
+seen_from at m [] short e (suc n) = short
+seen_from at m (item ∷ items) short e zero = short
+seen_from at m (item ∷ items) short e (suc n) =
+    let first : List (ℕ × Text) = zip (map (λ (place : ℕ). at + place) (value_places item.tree)) (raw_texts_in m item.tree) in
+    seen_from (at + length (item_bytes item)) (macros_after m item.tree) items
+    (after_short m item.tree short (texts_from at m (item ∷ items) e zero item refl))
+    (find-none_right is_long first (raw_texts_from (at + length (item_bytes item)) (macros_after m item.tree) items) e) n
+
+-- nor is what a macro stands for, wherever it is seen
+pub seen_short : (db : Reading) → too_long_at db ≡ None → (n : ℕ) (name t : Text) → macros_at months db.items n name ≡ Some t → IsShort t
+seen_short db e n name t is =
+    seen_from (length db.front) months db.items months_short (none_found (find is_long (raw_texts_from (length db.front) months db.items)) e) n name t is

@@ -35,11 +35,11 @@ impl<L: ItemList> Model for Database<L> {
 }
 
 impl<L: ItemList> Database<L> {
-    ghost use Rattle.std.specs.Prelude.{◌≡◌, ◌≤◌, [], Some, None, length, slice_get, option_and_then, count_by, IfOk, IfErr, OnOk};
+    ghost use Rattle.std.specs.Prelude.{◌≡◌, ◌≤◌, [], Some, None, length, slice_get, option_and_then, count_by, IfOk, IfErr, IfSome, OnOk};
     ghost use Rattle.std.specs.Option.{option_copied};
     ghost use Rattle.bib_spec.specs.Steps.{IsFile};
     ghost use Rattle.bib_spec.specs.Reading.{Item};
-    ghost use Rattle.bib_spec.specs.Texts.{months, macros_at, seen};
+    ghost use Rattle.bib_spec.specs.Texts.{months, macros_at, seen, raw_limit};
     ghost use Rattle.bib_spec.specs.Records.{entries_of, preambles_of, keys_of, entry_named, is_named, is_repeated, crossref_text, target};
     ghost use Rattle.bib_scan.specs.View.{view_of};
     ghost use Rattle.bib_scan.specs.Layout.{start_of};
@@ -208,6 +208,7 @@ impl<L: ItemList> Database<L> {
     pub fn preamble_text(&self, n: usize) -> Result<Text, StoreFault>
         requires { IsPreambleNumber self.now n }
         ensures text { IfOk result (λ text. OfReading self.now (λ db. slice_get (preambles_of db) n ≡ Some text)) }
+        ensures short { IfOk result (λ text. length text ≤ raw_limit) }
         ensures only { IfErr result (λ fault. fault ≡ Memory) }
     {
         let m = self.tables.preambles[n];
@@ -227,6 +228,7 @@ impl<L: ItemList> Database<L> {
     pub fn macro_text(&self, n: usize, name: &[u8]) -> Result<Option<Text>, StoreFault>
         requires { IsItemPlace self.now n }
         ensures text { IfOk result (λ text. OfReading self.now (λ db. text ≡ seen db n name.now)) }
+        ensures short { IfOk result (λ text. IfSome text (λ t. length t ≤ raw_limit)) }
         ensures only { IfErr result (λ fault. fault ≡ Memory) }
     {
         match self.macros_at(n).text_of(name) {

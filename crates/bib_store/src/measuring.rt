@@ -123,6 +123,7 @@ pub(crate) fn short_text<M: MacroTable>(
 ) -> Result<Text, StoreFault>
     requires { IsShortValue (M.macros macros.now) bytes.now }
     ensures text { IfOk result (λ text. OfValue bytes.now (λ v. text ≡ raw_text (M.macros macros.now) v)) }
+    ensures short { IfOk result (λ text. length text ≤ raw_limit) }
     ensures only { IfErr result (λ fault. fault ≡ StoreMemory) }
 {
     match value_text(alloc, bytes, macros, None) {
