@@ -10,15 +10,15 @@ use Rattle.bib_spec.specs.Tree.{Value, IsValue, is_type, value_bytes, row_bytes}
 use Rattle.bib_spec.specs.Reading.{Reading, Reads, bytes_of, item_bytes, IsValueWithin}
 use Rattle.bib_spec.specs.Texts.{Macros, months, macros_at, raw_text, too_long_at, is_empty}
 use Rattle.bib_spec.specs.Records.{entries_of, keys_of, is_named}
-use Rattle.bib_spec.specs.Edits as edits
-use Rattle.bib_spec.specs.Edits.{Edit, EditFault, BadKey, BadName, BadValue, BadPosition, NotFound, Ambiguous, KeyInUse, NameInUse, Referred, WouldMerge, FileTooLong, TextTooLong, rank, Refuses, has_same, field_names, field_values, new_row, new_rows, line_end, entry_of, item_of, edited, IsAccepted, IsFirstRefusal}
-use Rattle.bib_spec.specs.EditChunks.{pieces_of}
+use Rattle.edit_spec.specs.Edits as edits
+use Rattle.edit_spec.specs.Edits.{Edit, EditFault, BadKey, BadName, BadValue, BadPosition, NotFound, Ambiguous, KeyInUse, NameInUse, Referred, WouldMerge, FileTooLong, TextTooLong, rank, Refuses, has_same, field_names, field_values, new_row, new_rows, line_end, entry_of, item_of, edited, IsAccepted, IsFirstRefusal}
+use Rattle.edit_spec.specs.EditChunks.{pieces_of}
 use Rattle.bib_spec.proofs.Names.{same-true, same_comm}
 use Rattle.bib_spec.proofs.Counts.{count-yes, count-no}
-use Rattle.bib_spec.proofs.RenameKey.{new_key_parts}
+use Rattle.edit_spec.proofs.RenameKey.{new_key_parts}
 use Rattle.bib_edit.specs.Asking.{made_base, SpellFields, SpellsEntry}
-use Rattle.bib_edit.specs.declared.edit.NewEntry.{NewEntry}
-use Rattle.bib_edit.specs.declared.edit.Edit.TheVariants as asked
+use Rattle.bib_data.specs.declared.edit.NewEntry.{NewEntry}
+use Rattle.bib_data.specs.declared.edit.Edit.TheVariants as asked
 use Rattle.bib_edit.specs.declared.fault.EditFault.{EditFault as Fault}
 use Rattle.bib_edit.specs.declared.fault.EditFault.TheVariants as code
 use Rattle.bib_edit.specs.Planning.{IsRefusal}

@@ -5,10 +5,10 @@ use Rattle.bib_scan.proofs.PlaceOfFault.{value_or_hopeless}
 use Rattle.bib_edit.specs.Laws.{EditsAreAskedFor}
 use Rattle.bib_spec.specs.Text.{Text}
 use Rattle.bib_spec.specs.Tree.{Value}
-use Rattle.bib_spec.specs.Edits as edits
-use Rattle.bib_spec.specs.Edits.{Spells}
-use Rattle.bib_edit.specs.declared.edit.Edit.TheVariants.{SetField, DropField, AddEntry, RemoveEntry, MoveEntry}
-use Rattle.bib_edit.specs.declared.edit.NewEntry.{NewEntry}
+use Rattle.edit_spec.specs.Edits as edits
+use Rattle.edit_spec.specs.Edits.{Spells}
+use Rattle.bib_data.specs.declared.edit.Edit.TheVariants.{SetField, DropField, AddEntry, RemoveEntry, MoveEntry}
+use Rattle.bib_data.specs.declared.edit.NewEntry.{NewEntry}
 use Rattle.bib_edit.specs.Asking.{SpellFields, SpellsEntry, OfEdit, set_field, drop_field, add_entry, remove_entry, move_entry}
 
 pub of-set_field : (key field value : Text) (P : edits.Edit → Type 0) → ((v : Value) → Spells value v → P (edits.SetField key field v)) → OfEdit (SetField key field value) P

@@ -13,9 +13,9 @@ use Rattle.bib_spec.specs.Reading.{Reading}
 use Rattle.bib_spec.specs.Texts.{row_start}
 use Rattle.bib_spec.specs.Records.{Record, is_named}
 use Rattle.bib_spec.specs.Pieces.{Chunk, Kept, Replaced, pieces_from}
-use Rattle.bib_spec.specs.Edits.{DropField, is_entry, of_entry, row_before, without_field, entry_without_field, drop_field, ends_in_key, tree_ends_in_key}
-use Rattle.bib_spec.specs.EditChunks.{kept_rows, entry_chunks, field_dropped, pieces_of}
-use Rattle.bib_spec.proofs.TreeChunks.{row-parts}
+use Rattle.edit_spec.specs.Edits.{DropField, is_entry, of_entry, row_before, without_field, entry_without_field, drop_field, ends_in_key, tree_ends_in_key}
+use Rattle.edit_spec.specs.EditChunks.{kept_rows, entry_chunks, field_dropped, pieces_of}
+use Rattle.edit_spec.proofs.TreeChunks.{row-parts}
 use Rattle.bib_scan.specs.View.{Field, field_behind, fields_behind, view_of}
 use Rattle.bib_scan.specs.Layout.{start_of}
 use Rattle.bib_edit.specs.Addressing.{is_field, field_end, item_named}

@@ -9,19 +9,19 @@ use Rattle.bib_spec.specs.Text.{Text, is_name}
 use Rattle.bib_spec.specs.Tree.{EntryTree, IsValue}
 use Rattle.bib_spec.specs.Reading.{Item, Reading, bytes_of, Reads}
 use Rattle.bib_spec.specs.Texts.{months, macros_at, too_long_at, Opens}
-use Rattle.bib_spec.specs.Steps.{IsFile}
+use Rattle.bib_spec.specs.Texts.{IsOpenable}
 use Rattle.bib_spec.specs.Records.{entries_of, has_name, entry_named}
 use Rattle.bib_spec.specs.Pieces.{end_of}
-use Rattle.bib_spec.specs.Edits as edits
-use Rattle.bib_spec.specs.Edits.{holders, fields_named, entry_without_field, IsAccepted, IsFirstRefusal}
-use Rattle.bib_spec.specs.EditChunks.{pieces_of}
+use Rattle.edit_spec.specs.Edits as edits
+use Rattle.edit_spec.specs.Edits.{holders, fields_named, entry_without_field, IsAccepted, IsFirstRefusal}
+use Rattle.edit_spec.specs.EditChunks.{pieces_of}
 use Rattle.bib_spec.proofs.Counts.{count-yes, count-no}
 use Rattle.bib_scan.specs.View.{Field, View, view_of}
 use Rattle.bib_scan.specs.Layout.{start_of}
 use Rattle.bib_scan.proofs.OneReading.{one_reading}
 use Rattle.bib_store.specs.Meaning.{OfReading}
-use Rattle.bib_edit.specs.declared.edit.Edit.{Edit}
-use Rattle.bib_edit.specs.declared.edit.Edit.TheVariants.{DropField}
+use Rattle.bib_data.specs.declared.edit.Edit.{Edit}
+use Rattle.bib_data.specs.declared.edit.Edit.TheVariants.{DropField}
 use Rattle.bib_edit.specs.declared.fault.EditFault.TheVariants.{BadName, NotFound, Ambiguous, WouldMerge}
 use Rattle.bib_edit.specs.Asking.{made_base}
 use Rattle.bib_edit.specs.Planning.{IsAllowedEdit, ArePiecesOf, IsRefusal}
@@ -171,31 +171,31 @@ module _ (file key name : Text) where
         pieces-drop_field begins db reads = of-drop_field key name (λ e. (cut_piece start view.body field ∷ []) ≡ pieces_of made_base db e)
             (ap (λ s. cut_piece s view.body field ∷ []) (begins db reads) ∙ sym (one_piece db reads))
 
-        pub start-within : IsFile file → OfReading file (λ db. start ≡ start_of db n) → start + field.start ≤ file_limit
+        pub start-within : IsOpenable file → OfReading file (λ db. start ≡ start_of db n) → start + field.start ≤ file_limit
         start-within is begins =
             let inside = cut-within is.0 is.1.reads in let long : length (bytes_of is.0) ≡ length file = ap length is.1.reads.bytes in
             let short = is.1.short in let same_start = begins is.0 is.1.reads in omega (arith, inside, long, short, same_start)
 
-        pub key-small : IsFile file → view.key_at + length view.key ≤ file_limit
+        pub key-small : IsOpenable file → view.key_at + length view.key ≤ file_limit
         key-small is =
             let inside = cut-within is.0 is.1.reads in let long : length (bytes_of is.0) ≡ length file = ap length is.1.reads.bytes in
             let short = is.1.short in let key_first = key-within is.0 is.1.reads in omega (arith, inside, long, short, key_first)
 
-        opens_as : IsFile file → (db : Reading) → Reads file db → Opens file db
+        opens_as : IsOpenable file → (db : Reading) → Reads file db → Opens file db
         opens_as is db reads = subst (λ (r : Reading). Opens file r) (one_reading name_limit file is.0 db is.1.reads reads) is.1
 
-        short_file : IsFile file → (db : Reading) → Reads file db → length (bytes_of (edits.edited made_base db (drop db key name))) ≤ file_limit
+        short_file : IsOpenable file → (db : Reading) → Reads file db → length (bytes_of (edits.edited made_base db (drop db key name))) ≤ file_limit
         short_file is db reads =
             let lengths = length-one_piece made_base db (drop db key name) (cut_piece (start_of db n) view.body field) (one_piece db reads) in
             let long : length (bytes_of db) ≡ length file = ap length reads.bytes in let short = is.1.short in omega (arith, lengths, long, short)
 
-        short_texts : IsFile file → (db : Reading) → Reads file db → is_some (too_long_at (edits.edited made_base db (drop db key name))) ≡ false
+        short_texts : IsOpenable file → (db : Reading) → Reads file db → is_some (too_long_at (edits.edited made_base db (drop db key name))) ≡ false
         short_texts is db reads =
             let opens = opens_as is db reads in
             too_long-changed key (entry_without_field name) db n (entry db reads).entry (entry db reads).trail (sym (held db reads)) (entry db reads).at opens.texts
             ∙ short-dropped (macros_at months db.items n) name (entry db reads).entry (short-entry db n (entry db reads).entry (entry db reads).trail (entry db reads).at opens.texts)
 
-        pub allowed-drop_field : IsFile file → (count : ℕ) → OfReading file (λ db. count ≡ holders key db) → count ≤ 1 → count_by (is_field name) view.fields ≤ 1 → joins_key view field ≡ false → IsAllowedEdit file asked
+        pub allowed-drop_field : IsOpenable file → (count : ℕ) → OfReading file (λ db. count ≡ holders key db) → count ≤ 1 → count_by (is_field name) view.fields ≤ 1 → joins_key view field ≡ false → IsAllowedEdit file asked
         allowed-drop_field is count counted once few apart db reads = of-drop_field key name (λ e. IsAccepted made_base db e)
             (let same_count = counted db reads in let same_fields = fields db reads in let short = short_file is db reads in
             all_clear made_base db (drop db key name)

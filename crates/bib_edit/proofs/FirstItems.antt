@@ -6,8 +6,8 @@ use Rattle.std.proofs.lemmas.Option.{none-some, same_Some}
 use Rattle.bib_spec.specs.Tree.{Tree}
 use Rattle.bib_spec.specs.Reading.{Item, Reading, item_bytes}
 use Rattle.bib_spec.specs.Pieces.{Chunk}
-use Rattle.bib_spec.specs.Edits.{from_first, with_first_tree}
-use Rattle.bib_spec.specs.EditChunks.{kept_item, kept_items, chunks_from_first}
+use Rattle.edit_spec.specs.Edits.{from_first, with_first_tree}
+use Rattle.edit_spec.specs.EditChunks.{kept_item, kept_items, chunks_from_first}
 use Rattle.bib_spec.proofs.Places.{suc_some}
 use Rattle.bib_scan.specs.Layout.{start_of}
 use Rattle.bib_edit.specs.Addressing.{first_item}

@@ -6,7 +6,7 @@ use Rattle.bib_spec.specs.Text.{Text}
 use Rattle.bib_spec.specs.Clean.{IsCleanTrail}
 use Rattle.bib_spec.specs.Tree.{Tree, is_comment}
 use Rattle.bib_spec.specs.Reading.{Item, Reading, Reads}
-use Rattle.bib_spec.specs.Edits.{without_first, HasCleanTexts}
+use Rattle.edit_spec.specs.Edits.{without_first, HasCleanTexts}
 use Rattle.bib_edit.specs.Removal.{IsFirstAt, trail_at, text_before, is_behind_comment, JoinsCleanly}
 
 abbrev AreClean : List Item → Type 0

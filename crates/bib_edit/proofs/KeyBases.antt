@@ -1,6 +1,6 @@
 -- Made keys have a base, whatever the edit.
-use Rattle.bib_spec.specs.Edits as edits
-use Rattle.bib_spec.specs.EditLaws.{HasKeyBase}
+use Rattle.edit_spec.specs.Edits as edits
+use Rattle.edit_spec.specs.EditLaws.{HasKeyBase}
 use Rattle.bib_names.proofs.MadeKeyLaws.{key_bases_are_keys}
 use Rattle.bib_edit.specs.Asking.{made_base}
 

@@ -9,13 +9,13 @@ use Rattle.bib_spec.specs.Tree.{IsTree, IsValue}
 use Rattle.bib_spec.specs.Reading.{Item, Reading, Reads, bytes_of}
 use Rattle.bib_spec.specs.Texts.{months, too_long_at}
 use Rattle.bib_spec.specs.Records.{entries_of, keys_of, entry_named}
-use Rattle.bib_spec.specs.Edits.{Edit, MoveEntry, EditFault, BadKey, BadName, BadValue, BadPosition, NotFound, Ambiguous, KeyInUse, NameInUse, Referred, WouldMerge, FileTooLong, TextTooLong, rank, Refuses, holders, is_entry, in_line, line_end, with_item, remove_entry, edited, last_place, IsAccepted, IsFirstRefusal}
-use Rattle.bib_spec.specs.EditChunks.{pieces_of}
-use Rattle.bib_spec.proofs.RenameKey.{only}
-use Rattle.bib_spec.proofs.EditedItems.{found-is, trees_of}
+use Rattle.edit_spec.specs.Edits.{Edit, MoveEntry, EditFault, BadKey, BadName, BadValue, BadPosition, NotFound, Ambiguous, KeyInUse, NameInUse, Referred, WouldMerge, FileTooLong, TextTooLong, rank, Refuses, holders, is_entry, in_line, line_end, with_item, remove_entry, edited, last_place, IsAccepted, IsFirstRefusal}
+use Rattle.edit_spec.specs.EditChunks.{pieces_of}
+use Rattle.edit_spec.proofs.RenameKey.{only}
+use Rattle.edit_spec.proofs.EditedItems.{found-is, trees_of}
 use Rattle.bib_scan.specs.View.{fields_of}
 use Rattle.bib_edit.specs.Asking.{made_base}
-use Rattle.bib_edit.specs.declared.edit.Edit.TheVariants as asked
+use Rattle.bib_data.specs.declared.edit.Edit.TheVariants as asked
 use Rattle.bib_edit.specs.declared.fault.EditFault.{EditFault as Fault}
 use Rattle.bib_edit.specs.declared.fault.EditFault.TheVariants as code
 use Rattle.bib_store.specs.Meaning.{OfReading}

@@ -7,8 +7,8 @@ use Rattle.bib_spec.specs.Text.{Text}
 use Rattle.bib_spec.specs.Tree.{Tree, tree_bytes}
 use Rattle.bib_spec.specs.Reading.{Item, Reading, item_bytes}
 use Rattle.bib_spec.specs.Pieces.{Piece, Chunk, Kept, Replaced, pieces_from}
-use Rattle.bib_spec.specs.Edits.{MoveEntry, is_entry, in_line, line_end}
-use Rattle.bib_spec.specs.EditChunks.{kept_item, kept_items, groups_without, moved, pieces_of}
+use Rattle.edit_spec.specs.Edits.{MoveEntry, is_entry, in_line, line_end}
+use Rattle.edit_spec.specs.EditChunks.{kept_item, kept_items, groups_without, moved, pieces_of}
 use Rattle.bib_edit.specs.Asking.{made_base}
 use Rattle.bib_edit.specs.Removal.{IsFirstAt, body_at, removal_of}
 use Rattle.bib_edit.specs.NewEntries.{insertion_of}

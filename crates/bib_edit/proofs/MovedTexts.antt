@@ -8,7 +8,7 @@ use Rattle.bib_spec.specs.Text.{Text}
 use Rattle.bib_spec.specs.Tree.{Row, Entry, Tree, CommentTree, DefinitionTree, PreambleTree, EntryTree, IsTree, IsRow, row_bytes}
 use Rattle.bib_spec.specs.Reading.{Item, Reading}
 use Rattle.bib_spec.specs.Texts.{Macros, months, macros_at, macros_after, raw_text}
-use Rattle.bib_spec.specs.Edits.{is_entry, without_first}
+use Rattle.edit_spec.specs.Edits.{is_entry, without_first}
 use Rattle.bib_scan.specs.View.{Field, fields_behind, fields_of}
 use Rattle.bib_edit.specs.Removal.{IsFirstAt}
 use Rattle.bib_edit.specs.NewEntries.{IsLong}

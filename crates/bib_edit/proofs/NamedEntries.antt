@@ -8,10 +8,10 @@ use Rattle.bib_spec.specs.Tree.{Entry, Tree, CommentTree, DefinitionTree, Preamb
 use Rattle.bib_spec.specs.Reading.{Item, Reading}
 use Rattle.bib_spec.specs.Texts.{Macros, months, macros_after, gathered}
 use Rattle.bib_spec.specs.Records.{EntryTexts, entry_in, entries_of, texts_of, is_named, keys_of, first_named, entry_named}
-use Rattle.bib_spec.specs.Edits.{is_entry, holders}
+use Rattle.edit_spec.specs.Edits.{is_entry, holders}
 use Rattle.bib_spec.proofs.Places.{suc_some}
 use Rattle.bib_spec.proofs.Counts.{count-yes, count-no}
-use Rattle.bib_spec.proofs.OneMore.{length-keys}
+use Rattle.edit_spec.proofs.OneMore.{length-keys}
 use Rattle.bib_store.specs.Meaning.{is_entry_tree, entry_numbers}
 use Rattle.bib_edit.specs.Addressing.{first_item, item_named}
 

@@ -11,7 +11,7 @@ use Rattle.std.proofs.lemmas.List.Concat.{flat_map-append}
 use Rattle.bib_spec.specs.Bytes.{name_limit}
 use Rattle.bib_spec.specs.Text.{Text, folded, same, is_name, is_name_within, does_not_begin_with}
 use Rattle.bib_spec.specs.Reading.{Reading, IsValueWithin}
-use Rattle.bib_spec.specs.Edits.{has_same}
+use Rattle.edit_spec.specs.Edits.{has_same}
 use Rattle.bib_spec.proofs.Names.{same_comm}
 use Rattle.bib_value.specs.FoldedMap.{value_at, IsWith}
 use Rattle.bib_edit.specs.NewEntries.{names_of, HaveValuesTo, HaveValues, IsFieldFault, IsLong, AreShortTo, field_line, lines_of}

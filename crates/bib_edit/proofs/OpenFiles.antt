@@ -4,12 +4,12 @@ use Rattle.bib_spec.specs.Bytes.{file_limit}
 use Rattle.bib_spec.specs.Text.{Text}
 use Rattle.bib_spec.specs.Reading.{Reading, Reads, bytes_of}
 use Rattle.bib_spec.specs.Texts.{months, Opens}
-use Rattle.bib_spec.specs.Steps.{IsFile}
+use Rattle.bib_spec.specs.Texts.{IsOpenable}
 use Rattle.bib_scan.specs.Laws.{OneReading}
 use Rattle.bib_edit.proofs.LongTexts.{any_long, too_long-any}
 
 -- the one reading of a file that opens
-pub opens-as : (file : Text) (db : Reading) → OneReading → IsFile file → Reads file db → Opens file db
+pub opens-as : (file : Text) (db : Reading) → OneReading → IsOpenable file → Reads file db → Opens file db
 opens-as file db one is reads = subst (λ (r : Reading). Opens file r) (one file is.0 db is.1.reads reads) is.1
 
 pub none-long : (file : Text) (db : Reading) → Opens file db → any_long months db.items ≡ false

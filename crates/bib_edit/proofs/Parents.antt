@@ -5,9 +5,9 @@ use Rattle.std.proofs.lemmas.Bool.{cases_Bool, both_ways, eqb-true, eqb-false, f
 use Rattle.std.proofs.lemmas.Option.{none-some, same_Some}
 use Rattle.bib_spec.specs.Text.{Text}
 use Rattle.bib_spec.specs.Records.{EntryTexts, entries_of, entry_named, other_than, target_of, parent, is_parent_of}
-use Rattle.bib_spec.specs.Edits.{IsReferred}
+use Rattle.edit_spec.specs.Edits.{IsReferred}
 use Rattle.bib_spec.proofs.Keys.{option_cases}
-use Rattle.bib_spec.proofs.OneMore.{within}
+use Rattle.edit_spec.proofs.OneMore.{within}
 use Rattle.bib_store.specs.Meaning.{OfReading}
 use Rattle.bib_edit.specs.Removal.{IsParent}
 

@@ -6,10 +6,10 @@ use Rattle.bib_spec.specs.Tree.{Row, Entry, row_bytes, opening_bytes}
 use Rattle.bib_spec.specs.Reading.{Item, Reading, item_bytes, bytes_of}
 use Rattle.bib_spec.specs.Records.{Record}
 use Rattle.bib_spec.specs.Pieces.{Piece, end_of, Fit, Chunk, Kept, Replaced, old_of, new_of, pieces_from}
-use Rattle.bib_spec.specs.Edits.{Edit, edited}
-use Rattle.bib_spec.specs.EditChunks.{kept_items, kept_rows, behind_rows, entry_chunks, chunks, pieces_of}
-use Rattle.bib_spec.proofs.EditFiles.{chunks-are-files, pieces-lead}
-use Rattle.bib_spec.proofs.TreeChunks.{old-read, items-kept}
+use Rattle.edit_spec.specs.Edits.{Edit, edited}
+use Rattle.edit_spec.specs.EditChunks.{kept_items, kept_rows, behind_rows, entry_chunks, chunks, pieces_of}
+use Rattle.edit_spec.proofs.EditFiles.{chunks-are-files, pieces-lead}
+use Rattle.edit_spec.proofs.TreeChunks.{old-read, items-kept}
 
 pub pieces-append : (at : ℕ) (xs ys : List Chunk) → pieces_from at (xs ++ ys) ≡ pieces_from at xs ++ pieces_from (at + length (old_of xs)) ys
 pieces-append at [] ys = ap (λ n. pieces_from n ys) (omega arith)

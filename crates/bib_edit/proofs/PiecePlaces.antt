@@ -7,9 +7,9 @@ use Rattle.bib_spec.specs.Tree.{Tree}
 use Rattle.bib_spec.specs.Reading.{Item, Reading, item_bytes, bytes_of}
 use Rattle.bib_spec.specs.Pieces.{Kept, Replaced, pieces_from, pieces_of_chunks}
 use Rattle.bib_spec.specs.Records.{Record}
-use Rattle.bib_spec.specs.Edits.{Edit, edited}
-use Rattle.bib_spec.specs.EditChunks.{kept_item, kept_items, chunks_from_first, without_body, chunks, pieces_of}
-use Rattle.bib_spec.proofs.EditFiles.{chunks-are-files}
+use Rattle.edit_spec.specs.Edits.{Edit, edited}
+use Rattle.edit_spec.specs.EditChunks.{kept_item, kept_items, chunks_from_first, without_body, chunks, pieces_of}
+use Rattle.edit_spec.proofs.EditFiles.{chunks-are-files}
 use Rattle.bib_scan.specs.Layout.{start_of}
 use Rattle.bib_edit.specs.Removal.{IsFirstAt, body_at, trail_at}
 use Rattle.bib_edit.proofs.PieceLists.{pieces-behind_items, pieces-kept_items, olds_len, news_len, lengths-chunks}

@@ -6,7 +6,7 @@ use Rattle.bib_spec.specs.Text.{Text}
 use Rattle.bib_spec.specs.Tree.{Entry, Tree, CommentTree, DefinitionTree, PreambleTree, EntryTree}
 use Rattle.bib_spec.specs.Reading.{Item, Reading}
 use Rattle.bib_spec.specs.Texts.{Macros, macros_after, macros_at, raw_texts_in}
-use Rattle.bib_spec.specs.Edits.{is_entry, without_first}
+use Rattle.edit_spec.specs.Edits.{is_entry, without_first}
 use Rattle.bib_edit.proofs.LongTexts.{is_long, any_long}
 
 -- some raw text of the item is too long, where these macros stand before it

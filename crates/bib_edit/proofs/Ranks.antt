@@ -4,7 +4,7 @@ use Rattle.std.proofs.lemmas.Bool.{cases_Bool, eqb-true, eqb-false}
 use Rattle.bib_spec.specs.Reading.{Reading}
 use Rattle.bib_spec.specs.Records.{Record}
 use Rattle.bib_spec.specs.Text.{Text}
-use Rattle.bib_spec.specs.Edits.{Edit, EditFault, BadKey, BadName, BadValue, BadPosition, NotFound, Ambiguous, KeyInUse, NameInUse, Referred, WouldMerge, FileTooLong, TextTooLong, rank, Refuses, IsAccepted, IsFirstRefusal}
+use Rattle.edit_spec.specs.Edits.{Edit, EditFault, BadKey, BadName, BadValue, BadPosition, NotFound, Ambiguous, KeyInUse, NameInUse, Referred, WouldMerge, FileTooLong, TextTooLong, rank, Refuses, IsAccepted, IsFirstRefusal}
 
 fault_at : ℕ → EditFault
 fault_at zero = BadKey

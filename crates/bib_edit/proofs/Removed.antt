@@ -8,10 +8,10 @@ use Rattle.bib_spec.specs.Tree.{IsValue}
 use Rattle.bib_spec.specs.Reading.{Reading, bytes_of}
 use Rattle.bib_spec.specs.Texts.{months, Opens}
 use Rattle.bib_spec.specs.Records.{entries_of}
-use Rattle.bib_spec.specs.Edits.{RemoveEntry, BadKey, BadName, BadValue, BadPosition, NotFound, Ambiguous, KeyInUse, NameInUse, Referred, WouldMerge, FileTooLong, TextTooLong, holders, is_entry, remove_entry, EditFault, rank, Refuses, IsReferred, IsAccepted, IsFirstRefusal}
-use Rattle.bib_spec.specs.EditChunks.{pieces_of}
+use Rattle.edit_spec.specs.Edits.{RemoveEntry, BadKey, BadName, BadValue, BadPosition, NotFound, Ambiguous, KeyInUse, NameInUse, Referred, WouldMerge, FileTooLong, TextTooLong, holders, is_entry, remove_entry, EditFault, rank, Refuses, IsReferred, IsAccepted, IsFirstRefusal}
+use Rattle.edit_spec.specs.EditChunks.{pieces_of}
 use Rattle.bib_edit.specs.Asking.{made_base}
-use Rattle.bib_edit.specs.declared.edit.Edit.TheVariants as asked
+use Rattle.bib_data.specs.declared.edit.Edit.TheVariants as asked
 use Rattle.bib_edit.specs.declared.fault.EditFault.{EditFault as Fault}
 use Rattle.bib_edit.specs.declared.fault.EditFault.TheVariants as code
 use Rattle.bib_store.specs.Meaning.{OfReading}

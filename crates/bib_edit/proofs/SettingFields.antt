@@ -7,17 +7,17 @@ use Rattle.bib_spec.specs.Text.{Text, is_name}
 use Rattle.bib_spec.specs.Tree.{Value, EntryTree, IsValue}
 use Rattle.bib_spec.specs.Reading.{Item, Reading, bytes_of, Reads, IsValueWithin}
 use Rattle.bib_spec.specs.Texts.{months, macros_at, raw_text, raw_limit, too_long_at, Opens}
-use Rattle.bib_spec.specs.Steps.{IsFile}
+use Rattle.bib_spec.specs.Texts.{IsOpenable}
 use Rattle.bib_spec.specs.Pieces.{Piece}
-use Rattle.bib_spec.specs.Edits as edits
-use Rattle.bib_spec.specs.Edits.{Spells, holders, fields_named, entry_with_field, Refuses, IsAccepted, IsFirstRefusal}
-use Rattle.bib_spec.specs.EditChunks.{pieces_of}
+use Rattle.edit_spec.specs.Edits as edits
+use Rattle.edit_spec.specs.Edits.{Spells, holders, fields_named, entry_with_field, Refuses, IsAccepted, IsFirstRefusal}
+use Rattle.edit_spec.specs.EditChunks.{pieces_of}
 use Rattle.bib_scan.specs.View.{view_of}
 use Rattle.bib_scan.specs.Layout.{start_of}
 use Rattle.bib_value.specs.Raw.{OfValue}
 use Rattle.bib_store.specs.Meaning.{OfReading}
-use Rattle.bib_edit.specs.declared.edit.Edit.{Edit}
-use Rattle.bib_edit.specs.declared.edit.Edit.TheVariants.{SetField}
+use Rattle.bib_data.specs.declared.edit.Edit.{Edit}
+use Rattle.bib_data.specs.declared.edit.Edit.TheVariants.{SetField}
 use Rattle.bib_edit.specs.declared.fault.EditFault.{EditFault}
 use Rattle.bib_edit.specs.declared.fault.EditFault.TheVariants.{BadKey, BadName, BadValue, BadPosition, NotFound, Ambiguous, KeyInUse, NameInUse, Referred, WouldMerge, FileTooLong, TextTooLong, Memory}
 use Rattle.bib_edit.specs.Asking.{made_base, AsksFor, set_field}
@@ -159,7 +159,7 @@ module _ (file key name value : Text) where
               first_refusal made_base db (set db key name v) edits.FileTooLong (omega (arith, long, made_lengths)) (clear_file db reads v s))
 
           -- and that the file is short enough
-          module _ (short : length file + length p.new ≤ file_limit + length p.old) (is : IsFile file) (long : Bool) (told : OfReading file (λ db. OfValue value (λ v. long ≡ nat_lt raw_limit (length (raw_text (macros_at months db.items n) v))))) where
+          module _ (short : length file + length p.new ≤ file_limit + length p.old) (is : IsOpenable file) (long : Bool) (told : OfReading file (λ db. OfValue value (λ v. long ≡ nat_lt raw_limit (length (raw_text (macros_at months db.items n) v))))) where
             clear_raw : (db : Reading) → Reads file db → (v : Value) → Spells value v → IsClear made_base db (set db key name v) 11
             clear_raw db reads v s =
                 let lone = held db reads in let same_count = fields db reads in let made_lengths = lengths db reads v s in

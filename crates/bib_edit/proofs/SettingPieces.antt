@@ -9,14 +9,14 @@ use Rattle.bib_spec.specs.Text.{Text, same}
 use Rattle.bib_spec.specs.Tree.{Value, Row, Entry, Tree, EntryTree, value_bytes, row_bytes, opening_bytes}
 use Rattle.bib_spec.specs.Reading.{Item, Reading, bytes_of, Reads}
 use Rattle.bib_spec.specs.Texts.{Opens}
-use Rattle.bib_spec.specs.Steps.{IsFile}
+use Rattle.bib_spec.specs.Texts.{IsOpenable}
 use Rattle.bib_spec.specs.Tree.{Digits}
 use Rattle.bib_spec.specs.Texts.{Macros, row_start}
 use Rattle.bib_spec.specs.Records.{Record, field_of, has_name}
 use Rattle.bib_spec.specs.Pieces.{Piece, Chunk, Kept, Replaced, pieces_from, pieces_of_chunks, end_of}
-use Rattle.bib_spec.specs.Edits.{SetField, is_entry, fields_named}
-use Rattle.bib_spec.specs.EditChunks.{kept_rows, entry_chunks, entry_as, chunks_from_first, field_set, pieces_of}
-use Rattle.bib_spec.proofs.TreeChunks.{row-parts}
+use Rattle.edit_spec.specs.Edits.{SetField, is_entry, fields_named}
+use Rattle.edit_spec.specs.EditChunks.{kept_rows, entry_chunks, entry_as, chunks_from_first, field_set, pieces_of}
+use Rattle.edit_spec.proofs.TreeChunks.{row-parts}
 use Rattle.bib_spec.proofs.Counts.{count-yes, count-no}
 use Rattle.bib_scan.specs.View.{Field, field_behind, fields_behind, View, view_of}
 use Rattle.bib_scan.specs.Layout.{start_of}
@@ -158,7 +158,7 @@ IsSeen file n start view = OfItem file n (λ s v. (start ≡ s) × (view ≡ v))
 
 module _ (file : Text) (n : ℕ) (name value : Text) (start : ℕ) (view : View) (seen : IsSeen file n start view) where
   -- the piece lies in the file
-  pub set-within : IsFile file → IsNamedItem file n → end_of (set_piece start view name value) ≤ file_limit
+  pub set-within : IsOpenable file → IsNamedItem file n → end_of (set_piece start view name value) ≤ file_limit
   set-within is named =
       let db : Reading = is.0 in
       let opens : Opens file db = is.1 in
@@ -185,7 +185,7 @@ module _ (file : Text) (n : ℕ) (name value : Text) (start : ℕ) (view : View)
     unfolding replacing
     replacing-is = ap (set_at start name value (rows_end view)) found
 
-    pub replacing-within : IsFile file → IsNamedItem file n → start + field.value_at ≤ file_limit
+    pub replacing-within : IsOpenable file → IsNamedItem file n → start + field.value_at ≤ file_limit
     unfolding replacing
     replacing-within is named =
         let inside : end_of replacing ≤ file_limit = subst (λ (p : Piece). end_of p ≤ file_limit) (sym replacing-is) (set-within is named) in
@@ -202,7 +202,7 @@ module _ (file : Text) (n : ℕ) (name value : Text) (start : ℕ) (view : View)
     putting-is : (let p : Piece = record { place = start + rows_end view; old = []; new = row_text name value } in p) ≡ set_piece start view name value
     putting-is = ap (set_at start name value (rows_end view)) missing
 
-    pub putting-within : IsFile file → IsNamedItem file n → start + rows_end view ≤ file_limit
+    pub putting-within : IsOpenable file → IsNamedItem file n → start + rows_end view ≤ file_limit
     putting-within is named =
         let inside = subst (λ (p : Piece). end_of p ≤ file_limit) (sym putting-is) (set-within is named) in
         omega (arith, inside)

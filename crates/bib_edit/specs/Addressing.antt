@@ -3,7 +3,7 @@ use Rattle.std.specs.Prelude.{ℕ, suc, ◌≡◌, ◌+◌, ◌<◌, Bool, List,
 use Rattle.bib_spec.specs.Text.{Text, same}
 use Rattle.bib_spec.specs.Tree.{Tree}
 use Rattle.bib_spec.specs.Reading.{Item, Reading}
-use Rattle.bib_spec.specs.Edits.{is_entry, holders}
+use Rattle.edit_spec.specs.Edits.{is_entry, holders}
 use Rattle.bib_scan.specs.View.{Field}
 use Rattle.bib_edit.specs.declared.fault.EditFault.{EditFault}
 use Rattle.bib_edit.specs.declared.fault.EditFault.TheVariants.{NotFound, Ambiguous}

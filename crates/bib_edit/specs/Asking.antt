@@ -3,12 +3,12 @@ use Rattle.std.specs.Prelude.{ℕ, List, [], ◌∷◌, ◌≡◌}
 use Rattle.bib_spec.specs.Text.{Text}
 use Rattle.bib_spec.specs.Tree.{Value}
 use Rattle.bib_spec.specs.Records.{Record}
-use Rattle.bib_spec.specs.Edits as edits
-use Rattle.bib_spec.specs.Edits.{Spells}
+use Rattle.edit_spec.specs.Edits as edits
+use Rattle.edit_spec.specs.Edits.{Spells}
 use Rattle.bib_names.specs.Label.{key_base}
-use Rattle.bib_edit.specs.declared.edit.Edit.{Edit}
-use Rattle.bib_edit.specs.declared.edit.Edit.TheVariants.{SetField, DropField, AddEntry, RemoveEntry, MoveEntry}
-use Rattle.bib_edit.specs.declared.edit.NewEntry.{NewEntry}
+use Rattle.bib_data.specs.declared.edit.Edit.{Edit}
+use Rattle.bib_data.specs.declared.edit.Edit.TheVariants.{SetField, DropField, AddEntry, RemoveEntry, MoveEntry}
+use Rattle.bib_data.specs.declared.edit.NewEntry.{NewEntry}
 
 -- the base of a made key, which is that of the record's label
 abbrev pub made_base : Record → Text

@@ -1,8 +1,8 @@
 -- The faults of edits: their numbers, and the reasons of the definitions that they are. (dialect)
 use Rattle.std.specs.Prelude.{ℕ, Option, Some, None}
 use Rattle.std.specs.Option.{option_map_or}
-use Rattle.bib_spec.specs.Edits as reason
-use Rattle.bib_spec.specs.Edits.{edit_fault_number}
+use Rattle.edit_spec.specs.Edits as reason
+use Rattle.edit_spec.specs.Edits.{edit_fault_number}
 use Rattle.bib_edit.specs.declared.fault.EditFault.{EditFault}
 use Rattle.bib_edit.specs.declared.fault.EditFault.TheVariants.{BadKey, BadName, BadValue, BadPosition, NotFound, Ambiguous, KeyInUse, NameInUse, Referred, WouldMerge, FileTooLong, TextTooLong, Memory}
 

@@ -1,6 +1,6 @@
 -- Laws of edits.
-use Rattle.bib_spec.specs.Edits as edits
-use Rattle.bib_edit.specs.declared.edit.Edit.{Edit}
+use Rattle.edit_spec.specs.Edits as edits
+use Rattle.bib_data.specs.declared.edit.Edit.{Edit}
 use Rattle.bib_edit.specs.Asking.{AsksFor}
 
 -- whatever the bytes are, some edit is asked for

@@ -5,7 +5,7 @@ use Rattle.bib_spec.specs.Bytes.{name_limit}
 use Rattle.bib_spec.specs.Text.{Text}
 use Rattle.bib_spec.specs.Reading.{Reading, IsValueWithin}
 use Rattle.bib_spec.specs.Pieces.{Piece}
-use Rattle.bib_spec.specs.Edits.{line_end}
+use Rattle.edit_spec.specs.Edits.{line_end}
 use Rattle.bib_scan.specs.View.{Field}
 use Rattle.bib_edit.specs.NewEntries.{IsLong, insertion_of}
 use Rattle.bib_edit.specs.Removal.{body_at, removal_of}

@@ -9,7 +9,7 @@ use Rattle.bib_scan.specs.Layout.{start_of}
 use Rattle.bib_spec.specs.Reading.{Reading, IsValueWithin}
 use Rattle.bib_spec.specs.Texts.{months, macros_at, raw_text, raw_limit}
 use Rattle.bib_value.specs.Raw.{OfValue}
-use Rattle.bib_edit.specs.declared.edit.NewEntry.{NewEntry}
+use Rattle.bib_data.specs.declared.edit.NewEntry.{NewEntry}
 use Rattle.bib_edit.specs.declared.fault.EditFault.{EditFault}
 use Rattle.bib_edit.specs.declared.fault.EditFault.TheVariants.{BadKey, BadName, BadValue, Memory}
 

@@ -2,10 +2,10 @@
 use Rattle.std.specs.Prelude.{◌≡◌, List, IfSome}
 use Rattle.bib_spec.specs.Text.{Text}
 use Rattle.bib_spec.specs.Pieces.{Piece}
-use Rattle.bib_spec.specs.Edits.{IsAccepted, IsFirstRefusal}
-use Rattle.bib_spec.specs.EditChunks.{pieces_of}
+use Rattle.edit_spec.specs.Edits.{IsAccepted, IsFirstRefusal}
+use Rattle.edit_spec.specs.EditChunks.{pieces_of}
 use Rattle.bib_store.specs.Meaning.{OfReading}
-use Rattle.bib_edit.specs.declared.edit.Edit.{Edit}
+use Rattle.bib_data.specs.declared.edit.Edit.{Edit}
 use Rattle.bib_edit.specs.declared.fault.EditFault.{EditFault}
 use Rattle.bib_edit.specs.Asking.{OfEdit, made_base}
 use Rattle.bib_edit.specs.Faults.{reason_of}

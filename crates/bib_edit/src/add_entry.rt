@@ -2,15 +2,15 @@
 
 ghost use Rattle.std.specs.Prelude.{OnOk, IfOk, IfErr};
 ghost use Rattle.bib_edit.specs.Planning.{IsAllowedEdit, ArePiecesOf, IsRefusal};
-ghost use Rattle.bib_edit.specs.declared.edit.Edit.TheVariants.{AddEntry};
+ghost use Rattle.bib_data.specs.declared.edit.Edit.TheVariants.{AddEntry};
 
-use crate::edit::NewEntry;
 use crate::fault::EditFault;
 use crate::limits::is_file_too_long;
 use crate::new_entry::{insertion_of, is_held, judge_entry};
 use crate::new_fields::{has_same_name, is_any_long};
 use crate::new_text::entry_text;
 use crate::pieces::one_piece;
+use bib_data::NewEntry;
 use bib_scan::{Seq, one_reading};
 use bib_store::{Database, ItemList, Piece};
 use std::alloc::Global;

@@ -6,7 +6,7 @@ ghost use Rattle.bib_scan.specs.View.{field_seen};
 ghost use Rattle.bib_edit.specs.Planning.{IsAllowedEdit, ArePiecesOf, IsRefusal};
 ghost use Rattle.bib_edit.specs.Addressing.{field_end};
 ghost use Rattle.bib_edit.specs.FieldPieces.{cut_piece, joins_key};
-ghost use Rattle.bib_edit.specs.declared.edit.Edit.TheVariants.{DropField};
+ghost use Rattle.bib_data.specs.declared.edit.Edit.TheVariants.{DropField};
 ghost use Rattle.bib_edit.specs.declared.fault.EditFault.TheVariants.{Memory};
 
 use crate::address::{count_named, field_named, item_named};

@@ -5,7 +5,6 @@
 mod add_entry;
 mod address;
 mod drop_field;
-mod edit;
 mod fault;
 mod laws;
 mod limits;
@@ -22,7 +21,7 @@ mod set_field;
 mod taking_out;
 mod values;
 
-pub use edit::{Edit, NewEntry};
+pub use bib_data::{Edit, NewEntry};
 pub use fault::EditFault;
 pub use laws::edits_are_asked_for;
 pub use planning::plan;

@@ -2,7 +2,7 @@
 
 ghost use Rattle.std.specs.Prelude.{OnOk, IfOk, IfErr};
 ghost use Rattle.bib_edit.specs.Planning.{IsAllowedEdit, ArePiecesOf, IsRefusal};
-ghost use Rattle.bib_edit.specs.declared.edit.Edit.TheVariants.{MoveEntry};
+ghost use Rattle.bib_data.specs.declared.edit.Edit.TheVariants.{MoveEntry};
 
 use crate::address::lone_entry;
 use crate::fault::EditFault;

@@ -1,7 +1,7 @@
 //! The body of an item goes, and stands elsewhere in a line of its own.
 
 ghost use Rattle.std.specs.Prelude.{◌≡◌, [], ◌∷◌, IfOk, IfErr};
-ghost use Rattle.bib_spec.specs.Edits.{MoveEntry, last_place};
+ghost use Rattle.edit_spec.specs.Edits.{MoveEntry, last_place};
 ghost use Rattle.bib_store.specs.Meaning.{OfReading, IsItemNumber, IsItemPlace};
 ghost use Rattle.bib_edit.specs.Moving.{seat, line_of, moved_pieces, FieldsHaveValues, IsFieldLong};
 ghost use Rattle.bib_edit.specs.declared.fault.EditFault.TheVariants.{Memory};

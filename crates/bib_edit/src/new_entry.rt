@@ -1,13 +1,13 @@
 //! An entry to be added: whether it is one, and the piece that puts it in.
 
 ghost use Rattle.std.specs.Prelude.{◌≡◌, nat_lt, OnOk, IfErr};
-ghost use Rattle.bib_spec.specs.Edits.{holders};
+ghost use Rattle.edit_spec.specs.Edits.{holders};
 ghost use Rattle.bib_store.specs.Meaning.{OfReading, IsItemPlace};
 ghost use Rattle.bib_edit.specs.NewEntries.{IsGoodEntry, IsEntryFault, insertion_of};
 
-use crate::edit::NewEntry;
 use crate::fault::EditFault;
 use crate::new_fields::{are_named, judge_values};
+use bib_data::NewEntry;
 use bib_scan::{Seq, Text, is_key, is_type};
 use bib_store::{Database, ItemList, Piece};
 use std::alloc::Global;

@@ -3,7 +3,7 @@
 ghost use Rattle.std.specs.Prelude.{◌≡◌, length, IfOk, IfErr, OnOk, IsTrue};
 ghost use Rattle.std.specs.List.{list_all};
 ghost use Rattle.bib_spec.specs.Text.{is_name};
-ghost use Rattle.bib_spec.specs.Edits.{has_same};
+ghost use Rattle.edit_spec.specs.Edits.{has_same};
 ghost use Rattle.bib_store.specs.Meaning.{OfReading, IsItemPlace};
 ghost use Rattle.bib_edit.specs.NewEntries.{names_of, HaveValues, IsFieldFault, IsAnyLong};
 ghost use Rattle.bib_edit.specs.declared.fault.EditFault.TheVariants.{Memory};

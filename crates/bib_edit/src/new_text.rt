@@ -3,7 +3,7 @@
 ghost use Rattle.std.specs.Prelude.{◌≡◌, ◌++◌, IfOk, OnOk};
 ghost use Rattle.bib_edit.specs.NewEntries.{field_line, lines_of, line_before_close, entry_text};
 
-use crate::edit::NewEntry;
+use bib_data::NewEntry;
 use bib_scan::{Seq, Text};
 use std::alloc::{AllocError, Global};
 

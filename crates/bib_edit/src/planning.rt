@@ -5,11 +5,11 @@ ghost use Rattle.bib_edit.specs.Planning.{IsAllowedEdit, ArePiecesOf, IsRefusal}
 
 use crate::add_entry::add_entry;
 use crate::drop_field::drop_field;
-use crate::edit::Edit;
 use crate::fault::EditFault;
 use crate::move_entry::move_entry;
 use crate::remove_entry::remove_entry;
 use crate::set_field::set_field;
+use bib_data::Edit;
 use bib_scan::Seq;
 use bib_store::{Database, ItemList, Piece};
 use std::alloc::Global;

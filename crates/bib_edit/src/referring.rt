@@ -2,7 +2,7 @@
 
 ghost use Rattle.std.specs.Prelude.{◌≡◌, ◌↔◌, Some, IsTrue};
 ghost use Rattle.bib_spec.specs.Records.{entries_of, parent, is_parent_of};
-ghost use Rattle.bib_spec.specs.Edits.{IsReferred};
+ghost use Rattle.edit_spec.specs.Edits.{IsReferred};
 ghost use Rattle.bib_store.specs.Meaning.{OfReading, IsEntryNumber};
 ghost use Rattle.bib_edit.specs.Removal.{IsParent};
 

@@ -3,7 +3,7 @@
 ghost use Rattle.std.specs.Prelude.{◌≡◌, ◌++◌, ◌<◌, ◌^◌, OnOk, IfOk, IfErr};
 ghost use Rattle.bib_edit.specs.Planning.{IsAllowedEdit, ArePiecesOf, IsRefusal};
 ghost use Rattle.bib_edit.specs.FieldPieces.{IsNamedItem, OfItem, rows_end, row_text, set_piece};
-ghost use Rattle.bib_edit.specs.declared.edit.Edit.TheVariants.{SetField};
+ghost use Rattle.bib_data.specs.declared.edit.Edit.TheVariants.{SetField};
 ghost use Rattle.bib_edit.specs.declared.fault.EditFault.TheVariants.{Memory};
 
 use crate::address::{count_named, field_named, last_field, lone_entry};

@@ -7,15 +7,16 @@ use Rattle.std.proofs.lemmas.Option.{slice_get_within, get_or_from_slice_get}
 use Rattle.bib_spec.specs.Text.{Text}
 use Rattle.bib_spec.specs.Pieces.{Fit, applied}
 use Rattle.bib_spec.specs.Reading.{Reading, Reads, bytes_of}
-use Rattle.bib_spec.specs.History.{Edits, Undoes, Redoes}
-use Rattle.bib_spec.specs.Edits as edits
-use Rattle.bib_spec.specs.Edits.{edited, IsAccepted}
-use Rattle.bib_spec.specs.EditChunks.{pieces_of}
-use Rattle.bib_spec.specs.Steps.{Step, KeptSteps, before, Leads, LeadTo, LeadOn, IsFile, IsAllowed, IsSound, IsFull, Adds, GoesBack, GoesOn, history_of, step_text_len}
-use Rattle.bib_spec.proofs.StepLemmas.{lead_to_pop, adding-edits, going-back-undoes, going-on-redoes}
-use Rattle.bib_spec.proofs.EditFiles.{pieces-lead}
-use Rattle.bib_spec.proofs.EditedReads.{applied-opens}
-use Rattle.bib_edit.specs.declared.edit.Edit.{Edit}
+use Rattle.edit_spec.specs.History.{Edits, Undoes, Redoes}
+use Rattle.edit_spec.specs.Edits as edits
+use Rattle.edit_spec.specs.Edits.{edited, IsAccepted}
+use Rattle.edit_spec.specs.EditChunks.{pieces_of}
+use Rattle.edit_spec.specs.Steps.{Step, KeptSteps, before, Leads, LeadTo, LeadOn, IsAllowed, IsSound, IsFull, Adds, GoesBack, GoesOn, history_of, step_text_len}
+use Rattle.bib_spec.specs.Texts.{IsOpenable}
+use Rattle.edit_spec.proofs.StepLemmas.{lead_to_pop, adding-edits, going-back-undoes, going-on-redoes}
+use Rattle.edit_spec.proofs.EditFiles.{pieces-lead}
+use Rattle.edit_spec.proofs.EditedReads.{applied-opens}
+use Rattle.bib_data.specs.declared.edit.Edit.{Edit}
 use Rattle.bib_edit.specs.Asking.{AsksFor, made_base}
 use Rattle.bib_edit.specs.Planning.{IsAllowedEdit, ArePiecesOf}
 use Rattle.bib_edit.proofs.AskedEdits.{asked_for}
@@ -89,7 +90,7 @@ made_again past past' stack rest s b b' w split made pushed =
 -- ---- edits
 
 -- the pieces of an edit that nothing refuses lead from the file to another
-pub planned_leads : (file : Text) (edit : Edit) (pieces : Step) → IsFile file → IsAllowedEdit file edit → ArePiecesOf file edit pieces → IsAllowed pieces file
+pub planned_leads : (file : Text) (edit : Edit) (pieces : Step) → IsOpenable file → IsAllowedEdit file edit → ArePiecesOf file edit pieces → IsAllowed pieces file
 planned_leads file edit pieces is allowed planned =
     let db : Reading = is.0 in
     let reads : Reads file db = is.1.reads in
@@ -99,7 +100,7 @@ planned_leads file edit pieces is allowed planned =
     let fits : Fit (pieces_of made_base db e) file = subst (λ (t : Text). Fit (pieces_of made_base db e) t) reads.bytes (pieces-lead made_base db e).0 in
     record {
       fit = subst (λ (ps : Step). Fit ps file) same fits;
-      made = subst (λ (ps : Step). IsFile (applied ps file)) same
+      made = subst (λ (ps : Step). IsOpenable (applied ps file)) same
           (edited made_base db e, applied-opens made_base file db e (has_key_base e) reads (allowed db reads e one.1));
     }
 

@@ -1,8 +1,8 @@
 -- One more request that is accepted.
 use Rattle.std.proofs.Common.{◌≡◌, ℕ, ◌+◌, ◌<◌, List, [], ◌∷◌, ◌++◌, length, take, get_or, sym, ◌∙◌, ap, subst, refl}
 use Rattle.std.proofs.lemmas.List.{take_more}
-use Rattle.bib_spec.specs.Steps.{KeptSteps}
-use Rattle.bib_journal.specs.declared.request.Request.{Request}
+use Rattle.edit_spec.specs.Steps.{KeptSteps}
+use Rattle.bib_data.specs.declared.request.Request.{Request}
 use Rattle.bib_journal.specs.Session.{Does, DoesAll}
 
 does_last : (requests : List Request) (request : Request) (old mid new : KeptSteps) → DoesAll requests old mid → Does request mid new → DoesAll (requests ++ request ∷ []) old new

@@ -5,8 +5,8 @@ use Rattle.std.proofs.lemmas.List.Elements.{All-from_recursion}
 use Rattle.bib_spec.specs.Bytes.{file_limit}
 use Rattle.bib_spec.specs.Text.{Text}
 use Rattle.bib_spec.specs.Pieces.{Piece, Stands, end_of}
-use Rattle.bib_spec.specs.Steps.{Step, Leads}
-use Rattle.bib_spec.proofs.StepLemmas.{new_bytes_in}
+use Rattle.edit_spec.specs.Steps.{Step, Leads}
+use Rattle.edit_spec.proofs.StepLemmas.{new_bytes_in}
 
 -- a piece that stands in a short text has a small place
 small_places : (n : ℕ) (ps : List Piece) (text : Text) → length text ≤ n → AllByRecursion (Stands text) ps → AllByRecursion (λ p. p.place ≤ n) ps

@@ -1,7 +1,7 @@
 -- What a session keeps.
 use Rattle.std.specs.Prelude.{ℕ, ◌≡◌, List, sum_by}
 use Rattle.bib_spec.specs.Text.{Text}
-use Rattle.bib_spec.specs.Steps.{Step, KeptSteps, IsSound, step_text_len}
+use Rattle.edit_spec.specs.Steps.{Step, KeptSteps, IsSound, step_text_len}
 
 abbrev pub kept : List Step → Text → List Step → KeptSteps
 kept past present future = record { past = past; present = present; future = future }

@@ -2,19 +2,19 @@
 use Rattle.std.specs.Prelude.{ℕ, ◌≡◌, ◌≢◌, ◌≤◌, List, [], ◌∷◌, length, take, drop, Option, Some, None}
 use Rattle.bib_spec.specs.Text.{Text}
 use Rattle.bib_spec.specs.Reading.{bytes_of}
-use Rattle.bib_spec.specs.History.{Edits, Undoes, Redoes}
-use Rattle.bib_spec.specs.Steps.{Step, KeptSteps, history_of, IsFull, Adds, GoesBack, GoesOn}
-use Rattle.bib_spec.specs.Edits.{edited}
-use Rattle.bib_spec.specs.EditChunks.{pieces_of}
+use Rattle.edit_spec.specs.History.{Edits, Undoes, Redoes}
+use Rattle.edit_spec.specs.Steps.{Step, KeptSteps, history_of, IsFull, Adds, GoesBack, GoesOn}
+use Rattle.edit_spec.specs.Edits.{edited}
+use Rattle.edit_spec.specs.EditChunks.{pieces_of}
 use Rattle.bib_store.specs.Meaning.{OfReading, IsOpenFault}
-use Rattle.bib_edit.specs.declared.edit.Edit.{Edit}
+use Rattle.bib_data.specs.declared.edit.Edit.{Edit}
 use Rattle.bib_edit.specs.declared.fault.EditFault.TheVariants as edit_fault
 use Rattle.bib_edit.specs.Asking.{OfEdit, made_base}
 use Rattle.bib_edit.specs.Planning.{IsAllowedEdit, IsRefusal}
 use Rattle.bib_journal.specs.declared.fault.SessionFault.{SessionFault}
 use Rattle.bib_journal.specs.declared.fault.SessionFault.TheVariants.{Unopened, Refused, JournalFull, NothingToUndo, NothingToRedo, Memory}
-use Rattle.bib_journal.specs.declared.request.Request.{Request}
-use Rattle.bib_journal.specs.declared.request.Request.TheVariants as request
+use Rattle.bib_data.specs.declared.request.Request.{Request}
+use Rattle.bib_data.specs.declared.request.Request.TheVariants as request
 
 -- ---- opening
 

@@ -5,12 +5,11 @@
 
 mod fault;
 mod performing;
-mod request;
 mod session;
 mod step_text;
 mod stepping;
 
+pub use bib_data::Request;
 pub use fault::SessionFault;
 pub use performing::{Performed, perform};
-pub use request::Request;
 pub use session::{CHANGE_LIMIT, STEP_TEXTS_LIMIT, Session};

@@ -4,8 +4,8 @@ ghost use Rattle.std.specs.Prelude.{◌≡◌, IfErr, OnOk, OnErr};
 ghost use Rattle.bib_journal.specs.Session.{Does, Refuses, Performs};
 
 use crate::fault::SessionFault;
-use crate::request::Request;
 use crate::session::Session;
+use bib_data::Request;
 use bib_store::ItemList;
 
 /// How many requests were done, and why the next one was refused, if one was.

@@ -1,7 +1,7 @@
 //! An open file with its history.
 
 ghost use Rattle.std.specs.Prelude.{◌≡◌, [], length, IfOk, IfErr, OnOk, OnErr};
-ghost use Rattle.bib_spec.specs.Steps.{IsSound};
+ghost use Rattle.edit_spec.specs.Steps.{IsSound};
 ghost use Rattle.bib_journal.specs.Session.{started, MakesEdit, RefusesStart, RefusesEdit, RefusesUndo, RefusesRedo, TakesBack, MakesAgain};
 
 use crate::fault::{SessionFault, refused, unopened};
@@ -32,7 +32,7 @@ pub struct Session<L: ItemList> {
 
 impl<L: ItemList> Model for Session<L> {
     ghost use Rattle.std.specs.Prelude.{reverse};
-    ghost use Rattle.bib_spec.specs.Steps.{KeptSteps};
+    ghost use Rattle.edit_spec.specs.Steps.{KeptSteps};
     ghost use Rattle.bib_journal.specs.Kept.{kept, IsKept};
 
     ghost Value = { KeptSteps };

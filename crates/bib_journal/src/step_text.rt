@@ -1,7 +1,7 @@
 //! How long steps are as texts.
 
 ghost use Rattle.std.specs.Prelude.{◌≡◌, ◌-◌, ◌^◌, ◌≤◌, length, min, decimal};
-ghost use Rattle.bib_spec.specs.Steps.{piece_text, step_text_len};
+ghost use Rattle.edit_spec.specs.Steps.{piece_text, step_text_len};
 
 use bib_store::Piece;
 

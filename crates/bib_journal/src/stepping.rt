@@ -2,7 +2,7 @@
 
 ghost use Rattle.std.specs.Prelude.{◌≡◌, ◌+◌, ◌<◌, ◌≤◌, ◌∷◌, ◌++◌, [], vec_len, vec_capacity, OnOk, OnErr};
 ghost use Rattle.bib_spec.specs.Pieces.{applied};
-ghost use Rattle.bib_spec.specs.Steps.{IsAllowed, Leads, before};
+ghost use Rattle.edit_spec.specs.Steps.{IsAllowed, Leads, before};
 
 use bib_store::{Database, ItemList, Piece, StoreFault, reverse};
 use std::alloc::{AllocError, Global};

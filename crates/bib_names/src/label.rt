@@ -12,8 +12,8 @@ use crate::printing::printed;
 use crate::special::{Chars, char_count};
 use crate::template::{Form, Group, Part, Template};
 use crate::text::is_balanced;
+use bib_data::Record;
 use bib_scan::{Seq, Text};
-use bib_store::Record;
 use std::alloc::{AllocError, Global};
 
 /// The text of the first field of exactly this name, empty if there is none: a record has its names in lower case. It

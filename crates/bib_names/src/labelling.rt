@@ -7,8 +7,8 @@ ghost use Rattle.bib_names.specs.Label.{label_base, label_of, labels_of};
 use crate::fault::NameFault;
 use crate::label::base_of;
 use crate::tally::Tally;
+use bib_data::Record;
 use bib_scan::{Seq, Text};
-use bib_store::Record;
 use std::alloc::{AllocError, Global};
 
 /// The letters of a number: none of 0, then a, b, .. z, aa, ab, ..

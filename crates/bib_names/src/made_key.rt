@@ -8,8 +8,8 @@ ghost use Rattle.bib_names.specs.Label.{or_anon, key_base};
 
 use crate::fault::NameFault;
 use crate::label::{base_of, or_anon};
+use bib_data::Record;
 use bib_scan::{Seq, Text};
-use bib_store::Record;
 use std::alloc::{AllocError, Global};
 
 /// The longest base of a made key, in bytes. (dialect)

@@ -3,7 +3,7 @@ use Rattle.std.proofs.Common.{◌≡◌, ◌≢◌, ℕ, [], subst, sym}
 use Rattle.bib_spec.specs.Text.{Text}
 use Rattle.bib_spec.specs.Reading.{Reading}
 use Rattle.bib_spec.specs.Fault.{IsReadFault}
-use Rattle.bib_spec.specs.Steps.{IsFile}
+use Rattle.bib_spec.specs.Texts.{IsOpenable}
 use Rattle.bib_store.specs.Meaning.{IsOpenFault, OfReading}
 use Rattle.bib_run.specs.declared.answers.Answer.{Answer}
 use Rattle.bib_run.specs.Messages.{refusal_line}
@@ -24,6 +24,6 @@ pub file_refused : (answers : Reading → Answer) (file : Text) (kind place : �
 file_refused answers file kind place answer why is = opening.refused kind place is.0 why is.1
 
 -- what is answered to what an open file says is the answer to the file
-pub file_answered : (answers : Reading → Answer) (file now : Text) (answer : Answer) → now ≡ file → IsFile file → OfReading now (λ r. answer ≡ answers r) → AnswersFile answers file answer
+pub file_answered : (answers : Reading → Answer) (file now : Text) (answer : Answer) → now ≡ file → IsOpenable file → OfReading now (λ r. answer ≡ answers r) → AnswersFile answers file answer
 file_answered answers file now answer same is given =
     opening.opened is.0 is.1 (subst (λ (t : Text). OfReading t (λ r. answer ≡ answers r)) same given is.0 is.1.reads)

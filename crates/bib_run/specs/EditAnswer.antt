@@ -3,7 +3,8 @@ use Rattle.std.specs.Prelude.{ℕ, ◌≡◌, ◌≢◌, ◌<◌, ◌≤◌, ◌
 use Rattle.std.specs.Fmt.{decimal}
 use Rattle.bib_spec.specs.Bytes.{file_limit}
 use Rattle.bib_spec.specs.Text.{Text}
-use Rattle.bib_spec.specs.Steps.{KeptSteps, IsFile}
+use Rattle.edit_spec.specs.Steps.{KeptSteps}
+use Rattle.bib_spec.specs.Texts.{IsOpenable}
 use Rattle.bib_store.specs.Meaning.{IsOpenFault}
 use Rattle.bib_journal.specs.declared.fault.SessionFault.{SessionFault}
 use Rattle.bib_journal.specs.declared.fault.SessionFault.TheVariants.{Memory}
@@ -53,9 +54,9 @@ edited_answer said done fault file = record { output = applied_line done; outcom
 -- `edit F`: the edits of the script in order, up to the first line that is refused or says none; or, with nothing done,
 -- why the file cannot be opened, or that the script is too long
 pub data IsEditAnswer (file input : Text) (answer : Answer) : Type 0 where
-  edited : (done : ℕ) (fault : Option SessionFault) (kept : KeptSteps) → IsFile file → length input ≤ file_limit → fault ≢ Some Memory
+  edited : (done : ℕ) (fault : Option SessionFault) (kept : KeptSteps) → IsOpenable file → length input ≤ file_limit → fault ≢ Some Memory
       → Performs (said_of input).requests done fault (started file) kept → answer ≡ edited_answer (said_of input) done fault kept.present
       → IsEditAnswer file input answer
-  too_long : IsFile file → file_limit < length input → answer ≡ answer_of [] (refusal_line 9 file_limit) 1 → IsEditAnswer file input answer
+  too_long : IsOpenable file → file_limit < length input → answer ≡ answer_of [] (refusal_line 9 file_limit) 1 → IsEditAnswer file input answer
   refused : (kind place : ℕ) → kind ≢ 10 → IsOpenFault file kind place → answer ≡ answer_of [] (refusal_line kind place) 1
       → IsEditAnswer file input answer

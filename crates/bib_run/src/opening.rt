@@ -1,7 +1,7 @@
 //! A file that is open.
 
 ghost use Rattle.std.specs.Prelude.{◌≡◌, IfOk, IfErr, OnOk};
-ghost use Rattle.bib_spec.specs.Steps.{IsFile};
+ghost use Rattle.bib_spec.specs.Texts.{IsOpenable};
 ghost use Rattle.bib_store.specs.Meaning.{IsOpenFault};
 ghost use Rattle.bib_spec.specs.Records.{entries_of, parent};
 ghost use Rattle.bib_store.specs.Meaning.{OfReading, IsEntryNumber};
@@ -13,7 +13,7 @@ use std::alloc::Global;
 /// Opens the file. The bytes are kept once, in its items.
 pub fn open(alloc: Global, file: Vec<u8>) -> Result<Database<Flat>, ReadFault>
     ensures opened { IfOk result (λ db. db ≡ file.items) }
-    ensures file { OnOk result (IsFile file.items) }
+    ensures file { OnOk result (IsOpenable file.items) }
     ensures fault { IfErr result (λ fault. IsOpenFault file.items fault.kind fault.place) }
 {
     Database::open_bytes(alloc, file.as_slice(), Flat::new(alloc))

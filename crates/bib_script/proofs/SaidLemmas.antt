@@ -2,9 +2,9 @@
 use Rattle.std.proofs.Common.{◌≡◌, ℕ, suc, ◌<◌, List, [], ◌∷◌, ◌++◌, length, Option, Some, None, refl, sym, ◌∙◌, ap, arith, append-nil}
 use Rattle.std.proofs.lemmas.List.{append_assoc}
 use Rattle.bib_spec.specs.Text.{Text}
-use Rattle.bib_edit.specs.declared.edit.Edit.{Edit}
-use Rattle.bib_journal.specs.declared.request.Request.{Request}
-use Rattle.bib_journal.specs.declared.request.Request.TheVariants as request
+use Rattle.bib_data.specs.declared.edit.Edit.{Edit}
+use Rattle.bib_data.specs.declared.request.Request.{Request}
+use Rattle.bib_data.specs.declared.request.Request.TheVariants as request
 use Rattle.bib_script.specs.Parting.{words_of, lines_of}
 use Rattle.bib_script.specs.Script.{Said, said, nothing_said, said_first, said_by, edit_of}
 

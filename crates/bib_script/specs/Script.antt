@@ -5,11 +5,11 @@ use Rattle.std.specs.Option.{option_map_or}
 use Rattle.std.specs.Char.{is_ascii_digit}
 use Rattle.bib_spec.specs.Text.{Text}
 use Rattle.bib_spec.specs.Texts.{is_empty}
-use Rattle.bib_edit.specs.declared.edit.Edit.{Edit}
-use Rattle.bib_edit.specs.declared.edit.Edit.TheVariants.{SetField, DropField, AddEntry, RemoveEntry, MoveEntry}
-use Rattle.bib_edit.specs.declared.edit.NewEntry.{NewEntry}
-use Rattle.bib_journal.specs.declared.request.Request.{Request}
-use Rattle.bib_journal.specs.declared.request.Request.TheVariants as request
+use Rattle.bib_data.specs.declared.edit.Edit.{Edit}
+use Rattle.bib_data.specs.declared.edit.Edit.TheVariants.{SetField, DropField, AddEntry, RemoveEntry, MoveEntry}
+use Rattle.bib_data.specs.declared.edit.NewEntry.{NewEntry}
+use Rattle.bib_data.specs.declared.request.Request.{Request}
+use Rattle.bib_data.specs.declared.request.Request.TheVariants as request
 use Rattle.bib_script.specs.Parting.{words_of, lines_of}
 
 -- ---- numbers

@@ -5,7 +5,7 @@ ghost use Rattle.bib_script.specs.Script.{said, said_of};
 
 use crate::lines::{split_line, words_of};
 use crate::verbs::edit_of;
-use bib_journal::Request;
+use bib_data::Request;
 use bib_scan::Seq;
 use std::alloc::{AllocError, Global};
 use std::marker::Model;

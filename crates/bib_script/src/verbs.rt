@@ -5,7 +5,7 @@ ghost use Rattle.bib_script.specs.Script.{set_of, drop_of, add_of, remove_of, mo
 
 use crate::fields::{copied, fields_of};
 use crate::numbers::number_of;
-use bib_edit::{Edit, NewEntry};
+use bib_data::{Edit, NewEntry};
 use std::alloc::{AllocError, Global};
 
 /// `set KEY FIELD VALUE`

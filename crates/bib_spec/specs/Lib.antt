@@ -8,11 +8,3 @@ pub mod Texts
 pub mod Records
 pub mod Pieces
 pub mod MadeKeys
-pub mod Edits
-pub mod EditChunks
-pub mod History
-pub mod Steps
-pub mod Laws
-pub mod OtherLaws
-pub mod Examples
-pub mod EditLaws

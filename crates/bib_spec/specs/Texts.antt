@@ -149,3 +149,7 @@ pub record Opens (file : Text) (db : Reading) : Type 0 where
   pub reads : Reads file db
   pub short : length file ≤ file_limit
   pub texts : too_long_at db ≡ None
+
+-- the text is a file that can be opened
+abbrev pub IsOpenable : Text → Type 0
+IsOpenable file = (db : Reading) × Opens file db

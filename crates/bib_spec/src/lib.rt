@@ -1,43 +1,11 @@
-//! What a `.bib` file is and means, in definitions: the page that a reader has to believe. There is no
-//! code here, only functions that do nothing and carry the laws about the definitions.
+//! What a `.bib` file is and means, in definitions: the pages that a reader has to believe, from bytes to records, and
+//! what pieces make of a text. It knows no edit. There is no code here, only functions that do nothing and carry the
+//! laws about pieces.
 #![tactic(auto)]
 
-mod edits;
-mod examples;
-mod histories;
-mod macros;
-mod other_entries;
-mod renaming;
 mod replacing;
-mod stepping;
-mod untouched_items;
 
-pub use edits::an_accepted_edit_makes_a_file_that_opens;
-pub use examples::{
-    a_crossref_of_parts_is_renamed, a_dangling_crossref_finds_a_key, a_field_is_set_and_dropped,
-    a_high_place_is_not_reached, a_key_base_is_needed, a_key_in_use_takes_children,
-    a_key_with_spaces_loses_children, a_macro_defined_twice_has_two_texts,
-    a_macro_is_inlined_as_text, a_macro_is_read_where_it_stands, a_month_is_overridden,
-    a_name_in_use_gives_text, a_parent_is_cited_with_its_children, a_record_inherits_along_a_chain,
-    a_removed_parent_leaves_children, a_repeated_key_takes_children, a_star_cites_all,
-    a_text_gets_a_name, a_trail_joins_the_text_before, a_use_before_the_definition_is_left,
-    an_added_key_takes_children, crossrefs_find_targets, edits_are_accepted,
-    entries_are_added_and_moved, joined_text_stays_text, made_keys_change_places, made_keys_differ,
-    made_keys_read_the_chain, texts_are_joined, the_first_of_a_name_counts,
-};
-pub use histories::{
-    each_move_leads_to_one_history, the_ends_are_reached, undo_and_redo_are_opposites,
-};
-pub use macros::a_macro_stands_for_its_last_definition;
-pub use other_entries::other_entries_are_kept;
-pub use renaming::{
-    inlining_a_macro_keeps_the_rest, introducing_a_macro_keeps_the_rest,
-    regenerating_keys_keeps_the_rest, renaming_a_key_keeps_the_rest,
-    renaming_a_macro_keeps_the_rest,
-};
 pub use replacing::{
-    bytes_outside_pieces_are_kept, chunks_of_an_edit_are_the_files,
-    pieces_of_chunks_lead_from_old_to_new, reversed_pieces_are_the_way_back,
+    bytes_outside_pieces_are_kept, pieces_of_chunks_lead_from_old_to_new,
+    reversed_pieces_are_the_way_back,
 };
-pub use stepping::steps_move_as_the_history_does;
-pub use untouched_items::untouched_items_keep_their_bytes;

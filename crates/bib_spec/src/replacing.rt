@@ -1,7 +1,6 @@
-//! Laws of pieces, and of the chunks of edits.
+//! Laws of pieces, and of texts in chunks.
 
 ghost use Rattle.bib_spec.specs.Pieces.{reversed_pieces_fit, reversed_pieces_lead_back, reversed_twice, chunks_fit, chunks_lead, pieces_are_chunks, kept_between, IsMovedAndBack, two_entries, first_moved_behind};
-ghost use Rattle.bib_spec.specs.Laws.{chunks_are_files, pieces_lead_to_edited};
 
 /// The reversed pieces fit the new text and lead back to the old; an example shows them byte for byte.
 pub fn reversed_pieces_are_the_way_back()
@@ -21,11 +20,4 @@ pub fn pieces_of_chunks_lead_from_old_to_new()
 pub fn bytes_outside_pieces_are_kept()
     ensures chunks { pieces_are_chunks }
     ensures between { kept_between }
-{}
-
-/// The chunks of an edit, read before it, are the file, and read afterwards the file of what the edit makes. So its
-/// pieces fit the file, and lead to the new one.
-pub fn chunks_of_an_edit_are_the_files()
-    ensures chunks { chunks_are_files }
-    ensures pieces { pieces_lead_to_edited }
 {}

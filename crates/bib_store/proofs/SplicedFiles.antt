@@ -9,7 +9,7 @@ use Rattle.bib_spec.specs.Text.{Text}
 use Rattle.bib_spec.specs.Clean.{IsClean}
 use Rattle.bib_spec.specs.Reading.{Reading, Reads, IsItem, item_bytes, bytes_of}
 use Rattle.bib_spec.specs.Texts.{too_long_at}
-use Rattle.bib_spec.specs.Steps.{IsFile}
+use Rattle.bib_spec.specs.Texts.{IsOpenable}
 use Rattle.bib_spec.specs.Pieces.{Piece, Fit, applied}
 use Rattle.bib_scan.proofs.OneReading.{one_reading}
 use Rattle.bib_store.specs.declared.list.Item.{Item}
@@ -107,13 +107,13 @@ spliced_kept ps front new_front items new_items t new_t c inner db is s f i tabl
 
 -- where a raw text of it is too long, it is no file
 pub spliced_refused : (ps : List Piece) (front : Text) (items : List Item) (t : Tables) (c : Change) (inner db : Reading) → IsSpliced ps front items t c inner db
-    → (too_long_at db ≡ None → ⊥) → IsFile (applied ps (file_of front items)) → ⊥
+    → (too_long_at db ≡ None → ⊥) → IsOpenable (applied ps (file_of front items)) → ⊥
 spliced_refused ps front items t c inner db s long file =
     let same : file.0 ≡ db = one_reading name_limit (applied ps (file_of front items)) file.0 db file.1.reads s.reads in
     long (subst (λ (d : Reading). too_long_at d ≡ None) same file.1.texts)
 
 -- a file that pieces lead to is served
-pub file_served : (ps : List Piece) (file : Text) → Fit ps file → IsFile (applied ps file) → Serve ps file
+pub file_served : (ps : List Piece) (file : Text) → Fit ps file → IsOpenable (applied ps file) → Serve ps file
 file_served ps file f is = record { fit = f; reads = (is.0, is.1.reads); short = is.1.short }
 
 -- ---- the database
@@ -145,7 +145,7 @@ after_splice ps file front lent new_front front_len items new_items t new_t c k 
 pub after_refusal : (ps : List Piece) (file front lent new_front : Text) (front_len : ℕ) (items : List Item) (t : Tables) (c : Change) → IsKept front items t → file_of front items ≡ file
     → lent ≡ front → IsChange ps lent items c → ((inner : Reading) → Reads c.text inner → new_front ≡ front_after c.window.with_front front inner.front) → front_len ≡ length new_front
     → OfJoined c front_len items t (λ db. too_long_at db ≡ None → ⊥)
-    → IsFile (applied ps file) → ⊥
+    → IsOpenable (applied ps file) → ⊥
 after_refusal ps file front lent new_front front_len items t c k same e change begins long refused file_is =
     let is : IsChange ps front items c = subst (λ (x : Text). IsChange ps x items c) e change in
     let inner : Reading = is.layout.0 in
@@ -154,4 +154,4 @@ after_refusal ps file front lent new_front front_len items t c k same e change b
     let s : IsSpliced ps front items t c inner db = spliced ps front items t c inner k is reads in
     let has : HasItems front_len (exchanged c.window inner.items items) db = subst (λ (n : ℕ). HasItems n (exchanged c.window inner.items items) db) (sym (long ∙ ap length (begins inner reads))) s.has in
     spliced_refused ps front items t c inner db s (refused front k.db inner k.is reads has)
-    (subst (λ (x : Text). IsFile (applied ps x)) (sym same) file_is)
+    (subst (λ (x : Text). IsOpenable (applied ps x)) (sym same) file_is)

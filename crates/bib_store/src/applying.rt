@@ -4,7 +4,7 @@ ghost use Rattle.std.specs.Prelude.{◌≡◌, IfOk};
 ghost use Rattle.bib_spec.specs.Pieces.{applied};
 ghost use Rattle.bib_store.specs.Shifting.{all_moved_back, FitBehind};
 
-use crate::piece::Piece;
+use bib_data::Piece;
 use std::alloc::{AllocError, Global};
 
 /// The bytes, which begin at `at`, with each piece's new bytes for its old.

@@ -14,9 +14,9 @@ use crate::applying::apply;
 use crate::fault::StoreFault;
 use crate::fitting::fits;
 use crate::list::ItemList;
-use crate::piece::Piece;
 use crate::touching::touched;
 use crate::window::{Window, text_of};
+use bib_data::Piece;
 use bib_scan::{FILE_LIMIT, Layout, Seq, Text, read};
 use std::alloc::{AllocError, Global};
 

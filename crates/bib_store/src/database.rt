@@ -37,7 +37,7 @@ impl<L: ItemList> Model for Database<L> {
 impl<L: ItemList> Database<L> {
     ghost use Rattle.std.specs.Prelude.{◌≡◌, ◌≤◌, [], Some, None, length, slice_get, option_and_then, count_by, IfOk, IfErr, IfSome, OnOk};
     ghost use Rattle.std.specs.Option.{option_copied};
-    ghost use Rattle.bib_spec.specs.Steps.{IsFile};
+    ghost use Rattle.bib_spec.specs.Texts.{IsOpenable};
     ghost use Rattle.bib_spec.specs.Reading.{Item};
     ghost use Rattle.bib_spec.specs.Texts.{months, macros_at, seen, raw_limit};
     ghost use Rattle.bib_spec.specs.Records.{entries_of, preambles_of, keys_of, entry_named, is_named, is_repeated, crossref_text, target};
@@ -53,7 +53,7 @@ impl<L: ItemList> Database<L> {
     pub fn open_bytes(alloc: Global, bytes: &[u8], empty: L) -> Result<Database<L>, ReadFault>
         requires { L.items empty ≡ [] }
         ensures opened { IfOk result (λ db. db ≡ bytes.now) }
-        ensures file { OnOk result (IsFile bytes.now) }
+        ensures file { OnOk result (IsOpenable bytes.now) }
         ensures fault { IfErr result (λ fault. IsOpenFault bytes.now fault.kind fault.place) }
     {
         let layout = read(alloc, bytes)?;
@@ -87,7 +87,7 @@ impl<L: ItemList> Database<L> {
 
     /// The file is one that can be opened: it has a reading, and no raw text in it is too long.
     pub fn opens(&self)
-        ensures { IsFile self.now }
+        ensures { IsOpenable self.now }
     {
         let _ = &self.front;
     }

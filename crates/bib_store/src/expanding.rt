@@ -4,7 +4,8 @@ use crate::database::Database;
 use crate::fault::StoreFault;
 use crate::gathering::{Gathered, lower};
 use crate::list::ItemList;
-use crate::record::{Expanded, Record};
+use crate::record::Expanded;
+use bib_data::Record;
 use bib_scan::Seq;
 use std::alloc::Global;
 

@@ -4,7 +4,7 @@ ghost use Rattle.std.specs.Prelude.{◌≤◌, ◌↔◌, IsTrue};
 ghost use Rattle.bib_spec.specs.Pieces.{Stands};
 ghost use Rattle.bib_store.specs.Shifting.{moved_back, FitBehind};
 
-use crate::piece::Piece;
+use bib_data::Piece;
 
 /// Whether the piece lies inside the bytes, which begin at `at`, and its old bytes stand there.
 fn stands(piece: &Piece, at: usize, bytes: &[u8]) -> bool

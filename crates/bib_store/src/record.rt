@@ -1,23 +1,7 @@
-//! Records.
+//! What is told of an entry's record, and of cited lists.
 
-use bib_scan::{Seq, Text};
-use std::marker::Model;
-
-/// An entry as its readers see it: its type, its key, and the names and texts of its fields.
-#[derive(Debug, Drop)]
-pub struct Record {
-    pub kind_name: Text,
-    pub key: Text,
-    pub fields: Seq<(Text, Text)>,
-}
-
-impl Model for Record {
-    ghost use Rattle.bib_spec.specs.Records.{Record as EntryRecord};
-
-    ghost Value = { EntryRecord };
-
-    ghost view = { λ r. record { kind_name = r.kind_name; key = r.key; fields = r.fields } };
-}
+use bib_data::Record;
+use bib_scan::Seq;
 
 /// The record of an entry, with what it inherits, and the number of the entry from which it inherits.
 #[derive(Debug, Drop)]

@@ -8,7 +8,7 @@ ghost use Rattle.bib_store.specs.Reversing.{new_bytes_limit};
 ghost use Rattle.bib_store.specs.declared.fault.StoreFault.TheVariants.{Memory};
 
 use crate::fault::StoreFault;
-use crate::piece::Piece;
+use bib_data::Piece;
 use bib_scan::Seq;
 use std::alloc::Global;
 

@@ -5,11 +5,11 @@ use crate::database::Database;
 use crate::exchanging::exchange;
 use crate::fault::StoreFault;
 use crate::list::ItemList;
-use crate::piece::Piece;
+use bib_data::Piece;
 
 impl<L: ItemList> Database<L> {
     ghost use Rattle.std.specs.Prelude.{◌≡◌, ◌⊎◌, IfErr, OnOk, OnErr};
-    ghost use Rattle.bib_spec.specs.Steps.{IsFile};
+    ghost use Rattle.bib_spec.specs.Texts.{IsOpenable};
     ghost use Rattle.bib_spec.specs.Pieces.{Fit, applied};
     ghost use Rattle.bib_store.specs.declared.fault.StoreFault.TheVariants.{Memory, BadSplice};
 
@@ -20,8 +20,8 @@ impl<L: ItemList> Database<L> {
     pub fn splice(&mut self, pieces: &[Piece]) -> Result<(), StoreFault>
         ensures fit { OnOk result (Fit pieces.now self.old) }
         ensures spliced { OnOk result (self.new ≡ applied pieces.now self.old) }
-        ensures file { OnOk result (IsFile self.new) }
-        ensures refused { IfErr result (λ fault. fault ≡ BadSplice → Fit pieces.now self.old → IsFile (applied pieces.now self.old) → ⊥) }
+        ensures file { OnOk result (IsOpenable self.new) }
+        ensures refused { IfErr result (λ fault. fault ≡ BadSplice → Fit pieces.now self.old → IsOpenable (applied pieces.now self.old) → ⊥) }
         ensures only { IfErr result (λ fault. (fault ≡ BadSplice) ⊎ (fault ≡ Memory)) }
         ensures err { OnErr result (self.new ≡ self.old) }
     {

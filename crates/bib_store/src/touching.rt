@@ -7,8 +7,8 @@ ghost use Rattle.bib_store.specs.Stored.{kept_bytes, file_of};
 ghost use Rattle.bib_store.specs.Windows.{IsWindow, bytes_before};
 
 use crate::list::ItemList;
-use crate::piece::Piece;
 use crate::window::Window;
+use bib_data::Piece;
 
 /// How many of the items end before this place, behind a front of this length, and where the next begins.
 fn ended_before<L: ItemList>(front_len: usize, items: &L, place: usize) -> (usize, usize)

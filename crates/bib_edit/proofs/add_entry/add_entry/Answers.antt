@@ -3,8 +3,8 @@ use Rattle.std.proofs.lemmas.Bool.{both_ways, ltb-true, ltb-false}
 use Rattle.std.proofs.lemmas.Result.{err_from_is_err_and}
 use Rattle.bib_spec.specs.Bytes.{file_limit}
 use Rattle.bib_spec.specs.Text.{Text}
-use Rattle.bib_spec.specs.Edits.{has_same, holders}
-use Rattle.bib_spec.specs.EditChunks.{pieces_of}
+use Rattle.edit_spec.specs.Edits.{has_same, holders}
+use Rattle.edit_spec.specs.EditChunks.{pieces_of}
 use Rattle.bib_edit.specs.Asking.{made_base}
 use Rattle.bib_edit.specs.NewEntries.{names_of, IsAnyLong, entry_text, insertion_of}
 use Rattle.bib_edit.proofs.OpenFiles.{opens-as, none-long}
@@ -12,7 +12,7 @@ use Rattle.bib_edit.proofs.AskedEdits.{of-add_entry}
 use Rattle.bib_edit.proofs.Added.{refused_entry, add-high, add-twice, add-held, add-pieces, add-long_file, add-long_text, add-accepted}
 use Rattle.bib_spec.specs.Pieces.{Piece}
 use Rattle.bib_edit.specs.Planning.{ArePiecesOf, IsAllowedEdit}
-use Rattle.bib_edit.specs.declared.edit.Edit.TheVariants as asked
+use Rattle.bib_data.specs.declared.edit.Edit.TheVariants as asked
 use Rattle.bib_edit.proofs.Results.{if_ok-as, on_ok-of}
 use Rattle.bib_edit.proofs.add_entry.add_entry.Goals as goal
 

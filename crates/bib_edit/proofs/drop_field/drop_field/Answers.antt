@@ -7,7 +7,7 @@ use Rattle.bib_scan.specs.View.{field_seen}
 use Rattle.bib_edit.specs.Planning.{IsAllowedEdit, ArePiecesOf}
 use Rattle.bib_edit.specs.Addressing.{field_end}
 use Rattle.bib_edit.specs.FieldPieces.{cut_piece}
-use Rattle.bib_edit.specs.declared.edit.Edit.TheVariants.{DropField}
+use Rattle.bib_data.specs.declared.edit.Edit.TheVariants.{DropField}
 use Rattle.bib_edit.proofs.SettingPieces.{item-within}
 use Rattle.bib_edit.proofs.DroppingFields.{refused-key, refused-field, refused-holders, refused-twice, refused-merge, pieces-drop_field, start-within, key-small, field-end, field-begins, allowed-drop_field}
 use Rattle.bib_edit.proofs.drop_field.drop_field.Goals as goal

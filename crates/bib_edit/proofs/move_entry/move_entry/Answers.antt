@@ -3,14 +3,14 @@ use Rattle.std.proofs.lemmas.Bool.{both_ways}
 use Rattle.std.proofs.lemmas.Result.{err_from_is_err_and}
 use Rattle.bib_spec.specs.Bytes.{file_limit}
 use Rattle.bib_spec.specs.Reading.{Reading, Reads}
-use Rattle.bib_spec.specs.Edits.{MoveEntry, is_entry, last_place}
-use Rattle.bib_spec.specs.EditChunks.{pieces_of}
+use Rattle.edit_spec.specs.Edits.{MoveEntry, is_entry, last_place}
+use Rattle.edit_spec.specs.EditChunks.{pieces_of}
 use Rattle.bib_spec.specs.Pieces.{Piece}
 use Rattle.bib_scan.specs.View.{View, fields_of}
 use Rattle.bib_store.specs.Meaning.{OfReading}
 use Rattle.bib_edit.specs.Asking.{made_base}
 use Rattle.bib_edit.specs.Planning.{ArePiecesOf, IsAllowedEdit}
-use Rattle.bib_edit.specs.declared.edit.Edit.TheVariants as asked
+use Rattle.bib_data.specs.declared.edit.Edit.TheVariants as asked
 use Rattle.bib_edit.specs.Moving.{seat, moved_pieces, FieldsHaveValues, IsFieldLong}
 use Rattle.bib_edit.proofs.FoundItems.{first-at, first-within}
 use Rattle.bib_edit.proofs.OpenFiles.{opens-as, none-long}

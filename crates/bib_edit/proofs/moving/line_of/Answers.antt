@@ -1,5 +1,5 @@
 use Rattle.std.proofs.Common.{◌∙◌, ap, ◌++◌}
-use Rattle.bib_spec.specs.Edits.{line_end}
+use Rattle.edit_spec.specs.Edits.{line_end}
 use Rattle.bib_edit.proofs.moving.line_of.Goals as goal
 
 pub returns : goal.returns

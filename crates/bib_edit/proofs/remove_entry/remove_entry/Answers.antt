@@ -1,8 +1,8 @@
 use Rattle.std.proofs.Common.{◌≡◌, List, ◌∙◌, sym, ap, [], ◌∷◌}
 use Rattle.std.proofs.lemmas.Bool.{both_ways}
 use Rattle.std.proofs.lemmas.Result.{err_from_is_err_and}
-use Rattle.bib_spec.specs.Edits.{is_entry}
-use Rattle.bib_spec.specs.EditChunks.{pieces_of}
+use Rattle.edit_spec.specs.Edits.{is_entry}
+use Rattle.edit_spec.specs.EditChunks.{pieces_of}
 use Rattle.bib_edit.specs.Asking.{made_base}
 use Rattle.bib_edit.proofs.FoundItems.{first-at, first-within}
 use Rattle.bib_edit.proofs.OpenFiles.{opens-as}
@@ -10,7 +10,7 @@ use Rattle.bib_edit.proofs.AskedEdits.{of-remove_entry}
 use Rattle.bib_edit.proofs.Removed.{remove-referred, remove-merges, remove-pieces, remove-accepted, refused_address}
 use Rattle.bib_spec.specs.Pieces.{Piece}
 use Rattle.bib_edit.specs.Planning.{ArePiecesOf, IsAllowedEdit}
-use Rattle.bib_edit.specs.declared.edit.Edit.TheVariants as asked
+use Rattle.bib_data.specs.declared.edit.Edit.TheVariants as asked
 use Rattle.bib_edit.proofs.Results.{if_ok-as, on_ok-of}
 use Rattle.bib_edit.proofs.remove_entry.remove_entry.Goals as goal
 

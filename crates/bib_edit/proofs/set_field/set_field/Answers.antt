@@ -7,7 +7,7 @@ use Rattle.bib_spec.specs.Pieces.{Piece}
 use Rattle.bib_edit.specs.Addressing.{is_field}
 use Rattle.bib_edit.proofs.SettingPieces.{item-within}
 use Rattle.bib_edit.specs.Planning.{IsAllowedEdit, ArePiecesOf}
-use Rattle.bib_edit.specs.declared.edit.Edit.TheVariants.{SetField}
+use Rattle.bib_data.specs.declared.edit.Edit.TheVariants.{SetField}
 use Rattle.bib_edit.proofs.LimitTests.{not_over}
 use Rattle.bib_edit.proofs.SettingFields.{refused-value, refused-key, refused-twice, pieces-set_field, refused-file, refused-text, allowed-set_field}
 use Rattle.bib_edit.proofs.set_field.set_field.Goals as goal

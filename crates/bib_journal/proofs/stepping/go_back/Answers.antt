@@ -1,7 +1,7 @@
 use Rattle.std.proofs.Common.{◌≡◌, sym, subst}
 use Rattle.bib_spec.specs.Pieces.{reversed}
-use Rattle.bib_spec.specs.Steps.{Step, IsAllowed}
-use Rattle.bib_spec.proofs.StepLemmas.{steps-lead-back}
+use Rattle.edit_spec.specs.Steps.{Step, IsAllowed}
+use Rattle.edit_spec.proofs.StepLemmas.{steps-lead-back}
 use Rattle.bib_journal.proofs.Turning.{can_turn}
 use Rattle.bib_journal.proofs.stepping.go_back.Goals as goal
 

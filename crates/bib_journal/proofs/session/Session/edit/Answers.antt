@@ -1,6 +1,6 @@
 use Rattle.std.proofs.Common.{◌≡◌, ◌-◌, [], ◌∷◌, ◌++◌, reverse, rules, min, ◌^◌, sym, subst}
 use Rattle.bib_spec.specs.Pieces.{applied}
-use Rattle.bib_spec.specs.Steps.{Step, IsAllowed, IsFull, step_text_len}
+use Rattle.edit_spec.specs.Steps.{Step, IsAllowed, IsFull, step_text_len}
 use Rattle.bib_journal.specs.Kept.{kept}
 use Rattle.bib_journal.specs.Session.{MakesEdit}
 use Rattle.bib_journal.proofs.Moves.{Moves, made_edit, planned_leads, has_room, counted_on}

@@ -1,7 +1,7 @@
 use Rattle.std.proofs.Common.{◌≡◌, ◌-◌, [], ◌∷◌, ◌++◌, length, reverse, Some, ◌∙◌, ap, arith}
 use Rattle.std.specs.List.{slice_get}
 use Rattle.bib_spec.specs.Pieces.{applied}
-use Rattle.bib_spec.specs.Steps.{Step}
+use Rattle.edit_spec.specs.Steps.{Step}
 use Rattle.bib_journal.specs.Kept.{kept}
 use Rattle.bib_journal.specs.Session.{MakesAgain}
 use Rattle.bib_journal.proofs.Moves.{Moves, next_is_allowed, made_again, last-popped, counted_again}

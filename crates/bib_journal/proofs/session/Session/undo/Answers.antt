@@ -1,6 +1,6 @@
 use Rattle.std.proofs.Common.{◌≡◌, ◌-◌, [], ◌∷◌, ◌++◌, length, reverse, Some, ◌∙◌, ap, arith}
 use Rattle.std.specs.List.{slice_get}
-use Rattle.bib_spec.specs.Steps.{Step, before}
+use Rattle.edit_spec.specs.Steps.{Step, before}
 use Rattle.bib_journal.specs.Kept.{kept}
 use Rattle.bib_journal.specs.Session.{TakesBack}
 use Rattle.bib_journal.proofs.Moves.{Moves, last_leads, taken_back, last-popped, counted_back}

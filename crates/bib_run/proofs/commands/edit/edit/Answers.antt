@@ -1,9 +1,9 @@
 use Rattle.std.proofs.Common.{◌≡◌, ◌≢◌, rules, List, Some, ap, subst, ◌∙◌, arith}
 use Rattle.std.proofs.lemmas.Result.{IfOk-weaker}
 use Rattle.bib_spec.specs.Text.{Text}
-use Rattle.bib_spec.specs.Steps.{KeptSteps}
+use Rattle.edit_spec.specs.Steps.{KeptSteps}
 use Rattle.bib_journal.specs.declared.fault.SessionFault.TheVariants.{Memory}
-use Rattle.bib_journal.specs.declared.request.Request.{Request}
+use Rattle.bib_data.specs.declared.request.Request.{Request}
 use Rattle.bib_journal.specs.Session.{Performs, started}
 use Rattle.bib_script.specs.Script.{Said, said_of}
 use Rattle.bib_run.specs.EditAnswer.{edited, edited_answer}

@@ -1,0 +1,14 @@
+//! Plain data that crates hand to one another: records, pieces, edits, and what can be asked of a session. It knows what
+//! they consist of, and nothing of how they are made or used, so that the crates that make them stand beside those that
+//! use them.
+#![tactic(auto)]
+
+mod edit;
+mod piece;
+mod record;
+mod request;
+
+pub use edit::{Edit, NewEntry};
+pub use piece::Piece;
+pub use record::Record;
+pub use request::Request;

@@ -1,8 +1,0 @@
-use Rattle.std.proofs.Common.{refl, arith}
-use Rattle.bib_spec.specs.Texts.{months, field_text}
-use Rattle.bib_spec.specs.Text.{is_space, is_name_byte, is_new_key_byte, is_name_within, is_new_key}
-use Rattle.bib_spec.proofs.examples.a_key_base_is_needed.Goals as goal
-
-pub returns : goal.returns
-unfolding months field_text is_space is_name_byte is_new_key_byte is_name_within is_new_key
-returns c = record { once = refl; again = refl; before = refl; after = refl; is_there = record { ignores_key = λ r key. refl; is_key = λ r. refl; short = λ r. omega arith } }

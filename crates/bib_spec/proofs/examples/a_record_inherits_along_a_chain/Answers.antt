@@ -1,8 +1,0 @@
-use Rattle.std.proofs.Common.{refl}
-use Rattle.bib_spec.specs.Texts.{months, field_text}
-use Rattle.bib_spec.specs.Text.{is_space, is_name_byte, is_new_key_byte, is_name_within, is_new_key}
-use Rattle.bib_spec.proofs.examples.a_record_inherits_along_a_chain.Goals as goal
-
-pub returns : goal.returns
-unfolding months field_text is_space is_name_byte is_new_key_byte is_name_within is_new_key
-returns c = record { bytes = refl; one = refl; two = refl; eight = refl; last = refl }

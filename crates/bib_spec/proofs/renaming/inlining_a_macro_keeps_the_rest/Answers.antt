@@ -1,5 +1,0 @@
-use Rattle.bib_spec.proofs.MacroLaws.{inline-macro-keeps}
-use Rattle.bib_spec.proofs.renaming.inlining_a_macro_keeps_the_rest.Goals as goal
-
-pub returns : goal.returns
-returns c = inline-macro-keeps

@@ -1,5 +1,0 @@
-use Rattle.bib_spec.proofs.RenameKey.{rename-key-keeps}
-use Rattle.bib_spec.proofs.renaming.renaming_a_key_keeps_the_rest.Goals as goal
-
-pub returns : goal.returns
-returns c = rename-key-keeps

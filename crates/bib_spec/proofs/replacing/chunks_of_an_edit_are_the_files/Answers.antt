@@ -1,8 +1,0 @@
-use Rattle.bib_spec.proofs.EditFiles.{chunks-are-files, pieces-lead}
-use Rattle.bib_spec.proofs.replacing.chunks_of_an_edit_are_the_files.Goals as goal
-
-pub returns-clause-chunks : goal.returns-clause-chunks
-returns-clause-chunks c = chunks-are-files
-
-pub returns-clause-pieces : goal.returns-clause-pieces
-returns-clause-pieces c = pieces-lead

@@ -1,0 +1,251 @@
+-- That the edits of the examples are accepted: no reason refuses them.
+use Rattle.std.proofs.Common.{◌≡◌, ℕ, zero, suc, ◌≤◌, List, [], ◌∷◌, Some, All, codes, ⊎_elim, refl, sym, arith, not-suc-le-zero, le_of_suc-le-suc}
+use Rattle.std.specs.List.{AllPass}
+use Rattle.std.specs.Char.{is_ascii_digit}
+use Rattle.std.proofs.lemmas.Bool.{false≢true}
+use Rattle.std.proofs.lemmas.Option.{none-some}
+use Rattle.bib_spec.specs.Bytes.{name_limit}
+use Rattle.bib_spec.specs.Text.{is_space, is_name_byte, is_new_key_byte, is_name_within, is_new_key, opened_before, closed_before}
+use Rattle.bib_spec.specs.Clean.{begins_command, IsClean, IsCleanTrail}
+use Rattle.bib_spec.specs.Tree.{Digits, is_comment, IsValue}
+use Rattle.bib_spec.specs.Reading.{Item}
+use Rattle.bib_spec.specs.Texts.{months, field_text}
+use Rattle.edit_spec.specs.Edits.{SetField, DropField, AddEntry, RemoveEntry, MoveEntry, RenameKey, RenameMacro, InlineMacro, IntroduceMacro, RegenerateKeys, AddMany, BadKey, BadName, BadValue, BadPosition, NotFound, Ambiguous, KeyInUse, NameInUse, Referred, WouldMerge, FileTooLong, TextTooLong, in_braces, remove_entry, inline_macro, IsAccepted}
+use Rattle.bib_spec.specs.Records.{entries_of, parent}
+use Rattle.edit_spec.specs.Examples.{only, one_field, waiting, z, two_lines, named_by_macro, overridden_month, quoting, same_text_twice, swapped, family, author_year}
+
+-- no values, so none that is bad
+no_values : All (IsValue name_limit) []
+no_values k d lt = absurd (not-suc-le-zero lt)
+
+one_digit : All (IsValue name_limit) (only (Digits (codes "2")) ∷ [])
+one_digit zero d lt = record { first = (omega arith, digits); links = λ k d lt. absurd (not-suc-le-zero lt) }
+  where
+    digits : AllPass is_ascii_digit (codes "2")
+    digits zero d lt = refl
+    digits (suc k) d lt = absurd (not-suc-le-zero (le_of_suc-le-suc lt))
+one_digit (suc k) d lt = absurd (not-suc-le-zero (le_of_suc-le-suc lt))
+
+one_letter : All (IsValue name_limit) (in_braces (codes "x") ∷ [])
+one_letter zero d lt = record { first = record { never_negative = never; all_closed = refl }; links = λ k d lt. absurd (not-suc-le-zero lt) }
+  where
+    never : (n : ℕ) → closed_before (codes "x") n ≤ opened_before (codes "x") n
+    never zero = omega arith
+    never (suc zero) = omega arith
+    never (suc (suc n)) = omega arith
+one_letter (suc k) d lt = absurd (not-suc-le-zero (le_of_suc-le-suc lt))
+
+-- the empty text and the end of a line are clean
+nothing_clean : IsClean []
+unfolding begins_command
+nothing_clean zero = refl
+nothing_clean (suc p) = refl
+
+pub line_clean : IsClean (codes "\n")
+unfolding begins_command
+line_clean zero = refl
+line_clean (suc zero) = refl
+line_clean (suc (suc p)) = refl
+
+-- what is left of the files that lose an item
+abbrev AreClean : List Item → Type 0
+AreClean items = All (λ item. IsCleanTrail (is_comment item.tree) item.trail) items
+
+waiting_clean : AreClean (remove_entry (codes "a") waiting).items
+waiting_clean zero d lt = record { clean = nothing_clean; ends_name = λ e. absurd (false≢true e) }
+waiting_clean (suc k) d lt = absurd (not-suc-le-zero (le_of_suc-le-suc lt))
+
+quoting_clean : AreClean (inline_macro (codes "m") quoting).items
+quoting_clean zero d lt = record { clean = nothing_clean; ends_name = λ e. absurd (false≢true e) }
+quoting_clean (suc k) d lt = absurd (not-suc-le-zero (le_of_suc-le-suc lt))
+
+lines_clean : AreClean (remove_entry (codes "a") two_lines).items
+lines_clean zero d lt = record { clean = line_clean; ends_name = λ e. absurd (false≢true e) }
+lines_clean (suc k) d lt = absurd (not-suc-le-zero (le_of_suc-le-suc lt))
+
+-- the crossref that waits has no target
+no_parent : (n m : ℕ) → parent (entries_of waiting) n ≡ Some m → ⊥
+unfolding months field_text is_space
+no_parent zero m e = none-some m e
+no_parent (suc zero) m e = none-some m e
+no_parent (suc (suc n)) m e = none-some m e
+
+pub is_set : IsAccepted author_year one_field (SetField (codes "a") (codes "y") (only (Digits (codes "2"))))
+unfolding months field_text is_space is_name_byte is_new_key_byte is_name_within is_new_key
+is_set BadKey h = false≢true (sym h)
+is_set BadName h = false≢true (sym h)
+is_set BadValue h = h one_digit
+is_set BadPosition h = absurd h
+is_set NotFound h = omega (arith, h)
+is_set Ambiguous h = ⊎_elim (λ m. omega (arith, m)) (λ m. omega (arith, m)) h
+is_set KeyInUse h = absurd h
+is_set NameInUse h = absurd h
+is_set Referred h = absurd h
+is_set WouldMerge h = absurd h
+is_set FileTooLong h = omega (arith, h)
+is_set TextTooLong h = false≢true h
+
+pub is_dropped : IsAccepted author_year one_field (DropField (codes "a") (codes "T"))
+unfolding months field_text is_space is_name_byte is_new_key_byte is_name_within is_new_key
+is_dropped BadKey h = false≢true (sym h)
+is_dropped BadName h = false≢true (sym h)
+is_dropped BadValue h = h no_values
+is_dropped BadPosition h = absurd h
+is_dropped NotFound h = omega (arith, h)
+is_dropped Ambiguous h = ⊎_elim (λ m. omega (arith, m)) (λ m. omega (arith, m)) h
+is_dropped KeyInUse h = absurd h
+is_dropped NameInUse h = absurd h
+is_dropped Referred h = absurd h
+is_dropped WouldMerge h = false≢true h
+is_dropped FileTooLong h = omega (arith, h)
+is_dropped TextTooLong h = false≢true h
+
+pub is_added : IsAccepted author_year waiting (AddEntry 0 z)
+unfolding months field_text is_space is_name_byte is_new_key_byte is_name_within is_new_key
+is_added BadKey h = false≢true (sym h)
+is_added BadName h = false≢true (sym h)
+is_added BadValue h = h no_values
+is_added BadPosition h = omega (arith, h)
+is_added NotFound h = absurd h
+is_added Ambiguous h = false≢true h
+is_added KeyInUse h = false≢true h
+is_added NameInUse h = absurd h
+is_added Referred h = absurd h
+is_added WouldMerge h = absurd h
+is_added FileTooLong h = omega (arith, h)
+is_added TextTooLong h = false≢true h
+
+pub is_removed : IsAccepted author_year waiting (RemoveEntry (codes "a"))
+unfolding months field_text is_space is_name_byte is_new_key_byte is_name_within is_new_key
+is_removed BadKey h = false≢true (sym h)
+is_removed BadName h = false≢true (sym h)
+is_removed BadValue h = h no_values
+is_removed BadPosition h = absurd h
+is_removed NotFound h = omega (arith, h)
+is_removed Ambiguous h = omega (arith, h)
+is_removed KeyInUse h = absurd h
+is_removed NameInUse h = absurd h
+is_removed Referred h = no_parent h.0 h.1 h.3
+is_removed WouldMerge h = h (record { front = nothing_clean; trails = waiting_clean })
+is_removed FileTooLong h = omega (arith, h)
+is_removed TextTooLong h = false≢true h
+
+pub is_moved : IsAccepted author_year two_lines (MoveEntry (codes "a") 1)
+unfolding months field_text is_space is_name_byte is_new_key_byte is_name_within is_new_key
+is_moved BadKey h = false≢true (sym h)
+is_moved BadName h = false≢true (sym h)
+is_moved BadValue h = h no_values
+is_moved BadPosition h = omega (arith, h)
+is_moved NotFound h = omega (arith, h)
+is_moved Ambiguous h = omega (arith, h)
+is_moved KeyInUse h = absurd h
+is_moved NameInUse h = absurd h
+is_moved Referred h = absurd h
+is_moved WouldMerge h = h (record { front = line_clean; trails = lines_clean })
+is_moved FileTooLong h = omega (arith, h)
+is_moved TextTooLong h = false≢true h
+
+pub is_key_renamed : IsAccepted author_year named_by_macro (RenameKey (codes "conf95") (codes "icc"))
+unfolding months field_text is_space is_name_byte is_new_key_byte is_name_within is_new_key
+is_key_renamed BadKey h = false≢true (sym h)
+is_key_renamed BadName h = false≢true (sym h)
+is_key_renamed BadValue h = h no_values
+is_key_renamed BadPosition h = absurd h
+is_key_renamed NotFound h = omega (arith, h)
+is_key_renamed Ambiguous h = omega (arith, h)
+is_key_renamed KeyInUse h = false≢true h
+is_key_renamed NameInUse h = absurd h
+is_key_renamed Referred h = absurd h
+is_key_renamed WouldMerge h = absurd h
+is_key_renamed FileTooLong h = omega (arith, h)
+is_key_renamed TextTooLong h = false≢true h
+
+pub is_macro_renamed : IsAccepted author_year overridden_month (RenameMacro (codes "jan") (codes "j"))
+unfolding months field_text is_space is_name_byte is_new_key_byte is_name_within is_new_key
+is_macro_renamed BadKey h = false≢true (sym h)
+is_macro_renamed BadName h = false≢true (sym h)
+is_macro_renamed BadValue h = h no_values
+is_macro_renamed BadPosition h = absurd h
+is_macro_renamed NotFound h = omega (arith, h)
+is_macro_renamed Ambiguous h = omega (arith, h)
+is_macro_renamed KeyInUse h = absurd h
+is_macro_renamed NameInUse h = false≢true h
+is_macro_renamed Referred h = absurd h
+is_macro_renamed WouldMerge h = absurd h
+is_macro_renamed FileTooLong h = omega (arith, h)
+is_macro_renamed TextTooLong h = false≢true h
+
+pub is_macro_respelled : IsAccepted author_year overridden_month (RenameMacro (codes "jan") (codes "JAN"))
+unfolding months field_text is_space is_name_byte is_new_key_byte is_name_within is_new_key
+is_macro_respelled BadKey h = false≢true (sym h)
+is_macro_respelled BadName h = false≢true (sym h)
+is_macro_respelled BadValue h = h no_values
+is_macro_respelled BadPosition h = absurd h
+is_macro_respelled NotFound h = omega (arith, h)
+is_macro_respelled Ambiguous h = omega (arith, h)
+is_macro_respelled KeyInUse h = absurd h
+is_macro_respelled NameInUse h = false≢true h
+is_macro_respelled Referred h = absurd h
+is_macro_respelled WouldMerge h = absurd h
+is_macro_respelled FileTooLong h = omega (arith, h)
+is_macro_respelled TextTooLong h = false≢true h
+
+pub is_macro_inlined : IsAccepted author_year quoting (InlineMacro (codes "m"))
+unfolding months field_text is_space is_name_byte is_new_key_byte is_name_within is_new_key
+is_macro_inlined BadKey h = false≢true (sym h)
+is_macro_inlined BadName h = false≢true (sym h)
+is_macro_inlined BadValue h = h no_values
+is_macro_inlined BadPosition h = absurd h
+is_macro_inlined NotFound h = omega (arith, h)
+is_macro_inlined Ambiguous h = omega (arith, h)
+is_macro_inlined KeyInUse h = absurd h
+is_macro_inlined NameInUse h = absurd h
+is_macro_inlined Referred h = absurd h
+is_macro_inlined WouldMerge h = h (record { front = nothing_clean; trails = quoting_clean })
+is_macro_inlined FileTooLong h = omega (arith, h)
+is_macro_inlined TextTooLong h = false≢true h
+
+pub is_macro_introduced : IsAccepted author_year same_text_twice (IntroduceMacro (codes "m") (codes "x"))
+unfolding months field_text is_space is_name_byte is_new_key_byte is_name_within is_new_key
+is_macro_introduced BadKey h = false≢true (sym h)
+is_macro_introduced BadName h = false≢true (sym h)
+is_macro_introduced BadValue h = h one_letter
+is_macro_introduced BadPosition h = absurd h
+is_macro_introduced NotFound h = false≢true (sym h)
+is_macro_introduced Ambiguous h = absurd h
+is_macro_introduced KeyInUse h = absurd h
+is_macro_introduced NameInUse h = false≢true h
+is_macro_introduced Referred h = absurd h
+is_macro_introduced WouldMerge h = absurd h
+is_macro_introduced FileTooLong h = omega (arith, h)
+is_macro_introduced TextTooLong h = false≢true h
+
+pub is_keys_made : IsAccepted author_year swapped (RegenerateKeys 1)
+unfolding months field_text is_space is_name_byte is_new_key_byte is_name_within is_new_key
+is_keys_made BadKey h = false≢true (sym h)
+is_keys_made BadName h = false≢true (sym h)
+is_keys_made BadValue h = h no_values
+is_keys_made BadPosition h = absurd h
+is_keys_made NotFound h = absurd h
+is_keys_made Ambiguous h = absurd h
+is_keys_made KeyInUse h = absurd h
+is_keys_made NameInUse h = absurd h
+is_keys_made Referred h = absurd h
+is_keys_made WouldMerge h = absurd h
+is_keys_made FileTooLong h = omega (arith, h)
+is_keys_made TextTooLong h = false≢true h
+
+pub is_many_added : IsAccepted author_year family (AddMany (z ∷ []))
+unfolding months field_text is_space is_name_byte is_new_key_byte is_name_within is_new_key
+is_many_added BadKey h = false≢true (sym h)
+is_many_added BadName h = false≢true (sym h)
+is_many_added BadValue h = h no_values
+is_many_added BadPosition h = absurd h
+is_many_added NotFound h = absurd h
+is_many_added Ambiguous h = false≢true h
+is_many_added KeyInUse h = false≢true h
+is_many_added NameInUse h = absurd h
+is_many_added Referred h = absurd h
+is_many_added WouldMerge h = absurd h
+is_many_added FileTooLong h = omega (arith, h)
+is_many_added TextTooLong h = false≢true h

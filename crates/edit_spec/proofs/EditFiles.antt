@@ -1,0 +1,478 @@
+-- What an edit leaves and replaces is the file, and what it leaves and puts in place is the file of what it makes.
+use Rattle.std.proofs.Common.{◌≡◌, ℕ, zero, suc, Bool, true, false, List, [], ◌∷◌, ◌++◌, Option, Some, None, option_and_then, unwrap_or, refl, sym, ◌∙◌, ap, ap₂, subst, append_assoc, append-nil, take, drop, insert, take-append-drop, map, find, scan, slice_get, ⊎_elim}
+use Rattle.std.specs.Option.{option_map_or}
+use Rattle.std.specs.List.{flat_map, concat}
+use Rattle.std.proofs.lemmas.Bool.{cases_Bool, cond-true, cond-false}
+use Rattle.std.proofs.lemmas.List.Concat.{flat_map-append}
+use Rattle.bib_spec.specs.Text.{Text, same}
+use Rattle.bib_spec.specs.Tree.{Value, Row, Entry, Tree, CommentTree, DefinitionTree, PreambleTree, EntryTree, value_bytes, row_bytes, tree_bytes}
+use Rattle.bib_spec.specs.Reading.{Item, Reading, item_bytes, bytes_of}
+use Rattle.bib_spec.specs.Texts.{row_start}
+use Rattle.bib_spec.specs.Records.{EntryTexts, Record, entries_of, crossref, entry_named, target}
+use Rattle.bib_spec.specs.Pieces.{Chunk, Kept, Replaced, Fit, applied}
+use Rattle.bib_spec.specs.MadeKeys.{new_keys}
+use Rattle.edit_spec.specs.Edits.{NewEntry, Edit, SetField, DropField, AddEntry, RemoveEntry, MoveEntry, RenameKey, RenameMacro, InlineMacro, IntroduceMacro, RegenerateKeys, AddMany, leaving, defines, any_part, holds, is_entry, from_first, with_first_tree, without_first, with_item, items_with, new_row, row_to, row_before, with_field, without_field, entry_with_rows, of_entry, item_of, in_line, in_braces, with_value, with_crossref, next_number, tree_with_keys, items_with_keys, key_for, name_renamed, use_renamed, use_inlined, uses_inlined, text_of_macro, definition_of, part_introduced, introduced, edited}
+use Rattle.edit_spec.specs.EditChunks.{token, entry_chunks, items_chunks, kept_item, kept_items, kept_rows, body_and_rest, chunks_from_first, without_body, entry_body, entry_as, value_replaced, field_set, field_dropped, crossref_chunks, tree_key_chunks, item_key_chunks, groups_without, inserted, moved, appended, changed_items, chunks, pieces_of}
+use Rattle.edit_spec.specs.Laws.{chunks_are_files, pieces_lead_to_edited}
+use Rattle.edit_spec.proofs.TreeChunks.{read, old-read, new-read, read-append, token_old, token_new, row-parts, last-read, entry-read, items-old, items-new, rows-kept, items-kept}
+use Rattle.bib_spec.proofs.Keys.{option_cases}
+use Rattle.bib_spec.proofs.Chunks.{chunks-fit, chunks-lead}
+
+abbrev items_bytes : List Item → Text
+items_bytes items = flat_map item_bytes items
+
+abbrev rows_bytes : List Row → Text
+rows_bytes rows = flat_map row_bytes rows
+
+-- the white space before rows, and the rows
+abbrev spaced_rows : Text × List Row → Text
+spaced_rows rows = rows.0 ++ rows_bytes rows.1
+
+row_then : (s v b r : Text) → s ++ (v ++ (b ++ r)) ≡ (s ++ (v ++ b)) ++ r
+row_then s v b r = simp append_assoc
+
+-- ---- rows
+
+-- a row before others, from its parts
+row_and_rest : (row : Row) (rest : Text) → row_start row ++ (value_bytes row.assignment.value ++ (row.assignment.space_behind ++ rest)) ≡ row_bytes row ++ rest
+row_and_rest row rest = row_then (row_start row) (value_bytes row.assignment.value) row.assignment.space_behind rest ∙ ap (λ t. t ++ rest) (sym (row-parts row))
+
+kept_and_rest : (b : Bool) (row : Row) (rows : List Row) →
+    row_start row ++ (value_bytes row.assignment.value ++ (row.assignment.space_behind ++ read b (kept_rows rows))) ≡ row_bytes row ++ rows_bytes rows
+kept_and_rest b row rows = row_and_rest row (read b (kept_rows rows)) ∙ ap (λ t. row_bytes row ++ t) (rows-kept b rows)
+
+module _ (name : Text) (value : Value) where
+  set_old : (before : Text) (rows : List Row) → read false (field_set name value before rows) ≡ before ++ rows_bytes rows
+  set_old before [] = refl
+  set_old before (row ∷ rows) = ⊎_elim
+      (λ e. ap (read false) (cond-true (same row.assignment.name name)
+      (Kept before ∷ Kept (row_start row) ∷ Replaced (value_bytes row.assignment.value) (value_bytes value) ∷ Kept row.assignment.space_behind ∷ kept_rows rows)
+      (Kept before ∷ Kept (row_start row) ∷ Kept (value_bytes row.assignment.value) ∷ field_set name value row.assignment.space_behind rows) e)
+      ∙ ap (λ t. before ++ t) (kept_and_rest false row rows))
+      (λ e. ap (read false) (cond-false (same row.assignment.name name)
+      (Kept before ∷ Kept (row_start row) ∷ Replaced (value_bytes row.assignment.value) (value_bytes value) ∷ Kept row.assignment.space_behind ∷ kept_rows rows)
+      (Kept before ∷ Kept (row_start row) ∷ Kept (value_bytes row.assignment.value) ∷ field_set name value row.assignment.space_behind rows) e)
+      ∙ ap (λ t. before ++ (row_start row ++ (value_bytes row.assignment.value ++ t))) (set_old row.assignment.space_behind rows)
+      ∙ ap (λ t. before ++ t) (row_and_rest row (rows_bytes rows)))
+      (cases_Bool (same row.assignment.name name))
+
+  set_new : (before : Text) (rows : List Row) → read true (field_set name value before rows) ≡ spaced_rows (with_field name value before rows)
+  set_new before [] = added (row_start (new_row name value [])) (value_bytes value) before ∙ ap (λ t. t ++ []) (sym (row-parts (new_row name value before)))
+    where
+      added : (s v b : Text) → (s ++ v) ++ (b ++ []) ≡ (s ++ (v ++ b)) ++ []
+      added s v b = simp append_assoc
+  set_new before (row ∷ rows) =
+      let rest = with_field name value row.assignment.space_behind rows in
+      ⊎_elim
+      (λ e. ap (read true) (cond-true (same row.assignment.name name)
+      (Kept before ∷ Kept (row_start row) ∷ Replaced (value_bytes row.assignment.value) (value_bytes value) ∷ Kept row.assignment.space_behind ∷ kept_rows rows)
+      (Kept before ∷ Kept (row_start row) ∷ Kept (value_bytes row.assignment.value) ∷ field_set name value row.assignment.space_behind rows) e)
+      ∙ ap (λ t. before ++ t) (kept_and_rest true (row_to value row) rows)
+      ∙ sym (ap spaced_rows (cond-true (same row.assignment.name name) (before, row_to value row ∷ rows) (before, row_before rest.0 row ∷ rest.1) e)))
+      (λ e. ap (read true) (cond-false (same row.assignment.name name)
+      (Kept before ∷ Kept (row_start row) ∷ Replaced (value_bytes row.assignment.value) (value_bytes value) ∷ Kept row.assignment.space_behind ∷ kept_rows rows)
+      (Kept before ∷ Kept (row_start row) ∷ Kept (value_bytes row.assignment.value) ∷ field_set name value row.assignment.space_behind rows) e)
+      ∙ ap (λ t. before ++ (row_start row ++ (value_bytes row.assignment.value ++ t))) (set_new row.assignment.space_behind rows)
+      ∙ ap (λ t. before ++ t) (row_and_rest (row_before rest.0 row) (rows_bytes rest.1))
+      ∙ sym (ap spaced_rows (cond-false (same row.assignment.name name) (before, row_to value row ∷ rows) (before, row_before rest.0 row ∷ rest.1) e)))
+      (cases_Bool (same row.assignment.name name))
+
+  replaced_old : (rows : List Row) → read false (value_replaced name value rows) ≡ rows_bytes rows
+  replaced_old [] = refl
+  replaced_old (row ∷ rows) = ⊎_elim
+      (λ e. ap (read false) (cond-true (same row.assignment.name name)
+      (Kept (row_start row) ∷ Replaced (value_bytes row.assignment.value) (value_bytes value) ∷ Kept row.assignment.space_behind ∷ kept_rows rows) (Kept (row_bytes row) ∷ value_replaced name value rows) e)
+      ∙ kept_and_rest false row rows)
+      (λ e. ap (read false) (cond-false (same row.assignment.name name)
+      (Kept (row_start row) ∷ Replaced (value_bytes row.assignment.value) (value_bytes value) ∷ Kept row.assignment.space_behind ∷ kept_rows rows) (Kept (row_bytes row) ∷ value_replaced name value rows) e)
+      ∙ ap (λ t. row_bytes row ++ t) (replaced_old rows))
+      (cases_Bool (same row.assignment.name name))
+
+  replaced_new : (rows : List Row) → read true (value_replaced name value rows) ≡ rows_bytes (with_value name value rows)
+  replaced_new [] = refl
+  replaced_new (row ∷ rows) = ⊎_elim
+      (λ e. ap (read true) (cond-true (same row.assignment.name name)
+      (Kept (row_start row) ∷ Replaced (value_bytes row.assignment.value) (value_bytes value) ∷ Kept row.assignment.space_behind ∷ kept_rows rows) (Kept (row_bytes row) ∷ value_replaced name value rows) e)
+      ∙ kept_and_rest true (row_to value row) rows
+      ∙ sym (ap rows_bytes (cond-true (same row.assignment.name name) (row_to value row ∷ rows) (row ∷ with_value name value rows) e)))
+      (λ e. ap (read true) (cond-false (same row.assignment.name name)
+      (Kept (row_start row) ∷ Replaced (value_bytes row.assignment.value) (value_bytes value) ∷ Kept row.assignment.space_behind ∷ kept_rows rows) (Kept (row_bytes row) ∷ value_replaced name value rows) e)
+      ∙ ap (λ t. row_bytes row ++ t) (replaced_new rows)
+      ∙ sym (ap rows_bytes (cond-false (same row.assignment.name name) (row_to value row ∷ rows) (row ∷ with_value name value rows) e)))
+      (cases_Bool (same row.assignment.name name))
+
+module _ (name : Text) where
+  gone_row : (s v b r : Text) → (s ++ v) ++ (b ++ r) ≡ (s ++ (v ++ b)) ++ r
+  gone_row s v b r = simp append_assoc
+
+  drop_old : (before : Text) (rows : List Row) → read false (field_dropped name before rows) ≡ before ++ rows_bytes rows
+  drop_old before [] = refl
+  drop_old before (row ∷ rows) = ⊎_elim
+      (λ e. ap (read false) (cond-true (same row.assignment.name name)
+      (Kept before ∷ Replaced (row_start row ++ value_bytes row.assignment.value) [] ∷ Kept row.assignment.space_behind ∷ kept_rows rows)
+      (Kept before ∷ Kept (row_start row) ∷ Kept (value_bytes row.assignment.value) ∷ field_dropped name row.assignment.space_behind rows) e)
+      ∙ ap (λ t. before ++ t) (gone_row (row_start row) (value_bytes row.assignment.value) row.assignment.space_behind (read false (kept_rows rows))
+      ∙ ap₂ ◌++◌ (sym (row-parts row)) (rows-kept false rows)))
+      (λ e. ap (read false) (cond-false (same row.assignment.name name)
+      (Kept before ∷ Replaced (row_start row ++ value_bytes row.assignment.value) [] ∷ Kept row.assignment.space_behind ∷ kept_rows rows)
+      (Kept before ∷ Kept (row_start row) ∷ Kept (value_bytes row.assignment.value) ∷ field_dropped name row.assignment.space_behind rows) e)
+      ∙ ap (λ t. before ++ (row_start row ++ (value_bytes row.assignment.value ++ t))) (drop_old row.assignment.space_behind rows)
+      ∙ ap (λ t. before ++ t) (row_and_rest row (rows_bytes rows)))
+      (cases_Bool (same row.assignment.name name))
+
+  drop_new : (before : Text) (rows : List Row) → read true (field_dropped name before rows) ≡ spaced_rows (without_field name before rows)
+  drop_new before [] = refl
+  drop_new before (row ∷ rows) =
+      let rest = without_field name row.assignment.space_behind rows in
+      ⊎_elim
+      (λ e. ap (read true) (cond-true (same row.assignment.name name)
+      (Kept before ∷ Replaced (row_start row ++ value_bytes row.assignment.value) [] ∷ Kept row.assignment.space_behind ∷ kept_rows rows)
+      (Kept before ∷ Kept (row_start row) ∷ Kept (value_bytes row.assignment.value) ∷ field_dropped name row.assignment.space_behind rows) e)
+      ∙ ap (λ t. before ++ (row.assignment.space_behind ++ t)) (rows-kept true rows)
+      ∙ sym (append_assoc before row.assignment.space_behind (rows_bytes rows))
+      ∙ sym (ap spaced_rows (cond-true (same row.assignment.name name) (before ++ row.assignment.space_behind, rows) (before, row_before rest.0 row ∷ rest.1) e)))
+      (λ e. ap (read true) (cond-false (same row.assignment.name name)
+      (Kept before ∷ Replaced (row_start row ++ value_bytes row.assignment.value) [] ∷ Kept row.assignment.space_behind ∷ kept_rows rows)
+      (Kept before ∷ Kept (row_start row) ∷ Kept (value_bytes row.assignment.value) ∷ field_dropped name row.assignment.space_behind rows) e)
+      ∙ ap (λ t. before ++ (row_start row ++ (value_bytes row.assignment.value ++ t))) (drop_new row.assignment.space_behind rows)
+      ∙ ap (λ t. before ++ t) (row_and_rest (row_before rest.0 row) (rows_bytes rest.1))
+      ∙ sym (ap spaced_rows (cond-false (same row.assignment.name name) (before ++ row.assignment.space_behind, rows) (before, row_before rest.0 row ∷ rest.1) e)))
+      (cases_Bool (same row.assignment.name name))
+
+-- ---- from the first item that passes a test
+
+module _ (test : Tree → Bool) (change : Item → List Item → List Chunk) where
+  first_old : ((item : Item) (items : List Item) → read false (change item items) ≡ items_bytes (item ∷ items)) → (items : List Item) →
+      read false (chunks_from_first test change items) ≡ items_bytes items
+  first_old h [] = refl
+  first_old h (item ∷ items) = ⊎_elim
+      (λ e. ap (read false) (cond-true (test item.tree) (change item items) (kept_item item ∷ chunks_from_first test change items) e) ∙ h item items)
+      (λ e. ap (read false) (cond-false (test item.tree) (change item items) (kept_item item ∷ chunks_from_first test change items) e) ∙ ap (λ t. item_bytes item ++ t) (first_old h items))
+      (cases_Bool (test item.tree))
+
+  first_new : (becomes : List Item → List Item) → ((item : Item) (items : List Item) → read true (change item items) ≡ items_bytes (becomes (item ∷ items))) → (items : List Item) →
+      read true (chunks_from_first test change items) ≡ items_bytes (from_first test becomes items)
+  first_new becomes h [] = refl
+  first_new becomes h (item ∷ items) = ⊎_elim
+      (λ e. ap (read true) (cond-true (test item.tree) (change item items) (kept_item item ∷ chunks_from_first test change items) e) ∙ h item items
+      ∙ sym (ap items_bytes (cond-true (test item.tree) (becomes (item ∷ items)) (item ∷ from_first test becomes items) e)))
+      (λ e. ap (read true) (cond-false (test item.tree) (change item items) (kept_item item ∷ chunks_from_first test change items) e) ∙ ap (λ t. item_bytes item ++ t) (first_new becomes h items)
+      ∙ sym (ap items_bytes (cond-false (test item.tree) (becomes (item ∷ items)) (item ∷ from_first test becomes items) e)))
+      (cases_Bool (test item.tree))
+
+-- a body, and all behind it
+rest-read : (b : Bool) (body : List Chunk) (item : Item) (items : List Item) (bytes : Text) → read b body ≡ bytes → read b (body_and_rest body item items) ≡ (bytes ++ item.trail) ++ items_bytes items
+rest-read b body item items bytes e =
+    read-append b body (Kept item.trail ∷ kept_items items) ∙ ap₂ (λ x y. x ++ (item.trail ++ y)) e (items-kept b items) ∙ sym (append_assoc bytes item.trail (items_bytes items))
+
+-- an entry with other rows
+module _ (become : Entry → Text × List Row) (body : Entry → List Chunk)
+    (old : (e : Entry) → read false (body e) ≡ e.space_behind_key ++ rows_bytes e.rows) (new : (e : Entry) → read true (body e) ≡ spaced_rows (become e))
+  where
+    abbrev entry_chunked : Entry → List Chunk
+    entry_chunked e = entry_chunks (Kept e.key) (body e) e
+
+    abbrev entry_become : Entry → Entry
+    entry_become e = entry_with_rows (become e) e
+
+    body_old : (tree : Tree) → read false (entry_body entry_chunked tree) ≡ tree_bytes tree
+    body_old (EntryTree e) = entry-read false (Kept e.key) (body e) e e.key e.space_behind_key e.rows refl (old e)
+    body_old (CommentTree h) = append-nil (tree_bytes (CommentTree h))
+    body_old (DefinitionTree d) = append-nil (tree_bytes (DefinitionTree d))
+    body_old (PreambleTree p) = append-nil (tree_bytes (PreambleTree p))
+
+    body_new : (tree : Tree) → read true (entry_body entry_chunked tree) ≡ tree_bytes (of_entry entry_become tree)
+    body_new (EntryTree e) = entry-read true (Kept e.key) (body e) e e.key (become e).0 (become e).1 refl (new e)
+    body_new (CommentTree h) = append-nil (tree_bytes (CommentTree h))
+    body_new (DefinitionTree d) = append-nil (tree_bytes (DefinitionTree d))
+    body_new (PreambleTree p) = append-nil (tree_bytes (PreambleTree p))
+
+    entry_old : (key : Text) (items : List Item) → read false (chunks_from_first (is_entry key) (entry_as entry_chunked) items) ≡ items_bytes items
+    entry_old key items = first_old (is_entry key) (entry_as entry_chunked) (λ item items. rest-read false (entry_body entry_chunked item.tree) item items (tree_bytes item.tree) (body_old item.tree)) items
+
+    entry_new : (key : Text) (items : List Item) → read true (chunks_from_first (is_entry key) (entry_as entry_chunked) items) ≡ items_bytes (from_first (is_entry key) (with_first_tree (of_entry entry_become)) items)
+    entry_new key items = first_new (is_entry key) (entry_as entry_chunked) (with_first_tree (of_entry entry_become))
+        (λ item items. rest-read true (entry_body entry_chunked item.tree) item items (tree_bytes (of_entry entry_become item.tree)) (body_new item.tree)) items
+
+-- ---- removals
+
+-- what is left of items whose first goes, and of those whose first stays
+abbrev found : Text → Item → List Item → Reading
+found front item items = record { front = front ++ item.trail; items = items }
+
+abbrev other : (Tree → Bool) → Text → Item → List Item → Reading
+other test front item items = let rest = without_first test item.trail items in record { front = front; items = record item { trail = rest.front } ∷ rest.items }
+
+module _ (test : Tree → Bool) where
+  gone_regroup : (f t r : Text) → f ++ (t ++ r) ≡ (f ++ t) ++ r
+  gone_regroup f t r = simp append_assoc
+
+  -- the text before, the body of a kept item, and what the rest makes of its trail
+  kept_regroup : (front body trail_now rest trail_was rest_was : Text) → trail_now ++ rest ≡ trail_was ++ rest_was → front ++ ((body ++ trail_was) ++ rest_was) ≡ front ++ ((body ++ trail_now) ++ rest)
+  kept_regroup front body trail_now rest trail_was rest_was e =
+      ap (λ t. front ++ t) (append_assoc body trail_was rest_was ∙ ap (λ t. body ++ t) (sym e) ∙ sym (append_assoc body trail_now rest))
+
+  removed_old : (item : Item) (items : List Item) → read false (without_body item items) ≡ items_bytes (item ∷ items)
+  removed_old item items = rest-read false (Replaced (tree_bytes item.tree) [] ∷ []) item items (tree_bytes item.tree) (append-nil (tree_bytes item.tree))
+
+  removed_new : (front : Text) (items : List Item) → front ++ read true (chunks_from_first test without_body items) ≡ bytes_of (without_first test front items)
+  removed_new front [] = refl
+  removed_new front (item ∷ items) =
+      let rest = without_first test item.trail items in
+      ⊎_elim
+      (λ e. ap (λ c. front ++ read true c) (cond-true (test item.tree) (without_body item items) (kept_item item ∷ chunks_from_first test without_body items) e)
+      ∙ ap (λ t. front ++ t) (rest-read true (Replaced (tree_bytes item.tree) [] ∷ []) item items [] refl)
+      ∙ gone_regroup front item.trail (items_bytes items)
+      ∙ sym (ap bytes_of (cond-true (test item.tree) (found front item items) (other test front item items) e)))
+      (λ e. ap (λ c. front ++ read true c) (cond-false (test item.tree) (without_body item items) (kept_item item ∷ chunks_from_first test without_body items) e)
+      ∙ kept_regroup front (tree_bytes item.tree) rest.front (items_bytes rest.items) item.trail (read true (chunks_from_first test without_body items)) (sym (removed_new item.trail items))
+      ∙ sym (ap bytes_of (cond-false (test item.tree) (found front item items) (other test front item items) e)))
+      (cases_Bool (test item.tree))
+
+-- ---- an inlined macro
+
+module _ (name held : Text) where
+  abbrev uses_out : Item → List Item → List Chunk
+  uses_out item items = Replaced (tree_bytes item.tree) [] ∷ Kept item.trail ∷ items_chunks leaving (use_inlined name held) items
+
+  abbrev uses_gone : List Item → List Item
+  uses_gone items = items_with leaving (use_inlined name held) items
+
+  abbrev inlined : List Item → List Item
+  inlined items = from_first (defines name) (uses_inlined name held) items
+
+  inlined_old : (item : Item) (items : List Item) → read false (uses_out item items) ≡ items_bytes (item ∷ items)
+  inlined_old item items = ap (λ t. tree_bytes item.tree ++ (item.trail ++ t)) (items-old leaving (use_inlined name held) items) ∙ sym (append_assoc (tree_bytes item.tree) item.trail (items_bytes items))
+
+  inlined_new : (front : Text) (items : List Item) → front ++ read true (chunks_from_first (defines name) uses_out items) ≡ bytes_of (without_first (defines name) front (inlined items))
+  inlined_new front [] = refl
+  inlined_new front (item ∷ items) =
+      let rest = without_first (defines name) item.trail (inlined items) in
+      ⊎_elim
+      (λ e. ap (λ c. front ++ read true c) (cond-true (defines name item.tree) (uses_out item items) (kept_item item ∷ chunks_from_first (defines name) uses_out items) e)
+      ∙ ap (λ t. front ++ (item.trail ++ t)) (items-new leaving (use_inlined name held) items)
+      ∙ sym (append_assoc front item.trail (items_bytes (uses_gone items)))
+      ∙ sym (ap (λ l. bytes_of (without_first (defines name) front l)) (cond-true (defines name item.tree) (item ∷ uses_gone items) (item ∷ inlined items) e)
+      ∙ ap bytes_of (cond-true (defines name item.tree) (found front item (uses_gone items)) (other (defines name) front item (uses_gone items)) e)))
+      (λ e. ap (λ c. front ++ read true c) (cond-false (defines name item.tree) (uses_out item items) (kept_item item ∷ chunks_from_first (defines name) uses_out items) e)
+      ∙ kept_regroup (defines name) front (tree_bytes item.tree) rest.front (items_bytes rest.items) item.trail (read true (chunks_from_first (defines name) uses_out items)) (sym (inlined_new item.trail items))
+      ∙ sym (ap (λ l. bytes_of (without_first (defines name) front l)) (cond-false (defines name item.tree) (item ∷ uses_gone items) (item ∷ inlined items) e)
+      ∙ ap bytes_of (cond-false (defines name item.tree) (found front item (inlined items)) (other (defines name) front item (inlined items)) e)))
+      (cases_Bool (defines name item.tree))
+
+-- ---- keys
+
+module _ (new : ℕ → Option Text) (entries : List EntryTexts) where
+  crossref_old : (o : Option Text) (rows : List Row) → read false (crossref_chunks o rows) ≡ rows_bytes rows
+  crossref_old None rows = rows-kept false rows
+  crossref_old (Some key) rows = replaced_old crossref (in_braces key) rows
+
+  crossref_new : (o : Option Text) (rows : List Row) → read true (crossref_chunks o rows) ≡ rows_bytes (with_crossref o rows)
+  crossref_new None rows = rows-kept true rows
+  crossref_new (Some key) rows = replaced_new crossref (in_braces key) rows
+
+  key_tree_old : (n : ℕ) (tree : Tree) → read false (tree_key_chunks new entries n tree) ≡ tree_bytes tree
+  key_tree_old n (EntryTree e) = entry-read false (token e.key (new n)) (Kept e.space_behind_key ∷ crossref_chunks (option_and_then new (target entries n)) e.rows) e e.key e.space_behind_key e.rows
+      (token_old e.key (new n)) (ap (λ t. e.space_behind_key ++ t) (crossref_old (option_and_then new (target entries n)) e.rows))
+  key_tree_old n (CommentTree h) = append-nil (tree_bytes (CommentTree h))
+  key_tree_old n (DefinitionTree d) = append-nil (tree_bytes (DefinitionTree d))
+  key_tree_old n (PreambleTree p) = append-nil (tree_bytes (PreambleTree p))
+
+  key_tree_new : (n : ℕ) (tree : Tree) → read true (tree_key_chunks new entries n tree) ≡ tree_bytes (tree_with_keys new entries n tree)
+  key_tree_new n (EntryTree e) = entry-read true (token e.key (new n)) (Kept e.space_behind_key ∷ crossref_chunks (option_and_then new (target entries n)) e.rows) e
+      (unwrap_or (new n) e.key) e.space_behind_key (with_crossref (option_and_then new (target entries n)) e.rows)
+      (token_new e.key (new n)) (ap (λ t. e.space_behind_key ++ t) (crossref_new (option_and_then new (target entries n)) e.rows))
+  key_tree_new n (CommentTree h) = append-nil (tree_bytes (CommentTree h))
+  key_tree_new n (DefinitionTree d) = append-nil (tree_bytes (DefinitionTree d))
+  key_tree_new n (PreambleTree p) = append-nil (tree_bytes (PreambleTree p))
+
+  abbrev keyed_chunks : ℕ → List Item → List Chunk
+  keyed_chunks n items = flat_map (λ chunks. chunks) (scan (λ n item. next_number n item.tree) (item_key_chunks new entries) n items)
+
+  keys_old : (n : ℕ) (items : List Item) → read false (keyed_chunks n items) ≡ items_bytes items
+  keys_old n [] = refl
+  keys_old n (item ∷ items) = read-append false (item_key_chunks new entries n item) (keyed_chunks (next_number n item.tree) items)
+      ∙ ap₂ ◌++◌ (last-read false (tree_key_chunks new entries n item.tree) item.trail (tree_bytes item.tree) (key_tree_old n item.tree)) (keys_old (next_number n item.tree) items)
+
+  keys_new : (n : ℕ) (items : List Item) → read true (keyed_chunks n items) ≡ items_bytes (items_with_keys new entries n items)
+  keys_new n [] = refl
+  keys_new n (item ∷ items) = read-append true (item_key_chunks new entries n item) (keyed_chunks (next_number n item.tree) items)
+      ∙ ap₂ ◌++◌ (last-read true (tree_key_chunks new entries n item.tree) item.trail (tree_bytes (tree_with_keys new entries n item.tree)) (key_tree_new n item.tree)) (keys_new (next_number n item.tree) items)
+
+-- ---- a moved entry
+
+groups-read : (b : Bool) (groups : List (List Chunk)) → read b (flat_map (λ chunks. chunks) groups) ≡ concat (map (read b) groups)
+groups-read b [] = refl
+groups-read b (group ∷ groups) = read-append b group (flat_map (λ chunks. chunks) groups) ∙ ap (λ t. read b group ++ t) (groups-read b groups)
+
+items-concat : (items : List Item) → items_bytes items ≡ concat (map item_bytes items)
+items-concat [] = refl
+items-concat (item ∷ items) = ap (λ t. item_bytes item ++ t) (items-concat items)
+
+concat-append : (xs ys : List Text) → concat (xs ++ ys) ≡ concat xs ++ concat ys
+concat-append [] ys = refl
+concat-append (x ∷ xs) ys = ap (λ t. x ++ t) (concat-append xs ys) ∙ sym (append_assoc x (concat xs) (concat ys))
+
+insert-map : {X Y : Type 0} (f : X → Y) (xs : List X) (place : ℕ) (x : X) → map f (insert xs place x) ≡ insert (map f xs) place (f x)
+insert-map f xs zero x = refl
+insert-map f [] (suc place) x = refl
+insert-map f (y ∷ ys) (suc place) x = ap (λ l. f y ∷ l) (insert-map f ys place x)
+
+-- an insertion of nothing
+insert-nothing : (xs : List Text) (place : ℕ) → concat (insert xs place []) ≡ concat xs
+insert-nothing xs zero = refl
+insert-nothing [] (suc place) = refl
+insert-nothing (x ∷ xs) (suc place) = ap (λ t. x ++ t) (insert-nothing xs place)
+
+singles : (b : Bool) (items : List Item) → map (read b) (map (λ kept. kept_item kept ∷ []) items) ≡ map item_bytes items
+singles b [] = refl
+singles b (item ∷ items) = ap₂ ◌∷◌ (append-nil (item_bytes item)) (singles b items)
+
+module _ (test : Tree → Bool) where
+  abbrev groups : List Item → List Chunk × List (List Chunk)
+  groups items = groups_without test items
+
+  abbrev gone : Item → List Item → List Chunk × List (List Chunk)
+  gone item items = (Replaced (tree_bytes item.tree) [] ∷ Kept item.trail ∷ [], map (λ kept. kept_item kept ∷ []) items)
+
+  abbrev stays : Item → List Item → List Chunk × List (List Chunk)
+  stays item items = ([], (kept_item item ∷ (groups items).0) ∷ (groups items).1)
+
+  groups_old : (items : List Item) → read false (groups items).0 ++ concat (map (read false) (groups items).1) ≡ concat (map item_bytes items)
+  groups_old [] = refl
+  groups_old (item ∷ items) = ⊎_elim
+      (λ e. ap (λ g. read false g.0 ++ concat (map (read false) g.1)) (cond-true (test item.tree) (gone item items) (stays item items) e)
+      ∙ ap₂ (λ x y. (tree_bytes item.tree ++ x) ++ concat y) (append-nil item.trail) (singles false items))
+      (λ e. ap (λ g. read false g.0 ++ concat (map (read false) g.1)) (cond-false (test item.tree) (gone item items) (stays item items) e)
+      ∙ append_assoc (item_bytes item) (read false (groups items).0) (concat (map (read false) (groups items).1))
+      ∙ ap (λ t. item_bytes item ++ t) (groups_old items))
+      (cases_Bool (test item.tree))
+
+  front_new : (front : Text) (items : List Item) → (without_first test front items).front ≡ front ++ read true (groups items).0
+  front_new front [] = sym (append-nil front)
+  front_new front (item ∷ items) = ⊎_elim
+      (λ e. ap (λ db. db.front) (cond-true (test item.tree) (found front item items) (other test front item items) e)
+      ∙ sym (ap (λ t. front ++ t) (ap (λ g. read true g.0) (cond-true (test item.tree) (gone item items) (stays item items) e) ∙ append-nil item.trail)))
+      (λ e. ap (λ db. db.front) (cond-false (test item.tree) (found front item items) (other test front item items) e)
+      ∙ sym (append-nil front)
+      ∙ sym (ap (λ t. front ++ t) (ap (λ g. read true g.0) (cond-false (test item.tree) (gone item items) (stays item items) e))))
+      (cases_Bool (test item.tree))
+
+  items_new : (front : Text) (items : List Item) → map (read true) (groups items).1 ≡ map item_bytes (without_first test front items).items
+  items_new front [] = refl
+  items_new front (item ∷ items) =
+      let rest = without_first test item.trail items in
+      ⊎_elim
+      (λ e. ap (λ g. map (read true) g.1) (cond-true (test item.tree) (gone item items) (stays item items) e) ∙ singles true items
+      ∙ sym (ap (λ db. map item_bytes db.items) (cond-true (test item.tree) (found front item items) (other test front item items) e)))
+      (λ e. ap (λ g. map (read true) g.1) (cond-false (test item.tree) (gone item items) (stays item items) e)
+      ∙ ap₂ ◌∷◌ (append_assoc (tree_bytes item.tree) item.trail (read true (groups items).0) ∙ ap (λ t. tree_bytes item.tree ++ t) (sym (front_new item.trail items))) (items_new item.trail items)
+      ∙ sym (ap (λ db. map item_bytes db.items) (cond-false (test item.tree) (found front item items) (other test front item items) e)))
+      (cases_Bool (test item.tree))
+
+module _ (key : Text) (place : ℕ) (items : List Item) (item : Item) where
+  abbrev its_groups : List Chunk × List (List Chunk)
+  its_groups = groups_without (is_entry key) items
+
+  abbrev new_group : List Chunk
+  new_group = inserted (in_line item.tree)
+
+  moved-read : (b : Bool) → read b (moved key place items item) ≡ read b its_groups.0 ++ concat (insert (map (read b) its_groups.1) place (read b new_group))
+  moved-read b = read-append b its_groups.0 (flat_map (λ chunks. chunks) (insert its_groups.1 place new_group))
+      ∙ ap (λ t. read b its_groups.0 ++ t) (groups-read b (insert its_groups.1 place new_group) ∙ ap concat (insert-map (read b) its_groups.1 place new_group))
+
+  moved_old : read false (moved key place items item) ≡ items_bytes items
+  moved_old = moved-read false ∙ ap (λ t. read false its_groups.0 ++ t) (insert-nothing (map (read false) its_groups.1) place) ∙ groups_old (is_entry key) items ∙ sym (items-concat items)
+
+  moved_new : (front : Text) → front ++ read true (moved key place items item) ≡
+      (without_first (is_entry key) front items).front ++ items_bytes (insert (without_first (is_entry key) front items).items place (in_line item.tree))
+  moved_new front =
+      ap (λ t. front ++ t) (moved-read true)
+      ∙ sym (append_assoc front (read true its_groups.0) (concat (insert (map (read true) its_groups.1) place (read true new_group))))
+      ∙ ap₂ ◌++◌ (sym (front_new (is_entry key) front items))
+      (ap₂ (λ l t. concat (insert l place t)) (items_new (is_entry key) front items) (append-nil (item_bytes (in_line item.tree)))
+      ∙ sym (ap concat (insert-map item_bytes (without_first (is_entry key) front items).items place (in_line item.tree)))
+      ∙ sym (items-concat (insert (without_first (is_entry key) front items).items place (in_line item.tree))))
+
+-- ---- added entries
+
+items-append : (xs ys : List Item) → items_bytes (xs ++ ys) ≡ items_bytes xs ++ items_bytes ys
+items-append xs ys = flat_map-append item_bytes xs ys
+
+added-read : (b : Bool) (before behind : List Item) (put : List Chunk) → read b (kept_items before ++ (put ++ kept_items behind)) ≡ items_bytes before ++ (read b put ++ items_bytes behind)
+added-read b before behind put = read-append b (kept_items before) (put ++ kept_items behind) ∙ ap₂ ◌++◌ (items-kept b before) (read-append b put (kept_items behind) ∙ ap (λ t. read b put ++ t) (items-kept b behind))
+
+appended_old : (news : List NewEntry) → read false (appended news) ≡ []
+appended_old [] = refl
+appended_old (new ∷ news) = refl
+
+appended_new : (news : List NewEntry) → read true (appended news) ≡ items_bytes (map item_of news)
+appended_new [] = refl
+appended_new (new ∷ news) = append-nil (items_bytes (map item_of (new ∷ news)))
+
+-- ---- all edits
+
+module _ (key_base : Record → Text) (db : Reading) where
+  items_old : (e : Edit) → read false (changed_items key_base db e) ≡ items_bytes db.items
+  items_old (SetField key name value) =
+      entry_old (λ e. with_field name value e.space_behind_key e.rows) (λ e. field_set name value e.space_behind_key e.rows) (λ e. set_old name value e.space_behind_key e.rows) (λ e. set_new name value e.space_behind_key e.rows) key db.items
+  items_old (DropField key name) =
+      entry_old (λ e. without_field name e.space_behind_key e.rows) (λ e. field_dropped name e.space_behind_key e.rows) (λ e. drop_old name e.space_behind_key e.rows) (λ e. drop_new name e.space_behind_key e.rows) key db.items
+  items_old (AddEntry place new) =
+      added-read false (take place db.items) (drop place db.items) (inserted (item_of new))
+      ∙ sym (items-append (take place db.items) (drop place db.items)) ∙ ap items_bytes (take-append-drop place db.items)
+  items_old (RemoveEntry key) = first_old (is_entry key) without_body (removed_old (is_entry key)) db.items
+  items_old (MoveEntry key place) = ⊎_elim
+      (λ none. ap (λ o. read false (option_map_or (moved key place db.items) o (kept_items db.items))) none ∙ items-kept false db.items)
+      (λ some. ap (λ o. read false (option_map_or (moved key place db.items) o (kept_items db.items))) some.1 ∙ moved_old key place db.items some.0)
+      (option_cases (find (λ item. is_entry key item.tree) db.items))
+  items_old (RenameKey from to) = keys_old (key_for (entry_named (entries_of db) from) to) (entries_of db) 0 db.items
+  items_old (RenameMacro from to) =
+      first_old (defines from) (λ item items. items_chunks (name_renamed from to) (use_renamed from to) (item ∷ items)) (λ item items. items-old (name_renamed from to) (use_renamed from to) (item ∷ items)) db.items
+  items_old (InlineMacro name) = first_old (defines name) (uses_out name (text_of_macro name db)) (inlined_old name (text_of_macro name db)) db.items
+  items_old (IntroduceMacro name text) =
+      first_old (any_part (holds text)) (λ item items. inserted (in_line (DefinitionTree (definition_of name text))) ++ items_chunks leaving (part_introduced name text) (item ∷ items))
+      (λ item items. items-old leaving (part_introduced name text) (item ∷ items)) db.items
+  items_old (RegenerateKeys depth) = keys_old (slice_get (new_keys key_base depth (entries_of db))) (entries_of db) 0 db.items
+  items_old (AddMany news) =
+      read-append false (kept_items db.items) (appended news) ∙ ap₂ ◌++◌ (items-kept false db.items) (appended_old news) ∙ append-nil (items_bytes db.items)
+
+  file_new : (e : Edit) → db.front ++ read true (changed_items key_base db e) ≡ bytes_of (edited key_base db e)
+  file_new (SetField key name value) = ap (λ t. db.front ++ t)
+      (entry_new (λ e. with_field name value e.space_behind_key e.rows) (λ e. field_set name value e.space_behind_key e.rows) (λ e. set_old name value e.space_behind_key e.rows) (λ e. set_new name value e.space_behind_key e.rows) key db.items)
+  file_new (DropField key name) = ap (λ t. db.front ++ t)
+      (entry_new (λ e. without_field name e.space_behind_key e.rows) (λ e. field_dropped name e.space_behind_key e.rows) (λ e. drop_old name e.space_behind_key e.rows) (λ e. drop_new name e.space_behind_key e.rows) key db.items)
+  file_new (AddEntry place new) = ap (λ t. db.front ++ t)
+      (added-read true (take place db.items) (drop place db.items) (inserted (item_of new))
+      ∙ ap (λ t. items_bytes (take place db.items) ++ (t ++ items_bytes (drop place db.items))) (append-nil (item_bytes (item_of new)))
+      ∙ sym (items-append (take place db.items) (item_of new ∷ drop place db.items)))
+  file_new (RemoveEntry key) = removed_new (is_entry key) db.front db.items
+  file_new (MoveEntry key place) = ⊎_elim
+      (λ none. ap (λ o. db.front ++ read true (option_map_or (moved key place db.items) o (kept_items db.items))) none ∙ ap (λ t. db.front ++ t) (items-kept true db.items)
+      ∙ sym (ap (λ o. bytes_of (option_map_or (λ item. with_item place (in_line item.tree) (without_first (is_entry key) db.front db.items)) o db)) none))
+      (λ some. ap (λ o. db.front ++ read true (option_map_or (moved key place db.items) o (kept_items db.items))) some.1 ∙ moved_new key place db.items some.0 db.front
+      ∙ sym (ap (λ o. bytes_of (option_map_or (λ item. with_item place (in_line item.tree) (without_first (is_entry key) db.front db.items)) o db)) some.1))
+      (option_cases (find (λ item. is_entry key item.tree) db.items))
+  file_new (RenameKey from to) = ap (λ t. db.front ++ t) (keys_new (key_for (entry_named (entries_of db) from) to) (entries_of db) 0 db.items)
+  file_new (RenameMacro from to) = ap (λ t. db.front ++ t)
+      (first_new (defines from) (λ item items. items_chunks (name_renamed from to) (use_renamed from to) (item ∷ items)) (items_with (name_renamed from to) (use_renamed from to)) (λ item items. items-new (name_renamed from to) (use_renamed from to) (item ∷ items)) db.items)
+  file_new (InlineMacro name) = inlined_new name (text_of_macro name db) db.front db.items
+  file_new (IntroduceMacro name text) = ap (λ t. db.front ++ t)
+      (first_new (any_part (holds text)) (λ item items. inserted (in_line (DefinitionTree (definition_of name text))) ++ items_chunks leaving (part_introduced name text) (item ∷ items)) (introduced name text)
+      (λ item items. ap (λ t. item_bytes (in_line (DefinitionTree (definition_of name text))) ++ t) (items-new leaving (part_introduced name text) (item ∷ items))) db.items)
+  file_new (RegenerateKeys depth) = ap (λ t. db.front ++ t) (keys_new (slice_get (new_keys key_base depth (entries_of db))) (entries_of db) 0 db.items)
+  file_new (AddMany news) = ap (λ t. db.front ++ t)
+      (read-append true (kept_items db.items) (appended news) ∙ ap₂ ◌++◌ (items-kept true db.items) (appended_new news) ∙ sym (items-append db.items (map item_of news)))
+
+pub chunks-are-files : chunks_are_files
+chunks-are-files key_base db e = (
+  old-read (chunks key_base db e) ∙ ap (λ t. db.front ++ t) (items_old key_base db e),
+  new-read (chunks key_base db e) ∙ file_new key_base db e,
+)
+
+pub pieces-lead : pieces_lead_to_edited
+pieces-lead key_base db e =
+    let files = chunks-are-files key_base db e in (
+      subst (λ (t : Text). Fit (pieces_of key_base db e) t) files.0 (chunks-fit (chunks key_base db e)),
+      ap (applied (pieces_of key_base db e)) (sym files.0) ∙ chunks-lead (chunks key_base db e) ∙ files.1,
+    )

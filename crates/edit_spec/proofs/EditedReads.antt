@@ -1,0 +1,43 @@
+-- What every accepted edit makes reads, and its file opens.
+use Rattle.std.proofs.Common.{◌≡◌, ◌≤◌, is_some, length, ⊎_elim, sym, ◌∙◌, ap, subst}
+use Rattle.bib_spec.specs.Bytes.{file_limit}
+use Rattle.bib_spec.specs.Text.{Text}
+use Rattle.bib_spec.specs.Reading.{Reads, bytes_of}
+use Rattle.bib_spec.specs.Texts.{too_long_at}
+use Rattle.bib_spec.specs.Pieces.{applied}
+use Rattle.edit_spec.specs.Edits.{SetField, DropField, AddEntry, RemoveEntry, MoveEntry, RenameKey, RenameMacro, InlineMacro, IntroduceMacro, RegenerateKeys, AddMany, TextTooLong, edited}
+use Rattle.edit_spec.specs.EditChunks.{pieces_of}
+use Rattle.edit_spec.specs.EditLaws.{edited_reads, applied_opens}
+use Rattle.bib_spec.proofs.Keys.{option_cases}
+use Rattle.edit_spec.proofs.EditFiles.{pieces-lead}
+use Rattle.edit_spec.proofs.Unrefuted.{edited-short}
+use Rattle.edit_spec.proofs.SetField.{set_field-reads}
+use Rattle.edit_spec.proofs.DropField.{drop_field-reads}
+use Rattle.edit_spec.proofs.AddedEntries.{add_entry-reads, add_many-reads}
+use Rattle.edit_spec.proofs.MovedEntries.{remove_entry-reads, move_entry-reads}
+use Rattle.edit_spec.proofs.RekeyedEntries.{rename_key-reads}
+use Rattle.edit_spec.proofs.MadeKeyLengths.{regenerate_keys-reads}
+use Rattle.edit_spec.proofs.ChangedParts.{rename_macro-reads, introduce_macro-reads, inline_macro-reads}
+
+pub edited-reads : edited_reads
+edited-reads key_base file db (SetField key name value) base reads accepted = set_field-reads key_base file db key name value reads accepted
+edited-reads key_base file db (DropField key name) base reads accepted = drop_field-reads key_base file db key name reads accepted
+edited-reads key_base file db (AddEntry place new) base reads accepted = add_entry-reads key_base file db place new reads accepted
+edited-reads key_base file db (RemoveEntry key) base reads accepted = remove_entry-reads key_base file db key reads accepted
+edited-reads key_base file db (MoveEntry key place) base reads accepted = move_entry-reads key_base file db key place reads accepted
+edited-reads key_base file db (RenameKey from to) base reads accepted = rename_key-reads key_base file db from to reads accepted
+edited-reads key_base file db (RenameMacro from to) base reads accepted = rename_macro-reads key_base file db from to reads accepted
+edited-reads key_base file db (InlineMacro name) base reads accepted = inline_macro-reads key_base file db name reads accepted
+edited-reads key_base file db (IntroduceMacro name text) base reads accepted = introduce_macro-reads key_base file db name text reads accepted
+edited-reads key_base file db (RegenerateKeys depth) base reads accepted = regenerate_keys-reads key_base file db depth base reads accepted
+edited-reads key_base file db (AddMany news) base reads accepted = add_many-reads key_base file db news reads accepted
+
+pub applied-opens : applied_opens
+applied-opens key_base file db e base reads accepted =
+    let new = edited key_base db e in
+    let leads : applied (pieces_of key_base db e) file ≡ bytes_of new = ap (applied (pieces_of key_base db e)) (sym reads.bytes) ∙ (pieces-lead key_base db e).1 in
+    record {
+      reads = subst (λ (t : Text). Reads t new) (sym leads) (edited-reads key_base file db e base reads accepted);
+      short = subst (λ (t : Text). length t ≤ file_limit) (sym leads) (edited-short key_base db e accepted);
+      texts = ⊎_elim (λ none. none) (λ some. absurd (accepted TextTooLong (ap is_some some.1))) (option_cases (too_long_at new));
+    }

@@ -1,0 +1,195 @@
+-- Which stretches of the file each edit replaces. (dialect)
+use Rattle.std.specs.Prelude.{ℕ, Bool, List, [], ◌∷◌, ◌++◌, Option, Some, None, option_map, option_and_then, take, drop, insert, if◌then◌else◌, find, map, scan, slice_get}
+use Rattle.std.specs.List.{flat_map}
+use Rattle.std.specs.Option.{option_map_or}
+use Rattle.bib_spec.specs.Bytes.{hash, comma, equals_sign}
+use Rattle.bib_spec.specs.Text.{Text, same}
+use Rattle.bib_spec.specs.Tree.{Part, Link, Value, Assignment, Row, Entry, Tree, CommentTree, DefinitionTree, PreambleTree, EntryTree, part_bytes, value_bytes, row_bytes, close_byte, head_bytes, opening_bytes, last_comma_bytes, tree_bytes}
+use Rattle.bib_spec.specs.Reading.{Item, Reading, item_bytes}
+use Rattle.bib_spec.specs.Texts.{row_start}
+use Rattle.bib_spec.specs.Records.{EntryTexts, Record, entries_of, crossref, entry_named, target}
+use Rattle.bib_spec.specs.Pieces.{Piece, Chunk, Kept, Replaced, pieces_of_chunks}
+use Rattle.bib_spec.specs.MadeKeys.{new_keys}
+use Rattle.edit_spec.specs.Edits.{NewEntry, Edit, SetField, DropField, AddEntry, RemoveEntry, MoveEntry, RenameKey, RenameMacro, InlineMacro, IntroduceMacro, RegenerateKeys, AddMany, leaving, defines, any_part, holds, is_entry, new_row, item_of, in_line, in_braces, next_number, key_for, name_renamed, use_renamed, use_inlined, text_of_macro, definition_of, part_introduced}
+
+-- ---- trees
+
+-- a stretch that a change leaves or replaces; it is replaced also where its new bytes are the old ones
+abbrev pub token : Text → Option Text → Chunk
+token old None = Kept old
+token old (Some new) = Replaced old new
+
+abbrev pub part_token : (Part → Option Part) → Part → Chunk
+part_token parts part = token (part_bytes part) (option_map part_bytes (parts part))
+
+abbrev pub link_chunks : (Part → Option Part) → Link → List Chunk
+link_chunks parts l = Kept (l.space_before_hash ++ hash ∷ l.space_behind_hash) ∷ part_token parts l.part ∷ []
+
+abbrev pub value_chunks : (Part → Option Part) → Value → List Chunk
+value_chunks parts v = part_token parts v.first ∷ flat_map (link_chunks parts) v.links
+
+abbrev pub assignment_chunks : (Text → Option Text) → (Part → Option Part) → Assignment → List Chunk
+assignment_chunks names parts a =
+    token a.name (names a.name) ∷ Kept (a.space_before_equals ++ equals_sign ∷ a.space_before_value) ∷ (value_chunks parts a.value ++ Kept a.space_behind ∷ [])
+
+abbrev pub row_chunks : (Part → Option Part) → Row → List Chunk
+row_chunks parts row = Kept (comma ∷ row.space_before_name) ∷ assignment_chunks leaving parts row.assignment
+
+-- the bytes of an entry behind its rows
+abbrev pub behind_rows : Entry → Text
+behind_rows e = last_comma_bytes e.last_comma ++ close_byte e.opening.delimiter ∷ []
+
+-- an entry with its key, and what stands between that and the end of the rows, in chunks
+abbrev pub entry_chunks : Chunk → List Chunk → Entry → List Chunk
+entry_chunks key rows e = Kept (opening_bytes e.opening) ∷ key ∷ (rows ++ Kept (behind_rows e) ∷ [])
+
+-- a tree with its defined name and its parts replaced, where they are
+abbrev pub tree_chunks : (Text → Option Text) → (Part → Option Part) → Tree → List Chunk
+tree_chunks names parts (CommentTree h) = Kept (head_bytes h) ∷ []
+tree_chunks names parts (DefinitionTree d) =
+    Kept (opening_bytes d.opening) ∷ (assignment_chunks names parts d.assignment ++ Kept (close_byte d.opening.delimiter ∷ []) ∷ [])
+tree_chunks names parts (PreambleTree p) =
+    Kept (opening_bytes p.opening) ∷ (value_chunks parts p.value ++ Kept (p.space_behind ++ close_byte p.opening.delimiter ∷ []) ∷ [])
+tree_chunks names parts (EntryTree e) = entry_chunks (Kept e.key) (Kept e.space_behind_key ∷ flat_map (row_chunks parts) e.rows) e
+
+abbrev pub item_chunks : (Text → Option Text) → (Part → Option Part) → Item → List Chunk
+item_chunks names parts item = tree_chunks names parts item.tree ++ Kept item.trail ∷ []
+
+abbrev pub items_chunks : (Text → Option Text) → (Part → Option Part) → List Item → List Chunk
+items_chunks names parts items = flat_map (item_chunks names parts) items
+
+-- ---- items
+
+abbrev pub kept_item : Item → Chunk
+kept_item item = Kept (item_bytes item)
+
+abbrev pub kept_items : List Item → List Chunk
+kept_items items = map kept_item items
+
+-- an item's body, and all behind it
+abbrev pub body_and_rest : List Chunk → Item → List Item → List Chunk
+body_and_rest body item items = body ++ (Kept item.trail ∷ kept_items items)
+
+-- the items kept up to the first that passes the test; from it on they are as said, of the item and those behind it
+abbrev pub chunks_from_first : (Tree → Bool) → (Item → List Item → List Chunk) → List Item → List Chunk
+chunks_from_first test change [] = []
+chunks_from_first test change (item ∷ items) =
+    if test item.tree then change item items else kept_item item ∷ chunks_from_first test change items
+
+-- the body of the first item that passes the test goes
+abbrev pub without_body : Item → List Item → List Chunk
+without_body item items = body_and_rest (Replaced (tree_bytes item.tree) [] ∷ []) item items
+
+abbrev pub entry_body : (Entry → List Chunk) → Tree → List Chunk
+entry_body change (EntryTree e) = change e
+entry_body change other = Kept (tree_bytes other) ∷ []
+
+-- an entry as said, and the rest kept
+abbrev pub entry_as : (Entry → List Chunk) → Item → List Item → List Chunk
+entry_as change item items = body_and_rest (entry_body change item.tree) item items
+
+-- ---- fields
+
+-- the rows, kept
+abbrev pub kept_rows : List Row → List Chunk
+kept_rows rows = map (λ row. Kept (row_bytes row)) rows
+
+-- the first row of this name has another value
+abbrev pub value_replaced : Text → Value → List Row → List Chunk
+value_replaced name value [] = []
+value_replaced name value (row ∷ rows) =
+    if same row.assignment.name name
+    then Kept (row_start row) ∷ Replaced (value_bytes row.assignment.value) (value_bytes value) ∷ Kept row.assignment.space_behind ∷ kept_rows rows
+    else Kept (row_bytes row) ∷ value_replaced name value rows
+
+-- the white space before the rows, and the rows, of which the first of this name has another value or a new one is added
+abbrev pub field_set : Text → Value → Text → List Row → List Chunk
+field_set name value before [] = Replaced [] (row_start (new_row name value []) ++ value_bytes value) ∷ Kept before ∷ []
+field_set name value before (row ∷ rows) =
+    if same row.assignment.name name
+    then Kept before ∷ Kept (row_start row) ∷ Replaced (value_bytes row.assignment.value) (value_bytes value) ∷ Kept row.assignment.space_behind ∷ kept_rows rows
+    else Kept before ∷ Kept (row_start row) ∷ Kept (value_bytes row.assignment.value) ∷ field_set name value row.assignment.space_behind rows
+
+-- the white space before the rows, and the rows, of which the first of this name goes up to its value's end
+abbrev pub field_dropped : Text → Text → List Row → List Chunk
+field_dropped name before [] = Kept before ∷ []
+field_dropped name before (row ∷ rows) =
+    if same row.assignment.name name
+    then Kept before ∷ Replaced (row_start row ++ value_bytes row.assignment.value) [] ∷ Kept row.assignment.space_behind ∷ kept_rows rows
+    else Kept before ∷ Kept (row_start row) ∷ Kept (value_bytes row.assignment.value) ∷ field_dropped name row.assignment.space_behind rows
+
+-- ---- keys
+
+abbrev pub crossref_chunks : Option Text → List Row → List Chunk
+crossref_chunks None rows = kept_rows rows
+crossref_chunks (Some key) rows = value_replaced crossref (in_braces key) rows
+
+abbrev pub tree_key_chunks : (ℕ → Option Text) → List EntryTexts → ℕ → Tree → List Chunk
+tree_key_chunks new entries n (EntryTree e) =
+    entry_chunks (token e.key (new n)) (Kept e.space_behind_key ∷ crossref_chunks (option_and_then new (target entries n)) e.rows) e
+tree_key_chunks new entries n other = Kept (tree_bytes other) ∷ []
+
+abbrev pub item_key_chunks : (ℕ → Option Text) → List EntryTexts → ℕ → Item → List Chunk
+item_key_chunks new entries n item = tree_key_chunks new entries n item.tree ++ Kept item.trail ∷ []
+
+-- new keys, and the crossrefs that name their entries
+abbrev pub key_chunks : (ℕ → Option Text) → Reading → List Chunk
+key_chunks new db =
+    flat_map (λ chunks. chunks) (scan (λ n item. next_number n item.tree) (item_key_chunks new (entries_of db)) 0 db.items)
+
+-- ---- a removal and an insertion
+
+-- The items, each as a list of chunks, where the body of the first that passes the test goes: what stays of it belongs to
+-- the text before, which is given by itself.
+abbrev pub groups_without : (Tree → Bool) → List Item → List Chunk × List (List Chunk)
+groups_without test [] = ([], [])
+groups_without test (item ∷ items) =
+    let rest = groups_without test items in
+    if test item.tree
+    then (Replaced (tree_bytes item.tree) [] ∷ Kept item.trail ∷ [], map (λ kept. kept_item kept ∷ []) items)
+    else ([], (kept_item item ∷ rest.0) ∷ rest.1)
+
+abbrev pub inserted : Item → List Chunk
+inserted item = Replaced [] (item_bytes item) ∷ []
+
+-- the entry goes, and stands before this item of what remains
+abbrev pub moved : Text → ℕ → List Item → Item → List Chunk
+moved key place items item =
+    let groups = groups_without (is_entry key) items in
+    groups.0 ++ flat_map (λ chunks. chunks) (insert groups.1 place (inserted (in_line item.tree)))
+
+-- ---- edits
+
+-- the bytes that are put behind the last item, if there are new entries
+abbrev pub appended : List NewEntry → List Chunk
+appended [] = []
+appended (new ∷ news) = Replaced [] (flat_map item_bytes (map item_of (new ∷ news))) ∷ []
+
+-- the items of the file, in the chunks that the edit leaves and replaces
+abbrev pub changed_items : (Record → Text) → Reading → Edit → List Chunk
+changed_items key_base db (SetField key name value) =
+    chunks_from_first (is_entry key) (entry_as (λ e. entry_chunks (Kept e.key) (field_set name value e.space_behind_key e.rows) e)) db.items
+changed_items key_base db (DropField key name) =
+    chunks_from_first (is_entry key) (entry_as (λ e. entry_chunks (Kept e.key) (field_dropped name e.space_behind_key e.rows) e)) db.items
+changed_items key_base db (AddEntry place new) = kept_items (take place db.items) ++ (inserted (item_of new) ++ kept_items (drop place db.items))
+changed_items key_base db (RemoveEntry key) = chunks_from_first (is_entry key) without_body db.items
+changed_items key_base db (MoveEntry key place) =
+    option_map_or (moved key place db.items) (find (λ item. is_entry key item.tree) db.items) (kept_items db.items)
+changed_items key_base db (RenameKey from to) = key_chunks (key_for (entry_named (entries_of db) from) to) db
+changed_items key_base db (RenameMacro from to) =
+    chunks_from_first (defines from) (λ item items. items_chunks (name_renamed from to) (use_renamed from to) (item ∷ items)) db.items
+changed_items key_base db (InlineMacro name) =
+    chunks_from_first (defines name) (λ item items. Replaced (tree_bytes item.tree) [] ∷ Kept item.trail ∷ items_chunks leaving (use_inlined name (text_of_macro name db)) items) db.items
+changed_items key_base db (IntroduceMacro name text) =
+    chunks_from_first (any_part (holds text))
+    (λ item items. inserted (in_line (DefinitionTree (definition_of name text))) ++ items_chunks leaving (part_introduced name text) (item ∷ items)) db.items
+changed_items key_base db (RegenerateKeys depth) = key_chunks (slice_get (new_keys key_base depth (entries_of db))) db
+changed_items key_base db (AddMany news) = kept_items db.items ++ appended news
+
+-- the file, in the chunks that the edit leaves and replaces
+abbrev pub chunks : (Record → Text) → Reading → Edit → List Chunk
+chunks key_base db e = Kept db.front ∷ changed_items key_base db e
+
+-- the pieces of the edit, with their places in the file
+abbrev pub pieces_of : (Record → Text) → Reading → Edit → List Piece
+pieces_of key_base db e = pieces_of_chunks (chunks key_base db e)

@@ -1,0 +1,149 @@
+-- What the edits keep beside what they are asked for: the other entries, and the bytes of the items that they do not touch.
+use Rattle.std.specs.Prelude.{◌≡◌, ◌<◌, ◌+◌, ℕ, zero, suc, Bool, true, false, ◌&&◌, ◌||◌, ◌==◌, List, ◌++◌, [], ◌∷◌, Option, Some, None, if◌then◌else◌, option_map, slice_get, length, take, find}
+use Rattle.std.specs.List.{list_any}
+use Rattle.std.specs.Option.{option_map_or}
+use Rattle.bib_spec.specs.Text.{Text, same}
+use Rattle.bib_spec.specs.Tree.{Tree, EntryTree}
+use Rattle.bib_spec.specs.Reading.{Item, Reading}
+use Rattle.bib_spec.specs.Records.{EntryTexts, Record, entries_of, preambles_of, entry_named, target, parent, dangling_texts, expanded}
+use Rattle.edit_spec.specs.Edits.{NewEntry, Edit, SetField, DropField, AddEntry, RemoveEntry, MoveEntry, RenameKey, RenameMacro, InlineMacro, IntroduceMacro, RegenerateKeys, AddMany, given_keys, defines, uses, holds, any_part, is_entry, in_line, edited, IsAccepted}
+use Rattle.edit_spec.specs.Laws.{is_behind, is_reached}
+
+-- ---- numbers
+
+-- the number that n gets when another is put in before the one with the number i
+abbrev pub number_with_one_more : ℕ → ℕ → ℕ
+number_with_one_more zero n = suc n
+number_with_one_more (suc i) zero = zero
+number_with_one_more (suc i) (suc n) = suc (number_with_one_more i n)
+
+-- the number that n gets when the one with the number i goes
+abbrev pub number_with_one_less : ℕ → ℕ → ℕ
+number_with_one_less i zero = zero
+number_with_one_less zero (suc n) = n
+number_with_one_less (suc i) (suc n) = suc (number_with_one_less i n)
+
+-- how many entries stand before an item
+abbrev pub entries_before : ℕ → Reading → ℕ
+entries_before place db = length (entries_of (record db { items = take place db.items }))
+
+-- ---- other entries
+
+-- The second database has so many entries more. Each entry n of the first is entry `number n` of the second, and has there
+-- the record, at every depth, and the parent that it has in the first. The preambles are the same.
+pub record KeepsOthers (number : ℕ → ℕ) (added : ℕ) (fewer more : Reading) : Type 0 where
+  pub count : length (entries_of more) ≡ length (entries_of fewer) + added
+  pub records : (depth n : ℕ) → n < length (entries_of fewer) → expanded depth (entries_of more) (number n) ≡ expanded depth (entries_of fewer) n
+  pub parents : (n : ℕ) → n < length (entries_of fewer) → parent (entries_of more) (number n) ≡ option_map number (parent (entries_of fewer) n)
+  pub preambles : preambles_of more ≡ preambles_of fewer
+
+-- Removing an entry keeps every other entry's record and parent; the entries behind it have numbers that are one less.
+abbrev pub remove_entry_keeps_others : Type 0
+remove_entry_keeps_others = (key_base : Record → Text) (db : Reading) (key : Text) → IsAccepted key_base db (RemoveEntry key) →
+    (i : ℕ) × (entry_named (entries_of db) key ≡ Some i) × KeepsOthers (number_with_one_more i) 1 (edited key_base db (RemoveEntry key)) db
+
+-- A dangling crossref waits for the key: its text is that key, folded. An entry with the key then is its target.
+abbrev pub is_awaited : Reading → Text → Bool
+is_awaited db key = list_any (same key) (dangling_texts (entries_of db))
+
+-- no dangling crossref waits for a key that the edit is given
+abbrev pub NoneAwaited : Reading → Edit → Type 0
+NoneAwaited db e = list_any (is_awaited db) (given_keys e) ≡ false
+
+-- Adding an entry that no dangling crossref waits for keeps every old entry's record and parent; the entries behind it have
+-- numbers that are one more.
+abbrev pub add_entry_keeps_others : Type 0
+add_entry_keeps_others = (key_base : Record → Text) (db : Reading) (place : ℕ) (new : NewEntry) →
+    IsAccepted key_base db (AddEntry place new) → NoneAwaited db (AddEntry place new) →
+    KeepsOthers (number_with_one_more (entries_before place db)) 1 db (edited key_base db (AddEntry place new))
+
+-- each entry has the number that it had
+abbrev pub same_number : ℕ → ℕ
+same_number n = n
+
+-- Adding many entries that no dangling crossref waits for keeps every old entry's number, record and parent.
+abbrev pub add_many_keeps_others : Type 0
+add_many_keeps_others = (key_base : Record → Text) (db : Reading) (news : List NewEntry) →
+    IsAccepted key_base db (AddMany news) → NoneAwaited db (AddMany news) →
+    KeepsOthers same_number (length news) db (edited key_base db (AddMany news))
+
+-- ---- untouched items
+
+-- item n passes the test
+abbrev pub passes : (Tree → Bool) → List Item → ℕ → Bool
+passes test items n = option_map_or (λ item. test item.tree) (slice_get items n) false
+
+-- the number of the first item that passes the test; where none does, how many there are
+abbrev pub number_of_first : (Tree → Bool) → List Item → ℕ
+number_of_first test [] = 0
+number_of_first test (item ∷ items) = if test item.tree then 0 else suc (number_of_first test items)
+
+-- item n is the first that passes the test
+abbrev pub is_first : (Tree → Bool) → List Item → ℕ → Bool
+is_first test items n = number_of_first test items == n
+
+-- the edit takes item n away, or moves it
+abbrev pub is_gone : Reading → Edit → ℕ → Bool
+is_gone db (RemoveEntry key) n = is_first (is_entry key) db.items n
+is_gone db (MoveEntry key place) n = is_first (is_entry key) db.items n
+is_gone db (InlineMacro name) n = is_first (defines name) db.items n
+is_gone db other n = false
+
+abbrev pub is_any_entry : Tree → Bool
+is_any_entry (EntryTree e) = true
+is_any_entry other = false
+
+-- entry m is that entry, or its crossref names it
+abbrev pub is_or_names : List EntryTexts → Option ℕ → ℕ → Bool
+is_or_names entries None m = false
+is_or_names entries (Some i) m = m == i || option_map_or (λ t. t == i) (target entries m) false
+
+-- the edit replaces something in the body of item n
+abbrev pub is_changed : Reading → Edit → ℕ → Bool
+is_changed db (SetField key name value) n = is_first (is_entry key) db.items n
+is_changed db (DropField key name) n = is_first (is_entry key) db.items n
+is_changed db (RenameKey from to) n =
+    passes is_any_entry db.items n && is_or_names (entries_of db) (entry_named (entries_of db) from) (entries_before n db)
+is_changed db (RenameMacro from to) n = is_reached (defines from) db.items n && passes (λ tree. defines from tree || any_part (uses from) tree) db.items n
+is_changed db (InlineMacro name) n = is_behind name db.items n && passes (any_part (uses name)) db.items n
+is_changed db (IntroduceMacro name text) n = passes (any_part (holds text)) db.items n
+is_changed db (RegenerateKeys depth) n = passes is_any_entry db.items n
+is_changed db other n = false
+
+-- where item n stands afterwards, if it is not taken away
+abbrev pub new_number : Reading → Edit → ℕ → ℕ
+new_number db (AddEntry place entry) n = number_with_one_more place n
+new_number db (RemoveEntry key) n = number_with_one_less (number_of_first (is_entry key) db.items) n
+new_number db (MoveEntry key place) n = number_with_one_more place (number_with_one_less (number_of_first (is_entry key) db.items) n)
+new_number db (InlineMacro name) n = number_with_one_less (number_of_first (defines name) db.items) n
+new_number db (IntroduceMacro name text) n = number_with_one_more (number_of_first (any_part (holds text)) db.items) n
+new_number db other n = n
+
+-- the trail of item n, where that item goes
+abbrev pub gained : (ℕ → Bool) → List Item → ℕ → Text
+gained gone items n = if gone n then option_map_or (λ item. item.trail) (slice_get items n) [] else []
+
+-- an item stands at this number, with this trail, and with this tree if it is not changed
+pub record StandsAt (items : List Item) (n : ℕ) (is_changed : Bool) (old : Tree) (trail : Text) : Type 0 where
+  pub item : Item
+  pub at : slice_get items n ≡ Some item
+  pub trail_is : item.trail ≡ trail
+  pub tree_is : is_changed ≡ false → item.tree ≡ old
+
+-- Each item that does not go stands where it is said to, in the order that they had, with its tree unless that is changed,
+-- and with its trail, behind which there is the trail of a neighbour that goes; and so it is with the front.
+pub record KeepsItems (gone changed : ℕ → Bool) (number : ℕ → ℕ) (old new : Reading) : Type 0 where
+  pub front : new.front ≡ old.front ++ gained gone old.items 0
+  pub items : (n : ℕ) (item : Item) → gone n ≡ false → slice_get old.items n ≡ Some item
+      → StandsAt new.items (number n) (changed n) item.tree (item.trail ++ gained gone old.items (suc n))
+  pub order : (n m : ℕ) → gone n ≡ false → gone m ≡ false → n < m → m < length old.items → number n < number m
+
+-- An edit keeps each item that it neither changes, nor removes, nor moves.
+abbrev pub untouched_items_stay : Type 0
+untouched_items_stay = (key_base : Record → Text) (db : Reading) (e : Edit) → IsAccepted key_base db e →
+    KeepsItems (is_gone db e) (is_changed db e) (new_number db e) db (edited key_base db e)
+
+-- A moved entry keeps its body, and stands in a line of its own.
+abbrev pub moved_entry_stays : Type 0
+moved_entry_stays = (key_base : Record → Text) (db : Reading) (key : Text) (place : ℕ) → IsAccepted key_base db (MoveEntry key place) →
+    (item : Item) × (find (λ item. is_entry key item.tree) db.items ≡ Some item) × (slice_get (edited key_base db (MoveEntry key place)).items place ≡ Some (in_line item.tree))

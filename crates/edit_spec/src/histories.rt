@@ -1,0 +1,26 @@
+//! Laws of histories.
+
+ghost use Rattle.edit_spec.specs.History.{one_edit, one_undo, one_redo, no_undo, no_redo, undo_after_edit, redo_after_undo, undo_after_redo, undoing_all, redoing_all};
+
+/// An edit leads to one history. So does an undo where there is a past, and a redo where there is a future;
+/// elsewhere there is none.
+pub fn each_move_leads_to_one_history()
+    ensures edit { one_edit }
+    ensures undo { one_undo }
+    ensures redo { one_redo }
+    ensures nothing_to_undo { no_undo }
+    ensures nothing_to_redo { no_redo }
+{}
+
+/// An undo takes back an edit or a redo, and a redo takes back an undo.
+pub fn undo_and_redo_are_opposites()
+    ensures edit { undo_after_edit }
+    ensures redo { redo_after_undo }
+    ensures undo { undo_after_redo }
+{}
+
+/// As many undos as the past is long lead to the first file, as many redos as the future is long to the last.
+pub fn the_ends_are_reached()
+    ensures first { undoing_all }
+    ensures last { redoing_all }
+{}
