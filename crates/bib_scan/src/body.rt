@@ -17,6 +17,7 @@ use crate::text::{NAME_LIMIT, same_folded};
 use crate::value::split_value;
 
 /// The text behind this byte, where the text begins with it.
+#[inline(always)]
 fn past_byte(byte: u8, text: &[u8]) -> Option<&[u8]>
     ensures read { option_copied result ≡ past_byte byte text.now }
     ensures shorter { IfSome result (λ x. length x.now < length text.now) }
@@ -28,6 +29,7 @@ fn past_byte(byte: u8, text: &[u8]) -> Option<&[u8]>
 }
 
 /// The text behind a comma.
+#[inline(always)]
 pub(crate) fn past_comma(text: &[u8]) -> Result<&[u8], Stop<'_>>
     ensures read { Gives (λ x. x.now) result (read_comma text.now) }
     ensures shorter { IfOk result (λ x. length x.now < length text.now) }

@@ -86,6 +86,7 @@ impl<'a> Iterator for Fields<'a> {
 }
 
 /// An assignment as the field of a row that begins at start, and the text behind it and white space.
+#[inline(always)]
 fn split_assigned(
     body_len: usize,
     start: usize,
@@ -107,6 +108,7 @@ fn split_assigned(
 }
 
 /// A row as a field, and the text behind it.
+#[inline(always)]
 fn split_row(body_len: usize, text: &[u8]) -> Result<(FieldView<'_>, &[u8]), Stop<'_>>
     requires { length text.now ≤ body_len }
     ensures read { Gives (λ x. (field_seen x.0, x.1.now)) result (read_row_field body_len text.now) }
@@ -135,6 +137,7 @@ fn split_preamble(body_len: usize, text: &[u8]) -> Result<(FieldView<'_>, &[u8])
 }
 
 /// The field at the front in an item of this kind, and the text behind it.
+#[inline(always)]
 fn split_field(kind: Kind, body_len: usize, text: &[u8]) -> Option<(FieldView<'_>, &[u8])>
     requires { length text.now ≤ body_len }
     ensures read { option_map (λ x. (field_seen x.0, x.1.now)) result ≡ first_field kind body_len text.now }

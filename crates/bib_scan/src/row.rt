@@ -19,7 +19,7 @@ pub(crate) struct Assigned<'a> {
 }
 
 /// An assignment, and the text behind it and white space.
-#[inline]
+#[inline(always)]
 #[tactic(auto, unfolding(crate::specs::LeftToRight::read_assignment))]
 pub(crate) fn split_assignment(text: &[u8]) -> Result<(Assigned<'_>, &[u8]), Stop<'_>>
     ensures read { Gives (λ x. (assigned_view x.0, x.1.now)) result (read_assignment name_limit text.now) }
