@@ -44,3 +44,4 @@ pub mod LayoutLaws
 pub mod TakenApart
 pub mod PartsLemmas
 pub mod PartsFaults
+pub mod TableLemmas

@@ -11,6 +11,7 @@ mod layout;
 mod opening;
 mod parts;
 mod reading;
+mod row;
 mod run;
 mod seq;
 mod text;
