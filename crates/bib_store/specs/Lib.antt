@@ -1,5 +1,3 @@
-pub mod Faults
-pub mod Items
 pub mod Reversing
 pub mod Meaning
 pub mod Defined

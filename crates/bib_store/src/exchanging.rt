@@ -6,13 +6,12 @@ ghost use Rattle.bib_spec.specs.Texts.{too_long_at};
 ghost use Rattle.bib_scan.specs.Layout.{IsLayoutOf};
 ghost use Rattle.bib_store.specs.Beside.{HasItems, AreTables};
 ghost use Rattle.bib_store.specs.Windows.{IsWindow, OfJoined, exchanged};
-ghost use Rattle.bib_store.specs.declared.fault.StoreFault.TheVariants.{Memory, BadSplice};
+ghost use Rattle.bib_items.specs.declared.fault.StoreFault.TheVariants.{Memory, BadSplice};
 
 use crate::amending::{amend, amended};
 use crate::change::Change;
-use crate::fault::StoreFault;
-use crate::list::ItemList;
 use crate::tables::Tables;
+use bib_items::{ItemList, StoreFault};
 use std::alloc::Global;
 
 /// Puts the items of a change in place of those in its window, and lets the tables say what holds of all items then. It

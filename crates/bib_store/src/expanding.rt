@@ -1,11 +1,10 @@
 //! Records of entries, with what they inherit.
 
 use crate::database::Database;
-use crate::fault::StoreFault;
 use crate::gathering::{Gathered, lower};
-use crate::list::ItemList;
 use crate::record::Expanded;
 use bib_data::Record;
+use bib_items::{ItemList, StoreFault};
 use bib_scan::Seq;
 use std::alloc::Global;
 
@@ -14,7 +13,7 @@ impl<L: ItemList> Database<L> {
     ghost use Rattle.bib_spec.specs.Records.{entries_of, parent, default_depth, expanded, missing, fields_at};
     ghost use Rattle.bib_store.specs.Meaning.{OfReading, IsEntryNumber};
     ghost use Rattle.bib_store.specs.Gathering.{AreTaken};
-    ghost use Rattle.bib_store.specs.declared.fault.StoreFault.TheVariants.{Memory};
+    ghost use Rattle.bib_items.specs.declared.fault.StoreFault.TheVariants.{Memory};
 
     /// The record of entry `n`, and its parent: the type in lower case, the key, the entry's own fields but `crossref`,
     /// the first of each name, and then those of the parent that are missing, as they stand in the parent, which hands

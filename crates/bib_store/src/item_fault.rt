@@ -4,7 +4,7 @@ ghost use Rattle.std.specs.Prelude.{◌≡◌, ◌+◌, ◌<◌, ◌^◌, ℕ};
 ghost use Rattle.bib_value.specs.declared.fault.ValueFault.TheVariants.{TextTooLong};
 ghost use Rattle.bib_store.specs.declared.item_fault.ItemFault.TheVariants.{TooLong as ItemTooLong, Memory as ItemMemory};
 
-use crate::fault::StoreFault;
+use bib_items::StoreFault;
 use bib_scan::ReadFault;
 use bib_value::ValueFault;
 use std::alloc::{AllocError, AllocFailed};

@@ -10,9 +10,9 @@ ghost use Rattle.bib_store.specs.Gathering.{IsShortValue};
 ghost use Rattle.bib_store.specs.ItemTexts.{begins_text, longest, is_short};
 ghost use Rattle.bib_value.specs.Raw.{OfValue};
 ghost use Rattle.bib_value.specs.declared.fault.ValueFault.TheVariants.{TextTooLong, Memory};
-ghost use Rattle.bib_store.specs.declared.fault.StoreFault.TheVariants.{Memory as StoreMemory};
+ghost use Rattle.bib_items.specs.declared.fault.StoreFault.TheVariants.{Memory as StoreMemory};
 
-use crate::fault::StoreFault;
+use bib_items::StoreFault;
 use bib_scan::{Parts, Text, read_value};
 use bib_value::{MacroTable, RAW_LIMIT, ValueFault, field_text, raw_len, raw_text};
 use std::alloc::Global;

@@ -11,8 +11,8 @@ use crate::crossrefs::crossref_of;
 use crate::definitions::Definitions;
 use crate::index::KeyIndex;
 use crate::item_fault::ItemFault;
-use crate::list::ItemList;
 use crate::measuring::{measure, value_text};
+use bib_items::ItemList;
 use bib_scan::{FILE_LIMIT, FieldView, ItemView, Kind, NAME_LIMIT, ReadFault, Text};
 use std::alloc::Global;
 
@@ -40,7 +40,8 @@ impl Tables {
     ghost use Rattle.bib_spec.specs.Texts.{months, macros_at, raw_text, raw_limit};
     ghost use Rattle.bib_value.specs.Raw.{OfValue};
     ghost use Rattle.bib_store.specs.declared.item_fault.ItemFault.TheVariants.{Memory as ItemMemory};
-    ghost use Rattle.bib_store.specs.Tables.{without_range, IsIndexOf, AreDefinitionsOf};
+    ghost use Rattle.bib_items.specs.Items.{without_range};
+    ghost use Rattle.bib_store.specs.Tables.{IsIndexOf, AreDefinitionsOf};
     ghost use Rattle.bib_store.specs.KeyIndex.{holding_in};
     ghost use Rattle.bib_store.specs.Defined.{EndsBy, Defines, texts_at};
     ghost use Rattle.bib_store.specs.ItemTexts.{OfTree, own_text, first_too_long, placed_texts};
