@@ -1,0 +1,7 @@
+use Rattle.std.proofs.Common.{◌≡◌, ◌++◌, take}
+use Rattle.std.specs.List.{flat_map}
+use Rattle.edit_spec.specs.Steps.{step_text}
+use Rattle.journal_format.proofs.writing.put_steps.Given as goal
+
+abbrev pub invariant-step : goal.invariant-step
+invariant-step l = l.out.items ≡ l.fn.out.items ++ flat_map step_text (take l.step-index l.steps)

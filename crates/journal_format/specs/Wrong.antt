@@ -1,0 +1,148 @@
+-- Where a text that is no journal goes wrong, in order of reading. A place is told by how many bytes are left from it on,
+-- so that it is the same for a text and for what stands after a part of it. (dialect)
+use Rattle.std.specs.Prelude.{ℕ, zero, suc, ◌≡◌, ◌≢◌, ◌+◌, ◌<◌, ◌≤◌, ◌⊎◌, [], ◌∷◌, ◌++◌, length, decimal, slice_index}
+use Rattle.std.specs.List.{AllByRecursion}
+use Rattle.bib_spec.specs.Bytes.{line_feed}
+use Rattle.bib_spec.specs.Text.{Text}
+use Rattle.bib_spec.specs.Pieces.{Piece, end_of}
+use Rattle.edit_spec.specs.Steps.{Step, IsStep, piece_text, step_text, step_texts_limit, HasSmallNumbers}
+use Rattle.journal_format.specs.Contents.{IsDigest}
+use Rattle.journal_format.specs.JournalText.{version_line, counts_line, AreFew, IsSmall, numbers_line, AreNumbers}
+
+-- ---- lines
+
+-- this byte does not stand in the text
+abbrev pub IsFreeOf : ℕ → Text → Type 0
+IsFreeOf byte text = AllByRecursion (λ b. b ≢ byte) text
+
+-- the text before the first such byte, and the text after it
+pub record IsCut (byte : ℕ) (text before after : Text) : Type 0 where
+  pub whole : text ≡ before ++ byte ∷ after
+  pub free : IsFreeOf byte before
+
+-- the line of a good value
+abbrev pub IsLineOf : {A : Type 0} → (A → Text) → (A → Type 0) → Text → Type 0
+IsLineOf {A} line_of Good line = (a : A) × Good a × (line ≡ line_of a)
+
+-- the text begins with the line of this value, which is good
+pub record BeginsWith {A : Type 0} (line_of : A → Text) (Good : A → Type 0) (text : Text) (value : A) (rest : Text) : Type 0 where
+  pub good : Good value
+  pub whole : text ≡ line_of value ++ line_feed ∷ rest
+
+-- the text ends before a line does, so nothing is left
+pub record IsUnended (text : Text) (left : ℕ) : Type 0 where
+  pub free : IsFreeOf line_feed text
+  pub end : left ≡ 0
+
+-- the first line is another, so it is left, with all after it
+pub record HasOtherLine (IsLine : Text → Type 0) (text : Text) (left : ℕ) : Type 0 where
+  pub line : Text
+  pub rest : Text
+  pub cut : IsCut line_feed text line rest
+  pub other : IsLine line → ⊥
+  pub all : left ≡ length text
+
+-- the text does not begin with the line of a good value
+abbrev pub HasWrongLine : {A : Type 0} → (A → Text) → (A → Type 0) → Text → ℕ → Type 0
+HasWrongLine line_of Good text left = IsUnended text left ⊎ HasOtherLine (IsLineOf line_of Good) text left
+
+-- the text begins with the line of a good value, and goes wrong after it
+pub record IsWrongAfter {A : Type 0} (line_of : A → Text) (Good : A → Type 0) (Wrong : A → Text → ℕ → Type 0) (text : Text) (left : ℕ) : Type 0 where
+  pub value : A
+  pub rest : Text
+  pub begins : BeginsWith line_of Good text value rest
+  pub wrong : Wrong value rest left
+
+-- the text should begin with the line of a good value, and then continue as that value says: it does not
+abbrev pub IsWrongFrom : {A : Type 0} → (A → Text) → (A → Type 0) → (A → Text → ℕ → Type 0) → Text → ℕ → Type 0
+IsWrongFrom line_of Good Wrong text left = HasWrongLine line_of Good text left ⊎ IsWrongAfter line_of Good Wrong text left
+
+-- ---- pieces
+
+-- the text ends before so many bytes and a line feed do, so nothing is left
+pub record IsCutShort (n : ℕ) (text : Text) (left : ℕ) : Type 0 where
+  pub short : length text ≤ n
+  pub end : left ≡ 0
+
+-- after so many bytes stands no line feed, but another byte, which is left
+pub record LacksLineFeed (n : ℕ) (text : Text) (left : ℕ) : Type 0 where
+  pub within : n < length text
+  pub other : slice_index text n ≢ line_feed
+  pub all : n + left ≡ length text
+
+-- the text should begin with so many bytes and a line feed: it does not
+abbrev pub HasWrongBytes : ℕ → Text → ℕ → Type 0
+HasWrongBytes n text left = IsCutShort n text left ⊎ LacksLineFeed n text left
+
+-- the text should begin with a piece that begins at this place or after it: it does not
+abbrev pub IsWrongPiece : ℕ → Text → ℕ → Type 0
+IsWrongPiece from = IsWrongFrom numbers_line (AreNumbers from) (λ n. HasWrongBytes (n.old_len + n.new_len))
+
+-- a piece that begins at this place or after it, and can be written
+pub record IsPieceFrom (from : ℕ) (p : Piece) : Type 0 where
+  pub after : from ≤ p.place
+  pub small : HasSmallNumbers p
+
+-- the text begins with this piece
+pub record BeginsWithPiece (from : ℕ) (text : Text) (p : Piece) (rest : Text) : Type 0 where
+  pub good : IsPieceFrom from p
+  pub whole : text ≡ piece_text p ++ rest
+
+-- the text should begin with so many pieces, the first from this place on: one of them is wrong
+abbrev pub AreWrongPieces : ℕ → ℕ → Text → ℕ → Type 0
+AreWrongPieces zero from text left = ⊥
+AreWrongPieces (suc n) from text left =
+    IsWrongPiece from text left
+    ⊎ ((p : Piece) × (rest : Text) × BeginsWithPiece from text p rest × AreWrongPieces n (end_of p) rest left)
+
+-- ---- steps
+
+-- the text should begin with a step: it does not
+abbrev pub IsWrongStep : Text → ℕ → Type 0
+IsWrongStep = IsWrongFrom decimal IsSmall (λ n. AreWrongPieces n 0)
+
+-- the text begins with this step
+pub record BeginsWithStep (text : Text) (step : Step) (rest : Text) : Type 0 where
+  pub good : IsStep step
+  pub whole : text ≡ step_text step ++ rest
+
+-- the text should be so many steps: one of them is wrong, or bytes are left after the last
+abbrev pub AreWrongSteps : ℕ → Text → ℕ → Type 0
+AreWrongSteps zero text left = (text ≢ []) × (left ≡ length text)
+AreWrongSteps (suc n) text left =
+    IsWrongStep text left
+    ⊎ ((step : Step) × (rest : Text) × BeginsWithStep text step rest × AreWrongSteps n rest left)
+
+-- the steps' texts are longer than they can be, and what is left is all after the limit
+pub record AreTooLong (text : Text) (left : ℕ) : Type 0 where
+  pub long : step_texts_limit < length text
+  pub all : step_texts_limit + left ≡ length text
+
+-- they are not longer, but one of them is wrong
+pub record AreShortButWrong (n : ℕ) (text : Text) (left : ℕ) : Type 0 where
+  pub short : length text ≤ step_texts_limit
+  pub wrong : AreWrongSteps n text left
+
+-- the text should be that of so many steps: it is too long, or else not so many steps
+abbrev pub IsWrongTail : ℕ → Text → ℕ → Type 0
+IsWrongTail n text left = AreTooLong text left ⊎ AreShortButWrong n text left
+
+-- ---- journals
+
+-- the text should be a journal from its third line on: it is not
+abbrev pub IsWrongFromCounts : Text → ℕ → Type 0
+IsWrongFromCounts = IsWrongFrom counts_line AreFew (λ n. IsWrongTail (n.undos + n.redos))
+
+-- the text should be a journal from its second line on: it is not
+abbrev pub IsWrongFromDigest : Text → ℕ → Type 0
+IsWrongFromDigest = IsWrongFrom (λ digest. digest) IsDigest (λ digest. IsWrongFromCounts)
+
+-- the text should be a journal: it is not
+abbrev pub IsWrongJournal : Text → ℕ → Type 0
+IsWrongJournal = IsWrongFrom {A = Unit {0}} (λ u. version_line) (λ u. Unit {0}) (λ u. IsWrongFromDigest)
+
+-- the text goes wrong at this place
+pub record GoesWrongAt (text : Text) (place : ℕ) : Type 0 where
+  pub left : ℕ
+  pub wrong : IsWrongJournal text left
+  pub all : place + left ≡ length text

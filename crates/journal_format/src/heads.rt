@@ -1,0 +1,88 @@
+//! The lines before the steps.
+
+ghost use Rattle.std.specs.Prelude.{ℕ, ◌≡◌, ◌↔◌, IsTrue, IfSome, IfNone, IfOk, IfErr};
+ghost use Rattle.std.specs.List.{list_all};
+ghost use Rattle.journal_format.specs.Contents.{is_hex_digit, IsDigest};
+ghost use Rattle.journal_format.specs.JournalText.{version_line, counts, counts_line, AreFew};
+ghost use Rattle.journal_format.specs.Wrong.{IsLineOf, BeginsWith, HasWrongLine};
+
+use crate::cutting::cut;
+use crate::numbers::read_number;
+
+/// How many changes can be kept. (dialect)
+pub const CHANGE_LIMIT: usize = 65_535;
+
+/// What stands after the line of the version; or how many bytes are left where the text goes wrong.
+pub(crate) fn past_version(text: &[u8]) -> Result<&[u8], usize>
+    ensures read { IfOk result (λ rest. BeginsWith {A = Unit {0}} (λ u. version_line) (λ u. Unit {0}) text.now tt rest.now) }
+    ensures wrong { IfErr result (HasWrongLine {A = Unit {0}} (λ u. version_line) (λ u. Unit {0}) text.now) }
+{
+    match cut(b'\n', text) {
+        Some((line, rest)) if line == b"bibkeep 1".as_slice() => Ok(rest),
+        Some(_) => Err(text.len()),
+        None => Err(0),
+    }
+}
+
+/// Whether the byte is a lower-case hex digit.
+fn is_hex_digit(b: u8) -> bool
+    ensures { result ≡ is_hex_digit b }
+{
+    b.is_ascii_digit() || (b'a'..=b'f').contains(&b)
+}
+
+/// Whether all bytes are lower-case hex digits.
+fn are_hex_digits(line: &[u8]) -> bool
+    ensures { result ≡ list_all is_hex_digit line.now }
+{
+    line.iter().all(|b| is_hex_digit(*b))
+}
+
+/// Whether the line is a digest: 64 lower-case hex digits.
+fn is_digest(line: &[u8]) -> bool
+    ensures { IsTrue result ↔ IsDigest line.now }
+{
+    line.len() == 64 && are_hex_digits(line)
+}
+
+/// The digest in the first line, and what stands after that line; or how many bytes are left where the text goes wrong.
+pub(crate) fn split_digest(text: &[u8]) -> Result<(&[u8], &[u8]), usize>
+    ensures read { IfOk result (λ x. BeginsWith (λ digest. digest) IsDigest text.now x.0.now x.1.now) }
+    ensures wrong { IfErr result (HasWrongLine (λ digest. digest) IsDigest text.now) }
+{
+    match cut(b'\n', text) {
+        Some((line, rest)) if is_digest(line) => Ok((line, rest)),
+        Some(_) => Err(text.len()),
+        None => Err(0),
+    }
+}
+
+/// The two numbers that the line says, parted by a space, if there are no more changes than can be kept.
+fn read_counts(line: &[u8]) -> Option<(u64, u64)>
+    ensures some { IfSome result (λ x. AreFew (counts x.0 x.1) × (line.now ≡ counts_line (counts x.0 x.1))) }
+    ensures none { IfNone result (IsLineOf counts_line AreFew line.now → ⊥) }
+{
+    let (undos, redos) = cut(b' ', line)?;
+    let undos = read_number(undos)?;
+    let redos = read_number(redos)?;
+    if undos + redos <= CHANGE_LIMIT as u64 {
+        Some((undos, redos))
+    } else {
+        None
+    }
+}
+
+/// How many changes can be undone and redone, and what stands after the line that says so; or how many bytes are left
+/// where the text goes wrong.
+pub(crate) fn split_counts(text: &[u8]) -> Result<(u64, u64, &[u8]), usize>
+    ensures read { IfOk result (λ x. BeginsWith counts_line AreFew text.now (counts x.0 x.1) x.2.now) }
+    ensures wrong { IfErr result (HasWrongLine counts_line AreFew text.now) }
+{
+    let Some((line, rest)) = cut(b'\n', text) else {
+        return Err(0);
+    };
+    match read_counts(line) {
+        Some((undos, redos)) => Ok((undos, redos, rest)),
+        None => Err(text.len()),
+    }
+}

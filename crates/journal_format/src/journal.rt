@@ -1,0 +1,22 @@
+//! What a journal says.
+
+use bib_data::Piece;
+use bib_scan::{Seq, Text};
+use std::marker::Model;
+
+/// What a journal says: the digest of the present file, the past steps from the oldest, and the future steps from the
+/// next to be redone.
+#[derive(Debug, Drop)]
+pub struct Journal {
+    pub digest: Text,
+    pub past: Seq<Seq<Piece>>,
+    pub future: Seq<Seq<Piece>>,
+}
+
+impl Model for Journal {
+    ghost use Rattle.journal_format.specs.Contents.{Contents};
+
+    ghost Value = { Contents };
+
+    ghost view = { λ j. record { digest = j.digest; past = j.past; future = j.future } };
+}

@@ -1,0 +1,105 @@
+//! Contents to text.
+
+ghost use Rattle.std.specs.Prelude.{◌≡◌, ◌++◌, ◌∷◌, [], reverse, length, decimal, OnOk, IfOk};
+ghost use Rattle.bib_spec.specs.Bytes.{line_feed, space};
+ghost use Rattle.edit_spec.specs.Steps.{piece_text, step_text};
+ghost use Rattle.std.specs.List.{flat_map};
+ghost use Rattle.journal_format.specs.JournalText.{counts, head_text, journal_text};
+
+use crate::step_text::step_texts_len;
+use bib_data::Piece;
+use bib_scan::{Seq, Text};
+use itoa::Buffer;
+use std::alloc::{AllocError, Global};
+
+/// Writes a number and this byte.
+fn put_number(out: &mut Vec<u8>, n: u64, end: u8) -> Result<(), AllocError>
+    ensures { OnOk result (out.new.items ≡ out.old.items ++ (decimal n ++ end ∷ [])) }
+{
+    out.extend_from_slice(Buffer::new().format(n).as_bytes())?;
+    out.push(end)?;
+    Ok(())
+}
+
+/// Writes a piece.
+fn put_piece(out: &mut Vec<u8>, piece: &Piece) -> Result<(), AllocError>
+    ensures { OnOk result (out.new.items ≡ out.old.items ++ piece_text piece.now) }
+{
+    let old = piece.old.as_slice();
+    let new = piece.new.as_slice();
+    put_number(out, piece.place, b' ')?;
+    put_number(out, old.len() as u64, b' ')?;
+    put_number(out, new.len() as u64, b'\n')?;
+    out.extend_from_slice(old)?;
+    out.extend_from_slice(new)?;
+    out.push(b'\n')?;
+    Ok(())
+}
+
+/// Writes a step.
+fn put_step(out: &mut Vec<u8>, step: &[Piece]) -> Result<(), AllocError>
+    ensures { OnOk result (out.new.items ≡ out.old.items ++ step_text step.now) }
+{
+    put_number(out, step.len() as u64, b'\n')?;
+    'piece: for piece in step {
+        put_piece(out, piece)?;
+    }
+    Ok(())
+}
+
+/// How long the lines before the steps are at most, the digest aside.
+const HEAD_LEN: u64 = 64;
+
+/// Writes the three lines before the steps.
+fn put_head(out: &mut Vec<u8>, digest: &[u8], undos: u64, redos: u64) -> Result<(), AllocError>
+    ensures { OnOk result (out.new.items ≡ out.old.items ++ head_text digest.now (counts undos redos)) }
+{
+    out.extend_from_slice(b"bibkeep 1\n")?;
+    out.extend_from_slice(digest)?;
+    out.push(b'\n')?;
+    put_number(out, undos, b' ')?;
+    put_number(out, redos, b'\n')
+}
+
+/// Writes steps.
+fn put_steps(out: &mut Vec<u8>, steps: &[Seq<Piece>]) -> Result<(), AllocError>
+    ensures { OnOk result (out.new.items ≡ out.old.items ++ flat_map step_text steps.now) }
+{
+    'step: for step in steps {
+        put_step(out, step.as_slice())?;
+    }
+    Ok(())
+}
+
+/// Writes steps, the last first.
+fn put_steps_back(out: &mut Vec<u8>, steps: &[Seq<Piece>]) -> Result<(), AllocError>
+    ensures { OnOk result (out.new.items ≡ out.old.items ++ flat_map step_text (reverse steps.now)) }
+{
+    let mut left = steps;
+    'step: while let Some((step, others)) = left.split_last() {
+        put_step(out, step.as_slice())?;
+        left = others;
+    }
+    Ok(())
+}
+
+/// The journal of a file that has this digest, with these past steps from the oldest, and these undone steps, the next
+/// to be redone last. It takes time in the length of the text, and memory once, for the text.
+pub fn write_journal(
+    alloc: Global,
+    digest: &[u8],
+    past: &[Seq<Piece>],
+    undone: &[Seq<Piece>],
+) -> Result<Text, AllocError>
+    ensures { IfOk result (λ text. text ≡ journal_text (record { digest = digest.now; past = past.now; future = reverse undone.now })) }
+{
+    let len = step_texts_len(past)
+        .saturating_add(step_texts_len(undone))
+        .saturating_add(digest.len() as u64)
+        .saturating_add(HEAD_LEN);
+    let mut out = Vec::with_capacity(alloc, len as usize)?;
+    put_head(&mut out, digest, past.len() as u64, undone.len() as u64)?;
+    put_steps(&mut out, past)?;
+    put_steps_back(&mut out, undone)?;
+    Ok(Seq::from_vec(out))
+}
