@@ -1,9 +1,9 @@
 use Rattle.std.proofs.Common.{◌-◌, sym, ap, ◌∙◌, arith}
 use Rattle.std.specs.Prelude.{not}
 use Rattle.bib_spec.specs.Text.{is_space}
-use Rattle.bib_names.proofs.TrimLemmas.{IsTrimming-less, IsTrimming-done, IsTrimming-none, trimmed_at}
-use Rattle.bib_names.proofs.text.before_space.Goals as goal
-use Rattle.bib_names.proofs.text.before_space.Goals.{then-loop-end-test+else-is_space, else-loop-end-test}
+use Rattle.bib_trim.proofs.TrimLemmas.{IsTrimming-less, IsTrimming-done, IsTrimming-none, trimmed_at}
+use Rattle.bib_trim.proofs.trimming.before_space.Goals as goal
+use Rattle.bib_trim.proofs.trimming.before_space.Goals.{then-loop-end-test+else-is_space, else-loop-end-test}
 
 pub loop-end-preserved : goal.loop-end-preserved
 loop-end-preserved c =

@@ -1,8 +1,8 @@
 use Rattle.std.proofs.Common.{length}
 use Rattle.std.specs.Prelude.{not}
 use Rattle.bib_spec.specs.Text.{is_space}
-use Rattle.bib_names.proofs.TrimLemmas.{IsTrimming}
-use Rattle.bib_names.proofs.text.before_space.Given as goal
+use Rattle.bib_trim.proofs.TrimLemmas.{IsTrimming}
+use Rattle.bib_trim.proofs.trimming.before_space.Given as goal
 
 abbrev pub decreases-loop-end : goal.decreases-loop-end
 decreases-loop-end l = l.end

@@ -3,7 +3,7 @@ use Rattle.std.proofs.Common.{◌≡◌, ℕ, zero, suc, ◌+◌, ◌≤◌, ◌
 use Rattle.std.specs.Prelude.{◌||◌, not}
 use Rattle.std.specs.List.{list_any, prefix_len}
 use Rattle.std.proofs.lemmas.List.{take_all, take_more, length-take-le}
-use Rattle.bib_names.specs.Trimming.{up_to_last, before_run}
+use Rattle.bib_trim.specs.Trimming.{up_to_last, before_run}
 
 any-snoc-yes : {A : Type 0} (p : A → Bool) (xs : List A) (x : A) → p x ≡ true → list_any p (xs ++ x ∷ []) ≡ true
 any-snoc-yes p [] x passes = rw passes refl
