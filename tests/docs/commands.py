@@ -191,7 +191,7 @@ def compare_page(report, page, commands):
     told = {re.sub(r"`(\w+).*", r"\1", row.cells[0]) for row in page.rows() if row.header[0] == "Command"}
     report.expect_same([command.name for command in commands], told, page.path, "commands of the table")
     for command in commands:
-        found = [heading for heading in headings if re.match(rf"`{command.name}\b", heading)]
+        found = [heading for heading in headings if re.search(rf"`{command.name}\b", heading)]
         report.expect(found, page.path, f"it has no section on {command.name}")
         for option in command.options:
             report.expect(any(f"--{option}" in heading for heading in found), page.path, f"{command.name}: the heading lacks --{option}")
