@@ -21,11 +21,13 @@ def compare(report, root, pages, program):
     abouts = dict(listed(top))
     compare_help(report, program, top, commands)
     compare_examples(report, root, program, top, commands)
-    compare_manual(report, os.path.join(root, "man/bibkeep.1"), commands)
-    compare_bash(report, os.path.join(root, "completions/bibkeep.bash"), commands)
-    compare_zsh(report, os.path.join(root, "completions/_bibkeep"), commands, abouts)
-    compare_fish(report, os.path.join(root, "completions/bibkeep.fish"), commands, abouts)
+    os.chdir(root)
+    compare_manual(report, "man/bibkeep.1", commands)
+    compare_bash(report, "completions/bibkeep.bash", commands)
+    compare_zsh(report, "completions/_bibkeep", commands, abouts)
+    compare_fish(report, "completions/bibkeep.fish", commands, abouts)
     compare_page(report, next(page for page in pages if page.path == "docs/PROGRAM.md"), commands)
+    compare_lines(report, "man/bibkeep.1", pages, help_of(program, "edit"))
 
 
 # ---- what the program says of itself
@@ -136,7 +138,7 @@ def compare_answers(report, path, commands):
 
 def compare_zsh(report, path, commands, abouts):
     text = read(path)
-    told = dict(re.findall(r"""^\s+['"](\w+):(.*)['"]$""", text, re.M))
+    told = dict(re.findall(r"""^\s+['"]([a-z]\w*):(.*)['"]$""", text, re.M))
     compare_abouts(report, path, told, abouts)
     arms = {}
     for names, arm in re.findall(r"^ {12}   ?([\w| ]+)\)\s+((?:.|\n)*?);;", text, re.M):
@@ -189,10 +191,25 @@ def compare_page(report, page, commands):
     told = {re.sub(r"`(\w+).*", r"\1", row.cells[0]) for row in page.rows() if row.header[0] == "Command"}
     report.expect_same([command.name for command in commands], told, page.path, "commands of the table")
     for command in commands:
-        found = [heading for heading in headings if re.match(rf"`{command.name}\b", heading)]
+        found = [heading for heading in headings if re.search(rf"`{command.name}\b", heading)]
         report.expect(found, page.path, f"it has no section on {command.name}")
         for option in command.options:
             report.expect(any(f"--{option}" in heading for heading in found), page.path, f"{command.name}: the heading lacks --{option}")
+
+
+# ---- the lines of a script
+
+
+def compare_lines(report, path, pages, text):
+    """The lines that help lists are those of docs/EDITS.md, of the guide and of the manual page."""
+    wanted = set(re.findall(r"^  ([a-z-]+(?: [A-Z]+)*(?: \.\.)?)(?:  |$)", text, re.M))
+    for page in pages:
+        if page.path in ("docs/EDITS.md", "docs/GUIDE.md"):
+            told = {row.cells[0].strip("`") for row in page.rows() if row.header[0] == "Line"}
+            report.expect_same(wanted, told, page.path, "lines of a script")
+    manual = re.findall(r"^\.It Li ([a-z-]+)(?: Ar ([A-Z ]+?))?( \.\.\.)?$", read(path), re.M)
+    told = {" ".join(filter(None, (word, arguments, ".." if more else ""))) for word, arguments, more in manual}
+    report.expect_same(wanted, told, path, "lines of a script")
 
 
 def read(path):

@@ -4,12 +4,12 @@ import re
 
 # In an enum, in a message, and in a definition of one.
 FORMS = (
-    re.compile(r'#\[error\("(\d+) (\w+)"\)\]'),
+    re.compile(r'#\[error\("(\d+) (\w+)'),
     re.compile(r"bibkeep: (\d+) (\w+)"),
     re.compile(r'\b(\d+) \(codes "([A-Z][a-z]\w+)"\)'),
 )
 NUMBERED = re.compile(r'^\s+(\d+) => "(\w+)",', re.M)
-ARM = re.compile(r"^\s+\w*Fault::(\w+) => (\d+),", re.M)
+ARM = re.compile(r"^\s+\w*Fault::(\w+)(?:\(_\))? => (\d+),", re.M)
 
 
 def compare(report, pages, sources):
