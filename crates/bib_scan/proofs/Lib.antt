@@ -45,3 +45,4 @@ pub mod TakenApart
 pub mod PartsLemmas
 pub mod PartsFaults
 pub mod TableLemmas
+pub mod OnlyPart

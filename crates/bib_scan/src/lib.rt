@@ -23,7 +23,7 @@ pub use fields::{FieldView, Fields};
 pub use laws::{clean_before_sign, cut_ends, one_fault, one_place, one_reading};
 pub use layout::Layout;
 pub use opening::is_clean_trail;
-pub use parts::{Parts, read_value};
+pub use parts::{Parts, only_part, read_value};
 pub use reading::{FILE_LIMIT, read};
 pub use seq::{Seq, Text};
 pub use text::{NAME_LIMIT, is_balanced, is_key, is_name, is_type, same_folded};

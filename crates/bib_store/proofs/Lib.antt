@@ -1,6 +1,7 @@
 pub mod Citations
 pub mod Filters
 pub mod GatheredFields
+pub mod ChosenFields
 pub mod Inherited
 pub mod Changes
 pub mod Exchanges

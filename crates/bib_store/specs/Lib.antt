@@ -5,6 +5,7 @@ pub mod Definitions
 pub mod Tables
 pub mod Citing
 pub mod Gathering
+pub mod Choosing
 pub mod Shifting
 pub mod Windows
 pub mod ItemTexts

@@ -6,6 +6,7 @@
 mod amending;
 mod applying;
 mod change;
+mod choosing;
 mod citing;
 mod crossrefs;
 mod database;
