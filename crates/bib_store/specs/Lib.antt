@@ -12,3 +12,4 @@ pub mod KeyIndex
 pub mod Beside
 pub mod Stored
 pub mod Amending
+pub mod Appending
