@@ -31,3 +31,5 @@ pub mod MacrosBehind
 pub mod NumberedLists
 pub mod Amended
 pub mod AmendedFiles
+pub mod Appended
+pub mod AppendedFiles

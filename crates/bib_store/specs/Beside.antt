@@ -38,6 +38,15 @@ pub record HasItems (front_len : ℕ) (kept : List Item) (db : Reading) : Type 0
   pub front : length db.front ≡ front_len
   pub same : all_stored db.items ≡ kept
 
+-- the tables say what they said
+pub record AreSame (old new : Tables) : Type 0 where
+  pub len : new.file_len ≡ old.file_len
+  pub entries : new.entries.items ≡ old.entries.items
+  pub preambles : new.preambles.items ≡ old.preambles.items
+  pub keys : new.keys ≡ old.keys
+  pub definitions : new.definitions ≡ old.definitions
+  pub crossrefs : new.crossrefs.items ≡ old.crossrefs.items
+
 -- ---- one item more
 
 abbrev pub item_with : Tree → Text → reading.Item

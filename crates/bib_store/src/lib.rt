@@ -4,6 +4,7 @@
 #![tactic(auto)]
 
 mod amending;
+mod appending;
 mod applying;
 mod change;
 mod choosing;
