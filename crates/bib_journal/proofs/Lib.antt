@@ -1,4 +1,7 @@
-pub mod TextLemmas
 pub mod Turning
 pub mod Moves
 pub mod OneMoreRequest
+pub mod ReplayLemmas
+pub mod TurnableSteps
+pub mod LoadLemmas
+pub mod SeveralRuns

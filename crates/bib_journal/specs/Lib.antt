@@ -1,3 +1,5 @@
 pub mod Faults
 pub mod Session
 pub mod Kept
+pub mod Loading
+pub mod Runs

@@ -2,6 +2,7 @@
 use Rattle.std.specs.Prelude.{ℕ, ◌≡◌, ◌≢◌, ◌≤◌, List, [], ◌∷◌, length, take, drop, Option, Some, None}
 use Rattle.bib_spec.specs.Text.{Text}
 use Rattle.bib_spec.specs.Reading.{bytes_of}
+use Rattle.bib_spec.specs.Texts.{IsOpenable}
 use Rattle.edit_spec.specs.History.{Edits, Undoes, Redoes}
 use Rattle.edit_spec.specs.Steps.{Step, KeptSteps, history_of, IsFull, Adds, GoesBack, GoesOn}
 use Rattle.edit_spec.specs.Edits.{edited}
@@ -11,8 +12,10 @@ use Rattle.bib_data.specs.declared.edit.Edit.{Edit}
 use Rattle.bib_edit.specs.declared.fault.EditFault.TheVariants as edit_fault
 use Rattle.bib_edit.specs.Asking.{OfEdit, made_base}
 use Rattle.bib_edit.specs.Planning.{IsAllowedEdit, IsRefusal}
+use Rattle.journal_format.specs.Faults.{IsNoJournal}
+use Rattle.bib_journal.specs.Loading.{Loads, IsMismatch}
 use Rattle.bib_journal.specs.declared.fault.SessionFault.{SessionFault}
-use Rattle.bib_journal.specs.declared.fault.SessionFault.TheVariants.{Unopened, Refused, JournalFull, NothingToUndo, NothingToRedo, Memory}
+use Rattle.bib_journal.specs.declared.fault.SessionFault.TheVariants.{Unopened, Refused, JournalFull, NothingToUndo, NothingToRedo, BadJournal, JournalMismatch, Memory}
 use Rattle.bib_data.specs.declared.request.Request.{Request}
 use Rattle.bib_data.specs.declared.request.Request.TheVariants as request
 
@@ -30,6 +33,29 @@ RefusesStart (Refused fault) file = ⊥
 RefusesStart JournalFull file = ⊥
 RefusesStart NothingToUndo file = ⊥
 RefusesStart NothingToRedo file = ⊥
+RefusesStart (BadJournal place) file = ⊥
+RefusesStart JournalMismatch file = ⊥
+
+-- why no session is loaded: the bytes can't be opened; or the text is no journal; or it does not belong to the file
+abbrev pub RefusesLoad : SessionFault → Text → Text → Type 0
+RefusesLoad Memory file text = Unit {0}
+RefusesLoad (Unopened fault) file text = IsOpenFault file fault.kind fault.place
+RefusesLoad (BadJournal place) file text = IsOpenable file × IsNoJournal text place
+RefusesLoad JournalMismatch file text = IsMismatch file text
+RefusesLoad (Refused fault) file text = ⊥
+RefusesLoad JournalFull file text = ⊥
+RefusesLoad NothingToUndo file text = ⊥
+RefusesLoad NothingToRedo file text = ⊥
+
+-- a session that is opened from the file and its journal keeps these steps; where there is no journal, nothing was done to the file
+abbrev pub Opens : Text → Option Text → KeptSteps → Type 0
+Opens file None kept = IsOpenable file × (kept ≡ started file)
+Opens file (Some journal) kept = Loads file journal kept
+
+-- why no session is opened
+abbrev pub RefusesOpen : SessionFault → Text → Option Text → Type 0
+RefusesOpen fault file None = RefusesStart fault file
+RefusesOpen fault file (Some journal) = RefusesLoad fault file journal
 
 -- ---- edits
 
@@ -53,6 +79,8 @@ RefusesEdit JournalFull edit kept = IsAllowedEdit kept.present edit × IsOverful
 RefusesEdit (Unopened fault) edit kept = ⊥
 RefusesEdit NothingToUndo edit kept = ⊥
 RefusesEdit NothingToRedo edit kept = ⊥
+RefusesEdit (BadJournal place) edit kept = ⊥
+RefusesEdit JournalMismatch edit kept = ⊥
 
 -- ---- undo and redo
 
@@ -75,6 +103,8 @@ RefusesUndo (Unopened fault) kept = ⊥
 RefusesUndo (Refused fault) kept = ⊥
 RefusesUndo JournalFull kept = ⊥
 RefusesUndo NothingToRedo kept = ⊥
+RefusesUndo (BadJournal place) kept = ⊥
+RefusesUndo JournalMismatch kept = ⊥
 
 abbrev pub RefusesRedo : SessionFault → KeptSteps → Type 0
 RefusesRedo Memory kept = Unit {0}
@@ -83,6 +113,8 @@ RefusesRedo (Unopened fault) kept = ⊥
 RefusesRedo (Refused fault) kept = ⊥
 RefusesRedo JournalFull kept = ⊥
 RefusesRedo NothingToUndo kept = ⊥
+RefusesRedo (BadJournal place) kept = ⊥
+RefusesRedo JournalMismatch kept = ⊥
 
 -- ---- requests
 

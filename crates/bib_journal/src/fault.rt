@@ -1,11 +1,12 @@
 //! Why a session refuses a call.
 
 ghost use Rattle.std.specs.Prelude.{◌≡◌};
-ghost use Rattle.bib_journal.specs.Faults.{fault_number, fault_place, unopened, refused};
+ghost use Rattle.bib_journal.specs.Faults.{fault_number, fault_place, unopened, unread, refused};
 
 use bib_edit::EditFault;
 use bib_scan::ReadFault;
 use bib_store::StoreFault;
+use journal_format::JournalFault;
 use std::alloc::{AllocError, AllocFailed};
 use thiserror::Error;
 
@@ -27,6 +28,12 @@ pub enum SessionFault {
     /// There is no change to make again.
     #[error("52 NothingToRedo")]
     NothingToRedo,
+    /// The text is no journal, and goes wrong at this place.
+    #[error("53 BadJournal at {0}")]
+    BadJournal(usize),
+    /// The journal does not belong to the file.
+    #[error("54 JournalMismatch")]
+    JournalMismatch,
     /// A request for memory was refused.
     #[error("10 Memory")]
     Memory,
@@ -43,16 +50,20 @@ impl SessionFault {
             SessionFault::JournalFull => 41,
             SessionFault::NothingToUndo => 51,
             SessionFault::NothingToRedo => 52,
+            SessionFault::BadJournal(_) => 53,
+            SessionFault::JournalMismatch => 54,
             SessionFault::Memory => 10,
         }
     }
 
-    /// The first byte at which no file continues, or of the first value that is too long, where the bytes can't be opened.
+    /// Where the bytes can't be opened, the first byte at which no file continues, or of the first value that is too long;
+    /// where the text is no journal, the place at which it goes wrong.
     pub fn place(&self) -> Option<usize>
         ensures { result ≡ fault_place self.now }
     {
         match self {
             SessionFault::Unopened(fault) => fault.place(),
+            SessionFault::BadJournal(place) => Some(*place),
             _ => None,
         }
     }
@@ -88,6 +99,16 @@ pub(crate) fn unopened(fault: ReadFault) -> SessionFault
         SessionFault::Memory
     } else {
         SessionFault::Unopened(fault)
+    }
+}
+
+/// What a refused journal is to a session.
+pub(crate) fn unread(fault: JournalFault) -> SessionFault
+    ensures { result ≡ unread fault }
+{
+    match fault {
+        JournalFault::BadJournal(place) => SessionFault::BadJournal(place),
+        JournalFault::Memory => SessionFault::Memory,
     }
 }
 

@@ -4,12 +4,18 @@
 #![tactic(auto)]
 
 mod fault;
+mod laws;
+mod loading;
 mod performing;
+mod replay;
+mod saving;
 mod session;
-mod step_text;
 mod stepping;
 
 pub use bib_data::Request;
 pub use fault::SessionFault;
-pub use performing::{Performed, perform};
-pub use session::{CHANGE_LIMIT, STEP_TEXTS_LIMIT, Session};
+pub use journal_format::{CHANGE_LIMIT, STEP_TEXTS_LIMIT};
+pub use laws::{a_journal_keeps_one_history, several_runs_are_one_session};
+pub use performing::{Performed, perform, repeat};
+pub use saving::Saved;
+pub use session::Session;

@@ -1,6 +1,6 @@
 //! Doing what is asked of a session, one request after another.
 
-ghost use Rattle.std.specs.Prelude.{◌≡◌, IfErr, OnOk, OnErr};
+ghost use Rattle.std.specs.Prelude.{◌≡◌, replicate, IfErr, OnOk, OnErr};
 ghost use Rattle.bib_journal.specs.Session.{Does, Refuses, Performs};
 
 use crate::fault::SessionFault;
@@ -25,6 +25,24 @@ fn obey<L: ItemList>(session: &mut Session<L>, request: &Request) -> Result<(), 
         Request::Edit(edit) => session.edit(edit),
         Request::Undo => session.undo(),
         Request::Redo => session.redo(),
+    }
+}
+
+/// Does one request so many times, up to the first refusal, which changes nothing.
+pub fn repeat<L: ItemList>(session: &mut Session<L>, request: &Request, times: usize) -> Performed
+    ensures { Performs (replicate times request.now) result.done result.fault session.old session.new }
+{
+    'obey: for round in 0..times {
+        if let Err(fault) = obey(session, request) {
+            return Performed {
+                done: round,
+                fault: Some(fault),
+            };
+        }
+    }
+    Performed {
+        done: times,
+        fault: None,
     }
 }
 

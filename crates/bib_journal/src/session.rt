@@ -1,23 +1,22 @@
 //! An open file with its history.
 
-ghost use Rattle.std.specs.Prelude.{◌≡◌, [], length, IfOk, IfErr, OnOk, OnErr};
-ghost use Rattle.edit_spec.specs.Steps.{IsSound};
-ghost use Rattle.bib_journal.specs.Session.{started, MakesEdit, RefusesStart, RefusesEdit, RefusesUndo, RefusesRedo, TakesBack, MakesAgain};
+ghost use Rattle.std.specs.Prelude.{◌≡◌, ◌+◌, ◌<◌, ◌++◌, [], length, reverse, slice_get, Some, option_map, IfOk, IfErr, OnOk, OnErr};
+ghost use Rattle.bib_spec.specs.Texts.{IsOpenable};
+ghost use Rattle.edit_spec.specs.Steps.{IsSound, AreSteps};
+ghost use Rattle.journal_format.specs.Faults.{IsJournalOf};
+ghost use Rattle.bib_journal.specs.Loading.{Loads, Saves, FitFile, contents_of};
+ghost use Rattle.bib_journal.specs.Session.{started, MakesEdit, Opens, RefusesStart, RefusesLoad, RefusesOpen, RefusesEdit, RefusesUndo, RefusesRedo, TakesBack, MakesAgain};
 
 use crate::fault::{SessionFault, refused, unopened};
-use crate::step_text::step_text_len;
+use crate::loading::said_of;
+use crate::saving::{Saved, journal_of};
 use crate::stepping::{go_back, go_on, put};
 use bib_edit::{Edit, plan};
 use bib_scan::{Seq, Text};
 use bib_store::{Database, ItemList, Piece};
+use journal_format::{CHANGE_LIMIT, Journal, STEP_TEXTS_LIMIT, step_text_len, step_texts_len};
 use std::alloc::Global;
 use std::marker::Model;
-
-/// How many changes can be undone at most. (dialect)
-pub const CHANGE_LIMIT: usize = 65_535;
-
-/// How long the texts of all steps may be together, in bytes. (dialect)
-pub const STEP_TEXTS_LIMIT: u64 = 67_108_864;
 
 /// An open file, with the steps that led to it and those that were taken back. It keeps the pieces of each step and no
 /// old file. A contract sees the past steps from the oldest, the present file, and the future steps from the next one.
@@ -42,11 +41,31 @@ impl<L: ItemList> Model for Session<L> {
     ghost invariant = { λ s. IsKept (kept s.past.items s.database (reverse s.undone.items)) s.past_len };
 }
 
+/// A session of the open file, with the steps that a journal says, which fit it.
+fn with_steps<L: ItemList>(alloc: Global, database: Database<L>, said: Journal) -> Session<L>
+    requires fit { FitFile said database }
+    requires steps { AreSteps said.past said.future }
+    ensures { result ≡ record { past = said.past; present = database; future = said.future } }
+{
+    let past = said.past.into_vec();
+    let mut undone = said.future.into_vec();
+    undone.reverse();
+    let past_len = step_texts_len(past.as_slice());
+    Session {
+        alloc,
+        database,
+        past,
+        undone,
+        past_len,
+    }
+}
+
 impl<L: ItemList> Session<L> {
     /// Opens the file that these bytes are, to which nothing was done yet. The list that is handed in holds no item.
     pub fn start(alloc: Global, bytes: &[u8], empty: L) -> Result<Session<L>, SessionFault>
         requires { L.items empty ≡ [] }
         ensures started { IfOk result (λ session. session ≡ started bytes.now) }
+        ensures opens { OnOk result (IsOpenable bytes.now) }
         ensures refused { IfErr result (λ fault. RefusesStart fault bytes.now) }
     {
         match Database::open_bytes(alloc, bytes, empty) {
@@ -61,6 +80,44 @@ impl<L: ItemList> Session<L> {
                 })
             }
             Err(fault) => Err(unopened(fault)),
+        }
+    }
+
+    /// Opens the file that these bytes are, with the steps that its journal says. The list that is handed in holds no item.
+    /// It refuses as `start` does, then a text that is not a journal (53, with its place), then one that does not belong to
+    /// the file (54). It takes time as opening the file, reading both texts, and splicing each step twice.
+    pub fn load(
+        alloc: Global,
+        bytes: &[u8],
+        journal: &[u8],
+        empty: L,
+    ) -> Result<Session<L>, SessionFault>
+        requires { L.items empty ≡ [] }
+        ensures loaded { IfOk result (λ session. Loads bytes.now journal.now session) }
+        ensures refused { IfErr result (λ fault. RefusesLoad fault bytes.now journal.now) }
+    {
+        let mut database = match Database::open_bytes(alloc, bytes, empty) {
+            Ok(database) => database,
+            Err(fault) => return Err(unopened(fault)),
+        };
+        let said = said_of(alloc, &mut database, bytes, journal)?;
+        Ok(with_steps(alloc, database, said))
+    }
+
+    /// Opens the file that these bytes are with its journal, as `load` does, or without one, as `start` does.
+    pub fn open(
+        alloc: Global,
+        bytes: &[u8],
+        journal: Option<&[u8]>,
+        empty: L,
+    ) -> Result<Session<L>, SessionFault>
+        requires { L.items empty ≡ [] }
+        ensures opened { IfOk result (Opens bytes.now (option_map (λ text. text.now) journal.entry)) }
+        ensures refused { IfErr result (λ fault. RefusesOpen fault bytes.now (option_map (λ text. text.now) journal.entry)) }
+    {
+        match journal {
+            Some(journal) => Session::load(alloc, bytes, journal, empty),
+            None => Session::start(alloc, bytes, empty),
         }
     }
 
@@ -136,6 +193,39 @@ impl<L: ItemList> Session<L> {
             Ok(bytes) => Ok(bytes),
             Err(_) => Err(SessionFault::Memory),
         }
+    }
+
+    /// The present file and its journal, as a later run loads them. It takes memory for both texts, and time in their length.
+    pub fn saved(&self) -> Result<Saved, SessionFault>
+        ensures saved { IfOk result (Saves self.now) }
+        ensures only { IfErr result (λ fault. fault ≡ SessionFault.Memory) }
+    {
+        let file = self.bytes()?;
+        let past = self.past.as_slice();
+        let undone = self.undone.as_slice();
+        let journal = journal_of(self.alloc, file.as_slice(), past, undone)?;
+        Ok(Saved { file, journal })
+    }
+
+    /// The journal of the present file. It takes memory for a copy of the file and for the text, and time in their length.
+    pub fn save(&self) -> Result<Text, SessionFault>
+        ensures saved { IfOk result (IsJournalOf (contents_of self.now)) }
+        ensures only { IfErr result (λ fault. fault ≡ SessionFault.Memory) }
+    {
+        Ok(self.saved()?.journal)
+    }
+
+    /// The pieces of step `n`, counted from 0: the past steps from the oldest, then the future ones from the next to be
+    /// redone. It takes no memory.
+    pub fn step(&self, n: usize) -> &[Piece]
+        requires { n < length self.now.past + length self.now.future }
+        ensures { slice_get (self.now.past ++ self.now.future) n ≡ Some result.now }
+    {
+        if n < self.past.len() {
+            return self.past[n].as_slice();
+        }
+        let next = n - self.past.len();
+        self.undone[self.undone.len() - 1 - next].as_slice()
     }
 
     /// How many changes can be taken back.

@@ -13,7 +13,7 @@ use Rattle.bib_spec.proofs.WayBack.{fit_back, applied-reversed}
 
 -- ---- the files that steps reach
 
-first_of-push : (steps : List Step) (step : Step) (file : Text) → first_of (steps ++ step ∷ []) file ≡ first_of steps (before step file)
+pub first_of-push : (steps : List Step) (step : Step) (file : Text) → first_of (steps ++ step ∷ []) file ≡ first_of steps (before step file)
 first_of-push [] step file = refl
 first_of-push (s ∷ ss) step file = ap (before s) (first_of-push ss step file)
 
@@ -72,7 +72,7 @@ all_push : {X : Type 0} (P : X → Type 0) (xs : List X) (x : X) → AllByRecurs
 all_push P [] x a p = (p, tt)
 all_push P (y ∷ xs) x a p = (a.0, all_push P xs x a.1 p)
 
-all_pop : {X : Type 0} (P : X → Type 0) (xs : List X) (x : X) → AllByRecursion P (xs ++ x ∷ []) → AllByRecursion P xs × P x
+pub all_pop : {X : Type 0} (P : X → Type 0) (xs : List X) (x : X) → AllByRecursion P (xs ++ x ∷ []) → AllByRecursion P xs × P x
 all_pop P [] x a = (tt, a.0)
 all_pop P (y ∷ xs) x a = let rest = all_pop P xs x a.1 in ((a.0, rest.0), rest.1)
 

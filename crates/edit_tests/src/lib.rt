@@ -6,6 +6,8 @@ mod lengths;
 #[cfg(test)]
 mod lists;
 #[cfg(test)]
+mod runs;
+#[cfg(test)]
 mod sessions;
 #[cfg(test)]
 mod splicing;

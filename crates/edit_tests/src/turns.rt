@@ -93,6 +93,16 @@ fn left_by(session: &Session<Flat>, refusal: u16) -> Result<Left, SessionFault> 
     })
 }
 
+/// What a turn leaves of a session.
+pub fn left_after(
+    alloc: Global,
+    session: &mut Session<Flat>,
+    turn: &Turn<'_>,
+) -> Result<Left, SessionFault> {
+    let refusal = taken(alloc, session, turn)?;
+    left_by(session, refusal)
+}
+
 fn lefts(
     alloc: Global,
     session: &mut Session<Flat>,
@@ -100,8 +110,7 @@ fn lefts(
 ) -> Result<Seq<Left>, SessionFault> {
     let mut lefts = Vec::new(alloc);
     for turn in turns {
-        let refusal = taken(alloc, session, turn)?;
-        lefts.push(left_by(session, refusal)?)?;
+        lefts.push(left_after(alloc, session, turn)?)?;
     }
     Ok(Seq::from_vec(lefts))
 }

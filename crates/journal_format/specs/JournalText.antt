@@ -56,6 +56,10 @@ pub record AreNumbers (from : ℕ) (n : Numbers) : Type 0 where
   pub old_len : n.old_len ≤ number_limit
   pub new_len : n.new_len ≤ number_limit
 
+-- how long a journal can be: the lines of the version and the digest, the longest line of counts, and the steps (dialect)
+abbrev pub journal_limit : ℕ
+journal_limit = 67108951
+
 -- ---- the whole
 
 -- the line of the version, that of the digest and that of the counts

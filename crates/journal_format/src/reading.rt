@@ -16,6 +16,9 @@ use bib_data::Piece;
 use bib_scan::Seq;
 use std::alloc::Global;
 
+/// How long a journal can be, in bytes. (dialect)
+pub const JOURNAL_LIMIT: usize = 67_108_951;
+
 /// So many past steps, and so many future ones, which are all.
 fn read_tail(
     alloc: Global,

@@ -1,0 +1,46 @@
+-- Contents, held against a file.
+use Rattle.std.proofs.Common.{◌≡◌, ℕ, List, [], ◌∷◌, length, reverse, refl, sym, subst, ◌∙◌, ap, sum_by, min, ◌^◌, ◌-◌, ◌≤◌, ◌+◌, arith}
+use Rattle.std.proofs.lemmas.List.{reverse-reverse}
+use Rattle.bib_spec.specs.Text.{Text}
+use Rattle.bib_spec.specs.Texts.{IsOpenable}
+use Rattle.edit_spec.specs.Steps.{Step, KeptSteps, IsSound, BelongTo, AreSteps, step_text_len, step_texts_limit}
+use Rattle.journal_format.specs.Contents.{Contents, digest_of}
+use Rattle.journal_format.specs.Faults.{IsJournalOf, Refuses}
+use Rattle.journal_format.specs.declared.fault.JournalFault.{JournalFault}
+use Rattle.journal_format.specs.declared.fault.JournalFault.TheVariants as journal_fault
+use Rattle.bib_journal.specs.Faults.{unread}
+use Rattle.bib_journal.specs.Session.{RefusesLoad}
+use Rattle.bib_journal.specs.Kept.{kept, IsKept}
+use Rattle.bib_journal.specs.Loading.{contents_of, FitFile, Loads, SaysOf, IsMismatch}
+
+pub its_mismatch : (file text : Text) (c : Contents) → IsOpenable file → IsJournalOf c text → (FitFile c file → ⊥) → IsMismatch file text
+its_mismatch file text c opens journal misfit = record { opens = opens; contents = c; journal = journal; misfit = misfit }
+
+-- a journal that is not read loads nothing
+pub unread_refuses : (fault : JournalFault) (file text : Text) → IsOpenable file → Refuses fault text → RefusesLoad (unread fault) file text
+unread_refuses (journal_fault.BadJournal place) file text opens refuses = (opens, refuses)
+unread_refuses journal_fault.Memory file text opens refuses = tt
+
+-- the steps of the contents, undone ones last first
+pub contents_kept : (c : Contents) (file : Text) (stack : List Step) → stack ≡ reverse c.future → kept c.past file (reverse stack) ≡ kept c.past file c.future
+contents_kept c file stack turned = ap (kept c.past file) (ap reverse turned ∙ reverse-reverse c.future)
+
+-- contents that fit a file are what a session can keep
+pub contents_are_kept : (c : Contents) (file : Text) (stack : List Step) (len : ℕ) → AreSteps c.past c.future → FitFile c file → stack ≡ reverse c.future
+    → len ≡ min (sum_by step_text_len c.past) (2 ^ 64 - 1) → IsKept (kept c.past file (reverse stack)) len
+contents_are_kept c file stack len steps fit turned counted =
+    let sound : IsSound (kept c.past file c.future) = record { present = fit.opens; belong = fit.belong; steps = steps } in
+    record {
+      sound = subst IsSound (sym (contents_kept c file stack turned)) sound;
+      counted = omega (arith, counted, steps.short);
+    }
+
+-- a session with what the journal says
+pub says_loads : (file text : Text) (c : Contents) → SaysOf file text c → Loads file text (kept c.past file c.future)
+says_loads file text c says =
+    let same : record { digest = digest_of file; past = c.past; future = c.future } ≡ c = ap (λ (d : Text). record { digest = d; past = c.past; future = c.future }) (sym says.fit.digest) in
+    record {
+      present = refl;
+      journal = subst (λ (x : Contents). IsJournalOf x text) (sym same) says.journal;
+      fit = subst (λ (x : Contents). FitFile x file) (sym same) says.fit;
+    }

@@ -1,0 +1,7 @@
+use Rattle.std.proofs.Common.{◌≡◌, true}
+use Rattle.edit_spec.specs.Steps.{IsAllowed}
+use Rattle.bib_journal.proofs.ReplayLemmas.{none_gone_on, one_gone_on, stuck_on, all_gone_on}
+use Rattle.bib_journal.proofs.replay.go_on_over.Goals as goal
+
+pub step-init : goal.step-init
+step-init g c = none_gone_on _ _ c.opens.ensures

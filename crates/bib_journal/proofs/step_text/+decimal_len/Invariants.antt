@@ -1,4 +1,0 @@
-use Rattle.bib_journal.proofs.step_text.+decimal_len.Given as goal
-
-abbrev pub decreases-decimal_len : goal.decreases-decimal_len
-decreases-decimal_len l = l.n

@@ -1,0 +1,85 @@
+-- Several runs: each opens the file and the journal that the one before left, does its requests, and leaves both again. (dialect)
+use Rattle.std.specs.Prelude.{ℕ, ◌≡◌, List, [], ◌∷◌, ◌++◌, length, replicate, Option, Some, None}
+use Rattle.bib_spec.specs.Text.{Text}
+use Rattle.bib_spec.specs.Reading.{bytes_of}
+use Rattle.bib_spec.specs.Texts.{IsOpenable}
+use Rattle.edit_spec.specs.History.{History, Edits, Undoes, Redoes}
+use Rattle.edit_spec.specs.Steps.{KeptSteps, history_of}
+use Rattle.edit_spec.specs.Edits.{edited}
+use Rattle.bib_store.specs.Meaning.{OfReading}
+use Rattle.bib_data.specs.declared.request.Request.{Request}
+use Rattle.bib_data.specs.declared.request.Request.TheVariants as request
+use Rattle.bib_edit.specs.Asking.{OfEdit, made_base}
+use Rattle.bib_journal.specs.declared.saving.Saved.{Saved}
+use Rattle.bib_journal.specs.Loading.{Saves}
+use Rattle.bib_journal.specs.Session.{Opens, DoesAll}
+
+-- a file, and its journal if it has one
+pub record Place : Type 0 where
+  pub file : Text
+  pub journal : Option Text
+
+-- a file to which nothing was done, without a journal
+abbrev pub fresh : Text → Place
+fresh file = record { file = file; journal = None }
+
+-- a file and its journal, as a run left them
+abbrev pub left : Saved → Place
+left saved = record { file = saved.file; journal = Some saved.journal }
+
+-- a run: a session is opened, the requests are accepted one after another, and what is kept is left
+pub record IsRun (requests : List Request) (old new : Place) : Type 0 where
+  pub opened : KeptSteps
+  pub closed : KeptSteps
+  pub saved : Saved
+  pub opens : Opens old.file old.journal opened
+  pub did : DoesAll requests opened closed
+  pub saves : Saves closed saved
+  pub leaves : new ≡ left saved
+
+-- runs one after another, each from what the one before left
+abbrev pub AreRuns : List (List Request) → Place → Place → Type 0
+AreRuns [] old new = new ≡ old
+AreRuns (requests ∷ runs) old new = (mid : Place) × IsRun requests old mid × AreRuns runs mid new
+
+-- the requests of all runs, in order
+abbrev pub requests_of : List (List Request) → List Request
+requests_of [] = []
+requests_of (requests ∷ runs) = requests ++ requests_of runs
+
+-- ---- whole files
+
+-- what an accepted request makes of the history of whole files
+abbrev pub Moves : Request → History → History → Type 0
+Moves (request.Edit edit) old new = OfReading old.present (λ db. OfEdit edit (λ e. Edits (bytes_of (edited made_base db e)) old new))
+Moves request.Undo old new = Undoes old new
+Moves request.Redo old new = Redoes old new
+
+-- the requests move the history, one after another
+abbrev pub MovesAll : List Request → History → History → Type 0
+MovesAll [] old new = new ≡ old
+MovesAll (request ∷ requests) old new = (mid : History) × Moves request old mid × MovesAll requests mid new
+
+-- one session does these requests, and keeps what opens from where it is left
+pub record IsOneSession (requests : List Request) (opened : KeptSteps) (new : Place) : Type 0 where
+  pub closed : KeptSteps
+  pub did : DoesAll requests opened closed
+  pub opens : Opens new.file new.journal closed
+  pub moved : MovesAll requests (history_of opened) (history_of closed)
+
+-- ---- laws
+
+-- Several runs do what one session does that is asked for all their requests; and so the file after each request is that of the history.
+abbrev pub runs_are_one_session : Type 0
+runs_are_one_session = (runs : List (List Request)) (kept : KeptSteps) (old new : Place) → Opens old.file old.journal kept
+    → AreRuns runs old new → IsOneSession (requests_of runs) kept new
+
+-- what is opened is what was opened before
+abbrev pub one_opening : Type 0
+one_opening = (file : Text) (journal : Option Text) (a b : KeptSteps) → Opens file journal a → Opens file journal b → a ≡ b
+
+-- After any runs from a file to which nothing was done, as many undos as there is past, in whatever runs, lead to that file.
+abbrev pub undoing_all_leads_to_the_first_file : Type 0
+undoing_all_leads_to_the_first_file = (runs back : List (List Request)) (file : Text) (mid new : Place) (kept : KeptSteps)
+    → AreRuns runs (fresh file) mid → IsOpenable file → Opens mid.file mid.journal kept
+    → AreRuns back mid new → requests_of back ≡ replicate (length kept.past) request.Undo → new.file ≡ file

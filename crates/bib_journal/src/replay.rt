@@ -1,0 +1,130 @@
+//! Steps of a journal, gone over one by one.
+
+ghost use Rattle.std.specs.Prelude.{◌≡◌, ◌↔◌, IsTrue, IfOk, OnOk};
+ghost use Rattle.std.specs.List.{AllByRecursion};
+ghost use Rattle.bib_spec.specs.Pieces.{applied};
+ghost use Rattle.edit_spec.specs.Steps.{IsAllowed, Leads, LeadTo, LeadOn, BelongTo, before, first_of};
+ghost use Rattle.bib_journal.specs.Loading.{IsTurnable, last_of};
+
+use bib_scan::Seq;
+use bib_store::{Database, ItemList, Piece, StoreFault, reverse};
+use std::alloc::{AllocError, Global};
+
+/// Makes a step, if it is allowed.
+fn try_on<L: ItemList>(db: &mut Database<L>, step: &[Piece]) -> Result<bool, AllocError>
+    ensures yes { IfOk result (λ yes. IsTrue yes ↔ IsAllowed step.now db.old) }
+    ensures on { IfOk result (λ yes. IsTrue yes → db.new ≡ applied step.now db.old) }
+{
+    match db.splice(step) {
+        Ok(()) => Ok(true),
+        Err(StoreFault::BadSplice) => Ok(false),
+        Err(_) => Err(AllocError),
+    }
+}
+
+/// Goes back over a step, if it leads to this file.
+fn try_back<L: ItemList>(
+    alloc: Global,
+    db: &mut Database<L>,
+    step: &[Piece],
+) -> Result<bool, AllocError>
+    requires { IsTurnable step.now }
+    ensures yes { IfOk result (λ yes. IsTrue yes ↔ Leads step.now (before step.now db.old) db.old) }
+    ensures back { IfOk result (λ yes. IsTrue yes → db.new ≡ before step.now db.old) }
+{
+    db.opens();
+    match reverse(alloc, step) {
+        Ok(back) => try_on(db, back.as_slice()),
+        Err(_) => Err(AllocError),
+    }
+}
+
+/// Goes back over steps, the last first, if they lead to this file.
+fn go_back_over<L: ItemList>(
+    alloc: Global,
+    db: &mut Database<L>,
+    steps: &[Seq<Piece>],
+) -> Result<bool, AllocError>
+    requires { AllByRecursion IsTurnable steps.now }
+    ensures yes { IfOk result (λ yes. IsTrue yes ↔ LeadTo steps.now db.old) }
+    ensures back { IfOk result (λ yes. IsTrue yes → db.new ≡ first_of steps.now db.old) }
+{
+    let mut left = steps;
+    'step: while let Some((step, others)) = left.split_last() {
+        if !try_back(alloc, db, step.as_slice())? {
+            return Ok(false);
+        }
+        left = others;
+    }
+    Ok(true)
+}
+
+/// Goes on over steps, the first first, if they lead on from this file.
+fn go_on_over<L: ItemList>(db: &mut Database<L>, steps: &[Seq<Piece>]) -> Result<bool, AllocError>
+    ensures yes { IfOk result (λ yes. IsTrue yes ↔ LeadOn steps.now db.old) }
+    ensures on { IfOk result (λ yes. IsTrue yes → db.new ≡ last_of steps.now db.old) }
+{
+    db.opens();
+    'step: for step in steps {
+        if !try_on(db, step.as_slice())? {
+            return Ok(false);
+        }
+    }
+    Ok(true)
+}
+
+/// Whether steps lead to the file. It ends where it began.
+fn lead_to<L: ItemList>(
+    alloc: Global,
+    db: &mut Database<L>,
+    past: &[Seq<Piece>],
+) -> Result<bool, AllocError>
+    requires { AllByRecursion IsTurnable past.now }
+    ensures yes { IfOk result (λ yes. IsTrue yes ↔ LeadTo past.now db.old) }
+    ensures same { IfOk result (λ yes. IsTrue yes → db.new ≡ db.old) }
+{
+    if !go_back_over(alloc, db, past)? {
+        return Ok(false);
+    }
+    if !go_on_over(db, past)? {
+        unreachable!();
+    }
+    Ok(true)
+}
+
+/// Whether steps lead on from the file. It ends where it began.
+fn lead_on<L: ItemList>(
+    alloc: Global,
+    db: &mut Database<L>,
+    future: &[Seq<Piece>],
+) -> Result<bool, AllocError>
+    requires { AllByRecursion IsTurnable future.now }
+    ensures yes { IfOk result (λ yes. IsTrue yes ↔ LeadOn future.now db.old) }
+    ensures same { IfOk result (λ yes. IsTrue yes → db.new ≡ db.old) }
+{
+    if !go_on_over(db, future)? {
+        return Ok(false);
+    }
+    if !go_back_over(alloc, db, future)? {
+        unreachable!();
+    }
+    Ok(true)
+}
+
+/// Whether steps belong to the file. It ends where it began, and takes time as that many splices.
+pub(crate) fn belong<L: ItemList>(
+    alloc: Global,
+    db: &mut Database<L>,
+    past: &[Seq<Piece>],
+    future: &[Seq<Piece>],
+) -> Result<bool, AllocError>
+    requires past { AllByRecursion IsTurnable past.now }
+    requires future { AllByRecursion IsTurnable future.now }
+    ensures yes { IfOk result (λ yes. IsTrue yes ↔ BelongTo past.now future.now db.old) }
+    ensures same { IfOk result (λ yes. IsTrue yes → db.new ≡ db.old) }
+{
+    if !lead_to(alloc, db, past)? {
+        return Ok(false);
+    }
+    lead_on(alloc, db, future)
+}
