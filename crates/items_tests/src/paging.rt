@@ -104,33 +104,6 @@ fn edits_of_pages_are_those_of_the_plain_list(rt: HostRuntime) -> Result<(), Fai
     Ok(())
 }
 
-/// Whether each item is that of its first byte and of its last, by both lists.
-fn has_places(paged: &Paged, flat: &Flat) -> bool {
-    let mut place: usize = 0;
-    for n in 0..flat.count() {
-        let len = flat.body(n).len().saturating_add(flat.trail(n).len());
-        if paged.start(n) != place || flat.start(n) != place {
-            return false;
-        }
-        let last = place.saturating_add(len).saturating_sub(1);
-        if paged.item_at(place) != n || paged.item_at(last) != n || flat.item_at(last) != n {
-            return false;
-        }
-        place = place.saturating_add(len);
-    }
-    true
-}
-
-#[test]
-fn an_item_has_its_bytes(rt: HostRuntime) -> Result<(), Fail> {
-    let mut paged = Paged::new(rt.alloc());
-    let mut flat = Flat::new(rt.alloc());
-    let mut state = 5;
-    fill(&mut paged, &mut flat, &mut state, 400)?;
-    assert!(rt; has_places(&paged, &flat));
-    Ok(())
-}
-
 #[test]
 fn a_full_page_becomes_two_and_an_empty_one_goes(rt: HostRuntime) -> Result<(), Fail> {
     let mut paged = Paged::new(rt.alloc());
