@@ -2,13 +2,14 @@
 # shellcheck shell=sh
 
 when --help; ends_with 0; mentions 'Usage: bibkeep'; says_nothing
-when -h; ends_with 0; mentions 'Reads BibTeX databases'; says_nothing
+when -h; ends_with 0; mentions 'Edits BibTeX databases'; says_nothing
 when help; ends_with 0; mentions 'Writes the bytes of a file'; says_nothing
 when cat --help; ends_with 0; mentions 'or standard input where it is left out'; says_nothing
 when help cat; ends_with 0; mentions 'Usage: bibkeep cat [F]'; says_nothing
 when check --help; ends_with 0; mentions 'Usage: bibkeep check <F>'; says_nothing
 when help show; ends_with 0; mentions 'Usage: bibkeep show <F> <KEY>'; says_nothing
 when cite --help; ends_with 0; mentions '--min-crossrefs <N>'; says_nothing
+when edit --help; ends_with 0; mentions 'Usage: bibkeep edit <F>'; says_nothing
 when --version; ends_with 0; mentions 'bibkeep 0.1.0'; says_nothing
 when -V; ends_with 0; mentions 'bibkeep 0.1.0'; says_nothing
 
@@ -27,6 +28,12 @@ when cite row.bib --min-crossrefs 65536 a; ends_with 2; writes_nothing; complain
 when cite row.bib --min-crossrefs two a; ends_with 2; writes_nothing; complains_of "'two'"
 when --hel; ends_with 2; writes_nothing; complains_of "'--help'"
 when cat "$(printf 'caf\351.bib')"; ends_with 2; writes_nothing; complains_of 'not UTF-8'
+
+# Whatever file it is started as, the program is bibkeep.
+when_shell_runs 'cp "$program" keep-1.0 && ./keep-1.0 --help'; ends_with 0; mentions 'Usage: bibkeep <COMMAND>'; says_nothing
+when_shell_runs './keep-1.0 help cite'; ends_with 0; mentions 'Usage: bibkeep cite'; says_nothing
+when_shell_runs './keep-1.0 --version'; ends_with 0; mentions 'bibkeep 0.1.0'; says_nothing
+when_shell_runs './keep-1.0 show f.bib'; ends_with 2; writes_nothing; complains_of 'Usage: bibkeep show <F> <KEY>'
 
 when_shell_runs '"$program" --help >/dev/full'; ends_with 3; says 'bibkeep: write fault'
 when_shell_runs '"$program" --version >&-'; ends_with 3; says 'bibkeep: write fault'

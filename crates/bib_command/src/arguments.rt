@@ -11,7 +11,7 @@ pub fn any_file<'a>(alloc: Global) -> Arg<'a>
     ensures rule { rule_of result ≡ any_file }
     ensures local { result.global ≡ false }
 {
-    Arg::new(alloc, "F").help("The file to read, or standard input where it is left out")
+    Arg::new(alloc, "F").help("The BibTeX file, or standard input where it is left out")
 }
 
 pub fn needed<'a>(alloc: Global, id: &'a str, help: &'a str) -> Arg<'a>

@@ -34,28 +34,32 @@ fn edits<'a>(alloc: Global) -> Result<Command<'a>, AllocError>
 fn shows<'a>(alloc: Global) -> Result<Command<'a>, AllocError>
     ensures { IfOk result (Reads bibkeep_shows) }
 {
-    top(alloc)
+    top(alloc)?
         .subcommand(cat(alloc)?)?
         .subcommand(check(alloc)?)?
         .subcommand(show(alloc)?)?
         .subcommand(cite(alloc)?)
 }
 
-fn top<'a>(alloc: Global) -> Command<'a>
-    ensures { Reads bibkeep_top result }
+/// The program, by this name whatever the file is called that it was started as.
+fn top<'a>(alloc: Global) -> Result<Command<'a>, AllocError>
+    ensures { IfOk result (Reads bibkeep_top) }
 {
     named(
         alloc,
         "bibkeep",
-        "Reads BibTeX databases without losing a byte",
+        "Edits BibTeX databases and changes no byte that nobody asked to change",
         "\
+Statuses: 0 done, 1 refused, 2 no such command, 3 a read or write failed, 4 no memory.
+
 Examples:
-  bibkeep check refs.bib          what is in the file, and what is wrong with it
-  bibkeep show refs.bib knuth84   one entry, with what it inherits
-  bibkeep help cite               more about a command",
+  bibkeep check refs.bib          # what is in the file, and what is doubtful
+  bibkeep show refs.bib knuth86   # one entry, with what it inherits
+  bibkeep help edit               # more about a command",
     )
     .version("0.1.0")
     .subcommand_required(true)
+    .bin_name("bibkeep")
 }
 
 fn cat<'a>(alloc: Global) -> Result<Command<'a>, AllocError>
@@ -67,8 +71,8 @@ fn cat<'a>(alloc: Global) -> Result<Command<'a>, AllocError>
         "Writes the bytes of a file that can be read as a database",
         "\
 Examples:
-  bibkeep cat refs.bib            the file, byte for byte, or where it goes wrong
-  cat a.bib b.bib | bibkeep cat   the same of standard input",
+  bibkeep cat refs.bib     # the file, byte for byte, or where it goes wrong
+  bibkeep cat < refs.bib   # the same of standard input",
     )
     .arg(any_file(alloc))
 }
@@ -79,10 +83,10 @@ fn check<'a>(alloc: Global) -> Result<Command<'a>, AllocError>
     over_file(
         alloc,
         "check",
-        "Counts what is in a file and reports what is wrong with it",
+        "Counts what is in a file and reports what is doubtful",
         "\
 It reports repeated entries, extra fields, undefined macros, macros that their own definition uses, and crossrefs that
-are missing, that name their own entry, or whose parent stands before them.
+are missing, that name their own entry, or whose parent stands before them. None of these is refused: the status is 0.
 
 Example:
   bibkeep check refs.bib",
@@ -95,12 +99,12 @@ fn show<'a>(alloc: Global) -> Result<Command<'a>, AllocError>
     over_file(
         alloc,
         "show",
-        "Writes an entry as a style sees it",
+        "Writes an entry as a bibliography style sees it",
         "\
-Macros are put in, white space is made one, and fields that are missing come from the parent.
+Macros are put in, each run of white space is one space, and fields that are missing come from the parent.
 
 Example:
-  bibkeep show refs.bib knuth84",
+  bibkeep show refs.bib knuth86",
     )?
     .arg(needed(alloc, "KEY", "The entry's key"))
 }
@@ -113,12 +117,12 @@ fn cite<'a>(alloc: Global) -> Result<Command<'a>, AllocError>
         "cite",
         "Lists the entries that a bibliography for these keys has",
         "\
-A parent is listed too where enough of its children are. A key that finds no entry comes last, behind a question mark.
+A parent is listed too where enough of its children are. A key that finds no entry comes last, after a question mark.
 
 Examples:
-  bibkeep cite refs.bib knuth84 lamport86
-  bibkeep cite refs.bib --min-crossrefs 3 a b c
-  bibkeep cite refs.bib '*'       every entry",
+  bibkeep cite refs.bib knuth86 lamport86
+  bibkeep cite refs.bib --min-crossrefs 3 knuth86 lamport86
+  bibkeep cite refs.bib '*'   # every entry",
     )?
     .arg(keys(alloc))?
     .arg(count(
@@ -140,8 +144,8 @@ fn labels<'a>(alloc: Global) -> Result<Command<'a>, AllocError>
 A line has a label, a tab and the entry's key. A label is made of the names and the year; equal ones get letters.
 
 Examples:
-  bibkeep labels refs.bib knuth84 lamport86
-  bibkeep labels refs.bib '*'     every entry",
+  bibkeep labels refs.bib knuth86 lamport86
+  bibkeep labels refs.bib '*'   # every entry",
     )?
     .arg(keys(alloc))
 }
@@ -158,8 +162,8 @@ A template is text and groups in braces, of which each prints a part of the name
 j (jr). One letter prints initials, two print the words.
 
 Examples:
-  bibkeep names refs.bib knuth84 '{ff }{vv~}{ll}{, jj}'
-  bibkeep names refs.bib knuth84 '{vv~}{ll}{, jj}{, f.}'",
+  bibkeep names refs.bib knuth86 '{ff }{vv~}{ll}{, jj}'
+  bibkeep names refs.bib knuth86 '{vv~}{ll}{, jj}{, f.}'",
     )?
     .arg(needed(alloc, "KEY", "The entry's key"))?
     .arg(needed(alloc, "TEMPLATE", "How a name is printed"))
@@ -174,16 +178,16 @@ fn edit<'a>(alloc: Global) -> Result<Command<'a>, AllocError>
         "Makes the edits that standard input lists, and changes no other byte",
         "\
 Each line is an edit, its words parted by tabs (shown here as spaces):
-  set KEY FIELD VALUE             gives the field this value, as it stands in a file: {text}, \"text\", 12 or a macro
-  drop KEY FIELD                  takes the field away
-  add PLACE TYPE KEY FIELD VALUE ..   puts a new entry before item PLACE, counted from 0
-  remove KEY                      takes the entry away
-  move KEY PLACE                  puts the entry before item PLACE of the others
+  set KEY FIELD VALUE                    gives the field this value, as in a file: {text}, \"text\", 12 or a macro
+  drop KEY FIELD                         takes the field away
+  add POSITION TYPE KEY FIELD VALUE ..   puts a new entry before the item at POSITION, counted from 0
+  remove KEY                             takes the entry away
+  move KEY POSITION                      puts the entry before the item at POSITION among the others
 The first line that is refused ends the script; the edits before it stand. What it did is kept in the journal
 F.bibkeep, for undo.
 
 Example:
-  printf 'set\\tknuth84\\tyear\\t1984\\n' | bibkeep edit refs.bib",
+  printf 'set\\tknuth86\\tyear\\t1986\\n' | bibkeep edit refs.bib",
     )
 }
 
@@ -273,7 +277,7 @@ fn over_file<'a>(
 ) -> Result<Command<'a>, AllocError>
     ensures { IfOk result (Reads (over_file name.entry.now)) }
 {
-    named(alloc, name, about, more).arg(needed(alloc, "F", "The file to read"))
+    named(alloc, name, about, more).arg(needed(alloc, "F", "The BibTeX file"))
 }
 
 fn named<'a>(alloc: Global, name: &'a str, about: &'a str, more: &'a str) -> Command<'a>

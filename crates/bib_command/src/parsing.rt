@@ -4,6 +4,7 @@ ghost use Rattle.std.specs.Prelude.{◌≡◌, ◌++◌, IfOk, IfErr, OnOk, map,
 ghost use Rattle.clap.specs.Words.{fault_of, takes, rows_of, found_of};
 ghost use Rattle.bib_command.specs.CommandLine.{bibkeep, values, number, command_of, IsCommandOf};
 ghost use Rattle.bib_command.specs.Usage.{no_memory, IsUsageFor};
+ghost use Rattle.bib_words.specs.Command.{IsCommand};
 
 use crate::Usage;
 use crate::command_line::command_line;
@@ -16,6 +17,7 @@ use std::alloc::{AllocError, Global};
 /// The command that the words name, the program's own name first, or what the user is told.
 pub fn parse(alloc: Global, words: &[String]) -> Result<Command, Usage>
     ensures ok { IfOk result (IsCommandOf (map string_bytes words.now)) }
+    ensures known { IfOk result IsCommand }
     ensures err { IfErr result (IsUsageFor (map string_bytes words.now)) }
 
     // Words that name a command are refused for want of memory alone.
@@ -27,8 +29,9 @@ pub fn parse(alloc: Global, words: &[String]) -> Result<Command, Usage>
     match command.try_get_matches_from(words) {
         Ok(matches) => match matches.subcommand() {
             Some((name, inner)) => match command_of(alloc, name, inner) {
-                Ok(command) => Ok(command),
-                Err(_) => Err(no_memory(alloc)),
+                // clap has held the words to the counts of their command, but its contract does not say so
+                Ok(command) if command.is_known() => Ok(command),
+                _ => Err(no_memory(alloc)),
             },
             None => unreachable!(),
         },

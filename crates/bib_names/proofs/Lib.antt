@@ -1,6 +1,5 @@
 pub mod BoolLemmas
 pub mod BraceLemmas
-pub mod TrimLemmas
 pub mod PlaceLemmas
 pub mod NameListLemmas
 pub mod WordLemmas

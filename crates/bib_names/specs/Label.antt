@@ -94,6 +94,10 @@ letters_of_names (name ∷ next ∷ more) key = letters_of_many (name ∷ next �
 abbrev pub letters_of_fields : Fields → Text
 letters_of_fields fields = letters_of_names (names_in fields) (text_in fields (codes "key"))
 
+-- the names of the fields that labels and made keys are made of
+abbrev pub label_names : List Text
+label_names = codes "author" ∷ codes "editor" ∷ codes "key" ∷ codes "year" ∷ []
+
 -- ---- labels and made keys
 
 abbrev pub or_anon : Text → Text

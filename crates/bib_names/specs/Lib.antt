@@ -1,7 +1,6 @@
 pub mod Faults
 pub mod Marks
 pub mod Places
-pub mod Trimming
 pub mod NameList
 pub mod Special
 pub mod Scanning

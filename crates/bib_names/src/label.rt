@@ -3,7 +3,7 @@
 ghost use Rattle.std.specs.Prelude.{◌≡◌, ◌≤◌, ◌<◌, ◌++◌, ◌∷◌, [], Some, None, IfOk, IfErr, length, map, filter, take};
 ghost use Rattle.std.specs.List.{flat_map};
 ghost use Rattle.std.specs.Char.{is_ascii_digit};
-ghost use Rattle.bib_names.specs.Label.{text_in, balances, listed_names, names_in, group, initials_template, last_template, print_of, initials_of, first_three, letters_of_one, ends_with_others, letters_of_many, letters_of_fields, or_anon, last_two, label_base};
+ghost use Rattle.bib_names.specs.Label.{text_in, label_names, balances, listed_names, names_in, group, initials_template, last_template, print_of, initials_of, first_three, letters_of_one, ends_with_others, letters_of_many, letters_of_fields, or_anon, last_two, label_base};
 
 use crate::fault::NameFault;
 use crate::name::parts_of;
@@ -27,6 +27,18 @@ pub fn text_in<'a>(fields: &'a [(Text, Text)], name: &[u8]) -> &'a [u8]
         }
     }
     b""
+}
+
+/// The names of the fields that labels and made keys are made of: whoever gathers fields for them needs no others.
+pub fn label_names(alloc: Global) -> Result<Seq<&'static [u8]>, AllocError>
+    ensures { IfOk result (λ names. map (λ n. n.now) names ≡ label_names) }
+{
+    let mut names = Vec::new(alloc);
+    names.push(b"author".as_slice())?;
+    names.push(b"editor".as_slice())?;
+    names.push(b"key".as_slice())?;
+    names.push(b"year".as_slice())?;
+    Ok(Seq::from_vec(names))
 }
 
 /// Whether the braces of the text balance, as a test that a definition computes.

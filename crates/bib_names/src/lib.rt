@@ -22,7 +22,7 @@ mod text;
 mod word;
 
 pub use fault::NameFault;
-pub use label::{label_base, text_in};
+pub use label::{label_base, label_names, text_in};
 pub use labelling::labels;
 pub use made_key::{BASE_LIMIT, key_base, key_bases_are_keys};
 pub use name::{Name, split_name};

@@ -6,8 +6,8 @@ use Rattle.std.proofs.lemmas.List.Elements.{All-head, All-tail}
 use Rattle.std.specs.List.{flat_map, All}
 use Rattle.std.specs.Char.{is_ascii_digit}
 use Rattle.bib_spec.specs.Text.{Text, is_space, is_name_within, is_name_byte, after_run}
-use Rattle.bib_spec.specs.Tree.{Part, Braced, Quoted, Digits, Macro, Link, Value, Row, part_bytes, link_bytes, value_bytes, row_bytes, last_comma_bytes, IsSpace, IsPart, IsLink, IsValue, IsRow, IsLastComma}
-use Rattle.bib_scan.specs.LeftToRight.{Read, Halt, read_name, past_hash, read_links, read_value_rest, read_value, read_row, past_byte, read_rows, ◌>>=◌}
+use Rattle.bib_spec.specs.Tree.{Part, Braced, Quoted, Digits, Macro, Link, Value, Assignment, Row, part_bytes, link_bytes, value_bytes, row_bytes, last_comma_bytes, IsSpace, IsPart, IsLink, IsValue, IsAssignment, IsRow, IsLastComma}
+use Rattle.bib_scan.specs.LeftToRight.{Read, Halt, Assigned, read_name, read_assignment, past_hash, read_links, read_value_rest, read_value, read_row, past_byte, read_rows, ◌>>=◌}
 use Rattle.bib_scan.proofs.PartLaws.{AfterPart, part_again, name_parts, name_again}
 use Rattle.bib_scan.proofs.ValueLemmas.{links_more, links_end}
 use Rattle.bib_scan.proofs.ValueLaws.{Stands, skip_space}
@@ -142,20 +142,30 @@ pub equals_stands : (x : Text) → Stands (61 ∷ x)
 unfolding is_space
 equals_stands x = refl
 
+-- what is read of an assignment with this text behind it
+abbrev pub assigned_of : Assignment → Text → Assigned
+assigned_of a u = record { name = a.name; value = value_bytes a.value; value_left = length (value_bytes a.value ++ (a.space_behind ++ u)) }
+
+pub assignment_again : (limit : ℕ) (a : Assignment) (b : ℕ) (x : Text) → IsAssignment limit a → EndsRow b → read_assignment limit (assignment_inside a (b ∷ x)) ≡ Ok (assigned_of a (b ∷ x), b ∷ x)
+unfolding read_assignment
+assignment_again limit a b x is ends =
+    let t6 : Text = a.space_behind ++ (b ∷ x) in
+    let t5 : Text = value_bytes a.value ++ t6 in
+    let t3 : Text = 61 ∷ (a.space_before_value ++ t5) in
+    let t1 : Text = a.name ++ (a.space_before_equals ++ t3) in
+    let e2 : read_name limit t1 ≡ Ok (a.name, a.space_before_equals ++ t3) = name_again limit a.name (a.space_before_equals ++ t3) is.name (after_space a.space_before_equals 61 (a.space_before_value ++ t5) is.space_before_equals equals_breaks).name in
+    let e3 : after_run is_space (a.space_before_equals ++ t3) ≡ t3 = skip_space a.space_before_equals t3 is.space_before_equals (equals_stands (a.space_before_value ++ t5)) in
+    let e4 : after_run is_space (a.space_before_value ++ t5) ≡ t5 = skip_space a.space_before_value t5 is.space_before_value (value_stands limit a.value t6 is.value) in
+    let e5 : read_value limit t5 ≡ Ok (value_bytes a.value, t6) = value_again limit a.value t6 is.value (after_space a.space_behind b x is.space_behind ends.breaks) (no_link a.space_behind b x is.space_behind ends) in
+    let e6 : after_run is_space t6 ≡ b ∷ x = skip_space a.space_behind (b ∷ x) is.space_behind (not_from_false _ ends.no_space) in
+    rw (e2, e3, e4, e5, e6) refl
+
 pub row_again : (limit : ℕ) (r : Row) (b : ℕ) (x : Text) → IsRow limit r → EndsRow b → read_row limit (row_inside r (b ∷ x)) ≡ Ok (b ∷ x)
 unfolding read_row
 row_again limit r b x is ends =
-    let t6 : Text = r.assignment.space_behind ++ (b ∷ x) in
-    let t5 : Text = value_bytes r.assignment.value ++ t6 in
-    let t3 : Text = 61 ∷ (r.assignment.space_before_value ++ t5) in
-    let t1 : Text = r.assignment.name ++ (r.assignment.space_before_equals ++ t3) in
-    let e1 : after_run is_space (r.space_before_name ++ t1) ≡ t1 = skip_space r.space_before_name t1 is.space_before_name (name_stands limit r.assignment.name _ is.assignment.name) in
-    let e2 : read_name limit t1 ≡ Ok (r.assignment.name, r.assignment.space_before_equals ++ t3) = name_again limit r.assignment.name (r.assignment.space_before_equals ++ t3) is.assignment.name (after_space r.assignment.space_before_equals 61 (r.assignment.space_before_value ++ t5) is.assignment.space_before_equals equals_breaks).name in
-    let e3 : after_run is_space (r.assignment.space_before_equals ++ t3) ≡ t3 = skip_space r.assignment.space_before_equals t3 is.assignment.space_before_equals (equals_stands (r.assignment.space_before_value ++ t5)) in
-    let e4 : after_run is_space (r.assignment.space_before_value ++ t5) ≡ t5 = skip_space r.assignment.space_before_value t5 is.assignment.space_before_value (value_stands limit r.assignment.value t6 is.assignment.value) in
-    let e5 : read_value limit t5 ≡ Ok (value_bytes r.assignment.value, t6) = value_again limit r.assignment.value t6 is.assignment.value (after_space r.assignment.space_behind b x is.assignment.space_behind ends.breaks) (no_link r.assignment.space_behind b x is.assignment.space_behind ends) in
-    let e6 : after_run is_space t6 ≡ b ∷ x = skip_space r.assignment.space_behind (b ∷ x) is.assignment.space_behind (not_from_false _ ends.no_space) in
-    rw (e1, e2, e3, e4, e5, e6) refl
+    let named : Text = assignment_inside r.assignment (b ∷ x) in
+    let skipped : after_run is_space (r.space_before_name ++ named) ≡ named = skip_space r.space_before_name named is.space_before_name (name_stands limit r.assignment.name _ is.assignment.name) in
+    rw (skipped, assignment_again limit r.assignment b x is.assignment ends) refl
 
 pub closed_here : (c : ℕ) (x : Text) → past_byte c (c ∷ x) ≡ Some x
 closed_here c x = cond-true (eqb c c) _ _ (eq-eqb c c refl)

@@ -8,15 +8,14 @@ use Rattle.std.specs.Result.{result_ok}
 use Rattle.bib_spec.specs.Bytes.{name_limit}
 use Rattle.bib_spec.specs.Text.{Text, is_space, after_run}
 use Rattle.bib_spec.specs.Tree.{Assignment, Row, Value, value_bytes, row_bytes, last_comma_bytes, IsAssignment, IsRow, IsLastComma, IsValue, IsSpace}
-use Rattle.bib_scan.specs.LeftToRight.{read_name, read_value, begins_name}
+use Rattle.bib_scan.specs.LeftToRight.{Read, read_assignment, read_value, begins_name}
 use Rattle.bib_scan.specs.View.{Field, field_behind, fields_behind}
-use Rattle.bib_scan.specs.FieldsLeft.{read_assignment, first_field, first_and_others, kind_behind, fields_left, all_fields_left}
+use Rattle.bib_scan.specs.FieldsLeft.{read_field, first_field, first_and_others, kind_behind, fields_left, all_fields_left}
 use Rattle.bib_scan.specs.declared.view.Kind.{Kind}
 use Rattle.bib_scan.specs.declared.view.Kind.TheVariants as kind
 use Rattle.bib_scan.proofs.ValueLaws.{skip_space}
-use Rattle.bib_scan.proofs.PartLaws.{name_again}
 use Rattle.bib_scan.proofs.RowLaws.{assignment_inside, row_shape}
-use Rattle.bib_scan.proofs.AgainLaws.{EndsRow, Close, equals_breaks, after_space, no_link, name_stands, value_stands, value_again, equals_stands, rows_inside, rows_begin}
+use Rattle.bib_scan.proofs.AgainLaws.{EndsRow, Close, after_space, no_link, name_stands, value_again, assignment_again, rows_inside, rows_begin}
 
 -- ---- one field
 
@@ -26,22 +25,13 @@ before_value before a u =
     let v : Text = value_bytes a.value ++ (a.space_behind ++ u) in
     sym (append_assoc (before ++ a.name ++ a.space_before_equals) (61 ∷ a.space_before_value) v ∙ append_assoc (before ++ a.name) a.space_before_equals _ ∙ append_assoc before a.name _)
 
-pub assignment_again : (total start : ℕ) (before : Text) (a : Assignment) (b : ℕ) (x : Text) → IsAssignment name_limit a → EndsRow b → total ≡ length (before ++ assignment_inside a (b ∷ x)) → read_assignment total start (assignment_inside a (b ∷ x)) ≡ Ok (field_behind start before a, b ∷ x)
-unfolding read_assignment
-assignment_again total start before a b x is ends whole =
-    let t6 : Text = a.space_behind ++ (b ∷ x) in
-    let t5 : Text = value_bytes a.value ++ t6 in
-    let t3 : Text = 61 ∷ (a.space_before_value ++ t5) in
-    let t1 : Text = a.name ++ (a.space_before_equals ++ t3) in
+pub field_again : (total start : ℕ) (before : Text) (a : Assignment) (b : ℕ) (x : Text) → IsAssignment name_limit a → EndsRow b → total ≡ length (before ++ assignment_inside a (b ∷ x)) → read_field total start (assignment_inside a (b ∷ x)) ≡ Ok (field_behind start before a, b ∷ x)
+field_again total start before a b x is ends whole =
+    let t5 : Text = value_bytes a.value ++ (a.space_behind ++ (b ∷ x)) in
     let front : Text = before ++ a.name ++ a.space_before_equals ++ 61 ∷ a.space_before_value in
-    let e2 : read_name name_limit t1 ≡ Ok (a.name, a.space_before_equals ++ t3) = name_again name_limit a.name (a.space_before_equals ++ t3) is.name (after_space a.space_before_equals 61 (a.space_before_value ++ t5) is.space_before_equals equals_breaks).name in
-    let e3 : after_run is_space (a.space_before_equals ++ t3) ≡ t3 = skip_space a.space_before_equals t3 is.space_before_equals (equals_stands (a.space_before_value ++ t5)) in
-    let e4 : after_run is_space (a.space_before_value ++ t5) ≡ t5 = skip_space a.space_before_value t5 is.space_before_value (value_stands name_limit a.value t6 is.value) in
-    let e5 : read_value name_limit t5 ≡ Ok (value_bytes a.value, t6) = value_again name_limit a.value t6 is.value (after_space a.space_behind b x is.space_behind ends.breaks) (no_link a.space_behind b x is.space_behind ends) in
-    let e6 : after_run is_space t6 ≡ b ∷ x = skip_space a.space_behind (b ∷ x) is.space_behind (not_from_false _ ends.no_space) in
-    let name_at : total - length t1 ≡ length before = omega (arith, whole, length-append before t1) in
+    let name_at : total - length (assignment_inside a (b ∷ x)) ≡ length before = omega (arith, whole, length-append before (assignment_inside a (b ∷ x))) in
     let value_at : total - length t5 ≡ length front = omega (arith, whole, ap (length {A = ℕ}) (before_value before a (b ∷ x)), length-append front t5) in
-    rw (e2, e3, e4, e5, e6, name_at, value_at) refl
+    rw (assignment_again name_limit a b x is ends, name_at, value_at) refl
 
 -- ---- none
 
@@ -56,7 +46,7 @@ close_no_comma : (c : ℕ) → Close c → eqb c 44 ≡ false
 close_no_comma c close = ne_eqb c 44 (λ e. both_ways (eqb 44 c) close.no_comma (subst (λ (n : ℕ). eqb 44 n ≡ true) (sym e) refl))
 
 -- no name begins with a closing delimiter
-no_assignment : (total start c : ℕ) (x : Text) → Close c → result_ok (read_assignment total start (c ∷ x)) ≡ None
+no_assignment : (total start c : ℕ) (x : Text) → Close c → result_ok (read_field total start (c ∷ x)) ≡ None
 unfolding read_assignment
 no_assignment total start c x close =
     let none : begins_name (c ∷ x) ≡ false = and_left _ _ close.ends.breaks.name in
@@ -83,8 +73,8 @@ rows_fields_again (r ∷ rs) (suc n) total c before tail x all space close room 
     let whole_is : total ≡ length (front ++ named) = whole ∙ ap (λ (u : Text). length (before ++ u)) shape ∙ ap (length {A = ℕ}) (sym (append_assoc before (44 ∷ r.space_before_name) named)) in
     let start : total - length (44 ∷ (r.space_before_name ++ named)) ≡ length before = omega (arith, whole, ap (λ (u : Text). length (before ++ u)) shape, length-append before (44 ∷ (r.space_before_name ++ named))) in
     let skipped : after_run is_space (r.space_before_name ++ named) ≡ named = skip_space r.space_before_name named ok.space_before_name (name_stands name_limit r.assignment.name _ ok.assignment.name) in
-    let read : read_assignment total (length before) named ≡ Ok (field_behind (length before) front r.assignment, rest) =
-    subst (λ (u : Text). total ≡ length (front ++ assignment_inside r.assignment u) → read_assignment total (length before) (assignment_inside r.assignment u) ≡ Ok (field_behind (length before) front r.assignment, u)) (sym begin.3) (assignment_again total (length before) front r.assignment begin.0 begin.1 ok.assignment begin.2) whole_is in
+    let read : read_field total (length before) named ≡ Ok (field_behind (length before) front r.assignment, rest) =
+    subst (λ (u : Text). total ≡ length (front ++ assignment_inside r.assignment u) → read_field total (length before) (assignment_inside r.assignment u) ≡ Ok (field_behind (length before) front r.assignment, u)) (sym begin.3) (field_again total (length before) front r.assignment begin.0 begin.1 ok.assignment begin.2) whole_is in
     let found : first_field kind.Entry total (44 ∷ (r.space_before_name ++ named)) ≡ Some (field_behind (length before) front r.assignment, rest) = rw (start, skipped, read) refl in
     let later = rows_fields_again rs n total c (before ++ row_bytes r) tail x (All-tail (IsRow name_limit) r rs all) space close (omega arith) (whole ∙ ap (λ (u : Text). length (before ++ u)) (append_assoc (row_bytes r) (flat_map row_bytes rs) (last_comma_bytes tail ++ c ∷ x)) ∙ ap (length {A = ℕ}) (sym (append_assoc before (row_bytes r) rest))) in
     ap (fields_left (suc n) kind.Entry total) shape
@@ -105,8 +95,8 @@ pub definition_field_again : (total : ℕ) (before : Text) (a : Assignment) (b :
 definition_field_again total before a b x is ends whole =
     let t : Text = assignment_inside a (b ∷ x) in
     let start : total - length t ≡ length before = omega (arith, whole, length-append before t) in
-    let read = assignment_again total (length before) before a b x is ends whole in
-    let found : first_field kind.Macro total t ≡ Some (field_behind (length before) before a, b ∷ x) = rw (start, read) refl in
+    let read = field_again total (length before) before a b x is ends whole in
+    let found : first_field kind.Macro total t ≡ Some (field_behind (length before) before a, b ∷ x) = ap (λ (n : ℕ). result_ok (read_field total n t)) start ∙ ap (λ (m : Read Field). result_ok m) read in
     let some : 0 < length t = omega (arith, ap (length {A = ℕ}) (before_value [] a (b ∷ x)), length-append (a.name ++ a.space_before_equals) (61 ∷ a.space_before_value), length-append (a.name ++ a.space_before_equals ++ 61 ∷ a.space_before_value) (value_bytes a.value ++ (a.space_behind ++ b ∷ x))) in
     one_field (length t) total kind.Macro t _ some found refl
 

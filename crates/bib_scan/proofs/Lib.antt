@@ -44,3 +44,5 @@ pub mod LayoutLaws
 pub mod TakenApart
 pub mod PartsLemmas
 pub mod PartsFaults
+pub mod TableLemmas
+pub mod OnlyPart

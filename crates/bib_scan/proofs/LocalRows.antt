@@ -4,12 +4,12 @@ use Rattle.std.proofs.lemmas.List.{append_cancel_right, length-append, length-dr
 use Rattle.std.specs.List.{prefix_len}
 use Rattle.bib_spec.specs.Fault.{ExpectedEquals, ExpectedCommaOrClose}
 use Rattle.bib_spec.specs.Text.{Text, is_space, after_run}
-use Rattle.bib_spec.specs.Tree.{Part, part_bytes, row_bytes, Delimiter, close_byte, goes_on_key}
-use Rattle.bib_scan.specs.LeftToRight.{Read, Halt, stop, expected, read_run, read_name, read_equals, read_part, past_hash, go_on, read_links, read_value_rest, read_value, read_row, past_byte, read_comma, read_close, read_rows, read_all_rows, read_entry, read_definition, read_preamble, ◌>>=◌}
+use Rattle.bib_spec.specs.Tree.{Part, part_bytes, Delimiter, close_byte, goes_on_key}
+use Rattle.bib_scan.specs.LeftToRight.{Read, Halt, stop, expected, read_run, read_name, read_equals, read_part, past_hash, go_on, read_links, read_value_rest, read_value, read_assignment, read_row, past_byte, read_comma, read_close, read_rows, read_all_rows, read_entry, read_definition, read_preamble, ◌>>=◌}
 use Rattle.bib_scan.proofs.RunLaws.{not_ok, run_stops}
 use Rattle.bib_scan.proofs.PartLaws.{part_ok}
 use Rattle.bib_scan.proofs.ValueLaws.{joined_ok, skip_space}
-use Rattle.bib_scan.proofs.RowLaws.{comma_ok, row_ok, row_shape}
+use Rattle.bib_scan.proofs.RowLaws.{row_shorter, comma_ok}
 use Rattle.bib_scan.proofs.LocalLaws.{rest_of, with_rest, LocalAt, Local, local_bind, local_same, local_cond, behind_first, local_behind, local_ok, local_expected, run, local_run, local_limited}
 use Rattle.bib_scan.proofs.LocalParts.{first_is, local_part, local_name}
 use Rattle.std.proofs.lemmas.List.Elements.{All-nil}
@@ -153,9 +153,10 @@ row_pieces limit t =
     run is_space t >>= λ a. read_name limit a.1 >>= λ n. run is_space n.1 >>= λ b. plain read_equals b.1 >>= λ e. run is_space e.1 >>= λ d. value_gap limit d.1
 
 pub row_is : (limit : ℕ) (t : Text) → plain (read_row limit) t ≡ row_pieces limit t
-unfolding read_row
+unfolding read_row read_assignment
 row_is limit t =
-    bind_assoc (read_name limit (after_run is_space t)) _ _
+    bind_assoc (read_assignment limit (after_run is_space t)) _ _
+    ∙ bind_assoc (read_name limit (after_run is_space t)) _ _
     ∙ bind_same (read_name limit (after_run is_space t)) _ (λ n. plain read_equals (after_run is_space n.1) >>= λ e. value_gap limit (after_run is_space e.1)) (λ n read.
     bind_assoc (read_equals (after_run is_space n.1)) _ _
     ∙ bind_same (read_equals (after_run is_space n.1)) _ (λ u. ready u >>= λ e. value_gap limit (after_run is_space e.1)) (λ u also. bind_assoc (read_value limit (after_run is_space u)) _ _)
@@ -208,7 +209,7 @@ skip_twice t = skip_space [] (after_run is_space t) (All-nil (λ (b : ℕ). is_s
 
 row_skip : (limit : ℕ) (t : Text) → read_row limit t ≡ read_row limit (after_run is_space t)
 unfolding read_row
-row_skip limit t = ap (λ (s : Text). read_name limit s >>= λ n. read_equals (after_run is_space n.1) >>= λ u. read_value limit (after_run is_space u) >>= λ v. Ok (after_run is_space v.1)) (sym (skip_twice t))
+row_skip limit t = ap (λ (s : Text). read_assignment limit s >>= λ x. Ok x.1) (sym (skip_twice t))
 
 abbrev pub rows_read : ℕ → ℕ → ℕ → Text → Read (Unit {0})
 rows_read limit n c t = plain (read_rows limit n c) t
@@ -266,15 +267,9 @@ rows_turn limit n m c t None small tiny later = bind_same (read_comma t) _ _ (λ
     shorter : (u : Text) → read_comma t ≡ Ok u → length u < length t
     shorter u read = omega (arith, ap (length {A = ℕ}) (comma_ok t u read))
 
-    row_len : (u v : Text) → read_row limit u ≡ Ok v → length v ≤ length u
-    row_len u v read =
-        let h = row_ok limit u v read in
-        let shape : 44 ∷ u ≡ row_bytes h.0 ++ v = ap (λ (x : Text). 44 ∷ x) h.3 ∙ sym (row_shape h.0 v) in
-        omega (arith, ap (length {A = ℕ}) shape, length-append (row_bytes h.0) v)
-
     inner : (u : Text) (o : Option Text) → length u < length t → go_on (read_row limit u >>= λ v. read_rows limit n c v) Ok o ≡ go_on (read_row limit u >>= λ v. read_rows limit m c v) Ok o
     inner u (Some w) less = refl
-    inner u None less = bind_same (read_row limit u) _ _ (λ v read. let short = row_len u v read in later v (omega arith) (omega arith))
+    inner u None less = bind_same (read_row limit u) _ _ (λ v read. let short = row_shorter limit u v read in later v (omega arith) (omega arith))
 
 rows_fuel : (limit : ℕ) (n m c : ℕ) (t : Text) → length t < n → length t < m → read_rows limit n c t ≡ read_rows limit m c t
 unfolding read_rows

@@ -1,5 +1,5 @@
 -- What can stand where the reading of a command, or of a whole text, stops.
-use Rattle.std.proofs.Common.{◌≡◌, ℕ, zero, suc, ◌+◌, ◌<◌, ◌≤◌, Bool, true, false, cond, eqb, List, [], ◌∷◌, ◌++◌, length, refl, sym, ap, subst, ◌∙◌, arith, append_assoc, append-nil, inl, inr, ◌⊎◌, Option, None, Some, Result, Ok, Err}
+use Rattle.std.proofs.Common.{◌≡◌, ℕ, zero, suc, ◌+◌, ◌<◌, Bool, true, false, cond, eqb, List, [], ◌∷◌, ◌++◌, length, refl, sym, ap, subst, ◌∙◌, arith, append_assoc, append-nil, inl, inr, ◌⊎◌, Option, None, Some, Result, Ok, Err}
 use Rattle.std.proofs.lemmas.List.{append_cancel_right, length-append}
 use Rattle.std.proofs.lemmas.List.Elements.{All-nil, All-cons, All-push}
 use Rattle.std.proofs.lemmas.List.Concat.{flat_map-append}
@@ -11,7 +11,7 @@ use Rattle.bib_spec.specs.Tree.{Row, IsRow, IsSpace, IsLastComma, value_bytes, l
 use Rattle.bib_scan.specs.LeftToRight.{Read, Halt, stop, read_run, past_byte, read_comma, read_close, go_on, read_row, read_rows, read_all_rows, read_entry, read_definition, read_preamble, read_value, ◌>>=◌}
 use Rattle.bib_scan.proofs.RunLaws.{bind_ok, ok_same, not_ok, run_passes, limited_again}
 use Rattle.bib_scan.proofs.ValueLaws.{Stands, skip_space, space_split, value_ok}
-use Rattle.bib_scan.proofs.RowLaws.{comma_ok, row_ok, row_inside, row_shape}
+use Rattle.bib_scan.proofs.RowLaws.{row_shorter, comma_ok, row_ok, row_inside, row_shape}
 use Rattle.bib_scan.proofs.AgainLaws.{Close, row_again, rows_inside, rows_again, value_again}
 use Rattle.bib_scan.proofs.TreeAgainLaws.{closes, closing_again, rows_len}
 use Rattle.bib_scan.proofs.UniqueLaws.{tail_same, AfterRow, after_value, after_row_stands}
@@ -113,12 +113,6 @@ turn_cons limit c t u next h read is later =
 
 turn_here : (limit : ℕ) (c : ℕ) (t : Text) (h : Halt) → ((read_comma t ≡ Err h) ⊎ ((u : Text) × (t ≡ 44 ∷ u) × (plain (read_row limit) u ≡ Err h))) → Turn limit c t h
 turn_here limit c t h stopped = record { rows = []; are_rows = All-nil (IsRow limit); left = t; split = refl; stopped = stopped }
-
-row_shorter : (limit : ℕ) (u v : Text) → read_row limit u ≡ Ok v → length v ≤ length u
-row_shorter limit u v is =
-    let r = row_ok limit u v is in
-    let shape : 44 ∷ u ≡ row_bytes r.0 ++ v = ap (λ (x : Text). 44 ∷ x) r.3 ∙ sym (row_shape r.0 v) in
-    omega (arith, ap (length {A = ℕ}) shape, length-append (row_bytes r.0) v)
 
 turn_of : (limit : ℕ) (n c : ℕ) (t : Text) (h : Halt) (o : Option Text) → ((u : Text) → length u < length t → read_rows limit n c u ≡ Err h → Turn limit c u h) → go_on (read_comma t >>= λ u. go_on (read_row limit u >>= λ v. read_rows limit n c v) Ok (past_byte c (after_run is_space u))) Ok o ≡ Err h → Turn limit c t h
 turn_of limit n c t h (Some u) later is = absurd (not_ok u h _ is refl)

@@ -1,12 +1,13 @@
 -- Rows and entries: what is read is one.
-use Rattle.std.proofs.Common.{◌≡◌, ℕ, zero, suc, Bool, true, false, cond, eqb, List, [], ◌∷◌, ◌++◌, refl, sym, ap, subst, ◌∙◌, append_assoc, inl, inr, Option, None, Some, Ok, Err}
+use Rattle.std.proofs.Common.{◌≡◌, ◌≤◌, ℕ, zero, suc, Bool, true, false, cond, eqb, List, [], ◌∷◌, ◌++◌, length, refl, sym, ap, subst, ◌∙◌, arith, append_assoc, inl, inr, Option, None, Some, Ok, Err}
 use Rattle.std.proofs.lemmas.Bool.{eqb-true}
+use Rattle.std.proofs.lemmas.List.{length-append}
 use Rattle.std.proofs.lemmas.List.Elements.{All-nil, All-cons}
 use Rattle.std.specs.List.{take_while, flat_map, All}
 use Rattle.bib_spec.specs.Fault.{ExpectedCommaOrClose}
 use Rattle.bib_spec.specs.Text.{Text, is_space, after_run}
 use Rattle.bib_spec.specs.Tree.{Assignment, Row, value_bytes, assignment_bytes, row_bytes, last_comma_bytes, IsAssignment, IsRow, IsLastComma}
-use Rattle.bib_scan.specs.LeftToRight.{expected, read_equals, read_row, past_byte, read_comma, read_close, go_on, read_rows, ◌>>=◌}
+use Rattle.bib_scan.specs.LeftToRight.{expected, Assigned, read_equals, read_assignment, read_row, past_byte, read_comma, read_close, go_on, read_rows, ◌>>=◌}
 use Rattle.bib_scan.proofs.RunLaws.{bind_ok, chosen, ok_same, not_ok, run_passes, run_stops}
 use Rattle.bib_scan.proofs.PartLaws.{name_ok}
 use Rattle.bib_scan.proofs.ValueLaws.{Stands, space_split, value_ok}
@@ -70,14 +71,16 @@ abbrev pub IsRowOf : ℕ → Text → Text → Type 0
 IsRowOf limit t rest = (r : Row) × IsRow limit r × Stands rest × (t ≡ row_inside r rest)
 
 pub row_ok : (limit : ℕ) (t rest : Text) → read_row limit t ≡ Ok rest → IsRowOf limit t rest
-unfolding read_row
+unfolding read_row read_assignment
 row_ok limit t rest is =
-    let named = bind_ok _ _ _ is in
+    let whole = bind_ok _ _ _ is in
+    let named = bind_ok _ _ _ whole.1 in
     let sign = bind_ok _ _ _ named.2 in
     let valued = bind_ok _ _ _ sign.2 in
     let n = name_ok limit _ _ named.1 in
     let e = equals_ok _ _ sign.1 in
     let v = value_ok limit _ _ valued.1 in
+    let end : after_run is_space valued.0.1 ≡ rest = ap (λ (x : Assigned × Text). x.1) (ok_same _ whole.0 _ refl valued.2) ∙ ok_same _ rest _ refl whole.2 in
     let a : Assignment = record {
       name = named.0.0;
       space_before_equals = take_while is_space named.0.1;
@@ -94,11 +97,17 @@ row_ok limit t rest is =
     } in
     let r : Row = record { space_before_name = take_while is_space t; assignment = a } in
     let ok : IsRow limit r = record { space_before_name = run_passes is_space t; assignment = good } in
-    let last : valued.0.1 ≡ a.space_behind ++ rest = space_split valued.0.1 ∙ ap (λ (u : Text). a.space_behind ++ u) (ok_same _ rest _ refl valued.2) in
+    let last : valued.0.1 ≡ a.space_behind ++ rest = space_split valued.0.1 ∙ ap (λ (u : Text). a.space_behind ++ u) end in
     let value_part : after_run is_space sign.0 ≡ value_bytes v.0 ++ (a.space_behind ++ rest) = v.3 ∙ ap (λ (u : Text). u ++ valued.0.1) v.2 ∙ ap (λ (u : Text). value_bytes v.0 ++ u) last in
     let sign_part : after_run is_space named.0.1 ≡ 61 ∷ (a.space_before_value ++ (value_bytes v.0 ++ (a.space_behind ++ rest))) = e ∙ ap (λ (u : Text). 61 ∷ u) (space_split sign.0 ∙ ap (λ (u : Text). a.space_before_value ++ u) value_part) in
     let name_part : after_run is_space t ≡ assignment_inside a rest = n.split ∙ ap (λ (u : Text). a.name ++ u) (space_split named.0.1 ∙ ap (λ (u : Text). a.space_before_equals ++ u) sign_part) in
-    (r, ok, subst Stands (ok_same _ rest _ refl valued.2) (run_stops is_space valued.0.1), space_split t ∙ ap (λ (u : Text). r.space_before_name ++ u) name_part)
+    (r, ok, subst Stands end (run_stops is_space valued.0.1), space_split t ∙ ap (λ (u : Text). r.space_before_name ++ u) name_part)
+
+pub row_shorter : (limit : ℕ) (t rest : Text) → read_row limit t ≡ Ok rest → length rest ≤ length t
+row_shorter limit t rest is =
+    let r = row_ok limit t rest is in
+    let shape : 44 ∷ t ≡ row_bytes r.0 ++ rest = ap (λ (x : Text). 44 ∷ x) r.3 ∙ sym (row_shape r.0 rest) in
+    omega (arith, ap (length {A = ℕ}) shape, length-append (row_bytes r.0) rest)
 
 abbrev pub AreRows : ℕ → ℕ → Text → Text → Type 0
 AreRows limit c t rest =

@@ -1,7 +1,7 @@
 -- Steps of the reader of an entry's rows.
 use Rattle.std.proofs.Common.{◌≡◌, ℕ, zero, suc, ◌+◌, ◌-◌, ◌<◌, ◌≤◌, length, refl, ap, ◌∙◌, arith, Result, Ok, Err, None, Some}
 use Rattle.bib_spec.specs.Text.{Text, after_run, is_space}
-use Rattle.bib_scan.specs.LeftToRight.{Halt, read_comma, past_byte, go_on, read_row, read_rows, ◌>>=◌}
+use Rattle.bib_scan.specs.LeftToRight.{Halt, Assigned, read_comma, past_byte, go_on, read_assignment, read_row, read_rows, ◌>>=◌}
 
 -- The text behind the rows of t is the text behind those of rest.
 pub record RowsOn (limit : ℕ) (c : ℕ) (t rest : Text) : Type 0 where
@@ -31,13 +31,21 @@ rows_comma_fault limit c t rest h on open_still is = by_turn limit c t rest on �
 pub rows_tail : (limit c : ℕ) (t rest u end : Text) → RowsOn limit c t rest → None ≡ past_byte c rest → read_comma rest ≡ Ok u → Some end ≡ past_byte c (after_run is_space u) → read_rows limit (length t + 1) c t ≡ Ok end
 rows_tail limit c t rest u end on open_still is then_close = by_turn limit c t rest on ∙ rw (← open_still, is, ← then_close) refl
 
-pub rows_row_fault : (limit c : ℕ) (t rest u : Text) (h : Halt) → RowsOn limit c t rest → None ≡ past_byte c rest → read_comma rest ≡ Ok u → None ≡ past_byte c (after_run is_space u) → read_row limit u ≡ Err h → read_rows limit (length t + 1) c t ≡ Err h
-rows_row_fault limit c t rest u h on open_still is still fault = by_turn limit c t rest on ∙ rw (← open_still, is, ← still, fault) refl
+row_stops : (limit : ℕ) (u : Text) (h : Halt) → read_assignment limit (after_run is_space u) ≡ Err h → read_row limit u ≡ Err h
+unfolding read_row
+row_stops limit u h is = rw is refl
 
-pub rows_more : (limit c : ℕ) (t rest u next : Text) → RowsOn limit c t rest → None ≡ past_byte c rest → read_comma rest ≡ Ok u → None ≡ past_byte c (after_run is_space u) → read_row limit u ≡ Ok next → length next < length rest → RowsOn limit c t next
-rows_more limit c t rest u next on open_still is still read shorter =
+row_behind : (limit : ℕ) (u : Text) (x : Assigned × Text) → read_assignment limit (after_run is_space u) ≡ Ok x → read_row limit u ≡ Ok x.1
+unfolding read_row
+row_behind limit u x is = rw is refl
+
+pub rows_row_fault : (limit c : ℕ) (t rest u : Text) (h : Halt) → RowsOn limit c t rest → None ≡ past_byte c rest → read_comma rest ≡ Ok u → None ≡ past_byte c (after_run is_space u) → read_assignment limit (after_run is_space u) ≡ Err h → read_rows limit (length t + 1) c t ≡ Err h
+rows_row_fault limit c t rest u h on open_still is still fault = by_turn limit c t rest on ∙ rw (← open_still, is, ← still, row_stops limit u h fault) refl
+
+pub rows_more : (limit c : ℕ) (t rest u : Text) (x : Assigned × Text) → RowsOn limit c t rest → None ≡ past_byte c rest → read_comma rest ≡ Ok u → None ≡ past_byte c (after_run is_space u) → read_assignment limit (after_run is_space u) ≡ Ok x → length x.1 < length rest → RowsOn limit c t x.1
+rows_more limit c t rest u x on open_still is still read shorter =
     let room : length rest < on.read.0 = on.read.1 in
     record {
       shorter = omega (arith, on.shorter);
-      read = (on.read.0 - 1, omega arith, by_turn limit c t rest on ∙ rw (← open_still, is, ← still, read) refl);
+      read = (on.read.0 - 1, omega arith, by_turn limit c t rest on ∙ rw (← open_still, is, ← still, row_behind limit u x read) refl);
     }

@@ -1,61 +1,32 @@
 -- One field after another: what is left behind the first.
-use Rattle.std.proofs.Common.{◌≡◌, ℕ, zero, suc, Bool, ◌-◌, ◌<◌, ◌≤◌, List, [], ◌∷◌, length, refl, sym, ap, ◌∙◌, arith, Option, None, Some, Result, Ok, Err}
-use Rattle.std.proofs.lemmas.List.{length-append, length-drop}
-use Rattle.std.specs.List.{prefix_len}
+use Rattle.std.proofs.Common.{◌≡◌, ℕ, zero, suc, ◌<◌, ◌≤◌, List, [], ◌∷◌, length, refl, sym, ap, ◌∙◌, arith, Option, None, Some, Result, Ok, Err}
 use Rattle.std.specs.Result.{result_ok}
 use Rattle.bib_spec.specs.Bytes.{name_limit}
 use Rattle.bib_spec.specs.Text.{Text, is_space, after_run}
-use Rattle.bib_scan.specs.LeftToRight.{Halt, read_name, read_equals, read_value, read_comma}
+use Rattle.bib_scan.specs.LeftToRight.{Halt, read_assignment, read_row, read_comma}
 use Rattle.bib_scan.specs.View.{Field}
-use Rattle.bib_scan.specs.FieldsLeft.{read_assignment, first_field, first_and_others, kind_behind, fields_left, all_fields_left}
+use Rattle.bib_scan.specs.FieldsLeft.{first_field, first_and_others, kind_behind, fields_left, all_fields_left}
 use Rattle.bib_scan.specs.declared.view.Kind.{Kind}
 use Rattle.bib_scan.specs.declared.view.Kind.TheVariants as kind
 use Rattle.bib_scan.proofs.RunLaws.{bind_ok, ok_same}
-use Rattle.bib_scan.proofs.PartLaws.{name_ok}
-use Rattle.bib_scan.proofs.ValueLaws.{value_ok}
-use Rattle.bib_scan.proofs.RowLaws.{equals_ok, comma_ok}
+use Rattle.bib_scan.proofs.RowLaws.{comma_ok, row_shorter as read_row_shorter}
 use Rattle.bib_scan.proofs.FieldLaws.{none_left}
 
 ok_some : {A : Type 0} (r : Result A Halt) (x : A) → result_ok r ≡ Some x → r ≡ Ok x
 ok_some (Ok y) x is = cc
 ok_some (Err h) x is = cc
 
-run_shorter : (test : ℕ → Bool) (t : Text) → length (after_run test t) ≤ length t
-run_shorter test t = omega (arith, length-drop (prefix_len test t) t)
-
 -- ---- what is read is no longer there
 
-assignment_shorter : (total start : ℕ) (t : Text) (x : Field × Text) → read_assignment total start t ≡ Ok x → length x.1 ≤ length t
-unfolding read_assignment
-assignment_shorter total start t x is =
-    let named = bind_ok (read_name name_limit t) _ x is in
-    let sign = bind_ok (read_equals (after_run is_space named.0.1)) _ x named.2 in
-    let valued = bind_ok (read_value name_limit (after_run is_space sign.0)) _ x sign.2 in
-    let n = name_ok name_limit t named.0 named.1 in
-    let e = equals_ok (after_run is_space named.0.1) sign.0 sign.1 in
-    let v = value_ok name_limit (after_run is_space sign.0) valued.0 valued.1 in
-    let field : Field = record { name = named.0.0; value = valued.0.0; start = start; name_at = total - length t; value_at = total - length (after_run is_space sign.0) } in
-    let rest : Text = after_run is_space valued.0.1 in
-    let last : rest ≡ x.1 = ap (λ (y : Field × Text). y.1) (ok_same (field, rest) x (Ok (field, rest)) refl valued.2) in
-    omega (
-      arith,
-      ap (length {A = ℕ}) last,
-      ap (length {A = ℕ}) n.split,
-      length-append named.0.0 named.0.1,
-      run_shorter is_space named.0.1,
-      ap (length {A = ℕ}) e,
-      run_shorter is_space sign.0,
-      ap (length {A = ℕ}) v.3,
-      length-append valued.0.0 valued.0.1,
-      run_shorter is_space valued.0.1,
-    )
-
 row_shorter : (total : ℕ) (t : Text) (x : Field × Text) → first_field kind.Entry total t ≡ Some x → length x.1 < length t
+unfolding read_row
 row_shorter total t x is =
     let read = bind_ok (read_comma t) _ x (ok_some _ x is) in
-    let sign = comma_ok t read.0 read.1 in
-    let later = assignment_shorter total (total - length t) (after_run is_space read.0) x read.2 in
-    omega (arith, ap (length {A = ℕ}) sign, run_shorter is_space read.0)
+    let inside = bind_ok (read_assignment name_limit (after_run is_space read.0)) _ x read.2 in
+    let last : inside.0.1 ≡ x.1 = ap (λ (y : Field × Text). y.1) (ok_same _ x _ refl inside.2) in
+    let row : read_row name_limit read.0 ≡ Ok x.1 = rw (inside.1, last) refl in
+    let short = read_row_shorter name_limit read.0 x.1 row in
+    omega (arith, ap (length {A = ℕ}) (comma_ok t read.0 read.1))
 
 -- ---- how many turns do not matter
 

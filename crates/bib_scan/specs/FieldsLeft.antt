@@ -6,24 +6,23 @@ use Rattle.std.specs.Result.{result_ok}
 use Rattle.bib_spec.specs.Bytes.{name_limit}
 use Rattle.bib_spec.specs.Text.{Text, is_space, is_type_byte, same, after_run}
 use Rattle.bib_spec.specs.Tree.{Delimiter, Brace, goes_on_key}
-use Rattle.bib_scan.specs.LeftToRight.{Read, ◌>>=◌, read_name, read_equals, read_value, read_comma, delimiter_of}
+use Rattle.bib_scan.specs.LeftToRight.{Read, ◌>>=◌, Assigned, read_assignment, read_value, read_comma, delimiter_of}
 use Rattle.bib_scan.specs.View.{Field, View}
 use Rattle.bib_scan.specs.declared.view.Kind.{Kind}
 use Rattle.bib_scan.specs.declared.view.Kind.TheVariants as kind
 
 -- ---- fields
 
--- an assignment, as the field of a row that begins at start, in a body of so many bytes
-unfoldable pub read_assignment : ℕ → ℕ → Text → Read Field
-read_assignment total start t = do
-  named ← read_name name_limit t
-  u ← read_equals (after_run is_space named.1)
-  valued ← read_value name_limit (after_run is_space u)
-  Ok (record { name = named.0; value = valued.0; start = start; name_at = total - length t; value_at = total - length (after_run is_space u) }, after_run is_space valued.1)
+-- what the assignment at the front of t says, as the field of a row that begins at start, in a body of so many bytes
+abbrev pub field_in : ℕ → ℕ → Text → Assigned → Field
+field_in total start t a = record { name = a.name; value = a.value; start = start; name_at = total - length t; value_at = total - a.value_left }
+
+abbrev pub read_field : ℕ → ℕ → Text → Read Field
+read_field total start t = read_assignment name_limit t >>= λ x. Ok (field_in total start t x.0, x.1)
 
 -- a row, as a field
 abbrev pub read_row_field : ℕ → Text → Read Field
-read_row_field total t = read_comma t >>= λ u. read_assignment total (total - length t) (after_run is_space u)
+read_row_field total t = read_comma t >>= λ u. read_field total (total - length t) (after_run is_space u)
 
 -- a value, as the field of a preamble
 abbrev pub read_preamble_field : ℕ → Text → Read Field
@@ -34,7 +33,7 @@ read_preamble_field total t =
 -- the field at the front, in an item of this kind
 abbrev pub first_field : Kind → ℕ → Text → Option (Field × Text)
 first_field kind.Entry total t = result_ok (read_row_field total t)
-first_field kind.Macro total t = result_ok (read_assignment total (total - length t) t)
+first_field kind.Macro total t = result_ok (read_field total (total - length t) t)
 first_field kind.Preamble total t = result_ok (read_preamble_field total t)
 first_field kind.Comment total t = None
 

@@ -114,13 +114,23 @@ read_value_rest limit t = read_part limit t >>= λ first. read_links limit (leng
 abbrev pub read_value : ℕ → Text → Read Text
 read_value limit t = read_value_rest limit t >>= λ rest. Ok (take (length t - length rest) t, rest)
 
--- the text behind white space, an assignment and its white space
-unfoldable pub read_row : ℕ → Text → Result Text Halt
-read_row limit t = do
-  named ← read_name limit (after_run is_space t)
+-- what an assignment says: its name, its value's bytes, and how long the text is from the value on
+pub record Assigned : Type 0 where
+  pub name : Text
+  pub value : Text
+  pub value_left : ℕ
+
+-- an assignment, and the text behind it and white space
+unfoldable pub read_assignment : ℕ → Text → Read Assigned
+read_assignment limit t = do
+  named ← read_name limit t
   u ← read_equals (after_run is_space named.1)
   valued ← read_value limit (after_run is_space u)
-  Ok (after_run is_space valued.1)
+  Ok (record { name = named.0; value = valued.0; value_left = length (after_run is_space u) }, after_run is_space valued.1)
+
+-- the text behind white space, an assignment and its white space
+unfoldable pub read_row : ℕ → Text → Result Text Halt
+read_row limit t = read_assignment limit (after_run is_space t) >>= λ x. Ok x.1
 
 -- the text behind this byte, where the text begins with it
 abbrev pub past_byte : ℕ → Text → Option Text

@@ -5,6 +5,7 @@ pub mod FieldsLeft
 pub mod Layout
 pub mod Code
 pub mod PartView
+pub mod AssignedView
 pub mod Laws
 pub mod ValueParts
 pub mod PartsLeft

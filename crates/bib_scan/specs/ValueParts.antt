@@ -1,6 +1,7 @@
 -- The parts of a value, and where they lie in its bytes.
-use Rattle.std.specs.Prelude.{ℕ, ◌≡◌, ◌+◌, List, [], ◌∷◌, ◌++◌, length, map}
-use Rattle.bib_spec.specs.Bytes.{hash, name_limit}
+use Rattle.std.specs.Prelude.{ℕ, ◌≡◌, ◌==◌, ◌+◌, if◌then◌else◌, List, [], ◌∷◌, ◌++◌, length, map}
+use Rattle.std.specs.Char.{is_ascii_digit}
+use Rattle.bib_spec.specs.Bytes.{open_brace, quote, hash, name_limit}
 use Rattle.bib_spec.specs.Text.{Text}
 use Rattle.bib_spec.specs.Tree as tree
 use Rattle.bib_spec.specs.Tree.{Link, Value, part_bytes, link_bytes, value_bytes, IsValue}
@@ -22,6 +23,14 @@ part_kind (tree.Braced t) = kind.Braced
 part_kind (tree.Quoted t) = kind.Quoted
 part_kind (tree.Digits t) = kind.Digits
 part_kind (tree.Macro t) = kind.Macro
+
+-- the kind of a part that begins with this byte
+abbrev pub kind_begun : ℕ → PartKind
+kind_begun b =
+    if b == open_brace then kind.Braced
+    else if b == quote then kind.Quoted
+    else if is_ascii_digit b then kind.Digits
+    else kind.Macro
 
 -- where a part lies that stands behind this text
 abbrev pub span_behind : Text → tree.Part → PartSpan

@@ -5,29 +5,19 @@ ghost use Rattle.std.specs.Option.{option_copied};
 ghost use Rattle.std.specs.List.{prefix_len};
 ghost use Rattle.bib_spec.specs.Bytes.{name_limit};
 ghost use Rattle.bib_spec.specs.Tree.{goes_on_key, close_byte};
-ghost use Rattle.bib_scan.specs.LeftToRight.{read_run, read_row, past_byte, read_comma, read_close, read_all_rows, read_entry, read_definition, read_preamble, read_body, read_command};
+ghost use Rattle.bib_scan.specs.LeftToRight.{read_run, past_byte, read_comma, read_close, read_all_rows, read_entry, read_definition, read_preamble, read_body, read_command};
 ghost use Rattle.bib_scan.specs.Code.{Gives};
 ghost use Rattle.bib_scan.specs.DelimiterView.{delimiter_view};
 
 use crate::fault::{Fault, Stop};
 use crate::opening::Delimiter;
+use crate::row::{past_row, split_assignment};
 use crate::run::{behind, past_space, split_type_name};
 use crate::text::{NAME_LIMIT, same_folded};
-use crate::value::{past_equals, split_name, split_value};
-
-/// The text behind a row, from behind its comma on.
-#[tactic(auto, unfolding(crate::specs::LeftToRight::read_row))]
-fn past_row(text: &[u8]) -> Result<&[u8], Stop<'_>>
-    ensures read { Gives (λ x. x.now) result (read_row name_limit text.now) }
-    ensures shorter { IfOk result (λ x. length x.now < length text.now) }
-{
-    let (_, rest) = split_name(past_space(text))?;
-    let rest = past_equals(past_space(rest))?;
-    let (_, rest) = split_value(past_space(rest))?;
-    Ok(past_space(rest))
-}
+use crate::value::split_value;
 
 /// The text behind this byte, where the text begins with it.
+#[inline(always)]
 fn past_byte(byte: u8, text: &[u8]) -> Option<&[u8]>
     ensures read { option_copied result ≡ past_byte byte text.now }
     ensures shorter { IfSome result (λ x. length x.now < length text.now) }
@@ -39,6 +29,7 @@ fn past_byte(byte: u8, text: &[u8]) -> Option<&[u8]>
 }
 
 /// The text behind a comma.
+#[inline(always)]
 pub(crate) fn past_comma(text: &[u8]) -> Result<&[u8], Stop<'_>>
     ensures read { Gives (λ x. x.now) result (read_comma text.now) }
     ensures shorter { IfOk result (λ x. length x.now < length text.now) }
@@ -95,11 +86,12 @@ fn past_rows(close: u8, text: &[u8]) -> Result<&[u8], Stop<'_>>
         if let Some(end) = past_byte(close, rest) {
             return Ok(end);
         }
-        let after = past_comma(rest)?;
-        if let Some(end) = past_byte(close, past_space(after)) {
+        let named = past_space(past_comma(rest)?);
+        if let Some(end) = past_byte(close, named) {
             return Ok(end);
         }
-        rest = past_row(after)?;
+        let (_, behind) = split_assignment(named)?;
+        rest = behind;
     }
 }
 

@@ -4,12 +4,13 @@ ghost use Rattle.std.specs.Prelude.{◌≡◌, ◌<◌, ◌≤◌, length, IfOk,
 ghost use Rattle.std.specs.Option.{option_map};
 ghost use Rattle.bib_scan.specs.Code.{Gives};
 ghost use Rattle.bib_scan.specs.View.{field_seen};
-ghost use Rattle.bib_scan.specs.FieldsLeft.{read_assignment, read_row_field, read_preamble_field, first_field};
+ghost use Rattle.bib_scan.specs.FieldsLeft.{read_field, read_row_field, read_preamble_field, first_field};
 
 use crate::body::past_comma;
 use crate::fault::Stop;
+use crate::row::split_assignment;
 use crate::run::past_space;
-use crate::value::{past_equals, split_name, split_value};
+use crate::value::split_value;
 use crate::view::Kind;
 use std::marker::Model;
 
@@ -85,37 +86,36 @@ impl<'a> Iterator for Fields<'a> {
 }
 
 /// An assignment as the field of a row that begins at start, and the text behind it and white space.
-#[tactic(auto, unfolding(crate::specs::FieldsLeft::read_assignment))]
-fn split_assignment<'a>(
+#[inline(always)]
+fn split_assigned(
     body_len: usize,
     start: usize,
-    text: &'a [u8],
-) -> Result<(FieldView<'a>, &'a [u8]), Stop<'a>>
+    text: &[u8],
+) -> Result<(FieldView<'_>, &[u8]), Stop<'_>>
     requires { length text.now ≤ body_len }
-    ensures read { Gives (λ x. (field_seen x.0, x.1.now)) result (read_assignment body_len start text.now) }
+    ensures read { Gives (λ x. (field_seen x.0, x.1.now)) result (read_field body_len start text.now) }
     ensures shorter { IfOk result (λ x. length x.1.now < length text.now) }
 {
-    let (name, rest) = split_name(text)?;
-    let inside = past_space(past_equals(past_space(rest))?);
-    let (value, rest) = split_value(inside)?;
+    let (assigned, rest) = split_assignment(text)?;
     let field = FieldView {
-        name,
-        value,
+        name: assigned.name,
+        value: assigned.value,
         start,
         name_at: body_len - text.len(),
-        value_at: body_len - inside.len(),
+        value_at: body_len - assigned.value_left,
     };
-    Ok((field, past_space(rest)))
+    Ok((field, rest))
 }
 
 /// A row as a field, and the text behind it.
+#[inline(always)]
 fn split_row(body_len: usize, text: &[u8]) -> Result<(FieldView<'_>, &[u8]), Stop<'_>>
     requires { length text.now ≤ body_len }
     ensures read { Gives (λ x. (field_seen x.0, x.1.now)) result (read_row_field body_len text.now) }
     ensures shorter { IfOk result (λ x. length x.1.now < length text.now) }
 {
     let named = past_space(past_comma(text)?);
-    split_assignment(body_len, body_len - text.len(), named)
+    split_assigned(body_len, body_len - text.len(), named)
 }
 
 /// A value as the field of a preamble, and the text behind it.
@@ -137,6 +137,7 @@ fn split_preamble(body_len: usize, text: &[u8]) -> Result<(FieldView<'_>, &[u8])
 }
 
 /// The field at the front in an item of this kind, and the text behind it.
+#[inline(always)]
 fn split_field(kind: Kind, body_len: usize, text: &[u8]) -> Option<(FieldView<'_>, &[u8])>
     requires { length text.now ≤ body_len }
     ensures read { option_map (λ x. (field_seen x.0, x.1.now)) result ≡ first_field kind body_len text.now }
@@ -144,7 +145,7 @@ fn split_field(kind: Kind, body_len: usize, text: &[u8]) -> Option<(FieldView<'_
 {
     match kind {
         Kind::Entry => split_row(body_len, text).ok(),
-        Kind::Macro => split_assignment(body_len, body_len - text.len(), text).ok(),
+        Kind::Macro => split_assigned(body_len, body_len - text.len(), text).ok(),
         Kind::Preamble => split_preamble(body_len, text).ok(),
         Kind::Comment => None,
     }

@@ -59,8 +59,9 @@ impl Layout {
         bytes.split_at(self.front_len).0
     }
 
-    /// The body of item n.
-    pub(crate) fn body<'a>(&self, bytes: &'a [u8], n: usize) -> &'a [u8]
+    /// The body of item n: from its at-sign to its closing delimiter, of a comment its head alone. It takes no time that
+    /// grows with the item.
+    pub fn body<'a>(&self, bytes: &'a [u8], n: usize) -> &'a [u8]
         requires layout { IsLayoutOf bytes.now self.now }
         requires n_in_range { n < length self.now.items }
         ensures { (db : Reading) (i : Item) → Reads bytes.now db → slice_get db.items n ≡ Some i → result.now ≡ tree_bytes i.tree }
@@ -89,8 +90,8 @@ impl Layout {
         }
     }
 
-    /// The trail of item n, up to the next item or to the end of the file.
-    pub(crate) fn trail<'a>(&self, bytes: &'a [u8], n: usize) -> &'a [u8]
+    /// The trail of item n, up to the next item or to the end of the file. It takes no time that grows with it.
+    pub fn trail<'a>(&self, bytes: &'a [u8], n: usize) -> &'a [u8]
         requires layout { IsLayoutOf bytes.now self.now }
         requires n_in_range { n < length self.now.items }
         ensures { (db : Reading) (i : Item) → Reads bytes.now db → slice_get db.items n ≡ Some i → result.now ≡ i.trail }

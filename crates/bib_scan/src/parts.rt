@@ -1,17 +1,18 @@
 //! A value taken apart.
 
-ghost use Rattle.std.specs.Prelude.{◌≡◌, ◌<◌, ℕ, List, [], ◌∷◌, ◌++◌, length, IfOk, IfErr};
+ghost use Rattle.std.specs.Prelude.{◌≡◌, ◌<◌, ℕ, List, [], ◌∷◌, ◌++◌, length, IfOk, IfErr, IfSome};
 ghost use Rattle.bib_spec.specs.Bytes.{name_limit};
 ghost use Rattle.bib_spec.specs.Tree as tree;
-ghost use Rattle.bib_spec.specs.Tree.{part_bytes};
+ghost use Rattle.bib_spec.specs.Tree.{Value, IsValue, part_bytes, value_bytes};
 ghost use Rattle.bib_scan.specs.Code.{Gives, GivesUnlessMemory};
 ghost use Rattle.bib_scan.specs.PartView.{part_view};
-ghost use Rattle.bib_scan.specs.ValueParts.{part_kind, IsPartsOf, IsValueFault};
+ghost use Rattle.bib_scan.specs.ValueParts.{part_kind, kind_begun, parts_of, IsPartsOf, IsValueFault};
 ghost use Rattle.bib_scan.specs.PartsLeft.{part_span, read_link, read_all_parts};
 
 use crate::fault::{Fault, ReadFault, Refusal, Stop};
 use crate::run::{behind, past_space};
 use crate::value::{Part, past_hash, split_part};
+use memchr::memchr;
 use std::alloc::Global;
 use std::marker::Model;
 
@@ -34,6 +35,18 @@ impl PartKind {
             Part::Quoted(_) => PartKind::Quoted,
             Part::Digits(_) => PartKind::Digits,
             Part::Macro(_) => PartKind::Macro,
+        }
+    }
+
+    /// The kind of a part that begins with this byte.
+    fn begun_by(first: u8) -> Self
+        ensures { result ≡ kind_begun first }
+    {
+        match first {
+            b'{' => PartKind::Braced,
+            b'"' => PartKind::Quoted,
+            b'0'..=b'9' => PartKind::Digits,
+            _ => PartKind::Macro,
         }
     }
 
@@ -113,6 +126,18 @@ fn inside(text: &[u8]) -> &[u8]
         [_, inside @ .., _] => inside,
         _ => text,
     }
+}
+
+/// The one part of a value in whose bytes no `#` stands. Where one does, there may be more, and the answer is None. It
+/// takes time in the length of the bytes, and no memory.
+pub fn only_part(bytes: &[u8]) -> Option<Part<'_>>
+    ensures { IfSome result (λ part. (v : Value) → IsValue name_limit v → value_bytes v ≡ bytes.now → parts_of v ≡ part_view part ∷ []) }
+{
+    if memchr(b'#', bytes).is_some() {
+        return None;
+    }
+    let kind = PartKind::begun_by(*bytes.first()?);
+    Some(kind.part_in(bytes))
 }
 
 /// The parts of a text that is one value and nothing else. They take memory in proportion to their count.

@@ -3,7 +3,7 @@
 ghost use Rattle.std.specs.Prelude.{◌≡◌, ◌≤◌, length, IfOk, IfErr};
 ghost use Rattle.bib_spec.specs.Bytes.{name_limit, file_limit};
 ghost use Rattle.bib_spec.specs.Fault.{IsReadFault};
-ghost use Rattle.bib_scan.specs.LeftToRight.{read_all_commands};
+ghost use Rattle.bib_scan.specs.LeftToRight.{read_all_commands, next_command};
 ghost use Rattle.bib_scan.specs.Code.{GivesUnlessMemory};
 ghost use Rattle.bib_scan.specs.Layout.{IsLayoutOf};
 
@@ -33,8 +33,9 @@ pub fn read(alloc: Global, bytes: &[u8]) -> Result<Layout, ReadFault>
             place: FILE_LIMIT,
         });
     }
-    match bodies(alloc, bytes) {
-        Ok(items) => Ok(Layout::new(next_command(bytes), items)),
+    let front_len = next_command(bytes);
+    match bodies(alloc, bytes, front_len) {
+        Ok(items) => Ok(Layout::new(front_len, items)),
         Err(Refusal::Memory) => Err(ReadFault { kind: 10, place: 0 }),
         Err(Refusal::Fault(stop)) => Err(ReadFault {
             kind: stop.fault.number(),
@@ -43,12 +44,14 @@ pub fn read(alloc: Global, bytes: &[u8]) -> Result<Layout, ReadFault>
     }
 }
 
-/// Where the body of each item of a file lies.
-fn bodies(alloc: Global, bytes: &[u8]) -> Result<Vec<Span>, Refusal<'_>>
+/// Where the body of each item of a file lies, whose front is so long.
+fn bodies(alloc: Global, bytes: &[u8], front_len: usize) -> Result<Vec<Span>, Refusal<'_>>
+    requires front { front_len ≡ next_command bytes.now }
+    requires within { front_len ≤ length bytes.now }
     ensures { GivesUnlessMemory (λ v. v.items) result (read_all_commands name_limit bytes.now) }
 {
     let mut bodies = Vec::new(alloc);
-    let mut rest = behind(bytes, next_command(bytes));
+    let mut rest = behind(bytes, front_len);
     while !rest.is_empty() {
         let after = past_command(rest)?;
         bodies.push(Span {

@@ -8,6 +8,7 @@ ghost use Rattle.bib_spec.specs.Text.{is_space, is_name_byte, is_type_byte};
 use crate::class::{is_name_byte, is_space, is_type_byte};
 
 /// The text behind its first n bytes.
+#[inline(always)]
 pub(crate) fn behind(text: &[u8], n: usize) -> &[u8]
     requires { n ≤ length text.now }
     ensures { result.now ≡ drop n text.now }
@@ -16,6 +17,7 @@ pub(crate) fn behind(text: &[u8], n: usize) -> &[u8]
 }
 
 /// How much white space the text begins with.
+#[inline(always)]
 fn space_len(text: &[u8]) -> usize
     ensures len { result ≡ prefix_len is_space text.now }
     ensures within { result ≤ length text.now }
@@ -24,6 +26,7 @@ fn space_len(text: &[u8]) -> usize
 }
 
 /// The text behind the white space that it begins with.
+#[inline(always)]
 pub(crate) fn past_space(text: &[u8]) -> &[u8]
     ensures rest { result.now ≡ drop (prefix_len is_space text.now) text.now }
     ensures within { length result.now ≤ length text.now }
@@ -32,6 +35,7 @@ pub(crate) fn past_space(text: &[u8]) -> &[u8]
 }
 
 /// How many name bytes the text begins with.
+#[inline(always)]
 pub(crate) fn name_len(text: &[u8]) -> usize
     ensures len { result ≡ prefix_len is_name_byte text.now }
     ensures within { result ≤ length text.now }

@@ -82,6 +82,7 @@ fn split_quoted(text: &[u8]) -> Result<(&[u8], &[u8]), Stop<'_>>
 }
 
 /// A run of name bytes, which may not be longer than a name, and the text behind it.
+#[inline(always)]
 fn split_name_run(text: &[u8]) -> Result<(&[u8], &[u8]), Stop<'_>>
     ensures read { Gives (λ x. (x.0.now, x.1.now)) result (read_run name_limit is_name_byte text.now) }
     ensures shorter { IfOk result (λ x. length x.1.now ≤ length text.now) }
@@ -97,6 +98,7 @@ fn split_name_run(text: &[u8]) -> Result<(&[u8], &[u8]), Stop<'_>>
 }
 
 /// Whether the text begins with a name.
+#[inline(always)]
 fn begins_name(text: &[u8]) -> bool
     ensures { result ≡ begins_name text.now }
 {
@@ -107,6 +109,7 @@ fn begins_name(text: &[u8]) -> bool
 }
 
 /// A field or macro name, and the text behind it.
+#[inline(always)]
 pub(crate) fn split_name(text: &[u8]) -> Result<(&[u8], &[u8]), Stop<'_>>
     ensures read { Gives (λ x. (x.0.now, x.1.now)) result (read_name name_limit text.now) }
     ensures shorter { IfOk result (λ x. length x.1.now ≤ length text.now) }
@@ -119,6 +122,7 @@ pub(crate) fn split_name(text: &[u8]) -> Result<(&[u8], &[u8]), Stop<'_>>
 }
 
 /// The text behind an equals sign.
+#[inline(always)]
 pub(crate) fn past_equals(text: &[u8]) -> Result<&[u8], Stop<'_>>
     ensures read { Gives (λ x. x.now) result (read_equals text.now) }
     ensures shorter { IfOk result (λ x. length x.now < length text.now) }
@@ -157,6 +161,7 @@ pub(crate) fn split_part(text: &[u8]) -> Result<(Part<'_>, &[u8]), Stop<'_>>
 }
 
 /// The text behind `#` and white space, where the text goes on so, white space aside.
+#[inline(always)]
 pub(crate) fn past_hash(text: &[u8]) -> Option<&[u8]>
     ensures read { option_copied result ≡ past_hash (after_run is_space text.now) }
     ensures shorter { IfSome result (λ u. length u.now < length text.now) }
@@ -168,6 +173,7 @@ pub(crate) fn past_hash(text: &[u8]) -> Option<&[u8]>
 }
 
 /// The bytes of a value, and the text behind it.
+#[inline(always)]
 pub(crate) fn split_value(text: &[u8]) -> Result<(&[u8], &[u8]), Stop<'_>>
     ensures read { Gives (λ x. (x.0.now, x.1.now)) result (read_value name_limit text.now) }
     ensures shorter { IfOk result (λ x. length x.1.now < length text.now) }

@@ -23,10 +23,10 @@ use Rattle.bib_store.proofs.ItemsMore.{gathered-append, raw_texts-append, first-
 
 -- ---- numbers
 
-abbrev first_of : List (ℕ × Item) → List ℕ
+abbrev pub first_of : List (ℕ × Item) → List ℕ
 first_of ps = map (λ (p : ℕ × Item). p.0) ps
 
-first_kept : (b : Bool) (p q : ℕ × Item) (ps qs : List (ℕ × Item)) → p.0 ≡ q.0 → first_of ps ≡ first_of qs → first_of (cond b (p ∷ ps) ps) ≡ first_of (cond b (q ∷ qs) qs)
+pub first_kept : (b : Bool) (p q : ℕ × Item) (ps qs : List (ℕ × Item)) → p.0 ≡ q.0 → first_of ps ≡ first_of qs → first_of (cond b (p ∷ ps) ps) ≡ first_of (cond b (q ∷ qs) qs)
 first_kept true p q ps qs e h = ap₂ (λ (n : ℕ) (ns : List ℕ). n ∷ ns) e h
 first_kept false p q ps qs e h = h
 
@@ -74,7 +74,7 @@ macros_same m (z ∷ before) behind x y same (suc k) = macros_same (macros_after
 
 -- ---- texts that are too long
 
-none_both : (a b : Option ℕ) → option_or a b ≡ None → (a ≡ None) × (b ≡ None)
+pub none_both : (a b : Option ℕ) → option_or a b ≡ None → (a ≡ None) × (b ≡ None)
 none_both None b e = (refl, e)
 none_both (Some n) b e = absurd (none-some n (sym e))
 
@@ -90,7 +90,7 @@ fits_here : (at : ℕ) (m : Macros) (item : Item) → first_too_long (zip (map (
 fits_here at m item e = none_shifted (λ place. at + place) (first_too_long (placed_texts m item.tree)) (sym (first-shift at (value_places item.tree) (raw_texts_in m item.tree)) ∙ e)
 
 -- the first of some items, and the others
-fit_parts : (at : ℕ) (m : Macros) (item : Item) (items : List Item) → first_too_long (raw_texts_from at m (item ∷ items)) ≡ None
+pub fit_parts : (at : ℕ) (m : Macros) (item : Item) (items : List Item) → first_too_long (raw_texts_from at m (item ∷ items)) ≡ None
     → (first_too_long (placed_texts m item.tree) ≡ None) × (first_too_long (raw_texts_from (at + length (item_bytes item)) (macros_after m item.tree) items) ≡ None)
 fit_parts at m item items e =
     let here = zip (map (λ place. at + place) (value_places item.tree)) (raw_texts_in m item.tree) in
@@ -98,7 +98,7 @@ fit_parts at m item items e =
     let both = none_both (first_too_long here) (first_too_long later) (sym (first-append here later) ∙ e) in
     (fits_here at m item both.0, both.1)
 
-fit_joined : (at : ℕ) (m : Macros) (item : Item) (items : List Item) → first_too_long (placed_texts m item.tree) ≡ None
+pub fit_joined : (at : ℕ) (m : Macros) (item : Item) (items : List Item) → first_too_long (placed_texts m item.tree) ≡ None
     → first_too_long (raw_texts_from (at + length (item_bytes item)) (macros_after m item.tree) items) ≡ None → first_too_long (raw_texts_from at m (item ∷ items)) ≡ None
 fit_joined at m item items e f =
     let here = zip (map (λ place. at + place) (value_places item.tree)) (raw_texts_in m item.tree) in

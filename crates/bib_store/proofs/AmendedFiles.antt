@@ -21,14 +21,13 @@ use Rattle.bib_scan.specs.View.{View, Field, view_of, key_of, kind_of, fields_of
 use Rattle.bib_scan.specs.declared.view.Kind.TheVariants as kind
 use Rattle.bib_scan.proofs.OneReading.{one_reading}
 use Rattle.bib_scan.proofs.LayoutLaws.{length-places}
-use Rattle.bib_store.specs.declared.list.Item.{Item}
+use Rattle.bib_items.specs.declared.list.Item.{Item}
 use Rattle.bib_store.specs.declared.change.Change.{Change}
 use Rattle.bib_store.specs.declared.tables.Tables.{Tables}
 use Rattle.bib_store.specs.declared.item_fault.ItemFault.{ItemFault}
 use Rattle.bib_store.specs.declared.item_fault.ItemFault.TheVariants.{TooLong}
 use Rattle.bib_store.specs.Meaning.{is_entry_tree}
-use Rattle.bib_store.specs.Items.{item, item_at}
-use Rattle.bib_store.specs.Tables.{stored, all_stored}
+use Rattle.bib_items.specs.Items.{item, item_at, stored, all_stored}
 use Rattle.bib_store.specs.Defined.{texts_at}
 use Rattle.bib_store.specs.ItemTexts.{first_too_long, placed_texts, row_texts, crossref_in, OfRows}
 use Rattle.bib_store.specs.Beside.{AreTables, AreTablesOf}

@@ -6,10 +6,11 @@ use Rattle.bib_spec.specs.Bytes.{file_limit}
 use Rattle.bib_spec.specs.Text.{Text}
 use Rattle.bib_spec.specs.Reading.{HasReading}
 use Rattle.bib_spec.specs.Pieces.{Piece, Fit, applied}
-use Rattle.bib_store.specs.declared.list.Item.{Item}
+use Rattle.bib_items.specs.declared.list.Item.{Item}
 use Rattle.bib_store.specs.declared.window.Window.{Window}
 use Rattle.bib_store.specs.Shifting.{all_moved_back, FitBehind}
-use Rattle.bib_store.specs.Stored.{kept_bytes, file_of}
+use Rattle.bib_items.specs.Items.{kept_bytes}
+use Rattle.bib_store.specs.Stored.{file_of}
 use Rattle.bib_store.specs.Windows.{IsWindow, IsWhole, Serve, front_before, bytes_before, bytes_within, bytes_behind}
 use Rattle.bib_store.proofs.Shifts.{fit-behind, applied-behind, fit_behind_nothing}
 use Rattle.bib_store.proofs.WindowLaws.{file-around}

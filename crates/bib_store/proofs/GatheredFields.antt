@@ -23,7 +23,7 @@ pub folded_twice : (t : Text) → folded (folded t) ≡ folded t
 folded_twice [] = refl
 folded_twice (b ∷ t) = ap (λ c. c ∷ folded (folded t)) (lowercase-lowercase b) ∙ ap (λ l. to_ascii_lowercase b ∷ l) (folded_twice t)
 
-same-folded_left : (a b : Text) → same (folded a) b ≡ same a b
+pub same-folded_left : (a b : Text) → same (folded a) b ≡ same a b
 same-folded_left a b = same_of (folded a) b a b (folded_twice a) refl
 
 same-folded_right : (a b : Text) → same a (folded b) ≡ same a b

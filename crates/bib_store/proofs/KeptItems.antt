@@ -1,9 +1,9 @@
 -- What is kept of a file, and what the file says.
-use Rattle.std.proofs.Common.{◌≡◌, ℕ, ◌+◌, ◌<◌, ◌≤◌, List, [], ◌∷◌, ◌++◌, length, take, get_or, slice_get, Some, option_map, sym, ◌∙◌, ap, ap₂, subst, arith, append-nil}
+use Rattle.std.proofs.Common.{◌≡◌, ℕ, ◌+◌, ◌<◌, ◌≤◌, List, [], ◌∷◌, ◌++◌, length, take, get_or, slice_get, Some, option_map, refl, sym, ◌∙◌, ap, ap₂, subst, arith, append-nil}
 use Rattle.std.specs.List.{flat_map, All}
 use Rattle.std.proofs.lemmas.Option.{slice_get-map, slice_get_within, slice_get_read, get_or_from_slice_get}
 use Rattle.std.proofs.lemmas.List.{length-map, length-append, take_more, take-map}
-use Rattle.std.proofs.lemmas.List.Folds.{flat_map-map, length-flat_map-take}
+use Rattle.std.proofs.lemmas.List.Folds.{flat_map-map}
 use Rattle.std.proofs.lemmas.Grind.{flat_map-append}
 use Rattle.bib_spec.specs.Bytes.{name_limit}
 use Rattle.bib_spec.specs.Text.{Text}
@@ -13,11 +13,16 @@ use Rattle.bib_spec.specs.Reading.{Reading, Reads, IsItem, item_bytes, bytes_of}
 use Rattle.bib_scan.specs.Layout.{start_of}
 use Rattle.bib_scan.specs.View.{View, view_of}
 use Rattle.bib_scan.proofs.OneReading.{one_reading}
-use Rattle.bib_store.specs.declared.list.Item.{Item}
+use Rattle.bib_items.specs.declared.list.Item.{Item}
 use Rattle.bib_store.specs.declared.tables.Tables.{Tables}
-use Rattle.bib_store.specs.Items.{item, item_at}
-use Rattle.bib_store.specs.Tables.{stored, all_stored}
-use Rattle.bib_store.specs.Stored.{kept_bytes, file_of, IsKeptAs, IsKept}
+use Rattle.bib_items.specs.Items.{item, item_at, stored, all_stored, kept_bytes}
+use Rattle.bib_spec.specs.Texts.{Opens, months, gathered}
+use Rattle.bib_spec.specs.Records.{entry_in, keys_of}
+use Rattle.bib_store.specs.Tables.{IsIndexOf, AreDefinitionsOf}
+use Rattle.bib_store.specs.KeyIndex.{holding_in}
+use Rattle.bib_store.specs.Defined.{texts_at}
+use Rattle.bib_store.specs.Beside.{AreSame, AreTablesOf}
+use Rattle.bib_store.specs.Stored.{file_of, IsKeptAs, IsKept}
 
 -- what is kept is of the file's one reading
 pub kept_as : (front : Text) (items : List Item) (t : Tables) (file : Text) → IsKept front items t → file_of front items ≡ file → (db : Reading) → Reads file db → IsKeptAs db front items t
@@ -28,6 +33,34 @@ kept_as front items t file k same db r =
 -- the file has a reading, of which it is kept
 pub kept_reading : (front : Text) (items : List Item) (t : Tables) (file : Text) → IsKept front items t → file_of front items ≡ file → (db : Reading) × Reads file db × IsKeptAs db front items t
 kept_reading front items t file k same = (k.db, subst (λ (f : Text). Reads f k.db) same k.is.opens.reads, k.is)
+
+-- tables that say the same are kept as well
+same_tables : (items : List reading.Item) (t u : Tables) → AreSame t u → AreTablesOf items t → AreTablesOf items u
+same_tables items t u s are = record {
+  entries = s.entries ∙ are.entries;
+  preambles = s.preambles ∙ are.preambles;
+  keys = subst (λ k. IsIndexOf (keys_of (gathered entry_in months items)) (holding_in k)) (sym s.keys) are.keys;
+  definitions = subst (λ d. AreDefinitionsOf items (texts_at d)) (sym s.definitions) are.definitions;
+  crossrefs = s.crossrefs ∙ are.crossrefs;
+}
+
+pub kept_same : (front : Text) (items new : List Item) (t u : Tables) → IsKept front items t → new ≡ items → AreSame t u → IsKept front new u
+kept_same front items new t u k e s = record {
+  db = k.db;
+  is = record {
+    opens = subst (λ (l : List Item). Opens (file_of front l) k.db) (sym e) k.is.opens;
+    front = k.is.front;
+    items = e ∙ k.is.items;
+    tables = same_tables k.db.items t u s k.is.tables;
+    len = s.len ∙ k.is.len ∙ ap (λ (l : List Item). length (file_of front l)) (sym e);
+  };
+}
+
+pub same_self : (t : Tables) → AreSame t t
+same_self t = record { len = refl; entries = refl; preambles = refl; keys = refl; definitions = refl; crossrefs = refl }
+
+pub same_of : (t u : Tables) → u ≡ t → AreSame t u
+same_of t u e = subst (λ (x : Tables). AreSame t x) (sym e) (same_self t)
 
 -- ---- items
 
@@ -69,29 +102,6 @@ pub start_kept : (db : Reading) (front : Text) (items : List Item) (t : Tables) 
 start_kept db front items t n place lent k same is =
     is ∙ ap (λ (u : Text). length u + length (flat_map kept_bytes (take n items))) same
     ∙ ap₂ (λ (u v : Text). length u + length v) k.front (ap (λ (l : List Item). flat_map kept_bytes (take n l)) k.items ∙ ap (flat_map kept_bytes) (take-map stored n db.items) ∙ bytes-stored (take n db.items))
-
--- the bytes of the first n items, and of item n
-kept-more : (items : List Item) (n : ℕ) → n < length items → flat_map kept_bytes (take (n + 1) items) ≡ flat_map kept_bytes (take n items) ++ ((item_at items n).body ++ (item_at items n).trail)
-kept-more items n h =
-    ap (flat_map kept_bytes) (take_more items n (item [] []) h)
-    ∙ flat_map-append kept_bytes (take n items) (item_at items n ∷ [])
-    ∙ ap (λ (u : Text). flat_map kept_bytes (take n items) ++ u) (append-nil (kept_bytes (item_at items n)))
-
--- a place before item n, and the one behind it
-pub record IsPast (front_len : ℕ) (items : List Item) (n place : ℕ) (body trail : Text) : Type 0 where
-  pub next : place + (length body + length trail) ≡ front_len + length (flat_map kept_bytes (take (n + 1) items))
-  pub within : place + (length body + length trail) ≤ front_len + length (flat_map kept_bytes items)
-
-pub past_item : (front_len : ℕ) (items : List Item) (n place : ℕ) (body trail : Text) → n < length items → place ≡ front_len + length (flat_map kept_bytes (take n items)) →
-    body ≡ (item_at items n).body → trail ≡ (item_at items n).trail → IsPast front_len items n place body trail
-past_item front_len items n place body trail h is body_is trail_is =
-    let b : length body ≡ length (item_at items n).body = ap (length {A = ℕ}) body_is in
-    let t : length trail ≡ length (item_at items n).trail = ap (length {A = ℕ}) trail_is in
-    let whole : length (kept_bytes (item_at items n)) ≡ length (item_at items n).body + length (item_at items n).trail = length-append (item_at items n).body (item_at items n).trail in
-    let more : length (flat_map kept_bytes (take (n + 1) items)) ≡ length (flat_map kept_bytes (take n items)) + length (kept_bytes (item_at items n))
-    = ap (length {A = ℕ}) (kept-more items n h) ∙ length-append (flat_map kept_bytes (take n items)) (kept_bytes (item_at items n)) in
-    let inside : length (flat_map kept_bytes (take n items)) + length (kept_bytes (item_at items n)) ≤ length (flat_map kept_bytes items) = length-flat_map-take kept_bytes items n (item [] []) h in
-    record { next = omega arith; within = omega arith }
 
 -- ---- numbers
 

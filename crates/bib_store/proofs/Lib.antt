@@ -1,6 +1,7 @@
 pub mod Citations
 pub mod Filters
 pub mod GatheredFields
+pub mod ChosenFields
 pub mod Inherited
 pub mod Changes
 pub mod Exchanges
@@ -30,3 +31,5 @@ pub mod MacrosBehind
 pub mod NumberedLists
 pub mod Amended
 pub mod AmendedFiles
+pub mod Appended
+pub mod AppendedFiles

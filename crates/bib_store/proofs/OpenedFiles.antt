@@ -12,11 +12,10 @@ use Rattle.bib_spec.specs.Fault.{IsReadFault, no_memory}
 use Rattle.bib_scan.specs.Layout.{Places, places_of, IsLayoutOf}
 use Rattle.bib_scan.specs.View.{View, view_of}
 use Rattle.bib_scan.proofs.OneReading.{one_reading}
-use Rattle.bib_store.specs.declared.list.Item.{Item}
+use Rattle.bib_items.specs.declared.list.Item.{Item}
 use Rattle.bib_store.specs.declared.tables.Tables.{Tables}
-use Rattle.bib_store.specs.Items.{item}
+use Rattle.bib_items.specs.Items.{item, stored, all_stored, without_range}
 use Rattle.bib_store.specs.Meaning.{OfReading, IsTextFault, IsOpenFault}
-use Rattle.bib_store.specs.Tables.{stored, all_stored, without_range}
 use Rattle.bib_store.specs.Beside.{HasItems, AreTables}
 use Rattle.bib_store.specs.Stored.{file_of, IsKeptAs, IsKept}
 use Rattle.bib_store.proofs.KeptItems.{length-stored, file-stored}

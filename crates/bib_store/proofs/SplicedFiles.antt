@@ -12,13 +12,13 @@ use Rattle.bib_spec.specs.Texts.{too_long_at}
 use Rattle.bib_spec.specs.Texts.{IsOpenable}
 use Rattle.bib_spec.specs.Pieces.{Piece, Fit, applied}
 use Rattle.bib_scan.proofs.OneReading.{one_reading}
-use Rattle.bib_store.specs.declared.list.Item.{Item}
+use Rattle.bib_items.specs.declared.list.Item.{Item}
 use Rattle.bib_store.specs.declared.window.Window.{Window}
 use Rattle.bib_store.specs.declared.change.Change.{Change}
 use Rattle.bib_store.specs.declared.tables.Tables.{Tables}
-use Rattle.bib_store.specs.Tables.{stored, all_stored}
+use Rattle.bib_items.specs.Items.{stored, all_stored, kept_bytes}
 use Rattle.bib_store.specs.Beside.{HasItems, AreTables}
-use Rattle.bib_store.specs.Stored.{kept_bytes, file_of, IsKept}
+use Rattle.bib_store.specs.Stored.{file_of, IsKept}
 use Rattle.bib_store.specs.Windows.{IsWindow, IsChange, Serve, front_before, front_after, bytes_before, bytes_behind, exchanged, joined, OfJoined}
 use Rattle.bib_store.proofs.KeptItems.{bytes-stored, file-stored}
 

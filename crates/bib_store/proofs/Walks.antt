@@ -13,12 +13,11 @@ use Rattle.bib_spec.specs.Tree.{tree_bytes, IsTree}
 use Rattle.bib_spec.specs.Reading as reading
 use Rattle.bib_spec.specs.Reading.{Reading, bytes_of, item_bytes}
 use Rattle.bib_spec.specs.Texts.{Macros, months, macros_at, macros_after, value_places, raw_texts_in, raw_texts_from, too_long_at}
-use Rattle.bib_store.specs.declared.list.Item.{Item}
+use Rattle.bib_items.specs.declared.list.Item.{Item}
 use Rattle.bib_store.specs.declared.item_fault.ItemFault.{ItemFault}
 use Rattle.bib_store.specs.declared.item_fault.ItemFault.TheVariants.{TooLong, Memory}
 use Rattle.bib_store.specs.declared.tables.Tables.{Tables}
-use Rattle.bib_store.specs.Items.{item, item_at}
-use Rattle.bib_store.specs.Tables.{stored, without_range}
+use Rattle.bib_items.specs.Items.{item, item_at, stored, without_range}
 use Rattle.bib_store.specs.Defined.{texts_at}
 use Rattle.bib_store.specs.ItemTexts.{first_too_long, placed_texts, OfTree}
 use Rattle.bib_store.specs.Beside.{AreTablesOf, AreTables, HasItems, IsStep, IsTooLongAt}

@@ -4,10 +4,10 @@ use Rattle.std.proofs.lemmas.List.{drop-drop, take_more, append-nil, get_or-drop
 use Rattle.std.proofs.lemmas.List.Concat.{flat_map-append}
 use Rattle.std.specs.List.{flat_map, between}
 use Rattle.bib_spec.specs.Text.{Text}
-use Rattle.bib_store.specs.declared.list.Item.{Item}
+use Rattle.bib_items.specs.declared.list.Item.{Item}
 use Rattle.bib_store.specs.declared.window.Window.{Window}
-use Rattle.bib_store.specs.Items.{item, item_at}
-use Rattle.bib_store.specs.Stored.{kept_bytes, file_of}
+use Rattle.bib_items.specs.Items.{item, item_at, kept_bytes}
+use Rattle.bib_store.specs.Stored.{file_of}
 use Rattle.bib_store.specs.Windows.{IsWindow, front_before, front_within, bytes_before, bytes_within, bytes_behind}
 
 abbrev all_bytes : List Item → Text

@@ -4,10 +4,10 @@ use Rattle.bib_spec.specs.Tree.{Tree}
 use Rattle.bib_spec.specs.Reading as reading
 use Rattle.bib_spec.specs.Reading.{Reading, Reads}
 use Rattle.bib_scan.specs.View.{key_of}
-use Rattle.bib_store.specs.declared.list.Item.{Item}
+use Rattle.bib_items.specs.declared.list.Item.{Item}
 use Rattle.bib_store.specs.declared.change.Change.{Change}
 use Rattle.bib_store.specs.Meaning.{is_entry_tree}
-use Rattle.bib_store.specs.Items.{item_at}
+use Rattle.bib_items.specs.Items.{item_at}
 use Rattle.bib_store.specs.ItemTexts.{OfTree}
 
 -- both are entries, with the same key

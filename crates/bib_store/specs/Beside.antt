@@ -9,10 +9,11 @@ use Rattle.bib_spec.specs.Texts.{months, gathered}
 use Rattle.bib_spec.specs.Records.{entry_in, keys_of, crossref_text}
 use Rattle.bib_scan.specs.View.{View, view_of, kind_of}
 use Rattle.bib_scan.specs.declared.view.Kind.{Kind}
-use Rattle.bib_store.specs.declared.list.Item.{Item}
+use Rattle.bib_items.specs.declared.list.Item.{Item}
 use Rattle.bib_store.specs.declared.tables.Tables.{Tables}
 use Rattle.bib_store.specs.Meaning.{entry_numbers}
-use Rattle.bib_store.specs.Tables.{all_stored, preamble_numbers, IsIndexOf, AreDefinitionsOf}
+use Rattle.bib_items.specs.Items.{all_stored}
+use Rattle.bib_store.specs.Tables.{preamble_numbers, IsIndexOf, AreDefinitionsOf}
 use Rattle.bib_store.specs.KeyIndex.{holding_in}
 use Rattle.bib_store.specs.Defined.{texts_at}
 use Rattle.bib_store.specs.ItemTexts.{first_too_long, placed_texts}
@@ -36,6 +37,15 @@ pub record HasItems (front_len : ℕ) (kept : List Item) (db : Reading) : Type 0
   pub file : length (bytes_of db) ≤ file_limit
   pub front : length db.front ≡ front_len
   pub same : all_stored db.items ≡ kept
+
+-- the tables say what they said
+pub record AreSame (old new : Tables) : Type 0 where
+  pub len : new.file_len ≡ old.file_len
+  pub entries : new.entries.items ≡ old.entries.items
+  pub preambles : new.preambles.items ≡ old.preambles.items
+  pub keys : new.keys ≡ old.keys
+  pub definitions : new.definitions ≡ old.definitions
+  pub crossrefs : new.crossrefs.items ≡ old.crossrefs.items
 
 -- ---- one item more
 

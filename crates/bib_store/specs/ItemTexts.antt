@@ -27,21 +27,6 @@ row_texts at macros rows = zip (row_places at rows) (map (raw_text macros) (map 
 abbrev pub own_text : Macros → Text → Macros
 own_text macros name = updated macros name None
 
--- ---- values of one part
-
--- the text begins as a braced text, a quoted text or digits do
-abbrev pub begins_text : Text → Bool
-begins_text [] = false
-begins_text (b ∷ t) = b == open_brace || b == quote || is_ascii_digit b
-
--- the most that a value of one part can say: all of its bytes, or what the macro of this name stands for
-abbrev pub longest : Macros → Text → ℕ
-longest macros t = if begins_text t then length t else length (unwrap_or (macros (folded t)) [])
-
--- nothing is joined to its first part, and that is short
-abbrev pub is_short : Macros → Text → Bool
-is_short macros t = not (list_any (λ b. b == hash) t) && nat_le (longest macros t) raw_limit
-
 -- ---- crossrefs
 
 -- what a value says as a crossref, if its field is one

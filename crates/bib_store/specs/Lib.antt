@@ -1,5 +1,3 @@
-pub mod Faults
-pub mod Items
 pub mod Reversing
 pub mod Meaning
 pub mod Defined
@@ -7,6 +5,7 @@ pub mod Definitions
 pub mod Tables
 pub mod Citing
 pub mod Gathering
+pub mod Choosing
 pub mod Shifting
 pub mod Windows
 pub mod ItemTexts
@@ -14,3 +13,4 @@ pub mod KeyIndex
 pub mod Beside
 pub mod Stored
 pub mod Amending
+pub mod Appending

@@ -4,9 +4,9 @@ use Rattle.std.specs.List.{flat_map}
 use Rattle.bib_spec.specs.Text.{Text}
 use Rattle.bib_spec.specs.Reading.{Reading}
 use Rattle.bib_spec.specs.Texts.{Opens}
-use Rattle.bib_store.specs.declared.list.Item.{Item}
+use Rattle.bib_items.specs.declared.list.Item.{Item}
 use Rattle.bib_store.specs.declared.tables.Tables.{Tables}
-use Rattle.bib_store.specs.Tables.{all_stored}
+use Rattle.bib_items.specs.Items.{all_stored}
 use Rattle.bib_store.specs.Beside.{AreTables}
 
 -- an item's bytes

@@ -8,8 +8,8 @@ use Rattle.bib_spec.specs.Reading as reading
 use Rattle.bib_spec.specs.Reading.{Reading}
 use Rattle.bib_spec.specs.Texts.{Macros, months, macros_at}
 use Rattle.bib_spec.specs.Records.{entries_of, crossref_text, is_named, first_named}
-use Rattle.bib_store.specs.declared.list.Item.{Item}
-use Rattle.bib_store.specs.Items.{item}
+use Rattle.bib_items.specs.declared.list.Item.{Item}
+use Rattle.bib_items.specs.Items.{item}
 
 -- ---- items as they are kept
 

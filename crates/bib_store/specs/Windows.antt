@@ -7,12 +7,12 @@ use Rattle.bib_spec.specs.Reading as reading
 use Rattle.bib_spec.specs.Reading.{Reading, Reads, HasReading}
 use Rattle.bib_spec.specs.Pieces.{Piece, Fit, applied}
 use Rattle.bib_scan.specs.Layout.{IsLayoutOf}
-use Rattle.bib_store.specs.declared.list.Item.{Item}
+use Rattle.bib_items.specs.declared.list.Item.{Item}
 use Rattle.bib_store.specs.declared.window.Window.{Window}
 use Rattle.bib_store.specs.declared.change.Change.{Change}
 use Rattle.bib_store.specs.declared.tables.Tables.{Tables}
-use Rattle.bib_store.specs.Stored.{kept_bytes, file_of, IsKeptAs}
-use Rattle.bib_store.specs.Tables.{all_stored}
+use Rattle.bib_items.specs.Items.{kept_bytes, all_stored}
+use Rattle.bib_store.specs.Stored.{file_of, IsKeptAs}
 use Rattle.bib_store.specs.Beside.{HasItems}
 
 -- the window lies in the items, and it begins the file if it has the front

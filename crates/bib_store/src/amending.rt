@@ -12,15 +12,14 @@ ghost use Rattle.bib_store.specs.Beside.{AreTables};
 ghost use Rattle.bib_store.specs.Defined.{texts_at};
 ghost use Rattle.bib_store.specs.ItemTexts.{first_too_long, placed_texts};
 ghost use Rattle.bib_store.specs.Windows.{IsWindow, OfJoined, exchanged};
-ghost use Rattle.bib_store.specs.declared.fault.StoreFault.TheVariants.{Memory, BadSplice};
+ghost use Rattle.bib_items.specs.declared.fault.StoreFault.TheVariants.{Memory, BadSplice};
 
 use crate::change::Change;
 use crate::crossrefs::entry_crossref;
 use crate::definitions::Definitions;
-use crate::fault::StoreFault;
 use crate::item_fault::ItemFault;
-use crate::list::ItemList;
 use crate::tables::Tables;
+use bib_items::{ItemList, StoreFault};
 use bib_scan::{ItemView, Kind, Text};
 use std::alloc::Global;
 

@@ -8,15 +8,14 @@ ghost use Rattle.bib_spec.specs.Reading.{Reading, Reads, HasReading};
 ghost use Rattle.bib_scan.specs.Layout.{IsLayoutOf};
 ghost use Rattle.bib_store.specs.Stored.{file_of};
 ghost use Rattle.bib_store.specs.Windows.{IsWindow, IsWhole, IsChange, Serve, front_after, bytes_before};
-ghost use Rattle.bib_store.specs.declared.fault.StoreFault.TheVariants.{Memory, BadSplice};
+ghost use Rattle.bib_items.specs.declared.fault.StoreFault.TheVariants.{Memory, BadSplice};
 
 use crate::applying::apply;
-use crate::fault::StoreFault;
 use crate::fitting::fits;
-use crate::list::ItemList;
 use crate::touching::touched;
 use crate::window::{Window, text_of};
 use bib_data::Piece;
+use bib_items::{ItemList, StoreFault};
 use bib_scan::{FILE_LIMIT, Layout, Seq, Text, read};
 use std::alloc::{AllocError, Global};
 
@@ -105,7 +104,7 @@ pub(crate) fn find_change<L: ItemList>(
     ensures refused { IfErr result (λ fault. fault ≡ BadSplice → Serve pieces.now (file_of front.now (L.items items.now)) → ⊥) }
     ensures only { IfErr result (λ fault. (fault ≡ BadSplice) ⊎ (fault ≡ Memory)) }
 {
-    let touched = touched(front, items, pieces);
+    let touched = touched(front, items, file_len, pieces);
     if let Some(change) = change_of(alloc, front, items, file_len, touched, pieces)? {
         return Ok(change);
     }

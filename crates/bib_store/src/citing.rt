@@ -6,9 +6,8 @@ ghost use Rattle.bib_spec.specs.Records.{once, cites_all};
 ghost use Rattle.bib_store.specs.Citing.{AreMarks, with_added};
 
 use crate::database::Database;
-use crate::fault::StoreFault;
-use crate::list::ItemList;
 use crate::record::Cited;
+use bib_items::{ItemList, StoreFault};
 use bib_scan::{Seq, Text};
 use std::alloc::{AllocError, Global};
 
@@ -82,7 +81,7 @@ impl<L: ItemList> Database<L> {
     ghost use Rattle.bib_spec.specs.Records.{entries_of, entry_named, with_parents, once, listed, unknown};
     ghost use Rattle.bib_store.specs.Meaning.{OfReading};
     ghost use Rattle.bib_store.specs.Citing.{AreCounts};
-    ghost use Rattle.bib_store.specs.declared.fault.StoreFault.TheVariants.{Memory};
+    ghost use Rattle.bib_items.specs.declared.fault.StoreFault.TheVariants.{Memory};
 
     /// The cited list of these keys: the entries that they find, each at its first citation, and behind them in file
     /// order the others that are the parent of at least `min` of those; an added parent cites no parent of its own.

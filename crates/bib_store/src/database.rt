@@ -1,13 +1,12 @@
 //! The file as a list of items, with entries, keys and crossrefs.
 
 use crate::definitions::MacrosAt;
-use crate::fault::StoreFault;
-use crate::joining::{join, start_of};
+use crate::joining::join;
 use crate::keeping::keep_all;
-use crate::list::ItemList;
 use crate::measuring::short_text;
 use crate::preambles::preamble_value;
 use crate::tables::Tables;
+use bib_items::{ItemList, StoreFault};
 use bib_scan::{ItemView, ReadFault, Seq, Text, read};
 use bib_value::MacroTable;
 use std::alloc::Global;
@@ -45,7 +44,7 @@ impl<L: ItemList> Database<L> {
     ghost use Rattle.bib_scan.specs.Layout.{start_of};
     ghost use Rattle.bib_store.specs.Definitions.{macros_seen};
     ghost use Rattle.bib_store.specs.Meaning.{OfReading, IsItemNumber, IsItemPlace, IsEntryNumber, IsPreambleNumber, entry_items, entry_numbers, IsOpenFault};
-    ghost use Rattle.bib_store.specs.declared.fault.StoreFault.TheVariants.{Memory, NoSuchEntry};
+    ghost use Rattle.bib_items.specs.declared.fault.StoreFault.TheVariants.{Memory, NoSuchEntry};
 
     /// Opens the file that these bytes are. The list that is handed in holds no item; it keeps the items from now on.
     /// It takes time and memory in the file's length and the number of items. Refused as reading refuses (1 to 7, 9),
@@ -128,13 +127,12 @@ impl<L: ItemList> Database<L> {
         ItemView::of(self.items.body(n), self.items.trail(n))
     }
 
-    /// Where item `n` begins in the file, or where the file ends: a place in bytes. It takes time in the number of
-    /// items before it.
+    /// Where item `n` begins in the file, or where the file ends: a place in bytes.
     pub fn item_place(&self, n: usize) -> usize
         requires { IsItemPlace self.now n }
         ensures { OfReading self.now (λ db. result ≡ start_of db n) }
     {
-        start_of(self.front.as_slice().len(), &self.items, n)
+        self.front.as_slice().len() + self.items.start(n)
     }
 
     /// Entry `n`, as an item.

@@ -4,9 +4,9 @@ ghost use Rattle.std.specs.Prelude.{◌≡◌, ◌++◌, ◌∷◌, [], ◌<◌,
 ghost use Rattle.std.specs.Option.{option_copied};
 ghost use Rattle.bib_spec.specs.Text.{folded};
 ghost use Rattle.bib_store.specs.Defined.{text_before, lists_of, Ascends};
-ghost use Rattle.bib_store.specs.declared.fault.StoreFault.TheVariants.{Memory};
+ghost use Rattle.bib_items.specs.declared.fault.StoreFault.TheVariants.{Memory};
 
-use crate::fault::StoreFault;
+use bib_items::StoreFault;
 use bib_scan::Text;
 use bib_value::{FoldedMap, MacroTable, month};
 use std::alloc::Global;

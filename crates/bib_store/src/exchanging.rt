@@ -4,15 +4,15 @@ ghost use Rattle.std.specs.Prelude.{◌≡◌, ◌⊎◌, None, length, IfOk, If
 ghost use Rattle.bib_spec.specs.Reading.{Reading, Reads};
 ghost use Rattle.bib_spec.specs.Texts.{too_long_at};
 ghost use Rattle.bib_scan.specs.Layout.{IsLayoutOf};
-ghost use Rattle.bib_store.specs.Beside.{HasItems, AreTables};
+ghost use Rattle.bib_store.specs.Beside.{AreSame, HasItems, AreTables};
 ghost use Rattle.bib_store.specs.Windows.{IsWindow, OfJoined, exchanged};
-ghost use Rattle.bib_store.specs.declared.fault.StoreFault.TheVariants.{Memory, BadSplice};
+ghost use Rattle.bib_items.specs.declared.fault.StoreFault.TheVariants.{Memory, BadSplice};
 
 use crate::amending::{amend, amended};
+use crate::appending::{append, appends};
 use crate::change::Change;
-use crate::fault::StoreFault;
-use crate::list::ItemList;
 use crate::tables::Tables;
+use bib_items::{ItemList, StoreFault};
 use std::alloc::Global;
 
 /// Puts the items of a change in place of those in its window, and lets the tables say what holds of all items then. It
@@ -32,15 +32,16 @@ pub(crate) fn exchange<L: ItemList>(
     ensures len { OnOk result (tables.new.file_len ≡ change.now.file_len) }
     ensures refused { IfErr result (λ fault. fault ≡ BadSplice → OfJoined change.now front_len (L.items items.old) tables.old (λ db. too_long_at db ≡ None → ⊥)) }
     ensures only { IfErr result (λ fault. (fault ≡ BadSplice) ⊎ (fault ≡ Memory)) }
-    ensures err { OnErr result ((L.items items.new ≡ L.items items.old) × (tables.new ≡ tables.old)) }
+    ensures err { OnErr result ((L.items items.new ≡ L.items items.old) × AreSame tables.old tables.new) }
 {
-    match amended(&*items, tables.entries.as_slice(), change) {
-        Some(m) => amend(alloc, items, tables, change, m),
-        None => {
-            *tables = exchange_all(alloc, front_len, items, change)?;
-            Ok(())
-        }
+    if let Some(m) = amended(&*items, tables.entries.as_slice(), change) {
+        return amend(alloc, items, tables, change, m);
     }
+    if appends(&*items, change) {
+        return append(alloc, items, tables, change);
+    }
+    *tables = exchange_all(alloc, front_len, items, change)?;
+    Ok(())
 }
 
 /// Puts the items of a change in place of those in its window, and makes the tables of all items. It is refused where

@@ -1,20 +1,21 @@
 //! Records of entries, with what they inherit.
 
+use crate::choosing::choose_all;
 use crate::database::Database;
-use crate::fault::StoreFault;
 use crate::gathering::{Gathered, lower};
-use crate::list::ItemList;
 use crate::record::Expanded;
 use bib_data::Record;
-use bib_scan::Seq;
+use bib_items::{ItemList, StoreFault};
+use bib_scan::{Seq, Text};
 use std::alloc::Global;
 
 impl<L: ItemList> Database<L> {
-    ghost use Rattle.std.specs.Prelude.{◌≡◌, ◌++◌, Some, IfOk, IfErr, IfSome, OnOk};
-    ghost use Rattle.bib_spec.specs.Records.{entries_of, parent, default_depth, expanded, missing, fields_at};
+    ghost use Rattle.std.specs.Prelude.{◌≡◌, ◌++◌, List, Some, map, option_map, IfOk, IfErr, IfSome, OnOk};
+    ghost use Rattle.bib_spec.specs.Records.{RecordField, entries_of, parent, default_depth, expanded, missing, fields_at};
     ghost use Rattle.bib_store.specs.Meaning.{OfReading, IsEntryNumber};
     ghost use Rattle.bib_store.specs.Gathering.{AreTaken};
-    ghost use Rattle.bib_store.specs.declared.fault.StoreFault.TheVariants.{Memory};
+    ghost use Rattle.bib_store.specs.Choosing.{chosen, with_chosen};
+    ghost use Rattle.bib_items.specs.declared.fault.StoreFault.TheVariants.{Memory};
 
     /// The record of entry `n`, and its parent: the type in lower case, the key, the entry's own fields but `crossref`,
     /// the first of each name, and then those of the parent that are missing, as they stand in the parent, which hands
@@ -46,6 +47,30 @@ impl<L: ItemList> Database<L> {
         })
     }
 
+    /// The same record with no other fields than those that have one of these names, without regard to ASCII case. It takes
+    /// memory for those alone, and time in the bytes of both entries, times the number of names. The one refusal is want
+    /// of memory.
+    pub fn expanded_with(&self, n: usize, names: &[&[u8]]) -> Result<Record, StoreFault>
+        requires { IsEntryNumber self.now n }
+        ensures rec { IfOk result (λ rec. OfReading self.now (λ db. option_map (with_chosen (map (λ name. name.now) names.now)) (expanded default_depth (entries_of db) n) ≡ Some rec)) }
+        ensures only { IfErr result (λ fault. fault ≡ Memory) }
+    {
+        let alloc = self.allocator();
+        let entry = self.entry(n);
+        let kind_name = lower(alloc, entry.type_name())?;
+        let key = Seq::from_vec(Vec::from_slice(alloc, entry.key())?);
+        let mut fields = Vec::new(alloc);
+        self.choose(n, names, &mut fields)?;
+        if let Some(parent) = self.parent(n) {
+            self.choose(parent, names, &mut fields)?;
+        }
+        Ok(Record {
+            kind_name,
+            key,
+            fields: Seq::from_vec(fields),
+        })
+    }
+
     /// Where its memory comes from.
     pub(crate) fn allocator(&self) -> Global {
         self.alloc
@@ -71,6 +96,29 @@ impl<L: ItemList> Database<L> {
     {
         self.opens();
         fields.add_all(self.entry(n).fields(), &self.macros_at(self.entry_item(n)))?;
+        Ok(())
+    }
+
+    /// Adds the own fields of entry `n` that are missing and have one of these names.
+    fn choose(
+        &self,
+        n: usize,
+        names: &[&[u8]],
+        fields: &mut Vec<(Text, Text)>,
+    ) -> Result<(), StoreFault>
+        requires { IsEntryNumber self.now n }
+        ensures chosen { OnOk result (OfReading self.now (λ db. (all : List RecordField) → fields.old.items ≡ chosen (map (λ name. name.now) names.now) all
+            → fields.new.items ≡ chosen (map (λ name. name.now) names.now) (all ++ missing all (fields_at (entries_of db) n)))) }
+        ensures only { IfErr result (λ fault. fault ≡ Memory) }
+    {
+        self.opens();
+        choose_all(
+            self.allocator(),
+            names,
+            fields,
+            self.entry(n).fields(),
+            &self.macros_at(self.entry_item(n)),
+        )?;
         Ok(())
     }
 }

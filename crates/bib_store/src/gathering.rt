@@ -10,11 +10,11 @@ ghost use Rattle.bib_spec.specs.Records.{field_of};
 ghost use Rattle.bib_value.specs.Raw.{OfValue};
 ghost use Rattle.bib_store.specs.Definitions.{macros_seen};
 ghost use Rattle.bib_store.specs.Gathering.{AreTaken, with_field, with_fields, IsShortValue, IsReadable, IsFieldOf};
-ghost use Rattle.bib_store.specs.declared.fault.StoreFault.TheVariants.{Memory};
+ghost use Rattle.bib_items.specs.declared.fault.StoreFault.TheVariants.{Memory};
 
 use crate::definitions::MacrosAt;
-use crate::fault::StoreFault;
 use crate::measuring::short_field_text;
+use bib_items::StoreFault;
 use bib_scan::{Fields, Seq, Text};
 use bib_value::FoldedMap;
 use std::alloc::{AllocError, Global};

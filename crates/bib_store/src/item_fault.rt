@@ -1,10 +1,11 @@
 //! Why an item's texts are not kept.
 
-ghost use Rattle.std.specs.Prelude.{◌≡◌, ◌+◌, ◌<◌, ◌^◌, ℕ};
+ghost use Rattle.std.specs.Prelude.{◌≡◌, ◌⊎◌, ◌+◌, ◌<◌, ◌^◌, ℕ};
+ghost use Rattle.bib_items.specs.declared.fault.StoreFault.TheVariants.{Memory, BadSplice};
 ghost use Rattle.bib_value.specs.declared.fault.ValueFault.TheVariants.{TextTooLong};
 ghost use Rattle.bib_store.specs.declared.item_fault.ItemFault.TheVariants.{TooLong as ItemTooLong, Memory as ItemMemory};
 
-use crate::fault::StoreFault;
+use bib_items::StoreFault;
 use bib_scan::ReadFault;
 use bib_value::ValueFault;
 use std::alloc::{AllocError, AllocFailed};
@@ -26,6 +27,17 @@ impl ItemFault {
         match fault {
             ValueFault::TextTooLong => ItemFault::TooLong(at),
             ValueFault::Memory => ItemFault::Memory,
+        }
+    }
+
+    /// Why the pieces that bring the item are refused.
+    pub(crate) fn of_splice(self) -> StoreFault
+        ensures too_long { result ≡ BadSplice → (place : ℕ) × (self ≡ ItemTooLong place) }
+        ensures only { (result ≡ BadSplice) ⊎ (result ≡ Memory) }
+    {
+        match self {
+            ItemFault::TooLong(_) => StoreFault::BadSplice,
+            ItemFault::Memory => StoreFault::Memory,
         }
     }
 

@@ -3,11 +3,10 @@
 ghost use Rattle.std.specs.Prelude.{◌≡◌, [], IfOk, IfErr};
 ghost use Rattle.bib_scan.specs.Layout.{IsLayoutOf};
 ghost use Rattle.bib_store.specs.Meaning.{OfReading};
-ghost use Rattle.bib_store.specs.Tables.{all_stored};
-ghost use Rattle.bib_store.specs.declared.fault.StoreFault.TheVariants.{Memory};
+ghost use Rattle.bib_items.specs.Items.{all_stored};
+ghost use Rattle.bib_items.specs.declared.fault.StoreFault.TheVariants.{Memory};
 
-use crate::fault::StoreFault;
-use crate::list::ItemList;
+use bib_items::{ItemList, StoreFault};
 use bib_scan::{Layout, Seq, Text};
 use std::alloc::Global;
 

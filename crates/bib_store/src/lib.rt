@@ -4,23 +4,22 @@
 #![tactic(auto)]
 
 mod amending;
+mod appending;
 mod applying;
 mod change;
+mod choosing;
 mod citing;
 mod crossrefs;
 mod database;
 mod definitions;
 mod exchanging;
 mod expanding;
-mod fault;
 mod fitting;
-mod flat;
 mod gathering;
 mod index;
 mod item_fault;
 mod joining;
 mod keeping;
-mod list;
 mod measuring;
 mod preambles;
 mod record;
@@ -31,10 +30,8 @@ mod touching;
 mod window;
 
 pub use bib_data::{Piece, Record};
+pub use bib_items::{Flat, Item, ItemList, Paged, StoreFault};
 pub use database::Database;
 pub use definitions::MacrosAt;
-pub use fault::StoreFault;
-pub use flat::Flat;
-pub use list::{Item, ItemList};
 pub use record::{Cited, Expanded};
 pub use reversing::reverse;

@@ -1,20 +1,18 @@
 //! The raw texts of values, as bytes.
 
-ghost use Rattle.std.specs.Prelude.{◌≡◌, ◌<◌, ◌≤◌, [], length, unwrap_or, IfOk, IfErr, OnOk};
+ghost use Rattle.std.specs.Prelude.{◌≡◌, ◌<◌, ◌≤◌, length, IfSome, IfOk, IfErr, OnOk};
 ghost use Rattle.std.specs.Option.{option_copied};
-ghost use Rattle.bib_spec.specs.Text.{folded};
 ghost use Rattle.bib_spec.specs.Texts.{raw_text, raw_limit, field_text};
 ghost use Rattle.bib_scan.specs.ValueParts.{IsPartsOf};
 ghost use Rattle.bib_value.specs.Macros.{without};
 ghost use Rattle.bib_store.specs.Gathering.{IsShortValue};
-ghost use Rattle.bib_store.specs.ItemTexts.{begins_text, longest, is_short};
 ghost use Rattle.bib_value.specs.Raw.{OfValue};
 ghost use Rattle.bib_value.specs.declared.fault.ValueFault.TheVariants.{TextTooLong, Memory};
-ghost use Rattle.bib_store.specs.declared.fault.StoreFault.TheVariants.{Memory as StoreMemory};
+ghost use Rattle.bib_items.specs.declared.fault.StoreFault.TheVariants.{Memory as StoreMemory};
 
-use crate::fault::StoreFault;
-use bib_scan::{Parts, Text, read_value};
-use bib_value::{MacroTable, RAW_LIMIT, ValueFault, field_text, raw_len, raw_text};
+use bib_items::StoreFault;
+use bib_scan::{Parts, Text, only_part, read_value};
+use bib_value::{MacroTable, RAW_LIMIT, ValueFault, field_text, part_text, raw_len, raw_text};
 use std::alloc::Global;
 
 /// The parts of the value that these bytes are. Bytes of an item's value are refused for want of memory alone.
@@ -43,42 +41,25 @@ pub(crate) fn value_text<M: MacroTable>(
     raw_text(alloc, &parts, bytes, macros, own)
 }
 
-/// Whether the text begins as a braced text, a quoted text or digits do.
-fn begins_text(bytes: &[u8]) -> bool
-    ensures { result ≡ begins_text bytes.now }
+/// The raw text of the value that these bytes are, lent, where no `#` stands in them: then it has one part. No memory is
+/// asked for.
+fn only_text<'a, M: MacroTable>(bytes: &'a [u8], macros: &'a M) -> Option<&'a [u8]>
+    ensures { IfSome result (λ text. OfValue bytes.now (λ v. text.now ≡ raw_text (M.macros macros.entry.now) v)) }
 {
-    match bytes {
-        [first, ..] => *first == b'{' || *first == b'"' || first.is_ascii_digit(),
-        [] => false,
-    }
+    let part = only_part(bytes)?;
+    Some(part_text(part, macros, None))
 }
 
-/// How long the text is for which the name stands.
-fn name_len<M: MacroTable>(name: &[u8], macros: &M) -> usize
-    ensures { result ≡ length (unwrap_or (M.macros macros.now (folded name.now)) []) }
+/// The same, where it is not too long.
+fn short_only_text<'a, M: MacroTable>(bytes: &'a [u8], macros: &'a M) -> Option<&'a [u8]>
+    ensures text { IfSome result (λ text. OfValue bytes.now (λ v. text.now ≡ raw_text (M.macros macros.entry.now) v)) }
+    ensures short { IfSome result (λ text. length text.now ≤ raw_limit) }
 {
-    match macros.text_of(name) {
-        Some(text) => text.len(),
-        None => 0,
+    let text = only_text(bytes, macros)?;
+    if text.len() > RAW_LIMIT as usize {
+        return None;
     }
-}
-
-/// The most that a value of one part can say.
-fn longest<M: MacroTable>(bytes: &[u8], macros: &M) -> usize
-    ensures { result ≡ longest (M.macros macros.now) bytes.now }
-{
-    if begins_text(bytes) {
-        bytes.len()
-    } else {
-        name_len(bytes, macros)
-    }
-}
-
-/// Whether the value that these bytes are has one part, which is short. It may say no where a `#` stands in a text.
-fn is_short<M: MacroTable>(bytes: &[u8], macros: &M) -> bool
-    ensures { result ≡ is_short (M.macros macros.now) bytes.now }
-{
-    !bytes.contains(&b'#') && longest(bytes, macros) <= RAW_LIMIT as usize
+    Some(text)
 }
 
 /// Refuses the value that these bytes are if its raw text is too long. Most values have one part, and are not taken
@@ -91,7 +72,7 @@ pub(crate) fn measure<M: MacroTable>(
     ensures short { OnOk result (OfValue bytes.now (λ v. length (raw_text (M.macros macros.now) v) ≤ raw_limit)) }
     ensures too_long { IfErr result (λ fault. fault ≡ TextTooLong → OfValue bytes.now (λ v. raw_limit < length (raw_text (M.macros macros.now) v))) }
 {
-    if is_short(bytes, macros) {
+    if short_only_text(bytes, macros).is_some() {
         return Ok(());
     }
     let parts = parts_of(alloc, bytes)?;
@@ -111,6 +92,9 @@ pub(crate) fn value_field_text<M: MacroTable>(
     ensures short { OnOk result (OfValue bytes.now (λ v. length (raw_text (M.macros macros.now) v) ≤ raw_limit)) }
     ensures too_long { IfErr result (λ fault. fault ≡ TextTooLong → OfValue bytes.now (λ v. raw_limit < length (raw_text (M.macros macros.now) v))) }
 {
+    if let Some(text) = short_only_text(bytes, macros) {
+        return field_text(alloc, text);
+    }
     let raw = value_text(alloc, bytes, macros, None)?;
     field_text(alloc, raw.as_slice())
 }
@@ -143,9 +127,9 @@ pub(crate) fn short_field_text<M: MacroTable>(
     ensures text { IfOk result (λ text. OfValue bytes.now (λ v. text ≡ field_text (raw_text (M.macros macros.now) v))) }
     ensures only { IfErr result (λ fault. fault ≡ StoreMemory) }
 {
-    let raw = short_text(alloc, bytes, macros)?;
-    match field_text(alloc, raw.as_slice()) {
+    match value_field_text(alloc, bytes, macros) {
         Ok(text) => Ok(text),
-        Err(_) => Err(StoreFault::Memory),
+        Err(ValueFault::Memory) => Err(StoreFault::Memory),
+        Err(ValueFault::TextTooLong) => unreachable!(),
     }
 }

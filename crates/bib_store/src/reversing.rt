@@ -5,10 +5,10 @@ ghost use Rattle.bib_spec.specs.Bytes.{file_limit};
 ghost use Rattle.bib_spec.specs.Text.{Text};
 ghost use Rattle.bib_spec.specs.Pieces.{Fit, IsAscending, applied, reversed};
 ghost use Rattle.bib_store.specs.Reversing.{new_bytes_limit};
-ghost use Rattle.bib_store.specs.declared.fault.StoreFault.TheVariants.{Memory};
+ghost use Rattle.bib_items.specs.declared.fault.StoreFault.TheVariants.{Memory};
 
-use crate::fault::StoreFault;
 use bib_data::Piece;
+use bib_items::StoreFault;
 use bib_scan::Seq;
 use std::alloc::Global;
 

@@ -3,20 +3,19 @@
 use crate::change::{find_change, front_len, new_front, put_front};
 use crate::database::Database;
 use crate::exchanging::exchange;
-use crate::fault::StoreFault;
-use crate::list::ItemList;
 use bib_data::Piece;
+use bib_items::{ItemList, StoreFault};
 
 impl<L: ItemList> Database<L> {
     ghost use Rattle.std.specs.Prelude.{◌≡◌, ◌⊎◌, IfErr, OnOk, OnErr};
     ghost use Rattle.bib_spec.specs.Texts.{IsOpenable};
     ghost use Rattle.bib_spec.specs.Pieces.{Fit, applied};
-    ghost use Rattle.bib_store.specs.declared.fault.StoreFault.TheVariants.{Memory, BadSplice};
+    ghost use Rattle.bib_items.specs.declared.fault.StoreFault.TheVariants.{Memory, BadSplice};
 
     /// Replaces pieces of the file, all at once. The items that the pieces touch are read again, and those between
-    /// them; where that shows no file, the whole file is. Where one entry gives way to another with the same key, it
-    /// takes time in their length and the number of items before, and memory in their length alone; else the tables of
-    /// all items are made again, and it takes time in the file's length, and memory as opening it.
+    /// them; where that shows no file, the whole file is. Where one entry gives way to another with the same key, or
+    /// comes behind all items, it takes time in their length and the number of items, and memory in their length alone;
+    /// else the tables of all items are made again, and it takes time in the file's length, and memory as opening it.
     pub fn splice(&mut self, pieces: &[Piece]) -> Result<(), StoreFault>
         ensures fit { OnOk result (Fit pieces.now self.old) }
         ensures spliced { OnOk result (self.new ≡ applied pieces.now self.old) }

@@ -1,9 +1,10 @@
 //! What is kept beside the items of a file.
 
-ghost use Rattle.std.specs.Prelude.{◌≡◌, ◌+◌, ◌-◌, ◌^◌, ◌≤◌, ◌<◌, ◌⊎◌, ℕ, [], length, nat_lt, if◌then◌else◌, IfOk, IfErr, OnOk};
+ghost use Rattle.std.specs.Prelude.{◌≡◌, ◌+◌, ◌-◌, ◌^◌, ◌≤◌, ◌<◌, ◌⊎◌, ℕ, [], length, nat_lt, if◌then◌else◌, IfOk, IfErr, OnOk, OnErr};
 ghost use Rattle.std.specs.Option.{option_copied};
 ghost use Rattle.bib_spec.specs.Reading.{Reading};
 ghost use Rattle.bib_spec.specs.Texts.{too_long_at};
+ghost use Rattle.bib_scan.specs.View.{kind_of};
 ghost use Rattle.bib_scan.specs.declared.view.Kind.TheVariants as kind;
 ghost use Rattle.bib_store.specs.declared.item_fault.ItemFault.TheVariants.{TooLong as ItemTooLong};
 
@@ -11,8 +12,8 @@ use crate::crossrefs::crossref_of;
 use crate::definitions::Definitions;
 use crate::index::KeyIndex;
 use crate::item_fault::ItemFault;
-use crate::list::ItemList;
 use crate::measuring::{measure, value_text};
+use bib_items::ItemList;
 use bib_scan::{FILE_LIMIT, FieldView, ItemView, Kind, NAME_LIMIT, ReadFault, Text};
 use std::alloc::Global;
 
@@ -40,11 +41,12 @@ impl Tables {
     ghost use Rattle.bib_spec.specs.Texts.{months, macros_at, raw_text, raw_limit};
     ghost use Rattle.bib_value.specs.Raw.{OfValue};
     ghost use Rattle.bib_store.specs.declared.item_fault.ItemFault.TheVariants.{Memory as ItemMemory};
-    ghost use Rattle.bib_store.specs.Tables.{without_range, IsIndexOf, AreDefinitionsOf};
+    ghost use Rattle.bib_items.specs.Items.{without_range};
+    ghost use Rattle.bib_store.specs.Tables.{IsIndexOf, AreDefinitionsOf};
     ghost use Rattle.bib_store.specs.KeyIndex.{holding_in};
     ghost use Rattle.bib_store.specs.Defined.{EndsBy, Defines, texts_at};
     ghost use Rattle.bib_store.specs.ItemTexts.{OfTree, own_text, first_too_long, placed_texts};
-    ghost use Rattle.bib_store.specs.Beside.{AreTablesOf, AreTables, HasItems, IsStep, IsTooLongAt, OfView};
+    ghost use Rattle.bib_store.specs.Beside.{AreTablesOf, AreTables, AreSame, HasItems, IsStep, IsTooLongAt, OfView};
 
     /// The tables of a file of `file_len` bytes whose front has `front_len`, and whose items are these, but for those from
     /// number `from` up to `to`. They take memory for the keys, the texts of macros and the texts of crossrefs. The file is refused if
@@ -117,7 +119,30 @@ impl Tables {
         ensures ends { OnOk result (EndsBy (n + 1) self.new.definitions) }
         ensures too_long { IfErr result (λ fault. (place : ℕ) → fault ≡ ItemTooLong place → OfView kind.Entry view.now (λ tree. IsTooLongAt n tree self.old place)) }
     {
+        self.put_entry(alloc, n, view)
+    }
+
+    /// Puts in the entry whose body this is, as item `n`, behind all others. Where it is refused, the tables say what
+    /// they said.
+    pub(crate) fn append(&mut self, alloc: Global, n: usize, body: &[u8]) -> Result<(), ItemFault>
+        requires { OfTree body.now (λ tree. kind_of tree ≡ kind.Entry) }
+        ensures step { OnOk result (OfTree body.now (λ tree. IsStep n tree self.old self.new)) }
+        ensures too_long { IfErr result (λ fault. (place : ℕ) → fault ≡ ItemTooLong place → OfTree body.now (λ tree. IsTooLongAt n tree self.old place)) }
+        ensures err { OnErr result (AreSame self.old self.new) }
+    {
+        self.put_entry(alloc, n, &ItemView::of(body, b""))
+    }
+
+    /// Puts in the entry that is item `n`, behind all others. Where it is refused, the tables say what they said.
+    fn put_entry(&mut self, alloc: Global, n: usize, view: &ItemView<'_>) -> Result<(), ItemFault>
+        ensures step { OnOk result (OfView kind.Entry view.now (λ tree. IsStep n tree self.old self.new)) }
+        ensures definitions { self.new.definitions ≡ self.old.definitions }
+        ensures too_long { IfErr result (λ fault. (place : ℕ) → fault ≡ ItemTooLong place → OfView kind.Entry view.now (λ tree. IsTooLongAt n tree self.old place)) }
+        ensures err { OnErr result (AreSame self.old self.new) }
+    {
         let crossref = crossref_of(alloc, view.fields(), &self.definitions.at(n))?;
+        self.entries.reserve(1)?;
+        self.crossrefs.reserve(1)?;
         self.add_key(view.key())?;
         self.entries.push(n)?;
         self.crossrefs.push(crossref)?;
@@ -128,7 +153,9 @@ impl Tables {
     fn add_key(&mut self, key: &[u8]) -> Result<(), ItemFault>
         ensures keys { OnOk result ((keys : List Bytes) → length keys ≡ length self.old.entries.items → IsIndexOf keys (holding_in self.old.keys) → IsIndexOf (keys ++ key.now ∷ []) (holding_in self.new.keys)) }
         ensures rest { (self.new.entries ≡ self.old.entries) × (self.new.preambles ≡ self.old.preambles) × (self.new.definitions ≡ self.old.definitions) × (self.new.crossrefs ≡ self.old.crossrefs) }
+        ensures len { self.new.file_len ≡ self.old.file_len }
         ensures only { IfErr result (λ fault. fault ≡ ItemMemory) }
+        ensures err { OnErr result (self.new.keys ≡ self.old.keys) }
     {
         // No item has a longer key, and no file has more items.
         if key.len() > NAME_LIMIT || self.entries.len() >= FILE_LIMIT {

@@ -3,7 +3,7 @@
 ghost use Rattle.std.specs.Prelude.{◌≡◌, IfOk};
 ghost use Rattle.bib_store.specs.Windows.{IsWindow, front_within, bytes_within};
 
-use crate::list::ItemList;
+use bib_items::ItemList;
 use std::alloc::{AllocError, Global};
 
 /// Items that lie together, from one number up to another, and whether the front before them is in the window too. It

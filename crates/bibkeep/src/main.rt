@@ -33,8 +33,7 @@ fn answer_words(rt: &HostRuntime, alloc: Global) -> u8 {
         Err(error) => return end_without_words(&mut rt.stderr(), &error.into()),
     };
     match parse(alloc, words.as_slice()) {
-        Ok(command) if command.is_known() => perform(rt, alloc, &command),
-        Ok(_) => end_unknown(&mut rt.stderr()),
+        Ok(command) => perform(rt, alloc, &command),
         Err(usage) => end_usage(&mut rt.stdout(), &mut rt.stderr(), &usage),
     }
 }

@@ -6,7 +6,7 @@ use Rattle.bib_scan.proofs.LayoutLemmas.{commands_start, commands_more, commands
 use Rattle.bib_scan.proofs.reading.bodies.Goals as goal
 
 pub loop-rest-init : goal.loop-rest-init
-loop-rest-init c = rw c.new-bodies.ensures.items (commands_start name_limit _ _ (rw c.next_command.ensures.read at c.behind-rest.ensures))
+loop-rest-init c = rw c.new-bodies.ensures.items (commands_start name_limit _ _ (rw c.requires.front at c.behind-rest.ensures))
 
 pub returns-in_err-after : goal.returns-in_err-after
 returns-in_err-after c =
@@ -16,7 +16,7 @@ returns-in_err-after c =
 
 pub loop-rest-preserved : goal.loop-rest-preserved
 loop-rest-preserved c =
-    let more = commands_more name_limit _ _ _ _ _ c.loop-rest.invariant c.in_ok-after.ensures.read c.in_ok-after.ensures.shorter (rw c.next_command-in-loop-rest.ensures.read at c.behind-rest-in-loop-rest.ensures) in
+    let more = commands_more name_limit _ _ _ _ _ c.loop-rest.invariant c.in_ok-after.ensures.read c.in_ok-after.ensures.shorter (rw c.next_command.ensures.read at c.behind-rest-in-loop-rest.ensures) in
     rw c.in_ok-push.ensures.items more
 
 pub returns : goal.returns

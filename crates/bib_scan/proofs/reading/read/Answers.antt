@@ -16,7 +16,7 @@ overflow_sub-result c =
 pub returns-in-Ok-clause-found : goal.returns-in-Ok-clause-found
 returns-in-Ok-clause-found c =
     let r = reading_of name_limit c.args.bytes.now _ c.in-Ok.ensures in
-    (omega (arith, c.if-bytes-gt-FILE_LIMIT.false), (r.0, r.1, rw (c.new.ensures, c.next_command.ensures.read) r.2))
+    (omega (arith, c.if-bytes-gt-FILE_LIMIT.false), (r.0, r.1, rw (c.new.ensures, c.next_command-front_len.ensures.read) r.2))
 
 pub returns-then-bytes-gt-FILE_LIMIT-clause-fault : goal.returns-then-bytes-gt-FILE_LIMIT-clause-fault
 returns-then-bytes-gt-FILE_LIMIT-clause-fault c = too_long (omega (arith, c.if-bytes-gt-FILE_LIMIT.true))

@@ -1,5 +1,5 @@
 use Rattle.std.proofs.Common.{◌≤◌, List, sym, subst, ◌∙◌, arith}
-use Rattle.bib_store.specs.declared.list.Item.{Item}
+use Rattle.bib_items.specs.declared.list.Item.{Item}
 use Rattle.bib_store.specs.Beside.{HasItems}
 use Rattle.bib_store.proofs.Exchanges.{put_of, room-put, without-old, taken-new, too_long_refused}
 use Rattle.bib_store.proofs.exchanging.exchange_all.Goals as goal

@@ -1,6 +1,6 @@
 use Rattle.std.proofs.Common.{◌≡◌, ◌++◌, take}
 use Rattle.std.specs.List.{flat_map}
-use Rattle.bib_store.specs.Stored.{kept_bytes}
+use Rattle.bib_items.specs.Items.{kept_bytes}
 use Rattle.bib_store.proofs.joining.join.Given as goal
 
 abbrev pub invariant-join : goal.invariant-join

@@ -1,6 +1,6 @@
 use Rattle.std.proofs.Common.{◌≡◌, take}
 use Rattle.bib_store.specs.Meaning.{OfReading}
-use Rattle.bib_store.specs.Tables.{all_stored}
+use Rattle.bib_items.specs.Items.{all_stored}
 use Rattle.bib_store.proofs.keeping.keep.Given as goal
 
 abbrev pub invariant-keep : goal.invariant-keep

@@ -1,6 +1,6 @@
 use Rattle.std.proofs.Common.{◌<◌, ◌≤◌, ◌≡◌, ◌++◌, length, sym, ◌∙◌, ap, ap₂, arith}
 use Rattle.std.specs.List.{flat_map, between}
-use Rattle.bib_store.specs.Stored.{kept_bytes}
+use Rattle.bib_items.specs.Items.{kept_bytes}
 use Rattle.bib_store.specs.Windows.{front_within}
 use Rattle.bib_store.proofs.WindowLaws.{none_joined, joined-more}
 use Rattle.bib_store.proofs.window.text_of.Goals as goal

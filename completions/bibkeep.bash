@@ -1,0 +1,53 @@
+# Completion of bibkeep for bash. Source it, or put it where bash-completion looks for it.
+
+_bibkeep() {
+    local commands='cat check show cite labels names edit help'
+    local current=${COMP_WORDS[COMP_CWORD]} command='' file='' count=0 position
+
+    # The command, and how many words of its own stand before this one; the first of them is the file.
+    for ((position = 1; position < COMP_CWORD; position++)); do
+        case ${COMP_WORDS[position]} in
+            --min-crossrefs) position=$((position + 1)) ;;
+            -*) ;;
+            *)
+                if [[ -z $command ]]; then
+                    command=${COMP_WORDS[position]}
+                else
+                    count=$((count + 1))
+                    [[ -n $file ]] || file=${COMP_WORDS[position]}
+                fi
+                ;;
+        esac
+    done
+
+    COMPREPLY=()
+    if [[ -z $command ]]; then
+        mapfile -t COMPREPLY < <(compgen -W "$commands --help --version" -- "$current")
+        return
+    fi
+    if [[ $current == -* ]]; then
+        case $command in
+            cite) mapfile -t COMPREPLY < <(compgen -W '--min-crossrefs --help' -- "$current") ;;
+            *) mapfile -t COMPREPLY < <(compgen -W '--help' -- "$current") ;;
+        esac
+        return
+    fi
+    case $command:$count in
+        help:0) mapfile -t COMPREPLY < <(compgen -W "$commands" -- "$current") ;;
+        help:*) ;;
+        *:0)
+            compopt -o filenames 2>/dev/null
+            mapfile -t COMPREPLY < <(compgen -f -X '!*.bib' -- "$current"; compgen -d -- "$current")
+            ;;
+        show:1 | names:1 | cite:* | labels:*)
+            mapfile -t COMPREPLY < <(compgen -W "$(_bibkeep_keys "$file")" -- "$current")
+            ;;
+    esac
+}
+
+# The keys of a file, a line each.
+_bibkeep_keys() {
+    bibkeep cite "$1" '*' 2>/dev/null | cut -f 1
+}
+
+complete -F _bibkeep bibkeep

@@ -1,0 +1,4 @@
+pub mod Filled
+pub mod Cuts
+pub mod Paging
+pub mod Walks

@@ -1,0 +1,4 @@
+pub mod Faults
+pub mod Items
+pub mod Spans
+pub mod Pages

@@ -1,0 +1,16 @@
+//! Keeps a list of items. It knows how their bytes lie; it does not know what they say. It promises that an edit costs
+//! the bytes of one page and a few steps for each page, however long the list is.
+#![tactic(auto)]
+
+mod fault;
+mod flat;
+mod list;
+mod page;
+mod paged;
+mod places;
+mod span;
+
+pub use fault::StoreFault;
+pub use flat::Flat;
+pub use list::{Item, ItemList};
+pub use paged::Paged;

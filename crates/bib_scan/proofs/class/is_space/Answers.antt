@@ -1,0 +1,9 @@
+use Rattle.std.proofs.Common.{refl, arith}
+use Rattle.bib_spec.specs.Text.{is_space}
+use Rattle.bib_scan.specs.declared.class.TheConstants.{CLASSES}
+use Rattle.bib_scan.proofs.TableLemmas.{agree_below, from_table}
+use Rattle.bib_scan.proofs.class.is_space.Goals as goal
+
+pub returns : goal.returns
+unfolding agree_below is_space
+returns c = from_table CLASSES 2 is_space c.args.byte (omega arith) refl

@@ -1,0 +1,176 @@
+-- Texts that are their own field texts.
+use Rattle.std.proofs.Common.{◌≡◌, ℕ, Bool, true, false, cond, not, ◌&&◌, eqb, List, [], ◌∷◌, ◌++◌, refl, sym, ap, ◌∙◌, ◌==◌, if◌then◌else◌}
+use Rattle.std.proofs.lemmas.Bool.{cases_Bool, cond-true, cond-false, eqb-true, and_parts}
+use Rattle.std.proofs.Common.{⊎_elim}
+use Rattle.bib_spec.specs.Bytes.{space}
+use Rattle.bib_spec.specs.Text.{Text, is_space}
+use Rattle.bib_spec.specs.Texts.{is_empty, field_text}
+use Rattle.bib_value.proofs.FieldTextLemmas.{more_text, more_text-all}
+use Rattle.ris_format.specs.Lines.{has_bytes}
+
+-- Words with one space between each two, and none at the end; a word has to begin here where the text stands apart.
+abbrev pub neat : Bool → Text → Bool
+neat apart [] = not apart
+neat apart (b ∷ t) = if is_space b then b == space && (not apart && neat true t) else neat false t
+
+pub space_is : is_space 32 ≡ true
+unfolding is_space
+space_is = refl
+
+-- a neat text that goes on with white space: a space, and a word after it
+pub neat-space : (apart : Bool) (b : ℕ) (t : Text) → is_space b ≡ true → neat apart (b ∷ t) ≡ true → (b ≡ 32) × (apart ≡ false) × (neat true t ≡ true)
+neat-space apart b t h n =
+    let p = and_parts (eqb b 32) (not apart && neat true t) (sym (cond-true (is_space b) _ _ h) ∙ n) in
+    let q = and_parts (not apart) (neat true t) p.1 in
+    (eqb-true b 32 p.0, not_is apart q.0, q.1)
+  where
+    not_is : (a : Bool) → not a ≡ true → a ≡ false
+    not_is true e = sym e
+    not_is false e = refl
+
+pub neat-word : (apart : Bool) (b : ℕ) (t : Text) → is_space b ≡ false → neat apart (b ∷ t) ≡ neat false t
+neat-word apart b t h = cond-false (is_space b) _ _ h
+
+pub neat-gap : (t : Text) → neat false (32 ∷ t) ≡ neat true t
+neat-gap t = cond-true (is_space 32) (neat true t) _ space_is
+
+-- ---- neat texts are their own field texts
+
+more-neat : (apart : Bool) (t : Text) → neat apart t ≡ true → more_text apart true t ≡ cond apart (32 ∷ t) t
+more-neat true [] n = absurd (cc)
+more-neat false [] n = refl
+more-neat true (b ∷ t) n =
+    ⊎_elim
+    (λ h. let s = neat-space true b t h n in absurd (cc))
+    (λ h. rw h (ap (λ (u : Text). 32 ∷ b ∷ u) (more-neat false t (sym (neat-word true b t h) ∙ n))))
+    (cases_Bool (is_space b))
+more-neat false (b ∷ t) n =
+    ⊎_elim
+    (λ h. let s = neat-space false b t h n in cond-true (is_space b) _ _ h ∙ more-neat true t s.2 ∙ ap (λ (c : ℕ). c ∷ t) (sym s.0))
+    (λ h. rw h (ap (λ (u : Text). b ∷ u) (more-neat false t (sym (neat-word false b t h) ∙ n))))
+    (cases_Bool (is_space b))
+
+whole-neat : (t : Text) → neat true t ≡ true → more_text false false t ≡ t
+whole-neat [] n = absurd (cc)
+whole-neat (b ∷ t) n =
+    ⊎_elim
+    (λ h. let s = neat-space true b t h n in absurd (cc))
+    (λ h. rw h (ap (λ (u : Text). b ∷ u) (more-neat false t (sym (neat-word true b t h) ∙ n))))
+    (cases_Bool (is_space b))
+
+pub field_text-neat : (t : Text) → neat true t ≡ true → field_text t ≡ t
+field_text-neat t n = sym (more_text-all t) ∙ whole-neat t n
+
+-- ---- field texts are neat
+
+neat-more : (apart : Bool) (t : Text) → neat false (more_text apart true t) ≡ true
+neat-more apart [] = refl
+neat-more true (b ∷ t) =
+    ⊎_elim
+    (λ h. rw h (neat-more true t))
+    (λ h. rw h (neat-gap (b ∷ more_text false true t) ∙ neat-word true b (more_text false true t) h ∙ neat-more false t))
+    (cases_Bool (is_space b))
+neat-more false (b ∷ t) =
+    ⊎_elim
+    (λ h. rw h (neat-more true t))
+    (λ h. rw h (neat-word false b (more_text false true t) h ∙ neat-more false t))
+    (cases_Bool (is_space b))
+
+pub neat-whole : (apart : Bool) (t : Text) → has_bytes (more_text apart false t) ≡ true → neat true (more_text apart false t) ≡ true
+neat-whole apart [] some = absurd (cc)
+neat-whole true (b ∷ t) some =
+    ⊎_elim
+    (λ h. rw h (neat-whole true t (ap has_bytes (sym (cond-true (is_space b) (more_text true false t) _ h)) ∙ some)))
+    (λ h. rw h (neat-word true b (more_text false true t) h ∙ neat-more false t))
+    (cases_Bool (is_space b))
+neat-whole false (b ∷ t) some =
+    ⊎_elim
+    (λ h. rw h (neat-whole true t (ap has_bytes (sym (cond-true (is_space b) (more_text true false t) _ h)) ∙ some)))
+    (λ h. rw h (neat-word true b (more_text false true t) h ∙ neat-more false t))
+    (cases_Bool (is_space b))
+
+pub neat-field_text : (t : Text) → field_text t ≡ t → has_bytes t ≡ true → neat true t ≡ true
+neat-field_text t own some =
+    let e : more_text false false t ≡ t = more_text-all t ∙ own in
+    ap (neat true) (sym e) ∙ neat-whole false t (ap has_bytes e ∙ some)
+
+-- ---- parts of neat texts
+
+-- the text begins with no white space, and with some byte
+abbrev pub begins_plain : Text → Bool
+begins_plain [] = false
+begins_plain (b ∷ t) = not (is_space b)
+
+abbrev pub ends_plain : Text → Bool
+ends_plain [] = false
+ends_plain (b ∷ []) = not (is_space b)
+ends_plain (b ∷ c ∷ t) = ends_plain (c ∷ t)
+
+not_is : (c : Bool) → not c ≡ true → c ≡ false
+not_is true e = sym e
+not_is false e = refl
+
+-- a neat text decides nothing of what may stand after it, but that a word has begun
+pub neat-append : (apart : Bool) (x y : Text) → neat apart x ≡ true → neat apart (x ++ y) ≡ neat false y
+neat-append true [] y n = absurd (cc)
+neat-append false [] y n = refl
+neat-append apart (b ∷ x) y n =
+    ⊎_elim
+    (λ h. let s = neat-space apart b x h n in rw (h, s.0, s.1) (neat-append true x y s.2))
+    (λ h. rw h (neat-append false x y (sym (neat-word apart b x h) ∙ n)))
+    (cases_Bool (is_space b))
+
+-- what follows a front of a neat text and begins with no white space is neat
+pub neat-after : (apart : Bool) (x z : Text) → neat apart (x ++ z) ≡ true → begins_plain z ≡ true → neat true z ≡ true
+neat-after apart [] [] n p = absurd (cc)
+neat-after apart [] (b ∷ z) n p =
+    let h = not_is (is_space b) p in
+    neat-word true b z h ∙ sym (neat-word apart b z h) ∙ n
+neat-after apart (b ∷ x) z n p =
+    ⊎_elim
+    (λ h. neat-after true x z (neat-space apart b (x ++ z) h n).2 p)
+    (λ h. neat-after false x z (sym (neat-word apart b (x ++ z) h) ∙ n) p)
+    (cases_Bool (is_space b))
+
+-- a front of a neat text that ends with no white space is neat
+pub neat-front : (apart : Bool) (v y : Text) → neat apart (v ++ y) ≡ true → ends_plain v ≡ true → neat apart v ≡ true
+neat-front apart [] y n p = absurd (cc)
+neat-front apart (b ∷ []) y n p = neat-word apart b [] (not_is (is_space b) p)
+neat-front apart (b ∷ c ∷ v) y n p =
+    ⊎_elim
+    (λ h. let s = neat-space apart b ((c ∷ v) ++ y) h n in rw (h, s.0, s.1) (neat-front true (c ∷ v) y s.2 p))
+    (λ h. rw h (neat-front false (c ∷ v) y (sym (neat-word apart b ((c ∷ v) ++ y) h) ∙ n) p))
+    (cases_Bool (is_space b))
+
+pub begins-append : (v y : Text) → begins_plain v ≡ true → begins_plain (v ++ y) ≡ true
+begins-append [] y p = absurd (cc)
+begins-append (b ∷ v) y p = p
+
+-- a stretch of a neat text with no white space at its ends is neat
+pub neat-slice : (apart : Bool) (x v y : Text) → neat apart (x ++ (v ++ y)) ≡ true → begins_plain v ≡ true → ends_plain v ≡ true → neat true v ≡ true
+neat-slice apart x v y n front end = neat-front true v y (neat-after apart x (v ++ y) n (begins-append v y front)) end
+
+-- a neat text begins and ends with no white space, and is not empty
+pub neat-begins : (t : Text) → neat true t ≡ true → begins_plain t ≡ true
+neat-begins [] n = absurd (cc)
+neat-begins (b ∷ t) n =
+    ⊎_elim
+    (λ h. let s = neat-space true b t h n in absurd (cc))
+    (λ h. ap not h)
+    (cases_Bool (is_space b))
+
+pub neat-ends : (apart : Bool) (b : ℕ) (t : Text) → neat apart (b ∷ t) ≡ true → ends_plain (b ∷ t) ≡ true
+neat-ends apart b [] n =
+    ⊎_elim
+    (λ h. let s = neat-space apart b [] h n in absurd (cc))
+    (λ h. ap not h)
+    (cases_Bool (is_space b))
+neat-ends apart b (c ∷ t) n =
+    ⊎_elim
+    (λ h. neat-ends true c t (neat-space apart b (c ∷ t) h n).2)
+    (λ h. neat-ends false c t (sym (neat-word apart b (c ∷ t) h) ∙ n))
+    (cases_Bool (is_space b))
+
+pub neat-has_bytes : (t : Text) → neat true t ≡ true → has_bytes t ≡ true
+neat-has_bytes [] n = absurd (cc)
+neat-has_bytes (b ∷ t) n = refl

@@ -1,0 +1,19 @@
+use Rattle.std.proofs.Common.{◌≡◌, ◌∙◌, List, length, map, sym, ap, arith}
+use Rattle.std.proofs.lemmas.List.{length-map}
+use Rattle.bib_spec.specs.Text.{Text}
+use Rattle.bib_names.specs.NameList.{names_of}
+use Rattle.bib_names.proofs.BalanceLaws.{IsBalanced-from_test}
+use Rattle.ris_format.proofs.TakenApart.{listed-balanced}
+use Rattle.ris_format.proofs.OpaqueValues.{opaque-many, opaque-few}
+use Rattle.ris_format.proofs.people.is_opaque.Goals as goal
+
+pub returns-then-pieces-gt3 : goal.returns-then-pieces-gt3
+returns-then-pieces-gt3 c = opaque-many c.args.value.now c.args.pieces c.requires.count (omega (arith, c.if-pieces-gt3.true))
+
+pub returns : goal.returns
+returns c =
+    let value = c.args.value.now in
+    let names : length c.as_slice-2.result.now ≡ length (names_of value) =
+    sym (length-map c.as_slice-2.result.now (λ n. n.now))
+    ∙ ap (λ (ns : List Text). length ns) (ap (map (λ n. n.now)) c.as_slice-2.ensures ∙ c.in_ok-listed_names.ensures ∙ listed-balanced value (IsBalanced-from_test value c.requires.balanced)) in
+    opaque-few value c.args.pieces (length c.as_slice-2.result.now) c.requires.count (omega (arith, c.if-pieces-gt3.false)) names

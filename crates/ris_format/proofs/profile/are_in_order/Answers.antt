@@ -1,0 +1,12 @@
+use Rattle.std.proofs.Common.{◌≡◌, ◌∙◌, List, [], drop, map, sym, ap, arith}
+use Rattle.std.proofs.lemmas.List.{drop_all}
+use Rattle.bib_spec.specs.Text.{Text}
+use Rattle.ris_format.specs.Profile.{are_in_order}
+use Rattle.ris_format.proofs.OrderLaws.{order-left}
+use Rattle.ris_format.proofs.profile.are_in_order.Goals as goal
+
+pub returns : goal.returns
+returns c =
+    let rest = c.loop-name.rest.now in
+    let none = drop_all c.loop-name.name-index c.args.names.now (omega (arith, c.loop-name-test.false)) in
+    c.is_empty.ensures ∙ order-left rest ∙ ap (λ ns. are_in_order (map (λ n. n.now) ns) rest) (sym none) ∙ c.loop-name.invariant

@@ -1,0 +1,26 @@
+-- Keywords: one RIS line for each. (dialect)
+use Rattle.std.specs.Prelude.{ℕ, Bool, ◌==◌, List, codes, map, filter}
+use Rattle.std.specs.List.{slice_split, join_by}
+use Rattle.std.specs.Str.{bytes_eq}
+use Rattle.bib_spec.specs.Bytes.{comma}
+use Rattle.bib_spec.specs.Text.{Text}
+use Rattle.bib_trim.specs.Trimming.{trimmed}
+use Rattle.ris_format.specs.Lines.{has_bytes}
+
+abbrev pub is_comma_byte : ℕ → Bool
+is_comma_byte byte = byte == comma
+
+-- what stands between the commas, without white space at the ends
+abbrev pub keyword_pieces : Text → List Text
+keyword_pieces text = map trimmed (slice_split is_comma_byte text)
+
+-- empty ones are left out
+abbrev pub written_keywords : Text → List Text
+written_keywords text = filter has_bytes (keyword_pieces text)
+
+abbrev pub read_keywords : List Text → Text
+read_keywords values = join_by (λ value. value) (codes ", ") values
+
+-- the text is its keywords, joined by a comma and a space
+abbrev pub are_plain_keywords : Text → Bool
+are_plain_keywords text = bytes_eq (read_keywords (written_keywords text)) text

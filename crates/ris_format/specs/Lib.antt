@@ -1,0 +1,12 @@
+pub mod Faults
+pub mod Kinds
+pub mod Lines
+pub mod Pieces
+pub mod People
+pub mod Dates
+pub mod Pages
+pub mod Keywords
+pub mod Mapping
+pub mod Profile
+pub mod Fitting
+pub mod Entry

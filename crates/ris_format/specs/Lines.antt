@@ -1,0 +1,59 @@
+-- Lines of a RIS record by their tags, and what is found in them.
+use Rattle.std.specs.Prelude.{Bool, not, List, [], ◌∷◌, ◌++◌, map, filter, slice_index_or, if◌then◌else◌}
+use Rattle.std.specs.List.{flat_map, list_any}
+use Rattle.std.specs.Str.{bytes_eq}
+use Rattle.bib_spec.specs.Text.{Text}
+use Rattle.bib_spec.specs.Texts.{is_empty, field_text}
+use Rattle.ris_text.specs.declared.records.RisLine.{RisLine}
+
+abbrev pub has_bytes : Text → Bool
+has_bytes text = not (is_empty text)
+
+-- the text alone, or nothing where it is empty
+abbrev pub single : Text → List Text
+single text = if is_empty text then [] else text ∷ []
+
+-- ---- writing
+
+abbrev pub line : Text → Text → RisLine
+line tag value = record { tag = tag; value = value }
+
+-- values that stand after one tag, a line each
+pub record Tagged : Type 0 where
+  pub tag : Text
+  pub values : List Text
+
+abbrev pub tagged : Text → List Text → Tagged
+tagged tag values = record { tag = tag; values = values }
+
+abbrev pub tagged_lines : Tagged → List RisLine
+tagged_lines group = map (line group.tag) group.values
+
+abbrev pub lines_of : List Tagged → List RisLine
+lines_of groups = flat_map tagged_lines groups
+
+-- ---- reading
+
+-- a line with its value as a field text
+abbrev pub spaced : RisLine → RisLine
+spaced l = line l.tag (field_text l.value)
+
+-- the lines as they are read: each value as a field text, empty ones left out
+abbrev pub read_lines : List RisLine → List RisLine
+read_lines lines = filter (λ l. has_bytes l.value) (map spaced lines)
+
+-- the line has one of these tags
+abbrev pub has_tag : List Text → RisLine → Bool
+has_tag tags l = list_any (λ tag. bytes_eq tag l.tag) tags
+
+-- the values after these tags, in the order of the lines
+abbrev pub values_at : List Text → List RisLine → List Text
+values_at tags lines = map (λ l. l.value) (filter (has_tag tags) lines)
+
+-- the first of them, empty if there is none
+abbrev pub value_at : List Text → List RisLine → Text
+value_at tags lines = slice_index_or (values_at tags lines) 0 []
+
+-- the text, or the other one where it is empty
+abbrev pub or_else : Text → Text → Text
+or_else text other = if is_empty text then other else text

@@ -1,0 +1,83 @@
+//! Fields of a record by their names.
+
+ghost use Rattle.std.specs.Prelude.{◌≡◌, ◌++◌, ◌∷◌, [], OnOk, IfOk, filter, map};
+ghost use Rattle.ris_format.specs.Mapping.{is_filled, has_text, text_of, field, later_names, field_names};
+
+use crate::kinds::{Kind, is};
+use crate::text::{copy, has_bytes};
+use bib_scan::Text;
+use std::alloc::{AllocError, Global};
+
+/// Whether the field has this name, and a text that is not empty.
+fn is_filled(name: &[u8], field: &(Text, Text)) -> bool
+    ensures { result ≡ is_filled name.now field.now }
+{
+    is(field.0.as_slice(), name) && has_bytes(field.1.as_slice())
+}
+
+/// The first text that is not empty of a field of exactly this name, and else the empty text.
+pub(crate) fn text_of<'a>(fields: &'a [(Text, Text)], name: &[u8]) -> &'a [u8]
+    ensures { result.now ≡ text_of fields.now name.now }
+{
+    for field in fields {
+        if is_filled(name, field) {
+            return field.1.as_slice();
+        }
+    }
+    b""
+}
+
+/// Puts a field after the others, where its text is not empty.
+pub(crate) fn push_field(
+    alloc: Global,
+    fields: &mut Vec<(Text, Text)>,
+    name: &[u8],
+    text: &[u8],
+) -> Result<(), AllocError>
+    ensures { OnOk result (fields.new.items ≡ fields.old.items ++ filter has_text (field name.now text.now ∷ [])) }
+{
+    if has_bytes(text) {
+        let name = copy(alloc, name)?;
+        let text = copy(alloc, text)?;
+        fields.push((name, text))?;
+    }
+    Ok(())
+}
+
+/// The names of the fields that a record of the kind can have, in order.
+pub(crate) fn field_names(alloc: Global, kind: Kind) -> Result<Vec<&'static [u8]>, AllocError>
+    ensures { IfOk result (λ names. map (λ n. n.now) names.items ≡ field_names kind) }
+{
+    let mut names: Vec<&'static [u8]> = Vec::with_capacity(alloc, 19)?;
+    names.push(b"author")?;
+    names.push(b"editor")?;
+    names.push(b"title")?;
+    if !kind.is_article() {
+        names.push(b"booktitle")?;
+    }
+    names.extend_from_slice(&later_names(kind))?;
+    Ok(names)
+}
+
+/// The names from series on.
+fn later_names(kind: Kind) -> [&'static [u8]; 15]
+    ensures { map (λ n. n.now) result ≡ later_names kind }
+{
+    [
+        b"series",
+        b"journal",
+        b"year",
+        b"month",
+        b"volume",
+        b"number",
+        b"pages",
+        kind.publisher_field(),
+        b"address",
+        kind.serial_field(),
+        b"url",
+        b"doi",
+        b"abstract",
+        b"note",
+        b"keywords",
+    ]
+}

@@ -1,0 +1,205 @@
+//! From a record to RIS.
+
+ghost use Rattle.std.specs.Prelude.{◌≡◌, ◌++◌, ◌∷◌, [], IfOk, IfErr, OnOk, map, filter};
+ghost use Rattle.std.specs.List.{list_any};
+ghost use Rattle.std.specs.Str.{bytes_eq};
+ghost use Rattle.ris_format.specs.Lines.{lines_of};
+ghost use Rattle.ris_format.specs.Mapping.{booktitle_text, field_names, written_names, written_titles, written_numbers, written_publishers, written_notes, written, ris, is_carried, is_dropped, dropped};
+ghost use Rattle.ris_format.specs.declared.fault.MappingFault.TheVariants.{Memory};
+
+use crate::dates::{has_slash, month_digits, push_date};
+use crate::fault::MappingFault;
+use crate::fields::{field_names, text_of};
+use crate::keywords::push_keywords;
+use crate::kinds::{Kind, is};
+use crate::lines::push_single;
+use crate::pages::{push_end, push_start};
+use crate::people::{is_refused, push_people};
+use crate::text::{copy, has_bytes};
+use bib_data::Record;
+use bib_scan::{Seq, Text};
+use ris_text::{RisLine, RisRecord};
+use std::alloc::{AllocError, Global};
+
+// ---- lines
+
+/// Puts the lines of author and editor after the others.
+fn push_names(
+    alloc: Global,
+    lines: &mut Vec<RisLine>,
+    fields: &[(Text, Text)],
+) -> Result<(), AllocError>
+    ensures { OnOk result (lines.new.items ≡ lines.old.items ++ lines_of (written_names fields.now)) }
+{
+    push_people(alloc, lines, *b"AU", text_of(fields, b"author"))?;
+    push_people(alloc, lines, *b"A2", text_of(fields, b"editor"))
+}
+
+/// The booktitle, empty in an article.
+fn booktitle<'a>(kind: Kind, fields: &'a [(Text, Text)]) -> &'a [u8]
+    ensures { result.now ≡ booktitle_text kind fields.now }
+{
+    if kind.is_article() {
+        b""
+    } else {
+        text_of(fields, b"booktitle")
+    }
+}
+
+/// Puts the lines of titles after the others.
+fn push_titles(
+    alloc: Global,
+    lines: &mut Vec<RisLine>,
+    kind: Kind,
+    fields: &[(Text, Text)],
+) -> Result<(), AllocError>
+    ensures { OnOk result (lines.new.items ≡ lines.old.items ++ lines_of (written_titles kind fields.now)) }
+{
+    push_single(alloc, lines, *b"TI", text_of(fields, b"title"))?;
+    push_single(alloc, lines, *b"T2", booktitle(kind, fields))?;
+    push_single(alloc, lines, *b"T3", text_of(fields, b"series"))?;
+    push_single(alloc, lines, *b"JF", text_of(fields, b"journal"))
+}
+
+/// Puts the lines of date, volume, number and pages after the others.
+fn push_numbers(
+    alloc: Global,
+    lines: &mut Vec<RisLine>,
+    fields: &[(Text, Text)],
+) -> Result<(), AllocError>
+    ensures { OnOk result (lines.new.items ≡ lines.old.items ++ lines_of (written_numbers fields.now)) }
+{
+    let year = text_of(fields, b"year");
+    push_date(alloc, lines, *b"PY", year, text_of(fields, b"month"))?;
+    push_single(alloc, lines, *b"VL", text_of(fields, b"volume"))?;
+    push_single(alloc, lines, *b"IS", text_of(fields, b"number"))?;
+    let pages = text_of(fields, b"pages");
+    push_start(alloc, lines, *b"SP", pages)?;
+    push_end(alloc, lines, *b"EP", pages)
+}
+
+/// Puts the lines of publisher, address and serial number after the others.
+fn push_publishers(
+    alloc: Global,
+    lines: &mut Vec<RisLine>,
+    kind: Kind,
+    fields: &[(Text, Text)],
+) -> Result<(), AllocError>
+    ensures { OnOk result (lines.new.items ≡ lines.old.items ++ lines_of (written_publishers kind fields.now)) }
+{
+    push_single(
+        alloc,
+        lines,
+        *b"PB",
+        text_of(fields, kind.publisher_field()),
+    )?;
+    push_single(alloc, lines, *b"CY", text_of(fields, b"address"))?;
+    push_single(alloc, lines, *b"SN", text_of(fields, kind.serial_field()))
+}
+
+/// Puts the lines of addresses on the web, abstract, note and keywords after the others.
+fn push_notes(
+    alloc: Global,
+    lines: &mut Vec<RisLine>,
+    fields: &[(Text, Text)],
+) -> Result<(), AllocError>
+    ensures { OnOk result (lines.new.items ≡ lines.old.items ++ lines_of (written_notes fields.now)) }
+{
+    push_single(alloc, lines, *b"UR", text_of(fields, b"url"))?;
+    push_single(alloc, lines, *b"DO", text_of(fields, b"doi"))?;
+    push_single(alloc, lines, *b"AB", text_of(fields, b"abstract"))?;
+    push_single(alloc, lines, *b"N1", text_of(fields, b"note"))?;
+    push_keywords(alloc, lines, *b"KW", text_of(fields, b"keywords"))
+}
+
+/// The lines of a record, with its key at the end.
+fn record_lines(alloc: Global, kind: Kind, entry: &Record) -> Result<Vec<RisLine>, AllocError>
+    ensures { IfOk result (λ lines. lines.items ≡ lines_of (written kind entry.now)) }
+{
+    let fields = entry.fields.as_slice();
+    let mut lines = Vec::new(alloc);
+    push_names(alloc, &mut lines, fields)?;
+    push_titles(alloc, &mut lines, kind, fields)?;
+    push_numbers(alloc, &mut lines, fields)?;
+    push_publishers(alloc, &mut lines, kind, fields)?;
+    push_notes(alloc, &mut lines, fields)?;
+    push_single(alloc, &mut lines, *b"ID", entry.key.as_slice())?;
+    Ok(lines)
+}
+
+// ---- what is dropped
+
+/// Whether the name is one of a field that a record of the kind can have.
+fn is_field_name(alloc: Global, kind: Kind, name: &[u8]) -> Result<bool, AllocError>
+    ensures { IfOk result (λ b. b ≡ list_any (bytes_eq name.now) (field_names kind)) }
+{
+    let names = field_names(alloc, kind)?;
+    for other in names.as_slice() {
+        if is(name, other) {
+            return Ok(true);
+        }
+    }
+    Ok(false)
+}
+
+/// Whether a field of this name with this text can be written.
+fn is_carried(alloc: Global, kind: Kind, name: &[u8], text: &[u8]) -> Result<bool, AllocError>
+    ensures { IfOk result (λ b. b ≡ is_carried kind name.now text.now) }
+{
+    if is(name, b"author") || is(name, b"editor") {
+        return Ok(!is_refused(alloc, text)?);
+    }
+    if is(name, b"year") {
+        return Ok(!has_slash(text));
+    }
+    if is(name, b"month") {
+        return Ok(month_digits(text).is_some());
+    }
+    is_field_name(alloc, kind, name)
+}
+
+/// Whether the field has a text, and cannot be written.
+fn is_dropped(alloc: Global, kind: Kind, field: &(Text, Text)) -> Result<bool, AllocError>
+    ensures { IfOk result (λ b. b ≡ is_dropped kind field.now) }
+{
+    if !has_bytes(field.1.as_slice()) {
+        return Ok(false);
+    }
+    Ok(!is_carried(alloc, kind, field.0.as_slice(), field.1.as_slice())?)
+}
+
+/// The names of the fields that are dropped.
+fn dropped_names(
+    alloc: Global,
+    kind: Kind,
+    fields: &[(Text, Text)],
+) -> Result<Vec<Text>, AllocError>
+    ensures { IfOk result (λ names. names.items ≡ map (λ f. f.0) (filter (is_dropped kind) fields.now)) }
+{
+    let mut names = Vec::new(alloc);
+    for field in fields {
+        if is_dropped(alloc, kind, field)? {
+            let name = copy(alloc, field.0.as_slice())?;
+            names.push(name)?;
+        }
+    }
+    Ok(names)
+}
+
+/// The RIS record of a record, and the names of the fields that are dropped: those that the table of its type does not
+/// have, lists of names that cannot be taken apart, years with a slash and texts that name no month. Fields with an
+/// empty text are left out and not named; of two fields of one name the first that is not empty is written. It takes
+/// time in the record's size. The one refusal is want of memory.
+pub fn to_ris(alloc: Global, entry: &Record) -> Result<(RisRecord, Seq<Text>), MappingFault>
+    ensures record { IfOk result (λ r. r.0 ≡ ris entry.now) }
+    ensures dropped { IfOk result (λ r. r.1 ≡ dropped entry.now) }
+    ensures memory { IfErr result (λ fault. fault ≡ Memory) }
+{
+    let kind = Kind::of_entry(entry.kind_name.as_slice());
+    let record = RisRecord {
+        kind_name: copy(alloc, kind.ris_type())?,
+        lines: Seq::from_vec(record_lines(alloc, kind, entry)?),
+    };
+    let names = dropped_names(alloc, kind, entry.fields.as_slice())?;
+    Ok((record, Seq::from_vec(names)))
+}

@@ -1,0 +1,86 @@
+//! Keywords, both ways.
+
+ghost use Rattle.std.specs.Prelude.{◌≡◌, ◌++◌, ◌∷◌, [], OnOk, IfOk, map};
+ghost use Rattle.ris_format.specs.Lines.{line};
+ghost use Rattle.ris_format.specs.Keywords.{is_comma_byte, keyword_pieces, written_keywords, read_keywords, are_plain_keywords};
+
+use crate::kinds::is;
+use crate::lines::push_line;
+use crate::text::{copy, has_bytes, join, piece_between};
+use ris_text::RisLine;
+use std::alloc::{AllocError, Global};
+
+/// Whether keywords are cut at this byte.
+fn is_cut(byte: u8) -> bool
+    ensures { result ≡ is_comma_byte byte }
+{
+    byte == b','
+}
+
+/// What stands between the commas, without white space at the ends.
+fn keyword_pieces(alloc: Global, text: &[u8]) -> Result<Vec<&[u8]>, AllocError>
+    ensures { IfOk result (λ pieces. map (λ p. p.now) pieces.items ≡ keyword_pieces text.now) }
+{
+    let mut pieces = Vec::new(alloc);
+    let mut start = 0;
+    for (place, &byte) in text.iter().enumerate() {
+        if is_cut(byte) {
+            pieces.push(piece_between(text, start, place))?;
+            start = place + 1;
+        }
+    }
+    pieces.push(piece_between(text, start, text.len()))?;
+    Ok(pieces)
+}
+
+/// The keywords of a text.
+fn keywords(alloc: Global, text: &[u8]) -> Result<Vec<&[u8]>, AllocError>
+    ensures { IfOk result (λ words. map (λ w. w.now) words.items ≡ written_keywords text.now) }
+{
+    let pieces = keyword_pieces(alloc, text)?;
+    let mut words = Vec::new(alloc);
+    for piece in pieces.as_slice() {
+        if has_bytes(piece) {
+            words.push(*piece)?;
+        }
+    }
+    Ok(words)
+}
+
+/// Puts a line for each keyword after the others.
+pub(crate) fn push_keywords(
+    alloc: Global,
+    lines: &mut Vec<RisLine>,
+    tag: [u8; 2],
+    text: &[u8],
+) -> Result<(), AllocError>
+    ensures { OnOk result (lines.new.items ≡ lines.old.items ++ map (line tag) (written_keywords text.now)) }
+{
+    let words = keywords(alloc, text)?;
+    for word in words.as_slice() {
+        push_word(alloc, lines, tag, word)?;
+    }
+    Ok(())
+}
+
+/// Puts a line for the keyword after the others.
+fn push_word(
+    alloc: Global,
+    lines: &mut Vec<RisLine>,
+    tag: [u8; 2],
+    word: &[u8],
+) -> Result<(), AllocError>
+    ensures { OnOk result (lines.new.items ≡ lines.old.items ++ (line tag word.now ∷ [])) }
+{
+    let value = copy(alloc, word)?;
+    push_line(lines, tag, value)
+}
+
+/// Whether the text is its keywords, joined by a comma and a space.
+pub(crate) fn are_plain_keywords(alloc: Global, text: &[u8]) -> Result<bool, AllocError>
+    ensures { IfOk result (λ b. b ≡ are_plain_keywords text.now) }
+{
+    let words = keywords(alloc, text)?;
+    let whole = join(alloc, b", ", words.as_slice())?;
+    Ok(is(whole.as_slice(), text))
+}

@@ -1,0 +1,16 @@
+//! Laws of the mapping, in the contracts of functions that do nothing.
+
+ghost use Rattle.ris_format.specs.Profile.{ProfileIsKept};
+ghost use Rattle.ris_format.specs.Fitting.{SpacedRecordsFit, GivenRecordsFit};
+
+/// A record of the profile, written as RIS and read back, is the same again, and nothing of it is dropped.
+pub fn a_record_of_the_profile_is_kept()
+    ensures { ProfileIsKept }
+{}
+
+/// The RIS record of a record whose texts are field texts, and whose key has no white space, can be written; and each
+/// record that a database gives is such.
+pub fn given_records_fit()
+    ensures spaced { SpacedRecordsFit }
+    ensures given { GivenRecordsFit }
+{}

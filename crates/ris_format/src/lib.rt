@@ -1,0 +1,26 @@
+//! Maps records to RIS records and back. It knows which tag carries which field; it does not know the lines of a RIS
+//! file, nor databases. It promises the tables' mapping both ways, and that a record of the profile is the same again.
+#![tactic(auto)]
+
+mod braces;
+mod dates;
+mod fault;
+mod fields;
+mod from_record;
+mod keywords;
+mod kinds;
+mod laws;
+mod lines;
+mod new_entry;
+mod pages;
+mod people;
+mod profile;
+mod text;
+mod to_record;
+
+pub use fault::MappingFault;
+pub use from_record::to_ris;
+pub use laws::{a_record_of_the_profile_is_kept, given_records_fit};
+pub use new_entry::to_entry;
+pub use profile::in_profile;
+pub use to_record::from_ris;

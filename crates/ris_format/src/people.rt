@@ -1,0 +1,365 @@
+//! Names of persons, both ways.
+
+ghost use Rattle.std.specs.Prelude.{◌≡◌, ◌++◌, ◌==◌, ◌&&◌, OnOk, IfOk, map, length, true};
+ghost use Rattle.std.specs.List.{slice_range, list_any, list_all};
+ghost use Rattle.ris_format.specs.Lines.{line};
+ghost use Rattle.ris_format.specs.People.{word_end, to_last_end, part_text, family, person, ris_name, bib_name, is_somebody, taken_apart, is_broken, is_refused, written_name, written_people, name_pieces, person_of, is_opaque, read_balanced, read_name, read_people, is_plain_name, are_plain_names};
+ghost use Rattle.bib_names.specs.Label.{balances, listed_names};
+
+use crate::braces::Braces;
+use crate::kinds::is;
+use crate::lines::push_line;
+use crate::text::{balances, copy, has_bytes, in_braces, join, piece_between, with_comma};
+use bib_names::{Name, NameFault, Word, split_name, split_names};
+use bib_scan::{Seq, Text};
+use ris_text::RisLine;
+use std::alloc::{AllocError, Global};
+use std::marker::Model;
+
+/// The parts of a name as texts.
+#[derive(Drop)]
+pub(crate) struct Person<'a> {
+    last: &'a [u8],
+    first: &'a [u8],
+    suffix: &'a [u8],
+}
+
+/// The slice of the text from one place to another, as far as it has them.
+fn between(text: &[u8], start: usize, end: usize) -> &[u8]
+    ensures { result.now ≡ slice_range text.now start end }
+{
+    let rest = text.split_at(start.min(text.len())).1;
+    rest.split_at(end.saturating_sub(start).min(rest.len())).0
+}
+
+/// The slice of a name from a place to where a word ends.
+fn to_word_end<'a>(name: &'a [u8], start: usize, word: &Word<'_>) -> &'a [u8]
+    ensures { result.now ≡ slice_range name.now start (word_end word.now) }
+{
+    between(name, start, word.at.saturating_add(word.text.len()))
+}
+
+/// The slice of a name from a place to where the last of these words ends.
+fn to_last_end<'a>(name: &'a [u8], start: usize, words: &[Word<'_>]) -> &'a [u8]
+    ensures { result.now ≡ to_last_end name.now start words.now }
+{
+    match words {
+        [_, ..] => to_word_end(name, start, &words[words.len() - 1]),
+        [] => b"",
+    }
+}
+
+/// The slice of a name from the first of these words to the last.
+fn part_text<'a>(name: &'a [u8], words: &[Word<'_>]) -> &'a [u8]
+    ensures { result.now ≡ part_text name.now words.now }
+{
+    match words {
+        [first, ..] => to_last_end(name, first.at, words),
+        [] => b"",
+    }
+}
+
+/// The slice of a name with von and Last, empty where Last is.
+fn family_text<'a>(name: &'a [u8], von: &[Word<'_>], last: &[Word<'_>]) -> &'a [u8]
+    ensures { result.now ≡ part_text name.now (family von.now last.now) }
+{
+    match von {
+        [first, ..] => to_last_end(name, first.at, last),
+        [] => part_text(name, last),
+    }
+}
+
+impl<'a> Person<'a> {
+    /// The parts of this name as texts.
+    fn of(name: &'a [u8], parts: &Name<'_>) -> Self
+        ensures { result ≡ person name.now parts.now }
+    {
+        Person {
+            last: family_text(name, parts.von.as_slice(), parts.last.as_slice()),
+            first: part_text(name, parts.first.as_slice()),
+            suffix: part_text(name, parts.jr.as_slice()),
+        }
+    }
+
+    /// Whether the name has a word.
+    fn is_somebody(&self) -> bool
+        ensures { result ≡ is_somebody self.now }
+    {
+        has_bytes(self.last) || has_bytes(self.first) || has_bytes(self.suffix)
+    }
+
+    /// `Last`, `Last, First` or `Last, First, Jr`.
+    fn ris_name(&self, alloc: Global) -> Result<Text, AllocError>
+        ensures { IfOk result (λ t. t ≡ ris_name self.now) }
+    {
+        if has_bytes(self.suffix) {
+            let given = with_comma(alloc, self.first, self.suffix)?;
+            return with_comma(alloc, self.last, given.as_slice());
+        }
+        if has_bytes(self.first) {
+            return with_comma(alloc, self.last, self.first);
+        }
+        copy(alloc, self.last)
+    }
+
+    /// `Last`, `Last, First` or `Last, Jr, First`.
+    fn bib_name(&self, alloc: Global) -> Result<Text, AllocError>
+        ensures { IfOk result (λ t. t ≡ bib_name self.now) }
+    {
+        if has_bytes(self.suffix) {
+            let first = if has_bytes(self.first) {
+                self.first
+            } else {
+                b"{}"
+            };
+            let given = with_comma(alloc, self.suffix, first)?;
+            return with_comma(alloc, self.last, given.as_slice());
+        }
+        if has_bytes(self.first) {
+            return with_comma(alloc, self.last, self.first);
+        }
+        copy(alloc, self.last)
+    }
+}
+
+impl<'a> Model for Person<'a> {
+    ghost use Rattle.ris_format.specs.People.{Person as PersonTexts};
+
+    ghost Value = { PersonTexts };
+
+    ghost view = { λ p. record { last = p.last.now; first = p.first.now; suffix = p.suffix.now } };
+}
+
+/// The name's parts, none where it cannot be taken apart.
+fn taken_apart(alloc: Global, name: &[u8]) -> Result<Option<Name<'_>>, AllocError>
+    ensures { IfOk result (λ parts. parts ≡ taken_apart name.now) }
+{
+    match split_name(alloc, name) {
+        Ok(parts) => Ok(Some(parts)),
+        Err(NameFault::UnbalancedName) => Ok(None),
+        Err(NameFault::TooManyCommas) => Ok(None),
+        Err(_) => Err(AllocError),
+    }
+}
+
+/// The names of a list, none where its braces do not balance.
+fn listed_names(alloc: Global, list: &[u8]) -> Result<Seq<&[u8]>, AllocError>
+    ensures { IfOk result (λ names. map (λ n. n.now) names ≡ listed_names list.now) }
+{
+    match split_names(alloc, list) {
+        Ok(names) => Ok(names),
+        Err(NameFault::UnbalancedName) => Ok(Seq::from_vec(Vec::new(alloc))),
+        Err(_) => Err(AllocError),
+    }
+}
+
+/// Whether one of the names cannot be taken apart.
+fn is_any_broken(alloc: Global, names: &[&[u8]]) -> Result<bool, AllocError>
+    ensures { IfOk result (λ b. b ≡ list_any is_broken (map (λ n. n.now) names.now)) }
+{
+    for name in names {
+        if taken_apart(alloc, name)?.is_none() {
+            return Ok(true);
+        }
+    }
+    Ok(false)
+}
+
+/// Whether the list, or one of its names, cannot be taken apart.
+pub(crate) fn is_refused(alloc: Global, list: &[u8]) -> Result<bool, AllocError>
+    ensures { IfOk result (λ b. b ≡ is_refused list.now) }
+{
+    if !balances(list) {
+        return Ok(true);
+    }
+    is_any_broken(alloc, listed_names(alloc, list)?.as_slice())
+}
+
+// ---- writing
+
+/// Puts a line for the name after the others, where it has a word.
+fn push_name(
+    alloc: Global,
+    lines: &mut Vec<RisLine>,
+    tag: [u8; 2],
+    name: &[u8],
+) -> Result<(), AllocError>
+    ensures { OnOk result (lines.new.items ≡ lines.old.items ++ map (line tag) (written_name name.now)) }
+{
+    let Some(parts) = taken_apart(alloc, name)? else {
+        return Ok(());
+    };
+    let person = Person::of(name, &parts);
+    if person.is_somebody() {
+        let value = person.ris_name(alloc)?;
+        push_line(lines, tag, value)?;
+    }
+    Ok(())
+}
+
+/// Puts a line for each name of a list after the others, none where the list is refused.
+pub(crate) fn push_people(
+    alloc: Global,
+    lines: &mut Vec<RisLine>,
+    tag: [u8; 2],
+    list: &[u8],
+) -> Result<(), AllocError>
+    ensures { OnOk result (lines.new.items ≡ lines.old.items ++ map (line tag) (written_people list.now)) }
+{
+    if is_refused(alloc, list)? {
+        return Ok(());
+    }
+    let names = listed_names(alloc, list)?;
+    for name in names.as_slice() {
+        push_name(alloc, lines, tag, name)?;
+    }
+    Ok(())
+}
+
+// ---- reading
+
+/// Whether a name is cut at this byte.
+fn is_cut(braces: Braces, byte: u8) -> bool
+    ensures { result ≡ (braces.opened == braces.closed && byte == 44) }
+{
+    braces.are_level() && byte == b','
+}
+
+/// What stands between the commas of a value at depth 0, without white space at the ends.
+fn name_pieces(alloc: Global, value: &[u8]) -> Result<Vec<&[u8]>, AllocError>
+    ensures { IfOk result (λ pieces. map (λ p. p.now) pieces.items ≡ name_pieces value.now) }
+{
+    let mut pieces = Vec::new(alloc);
+    let mut start = 0;
+    let mut braces = Braces::none();
+    for (place, &byte) in value.iter().enumerate() {
+        if is_cut(braces, byte) {
+            pieces.push(piece_between(value, start, place))?;
+            start = place + 1;
+        }
+        braces = braces.and(byte);
+    }
+    pieces.push(piece_between(value, start, value.len()))?;
+    Ok(pieces)
+}
+
+/// The person that these pieces of a value name.
+fn person_of<'a>(pieces: &[&'a [u8]]) -> Person<'a>
+    ensures { result ≡ person_of (map (λ p. p.now) pieces.now) }
+{
+    match pieces {
+        [last, first, suffix, ..] => Person {
+            last,
+            first,
+            suffix,
+        },
+        [last, first] => Person {
+            last,
+            first,
+            suffix: b"",
+        },
+        [last] => Person {
+            last,
+            first: b"",
+            suffix: b"",
+        },
+        [] => Person {
+            last: b"",
+            first: b"",
+            suffix: b"",
+        },
+    }
+}
+
+/// Whether a value whose braces balance, with so many pieces, would be read as another name than it says.
+fn is_opaque(alloc: Global, value: &[u8], pieces: usize) -> Result<bool, AllocError>
+    requires balanced { balances value.now ≡ true }
+    requires count { pieces ≡ length (name_pieces value.now) }
+    ensures { IfOk result (λ b. b ≡ is_opaque value.now) }
+{
+    if pieces > 3 {
+        return Ok(true);
+    }
+    Ok(listed_names(alloc, value)?.as_slice().len() > 1)
+}
+
+/// A value whose braces balance, as a name of a list.
+fn read_balanced(alloc: Global, value: &[u8]) -> Result<Text, AllocError>
+    requires { balances value.now ≡ true }
+    ensures { IfOk result (λ name. name ≡ read_balanced value.now) }
+{
+    let pieces = name_pieces(alloc, value)?;
+    if is_opaque(alloc, value, pieces.len())? {
+        return in_braces(alloc, value);
+    }
+    person_of(pieces.as_slice()).bib_name(alloc)
+}
+
+/// A value as a name of a list.
+fn read_name(alloc: Global, value: &[u8]) -> Result<Text, AllocError>
+    ensures { IfOk result (λ name. name ≡ read_name value.now) }
+{
+    if balances(value) {
+        read_balanced(alloc, value)
+    } else {
+        copy(alloc, value)
+    }
+}
+
+/// The values as a list of names.
+pub(crate) fn read_people(alloc: Global, values: &[&[u8]]) -> Result<Text, AllocError>
+    ensures { IfOk result (λ list. list ≡ read_people (map (λ v. v.now) values.now)) }
+{
+    let [first, rest @ ..] = values else {
+        return Ok(Seq::from_vec(Vec::new(alloc)));
+    };
+    let mut list = read_name(alloc, first)?.into_vec();
+    for value in rest {
+        list.extend_from_slice(b" and ")?;
+        list.extend_from_slice(read_name(alloc, value)?.as_slice())?;
+    }
+    Ok(Seq::from_vec(list))
+}
+
+// ---- the profile
+
+/// Whether the name is written as its parts say, with a Last.
+fn is_plain_name(alloc: Global, name: &[u8]) -> Result<bool, AllocError>
+    ensures { IfOk result (λ b. b ≡ is_plain_name name.now) }
+{
+    let Some(parts) = taken_apart(alloc, name)? else {
+        return Ok(false);
+    };
+    let person = Person::of(name, &parts);
+    if !has_bytes(person.last) {
+        return Ok(false);
+    }
+    Ok(is(person.bib_name(alloc)?.as_slice(), name))
+}
+
+/// Whether all names are written so.
+fn are_all_plain(alloc: Global, names: &[&[u8]]) -> Result<bool, AllocError>
+    ensures { IfOk result (λ b. b ≡ list_all is_plain_name (map (λ n. n.now) names.now)) }
+{
+    for name in names {
+        if !is_plain_name(alloc, name)? {
+            return Ok(false);
+        }
+    }
+    Ok(true)
+}
+
+/// Whether the list has such names, joined by ` and `.
+pub(crate) fn are_plain_names(alloc: Global, list: &[u8]) -> Result<bool, AllocError>
+    ensures { IfOk result (λ b. b ≡ are_plain_names list.now) }
+{
+    if !balances(list) {
+        return Ok(false);
+    }
+    let names = listed_names(alloc, list)?;
+    let whole = join(alloc, b" and ", names.as_slice())?;
+    if !is(whole.as_slice(), list) {
+        return Ok(false);
+    }
+    are_all_plain(alloc, names.as_slice())
+}

@@ -1,0 +1,81 @@
+//! Plain texts: tests, copies, and texts joined.
+
+ghost use Rattle.std.specs.Prelude.{◌≡◌, ◌≤◌, IfOk, length, map};
+ghost use Rattle.std.specs.List.{slice_range, join_by};
+ghost use Rattle.bib_trim.specs.Trimming.{trimmed};
+ghost use Rattle.bib_names.specs.Label.{balances};
+ghost use Rattle.ris_format.specs.Lines.{has_bytes};
+ghost use Rattle.ris_format.specs.People.{with_comma, in_braces};
+
+use bib_scan::{Seq, Text, is_balanced};
+use bib_trim::trimmed;
+use std::alloc::{AllocError, Global};
+
+/// What stands between two places, without white space at its ends.
+pub(crate) fn piece_between(text: &[u8], start: usize, end: usize) -> &[u8]
+    requires ordered { start ≤ end }
+    requires within { end ≤ length text.now }
+    ensures { result.now ≡ trimmed (slice_range text.now start end) }
+{
+    trimmed(&text[start..end])
+}
+
+/// Whether the text has a byte.
+pub(crate) fn has_bytes(text: &[u8]) -> bool
+    ensures { result ≡ has_bytes text.now }
+{
+    match text {
+        [] => false,
+        [_, ..] => true,
+    }
+}
+
+/// Whether the braces of the text balance.
+pub(crate) fn balances(text: &[u8]) -> bool
+    ensures { result ≡ balances text.now }
+{
+    is_balanced(text)
+}
+
+/// A copy of the text.
+pub(crate) fn copy(alloc: Global, text: &[u8]) -> Result<Text, AllocError>
+    ensures { IfOk result (λ t. t ≡ text.now) }
+{
+    Ok(Seq::from_vec(Vec::from_slice(alloc, text)?))
+}
+
+/// The two texts with a comma and a space between them.
+pub(crate) fn with_comma(alloc: Global, text: &[u8], more: &[u8]) -> Result<Text, AllocError>
+    ensures { IfOk result (λ t. t ≡ with_comma text.now more.now) }
+{
+    let mut out = Vec::from_slice(alloc, text)?;
+    out.extend_from_slice(b", ")?;
+    out.extend_from_slice(more)?;
+    Ok(Seq::from_vec(out))
+}
+
+/// The text in braces.
+pub(crate) fn in_braces(alloc: Global, text: &[u8]) -> Result<Text, AllocError>
+    ensures { IfOk result (λ t. t ≡ in_braces text.now) }
+{
+    let mut out = Vec::with_capacity(alloc, 2)?;
+    out.push(b'{')?;
+    out.extend_from_slice(text)?;
+    out.push(b'}')?;
+    Ok(Seq::from_vec(out))
+}
+
+/// The texts, with this text between each two.
+pub(crate) fn join(alloc: Global, between: &[u8], texts: &[&[u8]]) -> Result<Text, AllocError>
+    ensures { IfOk result (λ t. t ≡ join_by (λ x. x) between.now (map (λ x. x.now) texts.now)) }
+{
+    let [first, rest @ ..] = texts else {
+        return Ok(Seq::from_vec(Vec::new(alloc)));
+    };
+    let mut out = Vec::from_slice(alloc, first)?;
+    for text in rest {
+        out.extend_from_slice(between)?;
+        out.extend_from_slice(text)?;
+    }
+    Ok(Seq::from_vec(out))
+}

@@ -1,0 +1,176 @@
+//! From RIS to a record.
+
+ghost use Rattle.std.specs.Prelude.{◌≡◌, ◌++◌, IfOk, IfErr, OnOk, filter};
+ghost use Rattle.ris_format.specs.Mapping.{has_text, read_names, read_journal, read_booktitle, read_titles, read_numbers, read_publishers, read_notes, read_fields, record_in, back};
+ghost use Rattle.ris_format.specs.declared.fault.MappingFault.TheVariants.{Memory};
+
+use crate::dates::{read_month, read_year};
+use crate::fault::MappingFault;
+use crate::fields::push_field;
+use crate::kinds::Kind;
+use crate::lines::{or_else, read_lines, value_at, values_at};
+use crate::pages::read_pages;
+use crate::people::read_people;
+use crate::text::{copy, join};
+use bib_data::Record;
+use bib_scan::{Seq, Text};
+use ris_text::{RisLine, RisRecord};
+use std::alloc::{AllocError, Global};
+
+/// Puts author, editor and title after the other fields.
+fn push_names(
+    alloc: Global,
+    fields: &mut Vec<(Text, Text)>,
+    lines: &[RisLine],
+) -> Result<(), AllocError>
+    ensures { OnOk result (fields.new.items ≡ fields.old.items ++ filter has_text (read_names lines.now)) }
+{
+    let authors = values_at(alloc, &[*b"AU", *b"A1"], lines)?;
+    let author = read_people(alloc, authors.as_slice())?;
+    push_field(alloc, fields, b"author", author.as_slice())?;
+    let editors = values_at(alloc, &[*b"A2", *b"ED"], lines)?;
+    let editor = read_people(alloc, editors.as_slice())?;
+    push_field(alloc, fields, b"editor", editor.as_slice())?;
+    push_field(alloc, fields, b"title", value_at(&[*b"TI", *b"T1"], lines))
+}
+
+/// The journal: after JF, else after JO, else in an article after T2.
+fn read_journal(kind: Kind, lines: &[RisLine]) -> &[u8]
+    ensures { result.now ≡ read_journal kind lines.now }
+{
+    let title = if kind.is_article() {
+        value_at(&[*b"T2"], lines)
+    } else {
+        b""
+    };
+    or_else(
+        value_at(&[*b"JF"], lines),
+        or_else(value_at(&[*b"JO"], lines), title),
+    )
+}
+
+/// Puts the booktitle after the other fields, but in an article.
+fn push_booktitle(
+    alloc: Global,
+    fields: &mut Vec<(Text, Text)>,
+    kind: Kind,
+    lines: &[RisLine],
+) -> Result<(), AllocError>
+    ensures { OnOk result (fields.new.items ≡ fields.old.items ++ filter has_text (read_booktitle kind lines.now)) }
+{
+    if kind.is_article() {
+        return Ok(());
+    }
+    push_field(alloc, fields, b"booktitle", value_at(&[*b"T2"], lines))
+}
+
+/// Puts series and journal after the other fields.
+fn push_titles(
+    alloc: Global,
+    fields: &mut Vec<(Text, Text)>,
+    kind: Kind,
+    lines: &[RisLine],
+) -> Result<(), AllocError>
+    ensures { OnOk result (fields.new.items ≡ fields.old.items ++ filter has_text (read_titles kind lines.now)) }
+{
+    push_field(alloc, fields, b"series", value_at(&[*b"T3"], lines))?;
+    push_field(alloc, fields, b"journal", read_journal(kind, lines))
+}
+
+/// Puts date, volume, number and pages after the other fields.
+fn push_numbers(
+    alloc: Global,
+    fields: &mut Vec<(Text, Text)>,
+    lines: &[RisLine],
+) -> Result<(), AllocError>
+    ensures { OnOk result (fields.new.items ≡ fields.old.items ++ filter has_text (read_numbers lines.now)) }
+{
+    let date = value_at(&[*b"PY", *b"Y1"], lines);
+    push_field(alloc, fields, b"year", read_year(date))?;
+    push_field(alloc, fields, b"month", read_month(date))?;
+    push_field(alloc, fields, b"volume", value_at(&[*b"VL"], lines))?;
+    push_field(alloc, fields, b"number", value_at(&[*b"IS"], lines))?;
+    let end = value_at(&[*b"EP"], lines);
+    let pages = read_pages(alloc, value_at(&[*b"SP"], lines), end)?;
+    push_field(alloc, fields, b"pages", pages.as_slice())
+}
+
+/// Puts publisher, address and serial number after the other fields.
+fn push_publishers(
+    alloc: Global,
+    fields: &mut Vec<(Text, Text)>,
+    kind: Kind,
+    lines: &[RisLine],
+) -> Result<(), AllocError>
+    ensures { OnOk result (fields.new.items ≡ fields.old.items ++ filter has_text (read_publishers kind lines.now)) }
+{
+    push_field(
+        alloc,
+        fields,
+        kind.publisher_field(),
+        value_at(&[*b"PB"], lines),
+    )?;
+    push_field(alloc, fields, b"address", value_at(&[*b"CY"], lines))?;
+    push_field(
+        alloc,
+        fields,
+        kind.serial_field(),
+        value_at(&[*b"SN"], lines),
+    )
+}
+
+/// Puts addresses on the web, abstract, note and keywords after the other fields.
+fn push_notes(
+    alloc: Global,
+    fields: &mut Vec<(Text, Text)>,
+    lines: &[RisLine],
+) -> Result<(), AllocError>
+    ensures { OnOk result (fields.new.items ≡ fields.old.items ++ filter has_text (read_notes lines.now)) }
+{
+    push_field(alloc, fields, b"url", value_at(&[*b"UR"], lines))?;
+    push_field(alloc, fields, b"doi", value_at(&[*b"DO"], lines))?;
+    push_field(
+        alloc,
+        fields,
+        b"abstract",
+        value_at(&[*b"AB", *b"N2"], lines),
+    )?;
+    push_field(alloc, fields, b"note", value_at(&[*b"N1"], lines))?;
+    let words = values_at(alloc, &[*b"KW"], lines)?;
+    let keywords = join(alloc, b", ", words.as_slice())?;
+    push_field(alloc, fields, b"keywords", keywords.as_slice())
+}
+
+/// The fields that lines say whose values are field texts.
+fn read_fields(
+    alloc: Global,
+    kind: Kind,
+    lines: &[RisLine],
+) -> Result<Vec<(Text, Text)>, AllocError>
+    ensures { IfOk result (λ fields. fields.items ≡ filter has_text (read_fields kind lines.now)) }
+{
+    let mut fields = Vec::new(alloc);
+    push_names(alloc, &mut fields, lines)?;
+    push_booktitle(alloc, &mut fields, kind, lines)?;
+    push_titles(alloc, &mut fields, kind, lines)?;
+    push_numbers(alloc, &mut fields, lines)?;
+    push_publishers(alloc, &mut fields, kind, lines)?;
+    push_notes(alloc, &mut fields, lines)?;
+    Ok(fields)
+}
+
+/// The record of a RIS record. Its values are read as field texts, and its key is the text after ID, empty without
+/// one. It takes time in the record's size. The one refusal is want of memory.
+pub fn from_ris(alloc: Global, ris: &RisRecord) -> Result<Record, MappingFault>
+    ensures record { IfOk result (λ entry. entry ≡ back ris.now) }
+    ensures memory { IfErr result (λ fault. fault ≡ Memory) }
+{
+    let kind = Kind::of_ris(ris.kind_name.as_slice());
+    let lines = read_lines(alloc, ris.lines.as_slice())?;
+    let fields = read_fields(alloc, kind, lines.as_slice())?;
+    Ok(Record {
+        kind_name: copy(alloc, kind.entry_type())?,
+        key: copy(alloc, value_at(&[*b"ID"], lines.as_slice()))?,
+        fields: Seq::from_vec(fields),
+    })
+}

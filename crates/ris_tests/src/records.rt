@@ -1,0 +1,195 @@
+//! Worked examples of the mapping.
+
+use bib_data::Record;
+use bib_scan::{Seq, Text};
+use ris_format::{MappingFault, from_ris, in_profile, to_entry, to_ris};
+use ris_text::{RisLine, RisRecord};
+use std::alloc::Global;
+use std::test::Fail;
+
+fn owned(alloc: Global, text: &[u8]) -> Result<Text, MappingFault> {
+    Ok(Seq::from_vec(Vec::from_slice(alloc, text)?))
+}
+
+/// A record of this type with the key `k1` and these fields.
+fn entry(alloc: Global, kind: &[u8], fields: &[(&[u8], &[u8])]) -> Result<Record, MappingFault> {
+    let mut all = Vec::new(alloc);
+    for field in fields {
+        all.push((owned(alloc, field.0)?, owned(alloc, field.1)?))?;
+    }
+    Ok(Record {
+        kind_name: owned(alloc, kind)?,
+        key: owned(alloc, b"k1")?,
+        fields: Seq::from_vec(all),
+    })
+}
+
+/// A RIS record of this type with these lines.
+fn ris(alloc: Global, kind: &[u8], lines: &[([u8; 2], &[u8])]) -> Result<RisRecord, MappingFault> {
+    let mut all = Vec::new(alloc);
+    for line in lines {
+        all.push(RisLine {
+            tag: line.0,
+            value: owned(alloc, line.1)?,
+        })?;
+    }
+    Ok(RisRecord {
+        kind_name: owned(alloc, kind)?,
+        lines: Seq::from_vec(all),
+    })
+}
+
+fn is_ris(record: &RisRecord, kind: &[u8], lines: &[([u8; 2], &[u8])]) -> bool {
+    if record.kind_name.as_slice() != kind || record.lines.as_slice().len() != lines.len() {
+        return false;
+    }
+    for (line, other) in record.lines.as_slice().iter().zip(lines.iter()) {
+        if line.tag != other.0 || line.value.as_slice() != other.1 {
+            return false;
+        }
+    }
+    true
+}
+
+fn are_fields(fields: &[(Text, Text)], others: &[(&[u8], &[u8])]) -> bool {
+    if fields.len() != others.len() {
+        return false;
+    }
+    for (field, other) in fields.iter().zip(others.iter()) {
+        if field.0.as_slice() != other.0 || field.1.as_slice() != other.1 {
+            return false;
+        }
+    }
+    true
+}
+
+const KING: [(&[u8], &[u8]); 6] = [
+    (
+        b"author",
+        b"King, Jr, Martin Luther and de la Fontaine, Jean",
+    ),
+    (b"title", b"On Things"),
+    (b"journal", b"J"),
+    (b"year", b"1984"),
+    (b"month", b"May"),
+    (b"pages", b"10--20"),
+];
+
+#[test]
+fn an_article_is_written_and_read_back(rt: HostRuntime) -> Result<(), Fail> {
+    let alloc = rt.alloc();
+    let record = entry(alloc, b"article", &KING)?;
+    let (written, dropped) = to_ris(alloc, &record)?;
+    let lines: [([u8; 2], &[u8]); 8] = [
+        (*b"AU", b"King, Martin Luther, Jr"),
+        (*b"AU", b"de la Fontaine, Jean"),
+        (*b"TI", b"On Things"),
+        (*b"JF", b"J"),
+        (*b"PY", b"1984/05//"),
+        (*b"SP", b"10"),
+        (*b"EP", b"20"),
+        (*b"ID", b"k1"),
+    ];
+    assert!(rt; is_ris(&written, b"JOUR", &lines));
+    assert!(rt; dropped.as_slice().is_empty());
+    assert!(rt; in_profile(alloc, &record)?);
+    let back = from_ris(alloc, &written)?;
+    assert!(rt; back.kind_name.as_slice() == b"article".as_slice());
+    assert!(rt; back.key.as_slice() == b"k1".as_slice());
+    assert!(rt; are_fields(back.fields.as_slice(), &KING));
+    Ok(())
+}
+
+#[test]
+fn texts_of_a_new_entry_stand_in_braces(rt: HostRuntime) -> Result<(), Fail> {
+    let alloc = rt.alloc();
+    let made = to_entry(alloc, &entry(alloc, b"article", &KING)?)?;
+    let fields: [(&[u8], &[u8]); 6] = [
+        (
+            b"author",
+            b"{King, Jr, Martin Luther and de la Fontaine, Jean}",
+        ),
+        (b"title", b"{On Things}"),
+        (b"journal", b"{J}"),
+        (b"year", b"{1984}"),
+        (b"month", b"{May}"),
+        (b"pages", b"{10--20}"),
+    ];
+    assert!(rt; are_fields(made.fields.as_slice(), &fields));
+    Ok(())
+}
+
+#[test]
+fn a_text_that_is_not_balanced_is_refused(rt: HostRuntime) -> Result<(), Fail> {
+    let alloc = rt.alloc();
+    let record = entry(alloc, b"misc", &[(b"title", b"a}b")])?;
+    match to_entry(alloc, &record) {
+        Err(fault) => assert!(rt; fault.number() == 64),
+        Ok(_) => assert!(rt; false),
+    }
+    Ok(())
+}
+
+#[test]
+fn what_cannot_be_written_is_named(rt: HostRuntime) -> Result<(), Fail> {
+    let alloc = rt.alloc();
+    let fields: [(&[u8], &[u8]); 7] = [
+        (b"author", b"a, b, c, d"),
+        (b"foo", b"x"),
+        (b"bar", b""),
+        (b"year", b"1984/5"),
+        (b"month", b"5"),
+        (b"title", b"T"),
+        (b"keywords", b"a,b; c , ,"),
+    ];
+    let (written, dropped) = to_ris(alloc, &entry(alloc, b"foo", &fields)?)?;
+    let lines: [([u8; 2], &[u8]); 4] = [
+        (*b"TI", b"T"),
+        (*b"KW", b"a"),
+        (*b"KW", b"b; c"),
+        (*b"ID", b"k1"),
+    ];
+    assert!(rt; is_ris(&written, b"GEN", &lines));
+    let names = dropped.as_slice();
+    assert!(rt; names.len() == 4);
+    assert!(rt; names[0].as_slice() == b"author".as_slice());
+    assert!(rt; names[1].as_slice() == b"foo".as_slice());
+    assert!(rt; names[2].as_slice() == b"year".as_slice());
+    assert!(rt; names[3].as_slice() == b"month".as_slice());
+    Ok(())
+}
+
+#[test]
+fn lines_of_others_are_read(rt: HostRuntime) -> Result<(), Fail> {
+    let alloc = rt.alloc();
+    let lines: [([u8; 2], &[u8]); 11] = [
+        (*b"A1", b"King, , Jr"),
+        (*b"AU", b"a, b, c, d"),
+        (*b"AU", b"Barnes and Noble"),
+        (*b"AU", b"{a"),
+        (*b"T1", b"  One   two "),
+        (*b"T2", b"J"),
+        (*b"Y1", b" 1984 / 005/x"),
+        (*b"EP", b"20"),
+        (*b"N2", b"About"),
+        (*b"KW", b"a, b"),
+        (*b"KW", b"c"),
+    ];
+    let back = from_ris(alloc, &ris(alloc, b"JOUR", &lines)?)?;
+    let fields: [(&[u8], &[u8]); 8] = [
+        (
+            b"author",
+            b"King, Jr, {} and {a, b, c, d} and {Barnes and Noble} and {a",
+        ),
+        (b"title", b"One two"),
+        (b"journal", b"J"),
+        (b"year", b"1984"),
+        (b"month", b"May"),
+        (b"pages", b"20"),
+        (b"abstract", b"About"),
+        (b"keywords", b"a, b, c"),
+    ];
+    assert!(rt; are_fields(back.fields.as_slice(), &fields));
+    assert!(rt; back.key.as_slice().is_empty());
+    Ok(())
+}

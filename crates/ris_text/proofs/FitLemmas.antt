@@ -1,0 +1,38 @@
+-- Texts that fit a line.
+use Rattle.std.proofs.Common.{◌≡◌, ℕ, suc, ◌≤◌, Bool, false, [], ◌∷◌, ◌++◌, length, refl, ap, ◌∙◌, arith}
+use Rattle.std.specs.Prelude.{not, bytes_eq}
+use Rattle.std.specs.List.{list_any}
+use Rattle.std.proofs.lemmas.Bool.{and_from, not_from_false, not-true}
+use Rattle.std.proofs.lemmas.List.{take_all, length-append}
+use Rattle.std.proofs.lemmas.Slice.Eq.{bytes_eq-Decides}
+use Rattle.bib_spec.specs.Text.{Text, is_space, after_run}
+use Rattle.bib_trim.specs.Trimming.{up_to_last, before_run, trimmed}
+use Rattle.ris_text.specs.Writing.{ends_line, fits_line}
+use Rattle.ris_text.specs.Laws.{IsBare, BareTextsFit}
+use Rattle.bib_trim.proofs.TrimLemmas.{up_to_last-snoc-yes}
+
+-- the last byte and those before it
+last_of : (b : ℕ) (t : Text) → (front : Text) × (last : ℕ) × (b ∷ t ≡ front ++ last ∷ [])
+last_of b [] = ([], b, refl)
+last_of b (c ∷ t) = let rest = last_of c t in (b ∷ rest.0, rest.1, ap (λ (u : Text). b ∷ u) rest.2)
+
+end_kept : (t front : Text) (last : ℕ) → t ≡ front ++ last ∷ [] → is_space last ≡ false → before_run is_space t ≡ t
+end_kept t front last is bare =
+    let kept : ℕ → Bool = λ byte. not (is_space byte) in
+    let count : up_to_last kept t ≡ suc (length front) = ap (up_to_last kept) is ∙ up_to_last-snoc-yes kept front last (not_from_false (is_space last) bare) in
+    let all : length t ≤ up_to_last kept t = omega (arith, count, ap length is, length-append front (last ∷ [])) in
+    take_all (up_to_last kept t) t all
+
+front_kept : (b : ℕ) (t : Text) → is_space b ≡ false → after_run is_space (b ∷ t) ≡ b ∷ t
+front_kept b t bare = rw bare refl
+
+bare_trimmed : (t : Text) → IsBare t → trimmed t ≡ t
+bare_trimmed [] bare = refl
+bare_trimmed (b ∷ t) bare =
+    let split = last_of b t in
+    ap (before_run is_space) (front_kept b t (not-true (is_space b) bare.first)) ∙ end_kept (b ∷ t) split.0 split.1 split.2 (bare.last split.0 split.1 split.2)
+
+pub bare_texts_fit : BareTextsFit
+unfolding fits_line
+bare_texts_fit t one_line bare =
+    and_from (not (list_any ends_line t)) (bytes_eq (trimmed t) t) (not_from_false (list_any ends_line t) one_line) ((bytes_eq-Decides (trimmed t) t).1 (bare_trimmed t bare))

@@ -1,0 +1,9 @@
+pub mod FitLemmas
+pub mod WriteLemmas
+pub mod TextLaws
+pub mod MeaningLaws
+pub mod MeaningLemmas
+pub mod ToldLemmas
+pub mod JoinLemmas
+pub mod LineLemmas
+pub mod TagLemmas

@@ -1,0 +1,41 @@
+-- The text of lines, one after another.
+use Rattle.std.proofs.Common.{◌≡◌, ℕ, ◌+◌, ◌<◌, List, [], ◌∷◌, ◌++◌, length, take, get_or, map, sym, ap, ◌∙◌, append-nil, append_assoc}
+use Rattle.std.specs.List.{flat_map}
+use Rattle.std.proofs.lemmas.List.{take_more, flat_map_more}
+use Rattle.std.proofs.lemmas.Grind.{flat_map-append}
+use Rattle.std.proofs.lemmas.List.Folds.{flat_map-map}
+use Rattle.bib_spec.specs.Text.{Text}
+use Rattle.ris_text.specs.declared.records.RisLine.{RisLine}
+use Rattle.ris_text.specs.declared.records.RisRecord.{RisRecord}
+use Rattle.ris_text.specs.Tags.{begin_tag, end_tag}
+use Rattle.ris_text.specs.Writing.{written, ended, record_text}
+
+-- one member more is written
+pub written_more : {A : Type 0} (f : A → Text) (before so_far longer : Text) (xs : List A) (i : ℕ) (d : A) → so_far ≡ before ++ flat_map f (take i xs) → i < length xs
+    → longer ≡ so_far ++ f (get_or xs i d) → longer ≡ before ++ flat_map f (take (i + 1) xs)
+written_more f before so_far longer xs i d is within more =
+    more ∙ ap (λ (t : Text). t ++ f (get_or xs i d)) is ∙ flat_map_more f before (take i xs) (get_or xs i d)
+    ∙ ap (λ ys. before ++ flat_map f ys) (sym (take_more xs i d within))
+
+-- the lines of a record that are neither its first nor its last
+abbrev pub kept_text : List RisLine → Text
+kept_text lines = flat_map (λ line. ended (written line.tag line.value)) lines
+
+-- the text of a record: its TY line, its lines, its ER line
+pub record_in_parts : (r : RisRecord) → ended (written begin_tag r.kind_name) ++ (kept_text r.lines ++ ended (written end_tag [])) ≡ record_text r
+record_in_parts r =
+    let lines : List Text = map (λ line. written line.tag line.value) r.lines in
+    let last : Text = written end_tag [] in
+    ap (λ (t : Text). ended (written begin_tag r.kind_name) ++ t)
+    (ap (λ (t : Text). t ++ ended last) (sym (flat_map-map ended (λ (line : RisLine). written line.tag line.value) r.lines))
+    ∙ ap (λ (t : Text). flat_map ended lines ++ t) (sym (append-nil (ended last)))
+    ∙ sym (flat_map-append ended lines (last ∷ [])))
+
+-- and after other text
+pub record_behind : (r : RisRecord) (text first others all : Text) → first ≡ text ++ ended (written begin_tag r.kind_name) → others ≡ first ++ kept_text r.lines
+    → all ≡ others ++ ended (written end_tag []) → all ≡ text ++ record_text r
+record_behind r text first others all is_first is_others is_all =
+    let head : Text = ended (written begin_tag r.kind_name) in
+    is_all ∙ ap (λ (t : Text). t ++ ended (written end_tag [])) (is_others ∙ ap (λ (t : Text). t ++ kept_text r.lines) is_first)
+    ∙ append_assoc (text ++ head) (kept_text r.lines) (ended (written end_tag [])) ∙ append_assoc text head (kept_text r.lines ++ ended (written end_tag []))
+    ∙ ap (λ (t : Text). text ++ t) (record_in_parts r)

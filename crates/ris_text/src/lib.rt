@@ -1,0 +1,21 @@
+//! Reads and writes the text of RIS files. It knows lines and their tags, and not which tag carries which field of an
+//! entry. It promises the records that a text says, or the first line at which it goes wrong; and texts that are read
+//! back as what was written.
+#![tactic(auto)]
+
+mod fault;
+mod forms;
+mod joining;
+mod laws;
+mod lines;
+mod reading;
+mod records;
+mod tags;
+mod writing;
+
+pub use fault::RisFault;
+pub use forms::{are_well_formed, is_well_formed};
+pub use laws::{bare_texts_fit, one_meaning, the_text_is_read_back};
+pub use reading::read_ris;
+pub use records::{RisFile, RisLine, RisRecord};
+pub use writing::write_ris;

@@ -1,0 +1,66 @@
+"""Whether the `console` blocks of the pages show what the program prints. docs/TESTING.md says how a block says its input."""
+
+import os
+import re
+import subprocess
+import tempfile
+
+CAT = re.compile(r"^cat ([\w.-]+)$")
+
+
+def compare(report, pages, program):
+    for page in pages:
+        with tempfile.TemporaryDirectory() as folder:
+            for block in page.blocks:
+                if block.language == "console":
+                    for command, number, shown in commands_of(block):
+                        compare_command(report, page, program, folder, command, number, shown)
+
+
+def commands_of(block):
+    """Each command of a block, its line, and what is shown below it."""
+    command, number, shown = None, 0, []
+    for line in block.lines:
+        if line.text.startswith("$ "):
+            if command is not None:
+                yield command, number, shown
+            command, number, shown = line.text[2:], line.number, []
+        elif line.text.startswith("> ") and command is not None and not shown:
+            command += "\n" + line.text[2:]
+        else:
+            shown.append(line.text)
+    if command is not None:
+        yield command, number, shown
+
+
+def compare_command(report, page, program, folder, command, number, shown):
+    """Runs a command where those before it on its page were run."""
+    wanted = "".join(line + "\n" for line in shown)
+    file = CAT.match(command)
+    if file and not os.path.exists(os.path.join(folder, file.group(1))):
+        with open(os.path.join(folder, file.group(1)), "w", encoding="utf-8") as made:
+            made.write(wanted)
+        return
+    found = output_of(command, program, folder)
+    if found and not found.endswith("\n"):
+        found += "\n"
+    report.expect(found == wanted, page.where(number), f"{command}\nprints\n{found}and not\n{wanted}")
+
+
+def run(command, program, folder):
+    """What a shell in this folder makes of a command, with the program on its path."""
+    path = os.path.dirname(program) + os.pathsep + os.environ["PATH"]
+    environment = dict(os.environ, PATH=path, LC_ALL="C", TMPDIR=folder, HOME=folder)
+    return subprocess.run(
+        ["sh", "-c", command],
+        cwd=folder,
+        env=environment,
+        stdin=subprocess.DEVNULL,
+        stdout=subprocess.PIPE,
+        stderr=subprocess.STDOUT,
+        timeout=120,
+    )
+
+
+def output_of(command, program, folder):
+    return run(command, program, folder).stdout.decode("utf-8", "backslashreplace")
