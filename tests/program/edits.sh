@@ -1,8 +1,9 @@
 # `bibkeep edit`.
 # shellcheck shell=sh
 
-# A file to be edited, and the script for it.
+# A file to be edited, to which nothing was done, and the script for it.
 given_edit() {
+    rm -f edited.bib.bibkeep
     given edited.bib "$1"
     given script "$2"
 }
@@ -71,7 +72,7 @@ mv edited.bib elsewhere/real.bib
 ln -s elsewhere/real.bib edited.bib
 given wanted 'applied 1\n'
 edit; ends_with 0; writes wanted; says_nothing; leaves '@misc{a,\n  t = 1}'
-when_shell_runs 'test -h edited.bib && stat -c %a elsewhere/real.bib && ls elsewhere'; given wanted '640\nreal.bib\n'; writes wanted
+when_shell_runs 'test -h edited.bib && stat -c %a elsewhere/real.bib && ls elsewhere'; given wanted '640\nreal.bib\nreal.bib.bibkeep\n'; writes wanted
 rm edited.bib
 
 # What an earlier run left over is no hindrance.
@@ -89,7 +90,7 @@ when_shell_runs 'test ! -h edited.bib && cat other'; given wanted 'another file'
 
 # As many changes are kept as can be undone.
 limit_script() {
-    given edited.bib '@misc{a, t = 1,}'
+    given_edit '@misc{a, t = 1,}' ''
     { yes "$(printf 'set\ta\tt\t1')" | head -n 65535; printf "$1"; } >script
     given wanted 'applied 65535\n'
     edit; ends_with 1; writes wanted; says "bibkeep: line 65536: $2"; leaves '@misc{a, t = 1,}'

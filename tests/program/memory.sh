@@ -30,7 +30,7 @@ refusing_each_request_of_edit() {
     given script "$2"
     refusals=0
     for request in $(seq 300); do
-        given edited.bib "$1"
+        given_edit "$1" "$2"
         REFUSED=$request LD_PRELOAD=$work/refuse_memory.so "$program" edit edited.bib <script >seen/out 2>seen/errors
         status=$?
         if test "$status" -eq 4; then
@@ -48,6 +48,7 @@ refusing_each_request_of_edit() {
     done
     expect "only $refusals requests were refused" test "$refusals" -gt 20
     expect 'a new file was left' test ! -e edited.bib.bibkeep-new
+    expect 'a new journal was left' test ! -e edited.bib.bibkeep.bibkeep-new
 }
 
 when_shell_runs 'ulimit -v 16000; "$program" cat longest.bib'; ends_with 4; writes_nothing; says 'bibkeep: 10 Memory'

@@ -58,6 +58,10 @@ labels_line = with_rule (over_file (codes "labels")) keys
 abbrev pub names_line : App
 names_line = with_rule (with_rule (over_file (codes "names")) (needed (codes "KEY"))) (needed (codes "TEMPLATE"))
 
+-- `undo F [--steps N]`, and so `redo`
+abbrev pub steps_line : Text → App
+steps_line name = with_rule (over_file name) (count (codes "steps") (codes "1"))
+
 -- with one more subcommand
 abbrev pub adds : App → App → App
 adds a s = with_subcommand a s.top
@@ -70,9 +74,13 @@ bibkeep_top = on_top (λ s. record s { has_version = true; subcommand_required =
 abbrev pub bibkeep_shows : App
 bibkeep_shows = adds (adds (adds (adds bibkeep_top cat_line) (over_file (codes "check"))) show_line) cite_line
 
+-- with those that change a file
+abbrev pub bibkeep_edits : App
+bibkeep_edits = adds (adds (adds bibkeep_shows labels_line) names_line) (over_file (codes "edit"))
+
 -- `bibkeep COMMAND`
 abbrev pub bibkeep : App
-bibkeep = adds (adds (adds bibkeep_shows labels_line) names_line) (over_file (codes "edit"))
+bibkeep = adds (adds (adds (adds bibkeep_edits (steps_line (codes "undo"))) (steps_line (codes "redo"))) (over_file (codes "log"))) (over_file (codes "forget"))
 
 -- ---- what matches name
 

@@ -3,7 +3,7 @@
 ghost use Rattle.std.specs.Prelude.{◌≡◌, IfOk, codes};
 ghost use Rattle.clap.specs.Words.{new_app};
 ghost use Rattle.bib_command.specs.Lines.{Reads};
-ghost use Rattle.bib_command.specs.CommandLine.{over_file, cat_line, show_line, cite_line, labels_line, names_line, bibkeep_top, bibkeep_shows, bibkeep};
+ghost use Rattle.bib_command.specs.CommandLine.{over_file, cat_line, show_line, cite_line, labels_line, names_line, steps_line, bibkeep_top, bibkeep_shows, bibkeep_edits, bibkeep};
 
 use crate::arguments::{any_file, count, keys, needed};
 use clap::Command;
@@ -12,6 +12,17 @@ use std::alloc::{AllocError, Global};
 /// The whole command line.
 pub fn command_line<'a>(alloc: Global) -> Result<Command<'a>, AllocError>
     ensures { IfOk result (Reads bibkeep) }
+{
+    edits(alloc)?
+        .subcommand(undo(alloc)?)?
+        .subcommand(redo(alloc)?)?
+        .subcommand(log(alloc)?)?
+        .subcommand(forget(alloc)?)
+}
+
+/// With the commands that make something of what a file says.
+fn edits<'a>(alloc: Global) -> Result<Command<'a>, AllocError>
+    ensures { IfOk result (Reads bibkeep_edits) }
 {
     shows(alloc)?
         .subcommand(labels(alloc)?)?
@@ -172,11 +183,89 @@ Each line is an edit, its words parted by tabs (shown here as spaces):
   add POSITION TYPE KEY FIELD VALUE ..   puts a new entry before the item at POSITION, counted from 0
   remove KEY                             takes the entry away
   move KEY POSITION                      puts the entry before the item at POSITION among the others
-The first line that is refused ends the script; the edits before it stand.
+The first line that is refused ends the script; the edits before it stand. What it did is kept in the journal
+F.bibkeep, for undo.
 
 Example:
   printf 'set\\tknuth86\\tyear\\t1986\\n' | bibkeep edit refs.bib",
     )
+}
+
+fn undo<'a>(alloc: Global) -> Result<Command<'a>, AllocError>
+    ensures { IfOk result (Reads (steps_line (codes "undo"))) }
+{
+    over_steps(
+        alloc,
+        "undo",
+        "Takes back the last changes, whatever run made them",
+        "\
+What is undone can be redone, until the next edit. `bibkeep log F` lists both.
+
+Examples:
+  bibkeep undo refs.bib           takes the last change back
+  bibkeep undo refs.bib --steps 65535   takes all changes back",
+    )
+}
+
+fn redo<'a>(alloc: Global) -> Result<Command<'a>, AllocError>
+    ensures { IfOk result (Reads (steps_line (codes "redo"))) }
+{
+    over_steps(
+        alloc,
+        "redo",
+        "Makes again what was undone last",
+        "\
+Example:
+  bibkeep redo refs.bib --steps 2",
+    )
+}
+
+fn log<'a>(alloc: Global) -> Result<Command<'a>, AllocError>
+    ensures { IfOk result (Reads (over_file (codes "log"))) }
+{
+    over_file(
+        alloc,
+        "log",
+        "Lists the changes that can be undone and redone",
+        "\
+A line for each change, the oldest first: done or undone, its number of pieces, how many bytes went, how many came.
+
+Example:
+  bibkeep log refs.bib",
+    )
+}
+
+fn forget<'a>(alloc: Global) -> Result<Command<'a>, AllocError>
+    ensures { IfOk result (Reads (over_file (codes "forget"))) }
+{
+    over_file(
+        alloc,
+        "forget",
+        "Begins a new journal for the file as it is now",
+        "\
+The file stays as it is; what was done before can be undone no more. This is the way on where the file was changed by
+hand and the other commands say 54 JournalMismatch.
+
+Example:
+  bibkeep forget refs.bib",
+    )
+}
+
+/// A command over a file that takes a number of changes.
+fn over_steps<'a>(
+    alloc: Global,
+    name: &'a str,
+    about: &'a str,
+    more: &'a str,
+) -> Result<Command<'a>, AllocError>
+    ensures { IfOk result (Reads (steps_line name.entry.now)) }
+{
+    over_file(alloc, name, about, more)?.arg(count(
+        alloc,
+        "steps",
+        "1",
+        "How many changes, from 1 to 65535",
+    ))
 }
 
 /// A command over a file that is named.

@@ -22,7 +22,7 @@ use Rattle.bib_edit.proofs.AskedEdits.{asked_for}
 use Rattle.bib_journal.specs.declared.saving.Saved.{Saved}
 use Rattle.bib_journal.specs.Loading.{contents_of, Loads, Saves}
 use Rattle.bib_journal.specs.Session.{started, Opens, MakesEdit, Does, DoesAll}
-use Rattle.bib_journal.specs.Runs.{Place, fresh, left, IsRun, AreRuns, requests_of, Moves, MovesAll, IsOneSession, one_opening, runs_are_one_session, undoing_all_leads_to_the_first_file}
+use Rattle.bib_journal.specs.Runs.{OnDisk, fresh, left, IsRun, AreRuns, requests_of, Moves, MovesAll, IsOneSession, one_opening, runs_are_one_session, undoing_all_leads_to_the_first_file}
 use Rattle.bib_journal.proofs.Moves.{planned_leads}
 
 -- ---- one history
@@ -129,14 +129,14 @@ saved_loads kept saved w saves = record {
   };
 }
 
-left_opens : (kept : KeptSteps) (saved : Saved) (place : Place) → IsSound kept → Saves kept saved → place ≡ left saved → Opens place.file place.journal kept
-left_opens kept saved place w saves leaves = subst (λ (p : Place). Opens p.file p.journal kept) (sym leaves) (saved_loads kept saved w saves)
+left_opens : (kept : KeptSteps) (saved : Saved) (disk : OnDisk) → IsSound kept → Saves kept saved → disk ≡ left saved → Opens disk.file disk.journal kept
+left_opens kept saved disk w saves leaves = subst (λ (p : OnDisk). Opens p.file p.journal kept) (sym leaves) (saved_loads kept saved w saves)
 
 pub runs-are-one : runs_are_one_session
 runs-are-one [] kept old new opens runs = record {
   closed = kept;
   did = refl;
-  opens = subst (λ (p : Place). Opens p.file p.journal kept) (sym runs) opens;
+  opens = subst (λ (p : OnDisk). Opens p.file p.journal kept) (sym runs) opens;
   moved = refl;
 }
 runs-are-one (requests ∷ others) kept old new opens runs =

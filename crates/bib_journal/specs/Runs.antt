@@ -14,21 +14,21 @@ use Rattle.bib_journal.specs.declared.saving.Saved.{Saved}
 use Rattle.bib_journal.specs.Loading.{Saves}
 use Rattle.bib_journal.specs.Session.{Opens, DoesAll}
 
--- a file, and its journal if it has one
-pub record Place : Type 0 where
+-- what stands on the disk: a file, and its journal if it has one
+pub record OnDisk : Type 0 where
   pub file : Text
   pub journal : Option Text
 
 -- a file to which nothing was done, without a journal
-abbrev pub fresh : Text → Place
+abbrev pub fresh : Text → OnDisk
 fresh file = record { file = file; journal = None }
 
 -- a file and its journal, as a run left them
-abbrev pub left : Saved → Place
+abbrev pub left : Saved → OnDisk
 left saved = record { file = saved.file; journal = Some saved.journal }
 
 -- a run: a session is opened, the requests are accepted one after another, and what is kept is left
-pub record IsRun (requests : List Request) (old new : Place) : Type 0 where
+pub record IsRun (requests : List Request) (old new : OnDisk) : Type 0 where
   pub opened : KeptSteps
   pub closed : KeptSteps
   pub saved : Saved
@@ -38,9 +38,9 @@ pub record IsRun (requests : List Request) (old new : Place) : Type 0 where
   pub leaves : new ≡ left saved
 
 -- runs one after another, each from what the one before left
-abbrev pub AreRuns : List (List Request) → Place → Place → Type 0
+abbrev pub AreRuns : List (List Request) → OnDisk → OnDisk → Type 0
 AreRuns [] old new = new ≡ old
-AreRuns (requests ∷ runs) old new = (mid : Place) × IsRun requests old mid × AreRuns runs mid new
+AreRuns (requests ∷ runs) old new = (mid : OnDisk) × IsRun requests old mid × AreRuns runs mid new
 
 -- the requests of all runs, in order
 abbrev pub requests_of : List (List Request) → List Request
@@ -61,7 +61,7 @@ MovesAll [] old new = new ≡ old
 MovesAll (request ∷ requests) old new = (mid : History) × Moves request old mid × MovesAll requests mid new
 
 -- one session does these requests, and keeps what opens from where it is left
-pub record IsOneSession (requests : List Request) (opened : KeptSteps) (new : Place) : Type 0 where
+pub record IsOneSession (requests : List Request) (opened : KeptSteps) (new : OnDisk) : Type 0 where
   pub closed : KeptSteps
   pub did : DoesAll requests opened closed
   pub opens : Opens new.file new.journal closed
@@ -71,7 +71,7 @@ pub record IsOneSession (requests : List Request) (opened : KeptSteps) (new : Pl
 
 -- Several runs do what one session does that is asked for all their requests; and so the file after each request is that of the history.
 abbrev pub runs_are_one_session : Type 0
-runs_are_one_session = (runs : List (List Request)) (kept : KeptSteps) (old new : Place) → Opens old.file old.journal kept
+runs_are_one_session = (runs : List (List Request)) (kept : KeptSteps) (old new : OnDisk) → Opens old.file old.journal kept
     → AreRuns runs old new → IsOneSession (requests_of runs) kept new
 
 -- what is opened is what was opened before
@@ -80,6 +80,6 @@ one_opening = (file : Text) (journal : Option Text) (a b : KeptSteps) → Opens 
 
 -- After any runs from a file to which nothing was done, as many undos as there is past, in whatever runs, lead to that file.
 abbrev pub undoing_all_leads_to_the_first_file : Type 0
-undoing_all_leads_to_the_first_file = (runs back : List (List Request)) (file : Text) (mid new : Place) (kept : KeptSteps)
+undoing_all_leads_to_the_first_file = (runs back : List (List Request)) (file : Text) (mid new : OnDisk) (kept : KeptSteps)
     → AreRuns runs (fresh file) mid → IsOpenable file → Opens mid.file mid.journal kept
     → AreRuns back mid new → requests_of back ≡ replicate (length kept.past) request.Undo → new.file ≡ file

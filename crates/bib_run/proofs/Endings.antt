@@ -7,7 +7,7 @@ use Rattle.bib_spec.specs.Text.{Text}
 use Rattle.bib_words.specs.declared.commands.Command.{Command}
 use Rattle.bib_run.specs.declared.answers.Answer.{Answer}
 use Rattle.bib_run.specs.Answers.{IsAnswer}
-use Rattle.bib_run.specs.Runs.{HasAnswer, HasInput, ReadsInput, TapView, TapsView, read, unread, front, nothing}
+use Rattle.bib_run.specs.Runs.{HasAnswer, HasJournal, HasInput, ReadsInput, TapView, TapsView, read, unread, front, nothing}
 use Rattle.bib_run.specs.Transfers.{ReadsUpTo, WritesPrefix}
 use Rattle.bib_run.proofs.WholeFile.{source_bytes, IsAnswer-front, IsAnswer-input_front}
 
@@ -24,20 +24,23 @@ input_bytes command old new v (front named reads sound) =
 input_bytes command old new v (nothing named same none) = record { bytes = []; has = unread named same refl; start = sym none }
 
 -- the answer to what was read
-pub has_answer : (command : Command) (old new : TapsView) (v w : Text) (answer : Answer) → ReadsUpTo (file_limit + 1) old.file.bytes new.file.bytes v
-    → new.file.failed ≡ old.file.failed → ReadsInput command old.input new.input w → IsAnswer command v w answer → HasAnswer command old new answer
-has_answer command old new v w answer reads sound reads_input answers =
+pub has_answer : (command : Command) (old new : TapsView) (v : Text) (journal : Option Text) (w : Text) (answer : Answer) → ReadsUpTo (file_limit + 1) old.file.bytes new.file.bytes v
+    → new.file.failed ≡ old.file.failed → HasJournal command old.journal new.journal journal → ReadsInput command old.input new.input w
+    → IsAnswer command v journal w answer → HasAnswer command old new answer
+has_answer command old new v journal w answer reads sound has_journal reads_input answers =
     let from = source_bytes (file_limit + 1) old.file.bytes new.file.bytes v reads in
     let input = input_bytes command old.input new.input w reads_input in
     record {
       file = from.bytes;
+      journal = journal;
       input = input.bytes;
       file_read = record { read = from.has; sound = sound };
+      journal_read = has_journal;
       input_read = input.has;
-      answers = IsAnswer-front command from.bytes input.bytes answer
-          (IsAnswer-input_front command (take (file_limit + 1) from.bytes) input.bytes answer
-          (subst (λ t. IsAnswer command t (take (file_limit + 1) input.bytes) answer) (sym from.front)
-          (subst (λ t. IsAnswer command v t answer) (sym input.start) answers)));
+      answers = IsAnswer-front command from.bytes journal input.bytes answer
+          (IsAnswer-input_front command (take (file_limit + 1) from.bytes) journal input.bytes answer
+          (subst (λ t. IsAnswer command t journal (take (file_limit + 1) input.bytes) answer) (sym from.front)
+          (subst (λ t. IsAnswer command v journal t answer) (sym input.start) answers)));
     }
 
 -- all was written

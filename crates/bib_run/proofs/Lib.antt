@@ -13,3 +13,5 @@ pub mod WholeFile
 pub mod Endings
 pub mod LabelLines
 pub mod NameLines
+pub mod SessionAnswers
+pub mod LogLemmas

@@ -1,5 +1,5 @@
 -- What was read up to the limit tells of the whole file.
-use Rattle.std.proofs.Common.{◌≡◌, ◌≢◌, ℕ, ◌+◌, ◌<◌, ◌≤◌, [], ◌++◌, length, take, Option, Some, None, subst, refl, arith, inl, inr, sym, append-nil, length-append}
+use Rattle.std.proofs.Common.{◌≡◌, ◌≢◌, ℕ, ◌+◌, ◌<◌, ◌≤◌, [], ◌++◌, length, take, Option, Some, None, subst, refl, arith, inl, inr, sym, append-nil, length-append, codes}
 use Rattle.std.proofs.lemmas.List.{take_all, length-take-le}
 use Rattle.std.proofs.lemmas.Bool.{cases_eq, cases_lt}
 use Rattle.std.proofs.Math.Seq.{take-append_seam}
@@ -11,12 +11,22 @@ use Rattle.bib_words.specs.declared.commands.Command.{Command}
 use Rattle.bib_run.specs.declared.answers.Answer.{Answer}
 use Rattle.bib_run.specs.Transfers.{ReadsUpTo, HasBytes}
 use Rattle.bib_spec.specs.Reading.{Reading}
+use Rattle.edit_spec.specs.Steps.{KeptSteps}
+use Rattle.bib_data.specs.declared.request.Request.{Request}
+use Rattle.bib_data.specs.declared.request.Request.TheVariants.{Undo, Redo}
+use Rattle.bib_journal.specs.Session.{Opens}
 use Rattle.bib_store.specs.Meaning.{IsOpenFault}
 use Rattle.bib_run.specs.Opened as opening
 use Rattle.bib_run.specs.Opened.{AnswersFile, opened}
-use Rattle.bib_run.specs.Answers.{IsAnswer, IsCatAnswer, cat, of_reading, edit, copied, refused}
+use Rattle.bib_run.specs.Answers.{IsAnswer, IsCatAnswer, cat, of_reading, edit, undo, redo, log, forget, copied, refused}
 use Rattle.bib_run.specs.EditAnswer as editing
 use Rattle.bib_run.specs.EditAnswer.{IsEditAnswer, edited, too_long as too_long_input}
+use Rattle.bib_run.specs.Sessions as why
+use Rattle.bib_run.specs.Sessions.{IsUnopened, IsUnopenedAnswer}
+use Rattle.bib_run.specs.Turns as turning
+use Rattle.bib_run.specs.Turns.{IsTurnAnswer}
+use Rattle.bib_run.specs.Log as logging
+use Rattle.bib_run.specs.Log.{IsLogAnswer, IsForgetAnswer}
 
 -- what was read up to the limit is that much of all that there was
 pub take-read : (most : ℕ) (v rest : Text) → length v ≤ most → (length v ≢ most → rest ≡ []) → take most (v ++ rest) ≡ v
@@ -77,39 +87,85 @@ AnswersFile-long : (answers : Reading → Answer) (bytes : Text) (answer : Answe
 AnswersFile-long answers bytes answer long (opened db opens is) = absurd (let within = opens.short in omega (arith, long, within, length-take-le (file_limit + 1) bytes (omega (arith, long))))
 AnswersFile-long answers bytes answer long (opening.refused kind place other fault is) = opening.refused kind place other (IsOpenFault-long bytes kind place long fault) is
 
-IsEditAnswer-long : (bytes input : Text) (answer : Answer) → file_limit < length bytes → IsEditAnswer (take (file_limit + 1) bytes) input answer → IsEditAnswer bytes input answer
-IsEditAnswer-long bytes input answer long (edited done fault kept is short other performs made) = absurd (let within = is.1.short in omega (arith, long, within, length-take-le (file_limit + 1) bytes (omega (arith, long))))
-IsEditAnswer-long bytes input answer long (too_long_input is over made) = absurd (let within = is.1.short in omega (arith, long, within, length-take-le (file_limit + 1) bytes (omega (arith, long))))
-IsEditAnswer-long bytes input answer long (editing.refused kind place other fault is) = editing.refused kind place other (IsOpenFault-long bytes kind place long fault) is
+-- a file that is too long is not opened, with whatever journal
+opened_is_short : (file : Text) (journal : Option Text) (kept : KeptSteps) → Opens file journal kept → length file ≤ file_limit
+opened_is_short file None kept opens = opens.0.1.short
+opened_is_short file (Some text) kept loads = loads.fit.opens.1.short
 
-IsAnswer-long : (command : Command) (bytes input : Text) (answer : Answer) → file_limit < length bytes
-    → IsAnswer command (take (file_limit + 1) bytes) input answer → IsAnswer command bytes input answer
-IsAnswer-long command bytes input answer long (cat named answers) = cat named (IsCatAnswer-long bytes answer long answers)
-IsAnswer-long command bytes input answer long (of_reading answers is given) = of_reading answers is (AnswersFile-long answers bytes answer long given)
-IsAnswer-long command bytes input answer long (edit named answers) = edit named (IsEditAnswer-long bytes input answer long answers)
+front_is_long : (bytes : Text) → file_limit < length bytes → length (take (file_limit + 1) bytes) ≤ file_limit → ⊥
+front_is_long bytes long within = omega (arith, long, within, length-take-le (file_limit + 1) bytes (omega (arith, long)))
+
+not_opened : (bytes : Text) (journal : Option Text) (kept : KeptSteps) → file_limit < length bytes → Opens (take (file_limit + 1) bytes) journal kept → ⊥
+not_opened bytes journal kept long opens = front_is_long bytes long (opened_is_short (take (file_limit + 1) bytes) journal kept opens)
+
+IsUnopened-long : (bytes : Text) (journal : Option Text) (message : Text) → file_limit < length bytes → IsUnopened (take (file_limit + 1) bytes) journal message → IsUnopened bytes journal message
+IsUnopened-long bytes journal message long (why.file j kind place other fault) = why.file j kind place other (IsOpenFault-long bytes kind place long fault)
+IsUnopened-long bytes journal message long (why.journal text place opens wrong) = absurd (front_is_long bytes long opens.1.short)
+IsUnopened-long bytes journal message long (why.mismatch text misfit) = absurd (front_is_long bytes long misfit.opens.1.short)
+
+IsUnopenedAnswer-long : (bytes : Text) (journal : Option Text) (answer : Answer) → file_limit < length bytes
+    → IsUnopenedAnswer (take (file_limit + 1) bytes) journal answer → IsUnopenedAnswer bytes journal answer
+IsUnopenedAnswer-long bytes journal answer long w = record { message = w.message; why = IsUnopened-long bytes journal w.message long w.why; answered = w.answered }
+
+IsEditAnswer-long : (bytes : Text) (journal : Option Text) (input : Text) (answer : Answer) → file_limit < length bytes
+    → IsEditAnswer (take (file_limit + 1) bytes) journal input answer → IsEditAnswer bytes journal input answer
+IsEditAnswer-long bytes journal input answer long (edited kept opens short has) = absurd (not_opened bytes journal kept long opens)
+IsEditAnswer-long bytes journal input answer long (too_long_input kept opens over made) = absurd (not_opened bytes journal kept long opens)
+IsEditAnswer-long bytes journal input answer long (editing.unopened w) = editing.unopened (IsUnopenedAnswer-long bytes journal answer long w)
+
+IsTurnAnswer-long : (word : Text) (request : Request) (n : ℕ) (bytes : Text) (journal : Option Text) (answer : Answer) → file_limit < length bytes
+    → IsTurnAnswer word request n (take (file_limit + 1) bytes) journal answer → IsTurnAnswer word request n bytes journal answer
+IsTurnAnswer-long word request n bytes journal answer long (turning.turned kept opens has) = absurd (not_opened bytes journal kept long opens)
+IsTurnAnswer-long word request n bytes journal answer long (turning.unopened w) = turning.unopened (IsUnopenedAnswer-long bytes journal answer long w)
+
+IsLogAnswer-long : (bytes : Text) (journal : Option Text) (answer : Answer) → file_limit < length bytes
+    → IsLogAnswer (take (file_limit + 1) bytes) journal answer → IsLogAnswer bytes journal answer
+IsLogAnswer-long bytes journal answer long (logging.listed kept opens is) = absurd (not_opened bytes journal kept long opens)
+IsLogAnswer-long bytes journal answer long (logging.unopened w) = logging.unopened (IsUnopenedAnswer-long bytes journal answer long w)
+
+IsForgetAnswer-long : (bytes : Text) (answer : Answer) → file_limit < length bytes → IsForgetAnswer (take (file_limit + 1) bytes) answer → IsForgetAnswer bytes answer
+IsForgetAnswer-long bytes answer long (logging.forgot saved opens saves is) = absurd (front_is_long bytes long opens.1.short)
+IsForgetAnswer-long bytes answer long (logging.unforgotten w) = logging.unforgotten (IsUnopenedAnswer-long bytes None answer long w)
+
+IsAnswer-long : (command : Command) (bytes : Text) (journal : Option Text) (input : Text) (answer : Answer) → file_limit < length bytes
+    → IsAnswer command (take (file_limit + 1) bytes) journal input answer → IsAnswer command bytes journal input answer
+IsAnswer-long command bytes journal input answer long (cat named answers) = cat named (IsCatAnswer-long bytes answer long answers)
+IsAnswer-long command bytes journal input answer long (of_reading answers is given) = of_reading answers is (AnswersFile-long answers bytes answer long given)
+IsAnswer-long command bytes journal input answer long (edit named answers) = edit named (IsEditAnswer-long bytes journal input answer long answers)
+IsAnswer-long command bytes journal input answer long (undo named answers) = undo named (IsTurnAnswer-long (codes "undone") Undo command.n bytes journal answer long answers)
+IsAnswer-long command bytes journal input answer long (redo named answers) = redo named (IsTurnAnswer-long (codes "redone") Redo command.n bytes journal answer long answers)
+IsAnswer-long command bytes journal input answer long (log named answers) = log named (IsLogAnswer-long bytes journal answer long answers)
+IsAnswer-long command bytes journal input answer long (forget named answers) = forget named (IsForgetAnswer-long bytes answer long answers)
 
 -- the answer to what was read of a file is the answer to the file
-pub IsAnswer-front : (command : Command) (bytes input : Text) (answer : Answer) → IsAnswer command (take (file_limit + 1) bytes) input answer → IsAnswer command bytes input answer
-IsAnswer-front command bytes input answer answers = elim (cases_lt file_limit (length bytes)) [
-  | inl long ↦ IsAnswer-long command bytes input answer long answers
-  | inr short ↦ subst (λ t. IsAnswer command t input answer) (take_all (file_limit + 1) bytes (omega (arith, short))) answers
+pub IsAnswer-front : (command : Command) (bytes : Text) (journal : Option Text) (input : Text) (answer : Answer)
+    → IsAnswer command (take (file_limit + 1) bytes) journal input answer → IsAnswer command bytes journal input answer
+IsAnswer-front command bytes journal input answer answers = elim (cases_lt file_limit (length bytes)) [
+  | inl long ↦ IsAnswer-long command bytes journal input answer long answers
+  | inr short ↦ subst (λ t. IsAnswer command t journal input answer) (take_all (file_limit + 1) bytes (omega (arith, short))) answers
 ]
 
 -- an input that is too long is refused as its front is
-IsEditAnswer-input : (file input : Text) (answer : Answer) → file_limit < length input → IsEditAnswer file (take (file_limit + 1) input) answer → IsEditAnswer file input answer
-IsEditAnswer-input file input answer long (edited done fault kept is short other performs made) = absurd (omega (arith, long, short, length-take-le (file_limit + 1) input (omega (arith, long))))
-IsEditAnswer-input file input answer long (too_long_input is over made) = too_long_input is long made
-IsEditAnswer-input file input answer long (editing.refused kind place other fault is) = editing.refused kind place other fault is
+IsEditAnswer-input : (file : Text) (journal : Option Text) (input : Text) (answer : Answer) → file_limit < length input
+    → IsEditAnswer file journal (take (file_limit + 1) input) answer → IsEditAnswer file journal input answer
+IsEditAnswer-input file journal input answer long (edited kept opens short has) = absurd (front_is_long input long short)
+IsEditAnswer-input file journal input answer long (too_long_input kept opens over made) = too_long_input kept opens long made
+IsEditAnswer-input file journal input answer long (editing.unopened w) = editing.unopened w
 
-IsAnswer-input : (command : Command) (file input : Text) (answer : Answer) → file_limit < length input
-    → IsAnswer command file (take (file_limit + 1) input) answer → IsAnswer command file input answer
-IsAnswer-input command file input answer long (cat named answers) = cat named answers
-IsAnswer-input command file input answer long (of_reading answers is given) = of_reading answers is given
-IsAnswer-input command file input answer long (edit named answers) = edit named (IsEditAnswer-input file input answer long answers)
+IsAnswer-input : (command : Command) (file : Text) (journal : Option Text) (input : Text) (answer : Answer) → file_limit < length input
+    → IsAnswer command file journal (take (file_limit + 1) input) answer → IsAnswer command file journal input answer
+IsAnswer-input command file journal input answer long (cat named answers) = cat named answers
+IsAnswer-input command file journal input answer long (of_reading answers is given) = of_reading answers is given
+IsAnswer-input command file journal input answer long (edit named answers) = edit named (IsEditAnswer-input file journal input answer long answers)
+IsAnswer-input command file journal input answer long (undo named answers) = undo named answers
+IsAnswer-input command file journal input answer long (redo named answers) = redo named answers
+IsAnswer-input command file journal input answer long (log named answers) = log named answers
+IsAnswer-input command file journal input answer long (forget named answers) = forget named answers
 
 -- the answer to what was read of an input is the answer to the input
-pub IsAnswer-input_front : (command : Command) (file input : Text) (answer : Answer) → IsAnswer command file (take (file_limit + 1) input) answer → IsAnswer command file input answer
-IsAnswer-input_front command file input answer answers = elim (cases_lt file_limit (length input)) [
-  | inl long ↦ IsAnswer-input command file input answer long answers
-  | inr short ↦ subst (λ t. IsAnswer command file t answer) (take_all (file_limit + 1) input (omega (arith, short))) answers
+pub IsAnswer-input_front : (command : Command) (file : Text) (journal : Option Text) (input : Text) (answer : Answer)
+    → IsAnswer command file journal (take (file_limit + 1) input) answer → IsAnswer command file journal input answer
+IsAnswer-input_front command file journal input answer answers = elim (cases_lt file_limit (length input)) [
+  | inl long ↦ IsAnswer-input command file journal input answer long answers
+  | inr short ↦ subst (λ t. IsAnswer command file journal t answer) (take_all (file_limit + 1) input (omega (arith, short))) answers
 ]

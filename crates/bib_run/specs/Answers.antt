@@ -15,7 +15,10 @@ use Rattle.bib_run.specs.Show.{show_answer}
 use Rattle.bib_run.specs.Cite.{cite_answer}
 use Rattle.bib_run.specs.Labels.{labels_answer}
 use Rattle.bib_run.specs.Names.{Spells, names_answer}
+use Rattle.bib_data.specs.declared.request.Request.TheVariants.{Undo, Redo}
 use Rattle.bib_run.specs.EditAnswer.{IsEditAnswer}
+use Rattle.bib_run.specs.Turns.{IsTurnAnswer}
+use Rattle.bib_run.specs.Log.{IsLogAnswer, IsForgetAnswer}
 
 -- `cat`: the file again, or, with nothing written, why it is no file (dialect)
 pub data IsCatAnswer (file : Text) : Answer → Type 0 where
@@ -42,8 +45,12 @@ pub data IsAnswerTo (command : Command) : (Reading → Answer) → Type 0 where
   labels : command.name ≡ codes "labels" → IsAnswerTo command (labels_answer (key_words command))
   names : command.name ≡ codes "names" → (pattern : Option Pattern) → Spells (template_word command) pattern → IsAnswerTo command (names_answer (key_word command) pattern)
 
--- the answer of a command to a file, and to its input where it reads that
-pub data IsAnswer (command : Command) (file input : Text) (answer : Answer) : Type 0 where
-  cat : command.name ≡ codes "cat" → IsCatAnswer file answer → IsAnswer command file input answer
-  of_reading : (answers : Reading → Answer) → IsAnswerTo command answers → AnswersFile answers file answer → IsAnswer command file input answer
-  edit : command.name ≡ codes "edit" → IsEditAnswer file input answer → IsAnswer command file input answer
+-- the answer of a command to a file, and to its journal and its input where it reads them
+pub data IsAnswer (command : Command) (file : Text) (journal : Option Text) (input : Text) (answer : Answer) : Type 0 where
+  cat : command.name ≡ codes "cat" → IsCatAnswer file answer → IsAnswer command file journal input answer
+  of_reading : (answers : Reading → Answer) → IsAnswerTo command answers → AnswersFile answers file answer → IsAnswer command file journal input answer
+  edit : command.name ≡ codes "edit" → IsEditAnswer file journal input answer → IsAnswer command file journal input answer
+  undo : command.name ≡ codes "undo" → IsTurnAnswer (codes "undone") Undo command.n file journal answer → IsAnswer command file journal input answer
+  redo : command.name ≡ codes "redo" → IsTurnAnswer (codes "redone") Redo command.n file journal answer → IsAnswer command file journal input answer
+  log : command.name ≡ codes "log" → IsLogAnswer file journal answer → IsAnswer command file journal input answer
+  forget : command.name ≡ codes "forget" → IsForgetAnswer file answer → IsAnswer command file journal input answer

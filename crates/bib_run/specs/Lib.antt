@@ -13,6 +13,9 @@ pub mod Answers
 pub mod Runs
 pub mod Lent
 pub mod SessionNames
+pub mod Sessions
 pub mod EditAnswer
+pub mod Turns
+pub mod Log
 pub mod Labels
 pub mod Names

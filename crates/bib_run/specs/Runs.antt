@@ -1,5 +1,5 @@
 -- How a run ends.
-use Rattle.std.specs.Prelude.{◌≡◌, ◌≢◌, ◌+◌, ◌⊎◌, Bool, true, false, [], Option, codes}
+use Rattle.std.specs.Prelude.{◌≡◌, ◌≢◌, ◌+◌, ◌⊎◌, Bool, true, false, [], Option, Some, None, codes}
 use Rattle.std.specs.Io.KnownBytes.{Appends}
 use Rattle.bib_spec.specs.Bytes.{file_limit}
 use Rattle.bib_spec.specs.Text.{Text}
@@ -11,6 +11,8 @@ use Rattle.bib_taps.specs.Taps.{tap_inner, has_failed}
 use Rattle.bib_run.specs.Transfers.{ReadsUpTo, HasBytes, WritesPrefix}
 use Rattle.bib_run.specs.Messages.{read_fault_line, write_fault_line}
 use Rattle.bib_run.specs.Outcome.{outcome_of}
+use Rattle.journal_format.specs.JournalText.{journal_limit}
+use Rattle.bib_words.specs.Command.{ReadsJournal}
 use Rattle.bib_run.specs.Answers.{IsAnswer}
 
 -- A tap at one moment: the bytes that its reader has left or that its writer holds, where they are told,
@@ -22,14 +24,15 @@ pub record TapView : Type 0 where
 abbrev pub view_of : {T : Type 0} → (T → Option Text) → Tap T → TapView
 view_of bytes t = record { bytes = bytes (tap_inner t); failed = has_failed t }
 
--- the taps of a run at one moment
+-- the taps of a run at one moment, that of the journal where there is one
 pub record TapsView : Type 0 where
   pub file : TapView
+  pub journal : Option TapView
   pub input : TapView
   pub out : TapView
 
-abbrev pub taps : TapView → TapView → TapView → TapsView
-taps file input out = record { file = file; input = input; out = out }
+abbrev pub taps : TapView → Option TapView → TapView → TapView → TapsView
+taps file journal input out = record { file = file; journal = journal; input = input; out = out }
 
 -- a source was read, to its end or to one byte past the limit
 pub record WasRead (old new : TapView) (bytes : Text) : Type 0 where
@@ -41,6 +44,14 @@ pub data HasInput (command : Command) (old new : TapView) (input : Text) : Type 
   read : command.name ≡ codes "edit" → WasRead old new input → HasInput command old new input
   unread : command.name ≢ codes "edit" → new ≡ old → input ≡ [] → HasInput command old new input
 
+-- So much of its journal was read by a command: up to its end or one byte past the longest that a journal can be. Nothing is
+-- read of it where there is none, and nothing by a command that does not read it.
+pub data HasJournal (command : Command) : Option TapView → Option TapView → Option Text → Type 0 where
+  read : (old new : TapView) (text : Text) → ReadsJournal command → ReadsUpTo (journal_limit + 1) old.bytes new.bytes text → new.failed ≡ old.failed
+      → HasJournal command (Some old) (Some new) (Some text)
+  none : HasJournal command None None None
+  unread : (old : TapView) → ¬ ReadsJournal command → HasJournal command (Some old) (Some old) None
+
 -- so much of its input was read by a command: by `edit` up to its end or one byte past the limit, and nothing by another one
 pub data ReadsInput (command : Command) (old new : TapView) (input : Text) : Type 0 where
   front : command.name ≡ codes "edit" → ReadsUpTo (file_limit + 1) old.bytes new.bytes input → new.failed ≡ old.failed → ReadsInput command old new input
@@ -49,14 +60,22 @@ pub data ReadsInput (command : Command) (old new : TapView) (input : Text) : Typ
 -- the file was read, and the input where the command reads it, and the command has this answer to them
 pub record HasAnswer (command : Command) (old new : TapsView) (answer : Answer) : Type 0 where
   pub file : Text
+  pub journal : Option Text
   pub input : Text
   pub file_read : WasRead old.file new.file file
+  pub journal_read : HasJournal command old.journal new.journal journal
   pub input_read : HasInput command old.input new.input input
-  pub answers : IsAnswer command file input answer
+  pub answers : IsAnswer command file journal input answer
+
+-- whether a call failed on the tap, if there is one
+abbrev pub has_any_failed : Option TapView → Bool
+has_any_failed None = false
+has_any_failed (Some tap) = tap.failed
 
 -- no call on a source failed
 pub record AreSound (old new : TapsView) : Type 0 where
   pub file : new.file.failed ≡ old.file.failed
+  pub journal : has_any_failed new.journal ≡ has_any_failed old.journal
   pub input : new.input.failed ≡ old.input.failed
 
 -- How a run of a command ends, told by its outcome, and by its taps before and after it. (dialect)
@@ -66,7 +85,7 @@ pub data IsRun (command : Command) (old new : TapsView) : Outcome → Type 0 whe
       → Appends old.out.bytes new.out.bytes answer.output → new.out.failed ≡ old.out.failed
       → IsRun command old new answer.outcome
   -- a call on a source failed, and nothing was written
-  read_fault : (new.file.failed ≡ true) ⊎ (new.input.failed ≡ true) → new.out ≡ old.out
+  read_fault : (new.file.failed ≡ true) ⊎ ((has_any_failed new.journal ≡ true) ⊎ (new.input.failed ≡ true)) → new.out ≡ old.out
       → IsRun command old new (outcome_of read_fault_line 3)
   -- a call on the output failed, and a prefix of the answer's output was written
   write_fault : (answer : Answer) → HasAnswer command old new answer

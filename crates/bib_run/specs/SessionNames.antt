@@ -19,4 +19,6 @@ session_fault_name number =
     else if number == 41 then codes "JournalFull"
     else if number == 51 then codes "NothingToUndo"
     else if number == 52 then codes "NothingToRedo"
+    else if number == 53 then codes "BadJournal"
+    else if number == 54 then codes "JournalMismatch"
     else fault_name number

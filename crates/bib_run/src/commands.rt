@@ -6,6 +6,8 @@ pub mod cite;
 pub mod edit;
 mod kinds;
 pub mod labels;
+pub mod log;
 pub mod names;
 mod reporting;
 pub mod show;
+pub mod turning;

@@ -1,11 +1,11 @@
 //! One run of a command: all sources are read, then the answer is made, then it is written.
 
-ghost use Rattle.std.specs.Prelude.{◌≡◌, ◌≢◌, true, codes, IfOk, OnErr, Err};
-ghost use Rattle.bib_words.specs.Command.{IsCommand};
+ghost use Rattle.std.specs.Prelude.{◌≡◌, ◌≢◌, true, codes, IfOk, OnErr, Err, option_map};
+ghost use Rattle.bib_words.specs.Command.{IsCommand, ReadsJournal};
 ghost use Rattle.bib_run.specs.Answers.{IsAnswer};
 ghost use Rattle.bib_run.specs.Outcome.{outcome_of};
 ghost use Rattle.bib_run.specs.Lent.{held_before, held_after};
-ghost use Rattle.bib_run.specs.Runs.{IsRun, ReadsInput, taps, view_of};
+ghost use Rattle.bib_run.specs.Runs.{IsRun, HasJournal, ReadsInput, taps, view_of, has_any_failed};
 ghost use Rattle.bib_taps.specs.Taps.{has_failed};
 ghost use Rattle.bib_run.specs.declared.source.SourceFault.TheVariants.{Failed, OutOfMemory};
 
@@ -15,21 +15,24 @@ use crate::commands::check::answer_check;
 use crate::commands::cite::answer_cite;
 use crate::commands::edit::answer_edit;
 use crate::commands::labels::answer_labels;
+use crate::commands::log::{answer_forget, answer_log};
 use crate::commands::names::answer_names;
 use crate::commands::show::answer_show;
+use crate::commands::turning::{answer_redo, answer_undo};
 use crate::messages::{READ_FAULT, WRITE_FAULT};
 use crate::sink::write_whole;
 use crate::source::{SourceFault, read_up_to};
 use crate::{Outcome, Tap};
 use bib_scan::{FILE_LIMIT, Text};
 use bib_words::{Command, status};
+use journal_format::JOURNAL_LIMIT;
 use std::alloc::{AllocError, Global};
 use std::io::{Read, Write};
 
 /// Runs a command over its file, its journal, its input and its output. It reads the file to its end or to one byte
-/// past the limit, and keeps it in memory once, beside what the command makes of it; and so the input, for the one
-/// command that reads it. Calls that are interrupted are made again, up to 100 times on each tap. Memory is refused only
-/// before anything is written.
+/// past the limit, and keeps it in memory once, beside what the command makes of it; and so its journal, if it has one,
+/// and the input, for the commands that read them. Calls that are interrupted are made again, up to 100 times on each tap.
+/// Memory is refused only before anything is written.
 pub fn run<F: Read, J: Read, I: Read, W: Write>(
     alloc: Global,
     command: &Command,
@@ -40,54 +43,37 @@ pub fn run<F: Read, J: Read, I: Read, W: Write>(
 ) -> Outcome
     requires { IsCommand command.now }
     ensures ran { IsRun command.now
-        (taps (view_of F.remaining file.old) (view_of I.remaining input.old) (view_of W.contents out.old))
-        (taps (view_of F.remaining file.new) (view_of I.remaining input.new) (view_of W.contents out.new)) result }
+        (taps (view_of F.remaining file.old) (option_map (view_of J.remaining) (held_before journal.entry)) (view_of I.remaining input.old) (view_of W.contents out.old))
+        (taps (view_of F.remaining file.new) (option_map (view_of J.remaining) (held_after journal.exit)) (view_of I.remaining input.new) (view_of W.contents out.new)) result }
 
-    // No command reads its journal, and but for `edit` none its input.
-    ensures journal { held_after journal.exit ≡ held_before journal.entry }
+    // But for those that read their journal a command leaves it alone, and but for `edit` its input.
+    ensures journal { ¬ ReadsJournal command.now → held_after journal.exit ≡ held_before journal.entry }
     ensures input { command.now.name ≢ codes "edit" → input.new ≡ input.old }
 {
-    match journal {
-        Some(_unread) => perform(alloc, command, file, input, out),
-        None => perform(alloc, command, file, input, out),
-    }
-}
-
-/// The run of a command that does not read its journal.
-fn perform<F: Read, I: Read, W: Write>(
-    alloc: Global,
-    command: &Command,
-    file: &mut Tap<F>,
-    input: &mut Tap<I>,
-    out: &mut Tap<W>,
-) -> Outcome
-    requires { IsCommand command.now }
-    ensures ran { IsRun command.now
-        (taps (view_of F.remaining file.old) (view_of I.remaining input.old) (view_of W.contents out.old))
-        (taps (view_of F.remaining file.new) (view_of I.remaining input.new) (view_of W.contents out.new)) result }
-    ensures input { command.now.name ≢ codes "edit" → input.new ≡ input.old }
-{
-    match try_perform(alloc, command, file, input, out) {
+    match try_perform(alloc, command, file, journal, input, out) {
         Ok(outcome) => outcome,
         Err(AllocError) => outcome_of(Text::from_vec(Vec::new(alloc)), status::MEMORY),
     }
 }
 
 /// The same, up to want of memory, which comes before anything is written and never after a fault.
-fn try_perform<F: Read, I: Read, W: Write>(
+fn try_perform<F: Read, J: Read, I: Read, W: Write>(
     alloc: Global,
     command: &Command,
     file: &mut Tap<F>,
+    journal: Option<&mut Tap<J>>,
     input: &mut Tap<I>,
     out: &mut Tap<W>,
 ) -> Result<Outcome, AllocError>
     requires { IsCommand command.now }
     ensures ran { IfOk result (IsRun command.now
-        (taps (view_of F.remaining file.old) (view_of I.remaining input.old) (view_of W.contents out.old))
-        (taps (view_of F.remaining file.new) (view_of I.remaining input.new) (view_of W.contents out.new))) }
+        (taps (view_of F.remaining file.old) (option_map (view_of J.remaining) (held_before journal.entry)) (view_of I.remaining input.old) (view_of W.contents out.old))
+        (taps (view_of F.remaining file.new) (option_map (view_of J.remaining) (held_after journal.exit)) (view_of I.remaining input.new) (view_of W.contents out.new))) }
     ensures file { OnErr result (has_failed file.new ≡ has_failed file.old) }
+    ensures journal { OnErr result (has_any_failed (option_map (view_of J.remaining) (held_after journal.exit)) ≡ has_any_failed (option_map (view_of J.remaining) (held_before journal.entry))) }
     ensures failed { OnErr result (has_failed input.new ≡ has_failed input.old) }
     ensures silent { OnErr result (out.new ≡ out.old) }
+    ensures unread { ¬ ReadsJournal command.now → held_after journal.exit ≡ held_before journal.entry }
     ensures input { command.now.name ≢ codes "edit" → input.new ≡ input.old }
 {
     let read_fault = fault(alloc, READ_FAULT)?;
@@ -97,16 +83,46 @@ fn try_perform<F: Read, I: Read, W: Write>(
         Err(SourceFault::Failed) => return Ok(read_fault),
         Err(SourceFault::OutOfMemory) => return Err(AllocError),
     };
+    let history = match read_journal(alloc, command, journal) {
+        Ok(history) => history,
+        Err(SourceFault::Failed) => return Ok(read_fault),
+        Err(SourceFault::OutOfMemory) => return Err(AllocError),
+    };
     let script = match read_input(alloc, command, input) {
         Ok(script) => script,
         Err(SourceFault::Failed) => return Ok(read_fault),
         Err(SourceFault::OutOfMemory) => return Err(AllocError),
     };
-    let answer = answer_of(alloc, command, bytes, script.as_slice())?;
+    let answer = answer_of(alloc, command, bytes, history.as_deref(), script.as_slice())?;
     if !write_whole(out, answer.output.as_slice()) {
         return Ok(write_fault);
     }
     Ok(answer.outcome)
+}
+
+/// The journal of a command, if it has one and reads it.
+fn read_journal<J: Read>(
+    alloc: Global,
+    command: &Command,
+    journal: Option<&mut Tap<J>>,
+) -> Result<Option<Vec<u8>>, SourceFault>
+    ensures ok { IfOk result (λ text. HasJournal command.now
+        (option_map (view_of J.remaining) (held_before journal.entry)) (option_map (view_of J.remaining) (held_after journal.exit))
+        (option_map (λ bytes. bytes.items) text)) }
+    ensures failed { result ≡ Err Failed → has_any_failed (option_map (view_of J.remaining) (held_after journal.exit)) ≡ true }
+    ensures sound { result ≢ Err Failed → has_any_failed (option_map (view_of J.remaining) (held_after journal.exit)) ≡ has_any_failed (option_map (view_of J.remaining) (held_before journal.entry)) }
+    ensures unread { ¬ ReadsJournal command.now → held_after journal.exit ≡ held_before journal.entry }
+{
+    let Some(journal) = journal else {
+        return Ok(None);
+    };
+    if !command.reads_journal() {
+        return Ok(None);
+    }
+    match read_up_to(alloc, journal, JOURNAL_LIMIT + 1) {
+        Ok(bytes) => Ok(Some(bytes)),
+        Err(fault) => Err(fault),
+    }
 }
 
 /// The input of a command, if it reads that.
@@ -133,15 +149,16 @@ fn fault(alloc: Global, line: &[u8]) -> Result<Outcome, AllocError>
     Ok(outcome_of(Text::from_vec(Vec::from_slice(alloc, line)?), status::FAULT))
 }
 
-/// The command's answer to the bytes of its file and of its input.
+/// The command's answer to the bytes of its file, of its journal and of its input.
 fn answer_of(
     alloc: Global,
     command: &Command,
     file: Vec<u8>,
+    journal: Option<&[u8]>,
     input: &[u8],
 ) -> Result<Answer, AllocError>
     requires { IsCommand command.now }
-    ensures { IfOk result (IsAnswer command.now file.items input.now) }
+    ensures { IfOk result (IsAnswer command.now file.items (option_map (λ text. text.now) journal.entry) input.now) }
 {
     if command.is_named(b"cat") {
         return answer_cat(alloc, file);
@@ -150,7 +167,7 @@ fn answer_of(
         return answer_check(alloc, file);
     }
     if command.is_named(b"edit") {
-        return answer_edit(alloc, file, input);
+        return answer_edit(alloc, file, journal, input);
     }
     let words = command.words.as_slice();
     if command.is_named(b"show") {
@@ -164,6 +181,18 @@ fn answer_of(
     }
     if command.is_named(b"names") {
         return answer_names(alloc, file, words[1].as_slice(), words[2].as_slice());
+    }
+    if command.is_named(b"undo") {
+        return answer_undo(alloc, file, journal, command.n as usize);
+    }
+    if command.is_named(b"redo") {
+        return answer_redo(alloc, file, journal, command.n as usize);
+    }
+    if command.is_named(b"log") {
+        return answer_log(alloc, file, journal);
+    }
+    if command.is_named(b"forget") {
+        return answer_forget(alloc, file);
     }
     unreachable!()
 }

@@ -8,6 +8,7 @@ mod commands;
 mod engine;
 mod messages;
 mod opening;
+mod sessions;
 mod sink;
 mod source;
 

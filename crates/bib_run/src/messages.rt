@@ -12,6 +12,9 @@ pub const READ_FAULT: &[u8] = b"bibkeep: read fault\n";
 /// The message of a writer that failed.
 pub const WRITE_FAULT: &[u8] = b"bibkeep: write fault\n";
 
+/// The message of a journal that does not fit its file.
+pub const JOURNAL_MISMATCH: &[u8] = b"bibkeep: 54 JournalMismatch\n";
+
 /// The message of a key that no entry has.
 pub const NO_SUCH_ENTRY: &[u8] = b"bibkeep: 11 NoSuchEntry\n";
 

@@ -13,9 +13,9 @@ ghost use Rattle.bib_store.specs.Choosing.{is_one_of, chosen};
 ghost use Rattle.bib_items.specs.declared.fault.StoreFault.TheVariants.{Memory};
 
 use crate::definitions::MacrosAt;
-use bib_items::StoreFault;
 use crate::gathering::lower;
 use crate::measuring::short_field_text;
+use bib_items::StoreFault;
 use bib_scan::{Fields, Text, same_folded};
 use std::alloc::Global;
 

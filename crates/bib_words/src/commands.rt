@@ -16,13 +16,20 @@ pub struct Command {
 
 impl Command {
     ghost use Rattle.std.specs.Prelude.{◌≡◌, ◌↔◌, IsTrue};
-    ghost use Rattle.bib_words.specs.Command.{IsCommand};
+    ghost use Rattle.bib_words.specs.Command.{IsCommand, ReadsJournal};
 
     /// Whether this is the command's name. It takes no memory.
     pub fn is_named(&self, name: &[u8]) -> bool
         ensures { IsTrue result ↔ (self.now.name ≡ name.now) }
     {
         self.name.as_slice() == name
+    }
+
+    /// Whether the command reads the journal of its file. It takes no memory.
+    pub fn reads_journal(&self) -> bool
+        ensures { IsTrue result ↔ ReadsJournal self.now }
+    {
+        matches!(self.name.as_slice(), b"edit" | b"undo" | b"redo" | b"log")
     }
 
     /// Whether the program has such a command, with as many words and such a number. It takes no memory.
@@ -38,6 +45,10 @@ impl Command {
             b"labels" => words >= 2 && self.n == 0,
             b"names" => words == 3 && self.n == 0,
             b"edit" => words == 1 && self.n == 0,
+            b"undo" => words == 1 && self.n >= 1 && self.n <= NUMBER_LIMIT,
+            b"redo" => words == 1 && self.n >= 1 && self.n <= NUMBER_LIMIT,
+            b"log" => words == 1 && self.n == 0,
+            b"forget" => words == 1 && self.n == 0,
             _ => false,
         }
     }

@@ -3,7 +3,7 @@
 ghost use Rattle.std.specs.Prelude.{◌≡◌};
 
 use bib_command::Usage;
-use bib_run::{Outcome, WRITE_FAULT};
+use bib_run::{Outcome, READ_FAULT, WRITE_FAULT};
 use bib_words::status;
 use std::io;
 use std::io::{ErrorKind, Write};
@@ -29,6 +29,14 @@ pub fn end_without_words<E: Write>(errors: &mut E, error: &io::Error) -> u8 {
         b"error: the words of the command line are not UTF-8\n",
         status::COMMAND_LINE,
     )
+}
+
+/// The file or its journal could not be opened.
+pub fn end_unopened<E: Write>(errors: &mut E, error: &io::Error) -> u8 {
+    if error.kind() == ErrorKind::OutOfMemory {
+        return end(errors, MEMORY, status::MEMORY);
+    }
+    end(errors, READ_FAULT, status::FAULT)
 }
 
 /// There is no command with so many words.

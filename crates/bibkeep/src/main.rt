@@ -8,15 +8,15 @@ mod endings;
 mod storing;
 
 use bib_command::parse;
-use bib_run::{Outcome, READ_FAULT, Tap, WRITE_FAULT, run};
+use bib_run::{Outcome, Tap, WRITE_FAULT, run};
 use bib_words::{Command, status};
-use endings::{end, end_run, end_unknown, end_usage, end_without_words};
+use endings::{end, end_run, end_unknown, end_unopened, end_usage, end_without_words};
 use std::alloc::Global;
 use std::fs::File;
-use std::io::Read;
+use std::io::{ErrorKind, Read};
 use std::process::ExitCode;
-use std::{env, str};
-use storing::store;
+use std::{env, io, str};
+use storing::{journal_path, store};
 
 fn main(rt: HostRuntime) -> ExitCode {
     ExitCode::from(answer_words(&rt, rt.alloc()))
@@ -38,48 +38,80 @@ fn answer_words(rt: &HostRuntime, alloc: Global) -> u8 {
     }
 }
 
-/// Runs the command over the file that it names, or over standard input where it names none. A new file is put in its
-/// place.
+/// Runs the command over the file that it names and its journal, or over standard input where it names none. What is new
+/// is put in its place.
 fn perform(rt: &HostRuntime, alloc: Global, command: &Command) -> u8
     requires { IsCommand command.now }
 {
     let Some(path) = command.words.as_slice().first() else {
-        return end_run(&mut rt.stderr(), &run_over(rt, alloc, command, rt.stdin()));
+        return end_run(
+            &mut rt.stderr(),
+            &run_over(rt, alloc, command, rt.stdin(), None),
+        );
     };
     let Ok(path) = str::from_utf8(path.as_slice()) else {
         return end_unknown(&mut rt.stderr());
     };
-    match File::open(rt, path) {
-        Ok(file) => finish(rt, alloc, path, run_over(rt, alloc, command, file)),
-        Err(_) => end(&mut rt.stderr(), READ_FAULT, status::FAULT),
+    match open(rt, alloc, command, path) {
+        Ok((file, journal)) => {
+            let outcome = run_over(rt, alloc, command, file, journal);
+            finish(rt, alloc, path, &outcome)
+        }
+        Err(error) => end_unopened(&mut rt.stderr(), &error),
     }
 }
 
-/// Says how the run over this file ended, and puts the new file in its place, if there is one.
-fn finish(rt: &HostRuntime, alloc: Global, path: &str, outcome: Outcome) -> u8 {
-    let status = end_run(&mut rt.stderr(), &outcome);
-    let Some(file) = &outcome.file else {
+/// Opens the file, and its journal where there is one and the command reads it.
+fn open(
+    rt: &HostRuntime,
+    alloc: Global,
+    command: &Command,
+    path: &str,
+) -> io::Result<(File, Option<File>)> {
+    let file = File::open(rt, path)?;
+    if !command.reads_journal() {
+        return Ok((file, None));
+    }
+    let journal = journal_path(rt, alloc, path)?;
+    match File::open(rt, journal.as_str()) {
+        Ok(journal) => Ok((file, Some(journal))),
+        Err(error) if error.kind() == ErrorKind::NotFound => Ok((file, None)),
+        Err(error) => Err(error),
+    }
+}
+
+/// Says how the run over this file ended, and puts the new file and the new journal in their places, if there are such.
+fn finish(rt: &HostRuntime, alloc: Global, path: &str, outcome: &Outcome) -> u8 {
+    let status = end_run(&mut rt.stderr(), outcome);
+    if outcome.file.is_none() && outcome.journal.is_none() {
         return status;
-    };
-    match store(rt, alloc, path, file.as_slice()) {
+    }
+    match store(rt, alloc, path, outcome) {
         Ok(()) => status,
         Err(_) => end(&mut rt.stderr(), WRITE_FAULT, status::FAULT),
     }
 }
 
-fn run_over<F: Read>(rt: &HostRuntime, alloc: Global, command: &Command, file: F) -> Outcome
+fn run_over<F: Read>(
+    rt: &HostRuntime,
+    alloc: Global,
+    command: &Command,
+    file: F,
+    journal: Option<File>,
+) -> Outcome
 where
     F: Drop,
     requires { IsCommand command.now }
 {
     let mut file = Tap::new(file);
+    let mut journal = journal.map(Tap::new);
     let mut input = Tap::new(rt.stdin());
     let mut out = Tap::new(rt.stdout());
     run(
         alloc,
         command,
         &mut file,
-        None::<&mut Tap<File>>,
+        journal.as_mut(),
         &mut input,
         &mut out,
     )

@@ -1,41 +1,34 @@
 //! `edit`: what a script makes of a file.
 
-ghost use Rattle.std.specs.Prelude.{◌≡◌, ◌≢◌, Some, IfOk};
-ghost use Rattle.bib_journal.specs.declared.fault.SessionFault.TheVariants.{Memory};
-ghost use Rattle.bib_run.specs.EditAnswer.{script_line, refused_line, bad_line, stop_line, applied_line, file_after, outcome_after, edited_answer, IsEditAnswer};
-ghost use Rattle.bib_journal.specs.Session.{started};
-ghost use Rattle.bib_run.specs.Messages.{fault_name};
-ghost use Rattle.bib_run.specs.SessionNames.{session_fault_name};
+ghost use Rattle.std.specs.Prelude.{◌≡◌, IfOk, option_map};
+ghost use Rattle.bib_script.specs.Script.{said_of};
+ghost use Rattle.bib_run.specs.EditAnswer.{script_line, refused_line, bad_line, stop_line, applied_line, edited_answer, HasEdited, IsEditAnswer};
 
-use crate::answers::{Answer, Outcome, refused, unread};
-use crate::messages::{fault_name, refusal_line};
-use bib_journal::{Session, SessionFault, perform};
+use crate::answers::{Answer, refused};
+use crate::messages::refusal_line;
+use crate::sessions::{outcome_left, session_fault_name, unopened};
+use bib_journal::{Saved, Session, SessionFault, perform};
 use bib_scan::{FILE_LIMIT, ReadFault, Text};
 use bib_script::{Script, read_script};
 use bib_store::Flat;
-use bib_words::status;
 use std::alloc::{AllocError, Global};
 
 /// The number of a line that says no edit.
 const BAD_SCRIPT: u16 = 71;
 
 /// What the script makes of the file, up to its first line that is refused or says no edit.
-pub fn answer_edit(alloc: Global, file: Vec<u8>, input: &[u8]) -> Result<Answer, AllocError>
-    ensures { IfOk result (IsEditAnswer file.items input.now) }
+pub fn answer_edit(
+    alloc: Global,
+    file: Vec<u8>,
+    journal: Option<&[u8]>,
+    input: &[u8],
+) -> Result<Answer, AllocError>
+    ensures { IfOk result (IsEditAnswer file.items (option_map (λ text. text.now) journal.entry) input.now) }
 {
-    match Session::start(alloc, file.as_slice(), Flat::new(alloc)) {
-        Ok(mut session) => edit(alloc, &mut session, input),
-        Err(SessionFault::Unopened(fault)) => unread(alloc, fault),
-        Err(_) => Err(AllocError),
-    }
-}
-
-/// What the script makes of a session.
-fn edit(alloc: Global, session: &mut Session<Flat>, input: &[u8]) -> Result<Answer, AllocError>
-    requires { session.old ≡ started session.old.present }
-    ensures { IfOk result (IsEditAnswer session.old.present input.now) }
-{
-    session.is_sound();
+    let mut session = match Session::open(alloc, file.as_slice(), journal, Flat::new(alloc)) {
+        Ok(session) => session,
+        Err(fault) => return unopened(alloc, fault),
+    };
     if input.len() > FILE_LIMIT {
         let too_long = ReadFault {
             kind: 9,
@@ -43,15 +36,22 @@ fn edit(alloc: Global, session: &mut Session<Flat>, input: &[u8]) -> Result<Answ
         };
         return Ok(refused(alloc, refusal_line(alloc, too_long)?));
     }
+    edit(alloc, &mut session, input)
+}
+
+/// What the script makes of a session.
+fn edit(alloc: Global, session: &mut Session<Flat>, input: &[u8]) -> Result<Answer, AllocError>
+    ensures { IfOk result (HasEdited (said_of input.now) session.old) }
+{
     let script = read_script(alloc, input)?;
     let performed = perform(session, script.requests.as_slice());
     if performed.fault == Some(SessionFault::Memory) {
         return Err(AllocError);
     }
-    let Ok(file) = session.bytes() else {
+    let Ok(saved) = session.saved() else {
         return Err(AllocError);
     };
-    edited_answer(alloc, &script, performed.done, performed.fault, file)
+    edited_answer(alloc, &script, performed.done, performed.fault, saved)
 }
 
 /// The answer to a script of which so many edits were made.
@@ -60,25 +60,13 @@ fn edited_answer(
     script: &Script,
     done: usize,
     fault: Option<SessionFault>,
-    file: Text,
+    saved: Saved,
 ) -> Result<Answer, AllocError>
-    ensures { IfOk result (λ answer. answer ≡ edited_answer script.now done fault file) }
+    ensures { IfOk result (λ answer. answer ≡ edited_answer script.now done fault saved) }
 {
     let output = applied_line(alloc, done)?;
-    let outcome = match stop_line(alloc, script, done, fault)? {
-        None => Outcome {
-            file: Some(file),
-            journal: None,
-            message: Text::from_vec(Vec::new(alloc)),
-            status: status::DONE,
-        },
-        Some(message) => Outcome {
-            file: if done == 0 { None } else { Some(file) },
-            journal: None,
-            message,
-            status: status::REFUSED,
-        },
-    };
+    let message = stop_line(alloc, script, done, fault)?;
+    let outcome = outcome_left(alloc, done, message, saved);
     Ok(Answer { output, outcome })
 }
 
@@ -123,36 +111,4 @@ fn script_line(alloc: Global, line: usize, number: u16, name: &str) -> Result<Te
 {
     let text = format!(in alloc; "bibkeep: line {}: {} {}\n", line, number, name)?;
     Ok(Text::from_vec(text.into_bytes()))
-}
-
-/// The name of a fault of an edit or a session, by its number.
-fn session_fault_name(number: u16) -> &'static str
-    ensures { result.now ≡ session_fault_name number }
-{
-    match number {
-        31 => "BadKey",
-        32 => "BadName",
-        33 => "BadValue",
-        34 => "BadPosition",
-        35 => "NotFound",
-        36 => "Ambiguous",
-        37 => "KeyInUse",
-        38 => "NameInUse",
-        39 => "Referred",
-        40 => "WouldMerge",
-        41 => "JournalFull",
-        51 => "NothingToUndo",
-        52 => "NothingToRedo",
-        _ => other_fault_name(number),
-    }
-}
-
-/// The name of a fault of reading, by its number.
-fn other_fault_name(number: u16) -> &'static str
-    ensures { result.now ≡ fault_name number }
-{
-    match u8::try_from(number) {
-        Ok(kind) => fault_name(kind),
-        Err(_) => "Memory",
-    }
 }

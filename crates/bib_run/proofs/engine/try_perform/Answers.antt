@@ -15,7 +15,12 @@ returns-in-Err-Failed-clause-ran g c =
 pub returns-in-Err-Failed-read_input-clause-ran : goal.returns-in-Err-Failed-read_input-clause-ran
 returns-in-Err-Failed-read_input-clause-ran g c =
     let failed : has_failed c.read_input.new.input ≡ true = search rules in
-    rw (c.in_ok-read_fault.ensures) (read_fault (inr failed) refl)
+    rw (c.in_ok-read_fault.ensures) (read_fault (inr (inr failed)) refl)
+
+pub returns-in-Err-Failed-read_journal-clause-ran : goal.returns-in-Err-Failed-read_journal-clause-ran
+returns-in-Err-Failed-read_journal-clause-ran g c =
+    let failed : has_any_failed (option_map (view_of _) (held_after c.read_journal.exit)) ≡ true = search rules in
+    rw (c.in_ok-read_fault.ensures) (read_fault (inr (inl failed)) refl)
 
 pub returns-then-not-write_whole-clause-ran : goal.returns-then-not-write_whole-clause-ran
 returns-then-not-write_whole-clause-ran g c =

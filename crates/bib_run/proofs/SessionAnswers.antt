@@ -1,0 +1,36 @@
+-- Why no session is opened, as an answer.
+use Rattle.std.proofs.Common.{◌≡◌, ◌≢◌, ℕ, [], Option, Some, None}
+use Rattle.bib_spec.specs.Text.{Text}
+use Rattle.bib_scan.specs.declared.fault.ReadFault.{ReadFault}
+use Rattle.bib_store.specs.Meaning.{IsOpenFault}
+use Rattle.bib_journal.specs.declared.fault.SessionFault.{SessionFault}
+use Rattle.bib_journal.specs.declared.fault.SessionFault.TheVariants.{Unopened, BadJournal, JournalMismatch}
+use Rattle.bib_journal.specs.Session.{RefusesOpen}
+use Rattle.bib_run.specs.declared.answers.Answer.{Answer}
+use Rattle.bib_run.specs.Messages.{refusal_line}
+use Rattle.bib_run.specs.Outcome.{answer_of}
+use Rattle.bib_run.specs.Sessions as why
+use Rattle.bib_run.specs.Sessions.{IsUnopenedAnswer, bad_journal_line, mismatch_line}
+
+-- the answer tells why, whatever the file and its journal are of which this is the fault
+abbrev pub Tells : SessionFault → Answer → Type 0
+Tells fault answer = (file : Text) (journal : Option Text) → RefusesOpen fault file journal → IsUnopenedAnswer file journal answer
+
+file_refused : (fault : ReadFault) (file : Text) (journal : Option Text) → RefusesOpen (Unopened fault) file journal → IsOpenFault file fault.kind fault.place
+file_refused fault file None refuses = refuses
+file_refused fault file (Some text) refuses = refuses
+
+pub tells_file : (fault : ReadFault) (answer : Answer) → fault.kind ≢ 10 → answer ≡ answer_of [] (refusal_line fault.kind fault.place) 1 → Tells (Unopened fault) answer
+tells_file fault answer told is file journal refuses = record {
+  message = refusal_line fault.kind fault.place;
+  why = why.file journal fault.kind fault.place told (file_refused fault file journal refuses);
+  answered = is;
+}
+
+pub tells_journal : (place : ℕ) (answer : Answer) → answer ≡ answer_of [] (bad_journal_line place) 1 → Tells (BadJournal place) answer
+tells_journal place answer is file None refuses = absurd refuses
+tells_journal place answer is file (Some text) refuses = record { message = bad_journal_line place; why = why.journal text place refuses.0 refuses.1; answered = is }
+
+pub tells_mismatch : (answer : Answer) → answer ≡ answer_of [] mismatch_line 1 → Tells JournalMismatch answer
+tells_mismatch answer is file None refuses = absurd refuses
+tells_mismatch answer is file (Some text) refuses = record { message = mismatch_line; why = why.mismatch text refuses; answered = is }

@@ -1,0 +1,5 @@
+use Rattle.std.proofs.Common.{◌≡◌, ◌-◌, ◌^◌, length, min, sum_by, take}
+use Rattle.bib_run.proofs.commands.log.old_len.Given as goal
+
+abbrev pub invariant-piece : goal.invariant-piece
+invariant-piece l = l.len ≡ min (sum_by (λ p. length p.old) (take l.piece-index l.step)) (2 ^ 64 - 1)

@@ -1,7 +1,0 @@
-use Rattle.std.proofs.Common.{refl}
-use Rattle.bib_run.specs.Runs.{no_memory}
-use Rattle.bib_run.proofs.engine.perform.Goals as goal
-
-pub returns-in-Err-clause-ran : goal.returns-in-Err-clause-ran
-returns-in-Err-clause-ran g c =
-    rw (c.outcome_of.ensures, c.from_vec.ensures, c.new.ensures.items, c.in-Err.ensures.silent) (no_memory (record { file = c.in-Err.ensures.file; input = c.in-Err.ensures.failed }) refl)

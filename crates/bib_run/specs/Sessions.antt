@@ -1,0 +1,55 @@
+-- A session over a file and its journal: why none is opened, and what is left. (dialect)
+use Rattle.std.specs.Prelude.{ℕ, ◌≡◌, ◌≢◌, ◌==◌, if◌then◌else◌, [], ◌++◌, Option, Some, None, codes}
+use Rattle.std.specs.Fmt.{decimal}
+use Rattle.bib_spec.specs.Text.{Text}
+use Rattle.bib_spec.specs.Texts.{IsOpenable}
+use Rattle.bib_store.specs.Meaning.{IsOpenFault}
+use Rattle.journal_format.specs.Faults.{IsNoJournal}
+use Rattle.bib_journal.specs.declared.fault.SessionFault.{SessionFault}
+use Rattle.bib_journal.specs.declared.saving.Saved.{Saved}
+use Rattle.bib_journal.specs.Faults.{fault_number}
+use Rattle.bib_journal.specs.Loading.{IsMismatch}
+use Rattle.bib_run.specs.declared.answers.Outcome.{Outcome}
+use Rattle.bib_run.specs.declared.answers.Answer.{Answer}
+use Rattle.bib_run.specs.Messages.{refusal_line}
+use Rattle.bib_run.specs.SessionNames.{session_fault_name}
+use Rattle.bib_run.specs.Outcome.{answer_of}
+
+-- ---- messages
+
+-- `bibkeep: 53 BadJournal at P`, a line
+abbrev pub bad_journal_line : ℕ → Text
+bad_journal_line place = codes "bibkeep: 53 BadJournal at " ++ (decimal place ++ codes "\n")
+
+-- the journal does not fit the file
+abbrev pub mismatch_line : Text
+mismatch_line = codes "bibkeep: 54 JournalMismatch\n"
+
+-- `bibkeep: N Name`, a line
+abbrev pub fault_line : SessionFault → Text
+fault_line fault = codes "bibkeep: " ++ (decimal (fault_number fault) ++ (codes " " ++ (session_fault_name (fault_number fault) ++ codes "\n")))
+
+-- ---- opening
+
+-- why the file and its journal open no session, and what is said of it
+pub data IsUnopened (file : Text) : Option Text → Text → Type 0 where
+  file : (journal : Option Text) (kind place : ℕ) → kind ≢ 10 → IsOpenFault file kind place → IsUnopened file journal (refusal_line kind place)
+  journal : (text : Text) (place : ℕ) → IsOpenable file → IsNoJournal text place → IsUnopened file (Some text) (bad_journal_line place)
+  mismatch : (text : Text) → IsMismatch file text → IsUnopened file (Some text) mismatch_line
+
+-- the answer to them: nothing is output, and the message says why
+pub record IsUnopenedAnswer (file : Text) (journal : Option Text) (answer : Answer) : Type 0 where
+  pub message : Text
+  pub why : IsUnopened file journal message
+  pub answered : answer ≡ answer_of [] message 1
+
+-- ---- leaving
+
+-- after a session that stopped before its first change nothing is to be written
+abbrev pub text_left : ℕ → Text → Option Text
+text_left done text = if done == 0 then None else Some text
+
+-- what so many changes leave: the file and its journal; with what is said where the next one was refused
+abbrev pub outcome_left : ℕ → Option Text → Saved → Outcome
+outcome_left done None saved = record { file = Some saved.file; journal = Some saved.journal; message = []; status = 0 }
+outcome_left done (Some message) saved = record { file = text_left done saved.file; journal = text_left done saved.journal; message = message; status = 1 }
