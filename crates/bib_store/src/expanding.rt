@@ -77,7 +77,7 @@ impl<L: ItemList> Database<L> {
     }
 
     /// The parent of entry `n`: its target, where that is another entry.
-    pub(crate) fn parent(&self, n: usize) -> Option<usize>
+    pub fn parent(&self, n: usize) -> Option<usize>
         requires { IsEntryNumber self.now n }
         ensures parent { OfReading self.now (λ db. result ≡ parent (entries_of db) n) }
         ensures number { IfSome result (λ p. IsEntryNumber self.now p) }
