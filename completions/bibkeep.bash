@@ -1,13 +1,13 @@
 # Completion of bibkeep for bash. Source it, or put it where bash-completion looks for it.
 
 _bibkeep() {
-    local commands='cat check show cite labels names edit help'
+    local commands='cat check show cite labels names edit undo redo log forget help'
     local current=${COMP_WORDS[COMP_CWORD]} command='' file='' count=0 position
 
     # The command, and how many words of its own stand before this one; the first of them is the file.
     for ((position = 1; position < COMP_CWORD; position++)); do
         case ${COMP_WORDS[position]} in
-            --min-crossrefs) position=$((position + 1)) ;;
+            --min-crossrefs | --steps) position=$((position + 1)) ;;
             -*) ;;
             *)
                 if [[ -z $command ]]; then
@@ -28,6 +28,7 @@ _bibkeep() {
     if [[ $current == -* ]]; then
         case $command in
             cite) mapfile -t COMPREPLY < <(compgen -W '--min-crossrefs --help' -- "$current") ;;
+            undo | redo) mapfile -t COMPREPLY < <(compgen -W '--steps --help' -- "$current") ;;
             *) mapfile -t COMPREPLY < <(compgen -W '--help' -- "$current") ;;
         esac
         return

@@ -186,8 +186,9 @@ Each line is an edit, its words parted by tabs (shown here as spaces):
 The first line that is refused ends the script; the edits before it stand. What it did is kept in the journal
 F.bibkeep, for undo.
 
-Example:
-  printf 'set\\tknuth86\\tyear\\t1986\\n' | bibkeep edit refs.bib",
+Examples:
+  printf 'set\\tknuth86\\tyear\\t1986\\n' | bibkeep edit refs.bib
+  printf 'set\\tknuth86\\tnote\\t{x}\\ndrop\\tknuth86\\tpages\\n' | bibkeep edit refs.bib",
     )
 }
 
@@ -202,8 +203,8 @@ fn undo<'a>(alloc: Global) -> Result<Command<'a>, AllocError>
 What is undone can be redone, until the next edit. `bibkeep log F` lists both.
 
 Examples:
-  bibkeep undo refs.bib           takes the last change back
-  bibkeep undo refs.bib --steps 65535   takes all changes back",
+  bibkeep undo refs.bib             # takes the last change back
+  bibkeep undo refs.bib --steps 2   # takes the last two back",
     )
 }
 
@@ -243,8 +244,8 @@ fn forget<'a>(alloc: Global) -> Result<Command<'a>, AllocError>
         "forget",
         "Begins a new journal for the file as it is now",
         "\
-The file stays as it is; what was done before can be undone no more. This is the way on where the file was changed by
-hand and the other commands say 54 JournalMismatch.
+The file stays as it is; what was done before can no longer be undone. This is the way to continue where the file was
+changed by hand and the other commands say 54 JournalMismatch.
 
 Example:
   bibkeep forget refs.bib",
