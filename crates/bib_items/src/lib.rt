@@ -3,6 +3,7 @@
 #![tactic(auto)]
 
 mod fault;
+mod firsts;
 mod flat;
 mod list;
 mod page;

@@ -1,5 +1,5 @@
 -- A change that puts an entry behind all items: the file that it makes, and its tables.
-use Rattle.std.proofs.Common.{◌≡◌, ℕ, ◌+◌, ◌-◌, ◌<◌, ◌≤◌, List, [], ◌∷◌, ◌++◌, length, take, drop, map, slice_get, get_or, Some, None, sym, subst, ◌∙◌, ap, ap₂, refl, arith, append-nil, append_assoc, take-append-drop, length-drop}
+use Rattle.std.proofs.Common.{◌≡◌, ℕ, ◌+◌, ◌-◌, ◌<◌, ◌≤◌, List, [], ◌∷◌, ◌++◌, length, take, drop, slice_get, get_or, Some, None, sym, ◌∙◌, ap, ap₂, refl, arith, append-nil, append_assoc, take-append-drop, length-drop}
 use Rattle.std.proofs.lemmas.Option.{slice_get-get_or}
 use Rattle.std.proofs.lemmas.List.{map-append, drop-map, drop_all, drop_more, take_all, take_more, get_or-drop}
 use Rattle.std.proofs.lemmas.List.Elements.{All-take, All-drop}

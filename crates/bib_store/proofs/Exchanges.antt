@@ -1,20 +1,12 @@
 -- A list whose items are exchanged, one by one.
-use Rattle.std.proofs.Common.{◌≡◌, ℕ, ◌+◌, ◌-◌, ◌≤◌, ◌<◌, suc, List, [], ◌∷◌, ◌++◌, length, take, drop, get_or, sym, subst, ◌∙◌, ap, ap₂, refl, arith, append_assoc, take-append-drop, length-append, length-drop, insert, remove, Some, None, ◌⊎◌, inl, inr}
-use Rattle.std.proofs.lemmas.List.{length-map, map-append, append-nil, take_all, take_more, take_at, drop_at, drop-drop, drop_all, drop_more, length-take-le}
-use Rattle.std.proofs.lemmas.Option.{slice_get-get_or}
-use Rattle.std.specs.List.{slice_get}
-use Rattle.bib_spec.specs.Bytes.{name_limit}
+use Rattle.std.proofs.Common.{◌≡◌, ℕ, ◌+◌, ◌-◌, ◌≤◌, List, ◌++◌, length, take, drop, sym, subst, ◌∙◌, ap, arith, append_assoc, length-append, length-drop, Some, None, ◌⊎◌, inl, inr}
+use Rattle.std.proofs.lemmas.List.{take_at, drop_at, drop-drop, length-take-le}
 use Rattle.bib_spec.specs.Text.{Text}
-use Rattle.bib_spec.specs.Tree.{CommentTree}
-use Rattle.bib_spec.specs.Reading as reading
 use Rattle.bib_spec.specs.Reading.{Reading, Reads}
 use Rattle.bib_spec.specs.Texts.{too_long_at}
-use Rattle.bib_scan.specs.Layout.{Places, IsLayoutOf, places_of}
-use Rattle.bib_scan.specs.View.{View, view_of}
-use Rattle.bib_scan.proofs.OneReading.{one_reading}
 use Rattle.bib_items.specs.declared.list.Item.{Item}
 use Rattle.bib_store.specs.declared.window.Window.{Window}
-use Rattle.bib_items.specs.Items.{item, stored, all_stored, without_range}
+use Rattle.bib_items.specs.Items.{all_stored, without_range}
 use Rattle.bib_items.proofs.Filled.{without-put}
 use Rattle.bib_store.specs.Windows.{IsWindow}
 

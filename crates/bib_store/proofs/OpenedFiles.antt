@@ -1,53 +1,18 @@
--- A file that is opened: its items are put into a list, one by one, and the tables are made.
-use Rattle.std.proofs.Common.{◌≡◌, ℕ, ◌+◌, ◌<◌, ◌≤◌, List, [], ◌∷◌, ◌++◌, length, take, insert, get_or, slice_get, Some, None, inl, inr, ◌⊎◌, ⊎_elim, refl, sym, ◌∙◌, ap, ap₂, subst, arith}
-use Rattle.std.proofs.lemmas.List.{take_more, take_all, map-append, length-take-le}
-use Rattle.std.proofs.lemmas.Option.{slice_get-get_or}
-use Rattle.bib_spec.specs.Bytes.{name_limit, file_limit}
+-- A file that is opened: its items are put into a list, and the tables are made.
+use Rattle.std.proofs.Common.{◌≡◌, ℕ, ◌≤◌, List, length, Some, None, inl, inr, ◌⊎◌, ⊎_elim, sym, ◌∙◌, ap, ap₂, subst}
+use Rattle.bib_spec.specs.Bytes.{file_limit}
 use Rattle.bib_spec.specs.Text.{Text}
-use Rattle.bib_spec.specs.Tree.{CommentTree}
-use Rattle.bib_spec.specs.Reading as reading
 use Rattle.bib_spec.specs.Reading.{Reading, Reads}
 use Rattle.bib_spec.specs.Texts.{too_long_at}
 use Rattle.bib_spec.specs.Fault.{IsReadFault, no_memory}
-use Rattle.bib_scan.specs.Layout.{Places, places_of, IsLayoutOf}
-use Rattle.bib_scan.specs.View.{View, view_of}
-use Rattle.bib_scan.proofs.OneReading.{one_reading}
+use Rattle.bib_scan.specs.Layout.{Places, IsLayoutOf}
 use Rattle.bib_items.specs.declared.list.Item.{Item}
 use Rattle.bib_store.specs.declared.tables.Tables.{Tables}
-use Rattle.bib_items.specs.Items.{item, stored, all_stored, without_range}
+use Rattle.bib_items.specs.Items.{all_stored, without_range}
 use Rattle.bib_store.specs.Meaning.{OfReading, IsTextFault, IsOpenFault}
 use Rattle.bib_store.specs.Beside.{HasItems, AreTables}
 use Rattle.bib_store.specs.Stored.{file_of, IsKeptAs, IsKept}
-use Rattle.bib_store.proofs.KeptItems.{length-stored, file-stored}
-
--- ---- the list
-
-pub insert_end : {X : Type 0} (xs : List X) (x : X) → insert xs (length xs) x ≡ xs ++ x ∷ []
-insert_end [] x = refl
-insert_end (y ∷ xs) x = ap (λ (l : List _). y ∷ l) (insert_end xs x)
-
--- there are as many items as places
-pub items_counted : (bytes : Text) (places : Places) (count : ℕ) → IsLayoutOf bytes places → ((db : Reading) → places ≡ places_of db → count ≡ length db.items) → OfReading bytes (λ db. count ≡ length db.items)
-items_counted bytes places count is counted db r = counted db (is.2 ∙ ap places_of (one_reading name_limit bytes is.0 db is.1 r))
-
-any_item : reading.Item
-any_item = record { tree = CommentTree (record { space_before_type = []; type_name = [] }); trail = [] }
-
--- the list with one item more
-pub kept_more : (db : Reading) (n : ℕ) (old new : List Item) (body trail : Text) (seen : View) → n < length db.items → old ≡ all_stored (take n db.items) → new ≡ insert old n (item body trail) →
-    body ≡ seen.body → trail ≡ seen.trail → ((i : reading.Item) → slice_get db.items n ≡ Some i → seen ≡ view_of i) → new ≡ all_stored (take (n + 1) db.items)
-kept_more db n old new body trail seen within was is body_is trail_is sees =
-    let i : reading.Item = get_or db.items n any_item in
-    let same : seen ≡ view_of i = sees i (slice_get-get_or db.items n any_item within) in
-    let put : item body trail ≡ stored i = ap₂ (λ (b t : Text). item b t) (body_is ∙ ap (λ (v : View). v.body) same) (trail_is ∙ ap (λ (v : View). v.trail) same) in
-    let len : length old ≡ n = ap (length {A = Item}) was ∙ length-stored (take n db.items) ∙ length-take-le n db.items (omega (arith, within)) in
-    is ∙ ap₂ (λ (k : ℕ) (x : Item). insert old k x) (sym len) put ∙ insert_end old (stored i)
-    ∙ ap (λ (l : List Item). l ++ stored i ∷ []) was
-    ∙ sym (ap all_stored (take_more db.items n any_item within) ∙ map-append stored (take n db.items) (i ∷ []))
-
--- the list with all
-pub kept_all : (db : Reading) (n : ℕ) (items : List Item) → items ≡ all_stored (take n db.items) → length db.items ≤ n → items ≡ all_stored db.items
-kept_all db n items was h = was ∙ ap all_stored (take_all n db.items h)
+use Rattle.bib_store.proofs.KeptItems.{file-stored}
 
 -- ---- the file
 

@@ -18,10 +18,7 @@ fn keep<L: ItemList>(layout: &Layout, bytes: &[u8], empty: L) -> Result<L, Store
     ensures only { IfErr result (λ fault. fault ≡ Memory) }
 {
     let mut items = empty;
-    'keep: for n in 0..layout.len() {
-        let item = layout.item(bytes, n);
-        items.insert(n, item.body(), item.trail())?;
-    }
+    items.insert_all(0, bytes, layout)?;
     Ok(items)
 }
 

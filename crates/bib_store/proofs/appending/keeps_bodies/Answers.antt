@@ -1,4 +1,4 @@
-use Rattle.std.proofs.Common.{◌-◌, ◌≤◌, ◌<◌, length, drop, refl, sym, subst, ap, ◌∙◌, arith, length-drop}
+use Rattle.std.proofs.Common.{◌-◌, ◌<◌, length, drop, refl, sym, subst, arith, length-drop}
 use Rattle.bib_spec.specs.Text.{Text}
 use Rattle.bib_spec.specs.Reading.{Reads}
 use Rattle.bib_store.proofs.AppendedFiles.{none_kept, one_kept, counted}

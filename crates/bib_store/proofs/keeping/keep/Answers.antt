@@ -1,16 +1,10 @@
-use Rattle.std.proofs.Common.{◌<◌, ◌≤◌, length, arith}
-use Rattle.bib_store.proofs.OpenedFiles.{items_counted, kept_more, kept_all}
+use Rattle.std.proofs.Common.{List, ◌++◌, take, drop, append-nil, ap, ◌∙◌}
+use Rattle.bib_items.specs.declared.list.Item.{Item}
+use Rattle.bib_items.specs.Items.{all_stored}
 use Rattle.bib_store.proofs.keeping.keep.Goals as goal
 
-pub keep-preserved : goal.keep-preserved
-keep-preserved g c = λ db r.
-    let count = items_counted c.args.bytes.now c.args.layout.now c.len-n-end.result c.requires.layout c.len-n-end.ensures.items db r in
-    let within : c.keep.n < length db.items = omega (arith, count, c.keep-test.true) in
-    kept_more db c.keep.n (g.L.ItemList.items c.keep.items) (g.L.ItemList.items c.insert.new.self) c.body.result.now c.trail.result.now c.item-item.result within
-    (c.keep.invariant db r) c.in_ok-insert.ensures.ok c.body.ensures c.trail.ensures (λ i at. c.item-item.ensures db i r at)
-
 pub returns-clause-kept : goal.returns-clause-kept
-returns-clause-kept g c = λ db r.
-    let count = items_counted c.args.bytes.now c.args.layout.now c.len-n-end.result c.requires.layout c.len-n-end.ensures.items db r in
-    let all : length db.items ≤ c.keep.n = omega (arith, count, c.keep-test.false) in
-    kept_all db c.keep.n (g.L.ItemList.items c.keep.items) (c.keep.invariant db r) all
+returns-clause-kept g c = λ db reads.
+    c.in_ok-insert_all.ensures.ok db reads
+    ∙ ap (λ (l : List Item). take 0 l ++ (all_stored db.items ++ drop 0 l)) c.requires.empty
+    ∙ append-nil (all_stored db.items)

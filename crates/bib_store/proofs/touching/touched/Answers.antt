@@ -1,4 +1,4 @@
-use Rattle.std.proofs.Common.{length, arith, length-append}
+use Rattle.std.proofs.Common.{arith, length-append}
 use Rattle.std.specs.List.{flat_map}
 use Rattle.bib_items.specs.Items.{kept_bytes}
 use Rattle.bib_items.proofs.Walks.{weight-take}

@@ -1,6 +1,6 @@
 use Rattle.std.proofs.Common.{◌≡◌, Some, sym, ap, subst, ◌∙◌}
 use Rattle.std.specs.Option.{option_copied}
-use Rattle.bib_spec.specs.Text.{Text, folded}
+use Rattle.bib_spec.specs.Text.{folded}
 use Rattle.bib_spec.specs.Texts.{Macros, months, macros_at}
 use Rattle.bib_store.proofs.KeptItems.{kept_reading}
 use Rattle.bib_store.proofs.ShortTexts.{IsShort, seen_short}
