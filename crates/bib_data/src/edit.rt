@@ -24,4 +24,6 @@ pub enum Edit {
     RemoveEntry { key: Text },
     /// The entry goes, and then stands before item `place` of what remains.
     MoveEntry { key: Text, place: usize },
+    /// The entry gets another key, and each crossref that names it names it by that.
+    RenameKey { from: Text, to: Text },
 }

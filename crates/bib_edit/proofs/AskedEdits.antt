@@ -7,9 +7,9 @@ use Rattle.bib_spec.specs.Text.{Text}
 use Rattle.bib_spec.specs.Tree.{Value}
 use Rattle.edit_spec.specs.Edits as edits
 use Rattle.edit_spec.specs.Edits.{Spells}
-use Rattle.bib_data.specs.declared.edit.Edit.TheVariants.{SetField, DropField, AddEntry, RemoveEntry, MoveEntry}
+use Rattle.bib_data.specs.declared.edit.Edit.TheVariants.{SetField, DropField, AddEntry, RemoveEntry, MoveEntry, RenameKey}
 use Rattle.bib_data.specs.declared.edit.NewEntry.{NewEntry}
-use Rattle.bib_edit.specs.Asking.{SpellFields, SpellsEntry, OfEdit, set_field, drop_field, add_entry, remove_entry, move_entry}
+use Rattle.bib_edit.specs.Asking.{SpellFields, SpellsEntry, OfEdit, set_field, drop_field, add_entry, remove_entry, move_entry, rename_key}
 
 pub of-set_field : (key field value : Text) (P : edits.Edit → Type 0) → ((v : Value) → Spells value v → P (edits.SetField key field v)) → OfEdit (SetField key field value) P
 of-set_field key field value P h e (set_field k f t v s) = h v s
@@ -43,6 +43,7 @@ asked_for (DropField key field) = (edits.DropField key field, drop_field key fie
 asked_for (AddEntry place entry) = let new = some_entry entry in (edits.AddEntry place new.0, add_entry place entry new.0 new.1)
 asked_for (RemoveEntry key) = (edits.RemoveEntry key, remove_entry key)
 asked_for (MoveEntry key place) = (edits.MoveEntry key place, move_entry key place)
+asked_for (RenameKey from to) = (edits.RenameKey from to, rename_key from to)
 
 pub of-add_entry : (place : ℕ) (asked : NewEntry) (P : edits.Edit → Type 0) → ((new : edits.NewEntry) → SpellsEntry asked new → P (edits.AddEntry place new)) → OfEdit (AddEntry place asked) P
 of-add_entry place asked P h e (add_entry n a new spells) = h new spells
@@ -52,3 +53,6 @@ of-remove_entry key P h e (remove_entry k) = h
 
 pub of-move_entry : (key : Text) (place : ℕ) (P : edits.Edit → Type 0) → P (edits.MoveEntry key place) → OfEdit (MoveEntry key place) P
 of-move_entry key place P h e (move_entry k n) = h
+
+pub of-rename_key : (from to : Text) (P : edits.Edit → Type 0) → P (edits.RenameKey from to) → OfEdit (RenameKey from to) P
+of-rename_key from to P h e (rename_key f t) = h

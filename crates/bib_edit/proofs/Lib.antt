@@ -24,3 +24,10 @@ pub mod Moved
 pub mod CuttingRows
 pub mod DroppingFields
 pub mod KeyBases
+pub mod Walks
+pub mod KeyPieces
+pub mod LoneNumbers
+pub mod DanglingTexts
+pub mod PieceLengths
+pub mod RekeyedTexts
+pub mod RenamedKeys

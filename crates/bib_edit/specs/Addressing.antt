@@ -3,6 +3,7 @@ use Rattle.std.specs.Prelude.{ℕ, suc, ◌≡◌, ◌+◌, ◌<◌, Bool, List,
 use Rattle.bib_spec.specs.Text.{Text, same}
 use Rattle.bib_spec.specs.Tree.{Tree}
 use Rattle.bib_spec.specs.Reading.{Item, Reading}
+use Rattle.bib_spec.specs.Records.{entries_of, entry_named}
 use Rattle.edit_spec.specs.Edits.{is_entry, holders}
 use Rattle.bib_scan.specs.View.{Field}
 use Rattle.bib_edit.specs.declared.fault.EditFault.{EditFault}
@@ -20,6 +21,11 @@ item_named key db = first_item (is_entry key) db.items
 -- one entry has the key, and it is this item
 pub record IsHeldAt (key : Text) (db : Reading) (n : ℕ) : Type 0 where
   pub item : item_named key db ≡ Some n
+  pub once : holders key db ≡ 1
+
+-- one entry has the key, and this is its number among the entries
+pub record IsLoneNumber (key : Text) (db : Reading) (n : ℕ) : Type 0 where
+  pub named : entry_named (entries_of db) key ≡ Some n
   pub once : holders key db ≡ 1
 
 -- no entry has the key, or several do

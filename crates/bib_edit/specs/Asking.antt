@@ -7,7 +7,7 @@ use Rattle.edit_spec.specs.Edits as edits
 use Rattle.edit_spec.specs.Edits.{Spells}
 use Rattle.bib_names.specs.Label.{key_base}
 use Rattle.bib_data.specs.declared.edit.Edit.{Edit}
-use Rattle.bib_data.specs.declared.edit.Edit.TheVariants.{SetField, DropField, AddEntry, RemoveEntry, MoveEntry}
+use Rattle.bib_data.specs.declared.edit.Edit.TheVariants.{SetField, DropField, AddEntry, RemoveEntry, MoveEntry, RenameKey}
 use Rattle.bib_data.specs.declared.edit.NewEntry.{NewEntry}
 
 -- the base of a made key, which is that of the record's label
@@ -34,6 +34,7 @@ pub data AsksFor : Edit → edits.Edit → Type 0 where
   add_entry : (place : ℕ) (asked : NewEntry) (new : edits.NewEntry) → SpellsEntry asked new → AsksFor (AddEntry place asked) (edits.AddEntry place new)
   remove_entry : (key : Text) → AsksFor (RemoveEntry key) (edits.RemoveEntry key)
   move_entry : (key : Text) (place : ℕ) → AsksFor (MoveEntry key place) (edits.MoveEntry key place)
+  rename_key : (from to : Text) → AsksFor (RenameKey from to) (edits.RenameKey from to)
 
 -- it holds of the edit that is asked for
 abbrev pub OfEdit : Edit → (edits.Edit → Type 0) → Type 0

@@ -4,6 +4,7 @@
 
 mod add_entry;
 mod address;
+mod dangling;
 mod drop_field;
 mod fault;
 mod laws;
@@ -12,11 +13,14 @@ mod move_entry;
 mod moving;
 mod new_entry;
 mod new_fields;
+mod new_keys;
 mod new_text;
 mod pieces;
 mod planning;
 mod referring;
+mod rekeying;
 mod remove_entry;
+mod rename_key;
 mod set_field;
 mod taking_out;
 mod values;

@@ -8,6 +8,7 @@ use crate::drop_field::drop_field;
 use crate::fault::EditFault;
 use crate::move_entry::move_entry;
 use crate::remove_entry::remove_entry;
+use crate::rename_key::rename_key;
 use crate::set_field::set_field;
 use bib_data::Edit;
 use bib_scan::Seq;
@@ -40,5 +41,6 @@ pub fn plan<L: ItemList>(
         Edit::AddEntry { place, entry } => add_entry(alloc, db, *place, entry),
         Edit::RemoveEntry { key } => remove_entry(alloc, db, key.as_slice()),
         Edit::MoveEntry { key, place } => move_entry(alloc, db, key.as_slice(), *place),
+        Edit::RenameKey { from, to } => rename_key(alloc, db, from.as_slice(), to.as_slice()),
     }
 }
