@@ -26,4 +26,6 @@ pub enum Edit {
     MoveEntry { key: Text, place: usize },
     /// The entry gets another key, and each crossref that names it names it by that.
     RenameKey { from: Text, to: Text },
+    /// All entries get made keys at once, and each crossref names its target by the new one.
+    RegenerateKeys,
 }

@@ -5,11 +5,12 @@ use Rattle.bib_scan.proofs.PlaceOfFault.{value_or_hopeless}
 use Rattle.bib_edit.specs.Laws.{EditsAreAskedFor}
 use Rattle.bib_spec.specs.Text.{Text}
 use Rattle.bib_spec.specs.Tree.{Value}
+use Rattle.bib_spec.specs.Records.{default_depth}
 use Rattle.edit_spec.specs.Edits as edits
 use Rattle.edit_spec.specs.Edits.{Spells}
-use Rattle.bib_data.specs.declared.edit.Edit.TheVariants.{SetField, DropField, AddEntry, RemoveEntry, MoveEntry, RenameKey}
+use Rattle.bib_data.specs.declared.edit.Edit.TheVariants.{SetField, DropField, AddEntry, RemoveEntry, MoveEntry, RenameKey, RegenerateKeys}
 use Rattle.bib_data.specs.declared.edit.NewEntry.{NewEntry}
-use Rattle.bib_edit.specs.Asking.{SpellFields, SpellsEntry, OfEdit, set_field, drop_field, add_entry, remove_entry, move_entry, rename_key}
+use Rattle.bib_edit.specs.Asking.{SpellFields, SpellsEntry, OfEdit, set_field, drop_field, add_entry, remove_entry, move_entry, rename_key, regenerate_keys}
 
 pub of-set_field : (key field value : Text) (P : edits.Edit → Type 0) → ((v : Value) → Spells value v → P (edits.SetField key field v)) → OfEdit (SetField key field value) P
 of-set_field key field value P h e (set_field k f t v s) = h v s
@@ -44,6 +45,7 @@ asked_for (AddEntry place entry) = let new = some_entry entry in (edits.AddEntry
 asked_for (RemoveEntry key) = (edits.RemoveEntry key, remove_entry key)
 asked_for (MoveEntry key place) = (edits.MoveEntry key place, move_entry key place)
 asked_for (RenameKey from to) = (edits.RenameKey from to, rename_key from to)
+asked_for RegenerateKeys = (edits.RegenerateKeys default_depth, regenerate_keys)
 
 pub of-add_entry : (place : ℕ) (asked : NewEntry) (P : edits.Edit → Type 0) → ((new : edits.NewEntry) → SpellsEntry asked new → P (edits.AddEntry place new)) → OfEdit (AddEntry place asked) P
 of-add_entry place asked P h e (add_entry n a new spells) = h new spells
@@ -56,3 +58,6 @@ of-move_entry key place P h e (move_entry k n) = h
 
 pub of-rename_key : (from to : Text) (P : edits.Edit → Type 0) → P (edits.RenameKey from to) → OfEdit (RenameKey from to) P
 of-rename_key from to P h e (rename_key f t) = h
+
+pub of-regenerate_keys : (P : edits.Edit → Type 0) → P (edits.RegenerateKeys default_depth) → OfEdit RegenerateKeys P
+of-regenerate_keys P h e regenerate_keys = h

@@ -31,3 +31,9 @@ pub mod DanglingTexts
 pub mod PieceLengths
 pub mod RekeyedTexts
 pub mod RenamedKeys
+pub mod CandidateLengths
+pub mod FirstFree
+pub mod TakenLists
+pub mod EntryCounts
+pub mod MadeKeyLists
+pub mod Regenerated

@@ -10,4 +10,5 @@ pub mod FieldPieces
 pub mod Limits
 pub mod Dangling
 pub mod NewKeys
+pub mod TakenKeys
 pub mod Laws

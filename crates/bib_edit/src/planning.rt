@@ -7,6 +7,7 @@ use crate::add_entry::add_entry;
 use crate::drop_field::drop_field;
 use crate::fault::EditFault;
 use crate::move_entry::move_entry;
+use crate::regenerate_keys::regenerate_keys;
 use crate::remove_entry::remove_entry;
 use crate::rename_key::rename_key;
 use crate::set_field::set_field;
@@ -42,5 +43,6 @@ pub fn plan<L: ItemList>(
         Edit::RemoveEntry { key } => remove_entry(alloc, db, key.as_slice()),
         Edit::MoveEntry { key, place } => move_entry(alloc, db, key.as_slice(), *place),
         Edit::RenameKey { from, to } => rename_key(alloc, db, from.as_slice(), to.as_slice()),
+        Edit::RegenerateKeys => regenerate_keys(alloc, db),
     }
 }
