@@ -8,9 +8,9 @@ use Rattle.bib_spec.specs.Tree.{Value}
 use Rattle.bib_spec.specs.Records.{default_depth}
 use Rattle.edit_spec.specs.Edits as edits
 use Rattle.edit_spec.specs.Edits.{Spells}
-use Rattle.bib_data.specs.declared.edit.Edit.TheVariants.{SetField, DropField, AddEntry, RemoveEntry, MoveEntry, RenameKey, RegenerateKeys}
+use Rattle.bib_data.specs.declared.edit.Edit.TheVariants.{SetField, DropField, AddEntry, RemoveEntry, MoveEntry, RenameKey, RegenerateKeys, RenameMacro, InlineMacro, IntroduceMacro}
 use Rattle.bib_data.specs.declared.edit.NewEntry.{NewEntry}
-use Rattle.bib_edit.specs.Asking.{SpellFields, SpellsEntry, OfEdit, set_field, drop_field, add_entry, remove_entry, move_entry, rename_key, regenerate_keys}
+use Rattle.bib_edit.specs.Asking.{SpellFields, SpellsEntry, OfEdit, set_field, drop_field, add_entry, remove_entry, move_entry, rename_key, regenerate_keys, rename_macro, inline_macro, introduce_macro}
 
 pub of-set_field : (key field value : Text) (P : edits.Edit → Type 0) → ((v : Value) → Spells value v → P (edits.SetField key field v)) → OfEdit (SetField key field value) P
 of-set_field key field value P h e (set_field k f t v s) = h v s
@@ -46,6 +46,9 @@ asked_for (RemoveEntry key) = (edits.RemoveEntry key, remove_entry key)
 asked_for (MoveEntry key place) = (edits.MoveEntry key place, move_entry key place)
 asked_for (RenameKey from to) = (edits.RenameKey from to, rename_key from to)
 asked_for RegenerateKeys = (edits.RegenerateKeys default_depth, regenerate_keys)
+asked_for (RenameMacro from to) = (edits.RenameMacro from to, rename_macro from to)
+asked_for (InlineMacro name) = (edits.InlineMacro name, inline_macro name)
+asked_for (IntroduceMacro name text) = (edits.IntroduceMacro name text, introduce_macro name text)
 
 pub of-add_entry : (place : ℕ) (asked : NewEntry) (P : edits.Edit → Type 0) → ((new : edits.NewEntry) → SpellsEntry asked new → P (edits.AddEntry place new)) → OfEdit (AddEntry place asked) P
 of-add_entry place asked P h e (add_entry n a new spells) = h new spells
@@ -61,3 +64,12 @@ of-rename_key from to P h e (rename_key f t) = h
 
 pub of-regenerate_keys : (P : edits.Edit → Type 0) → P (edits.RegenerateKeys default_depth) → OfEdit RegenerateKeys P
 of-regenerate_keys P h e regenerate_keys = h
+
+pub of-rename_macro : (from to : Text) (P : edits.Edit → Type 0) → P (edits.RenameMacro from to) → OfEdit (RenameMacro from to) P
+of-rename_macro from to P h e (rename_macro f t) = h
+
+pub of-inline_macro : (name : Text) (P : edits.Edit → Type 0) → P (edits.InlineMacro name) → OfEdit (InlineMacro name) P
+of-inline_macro name P h e (inline_macro n) = h
+
+pub of-introduce_macro : (name text : Text) (P : edits.Edit → Type 0) → P (edits.IntroduceMacro name text) → OfEdit (IntroduceMacro name text) P
+of-introduce_macro name text P h e (introduce_macro n t) = h

@@ -1,3 +1,16 @@
+pub mod PlacedValues
+pub mod PlacedFields
+pub mod FirstFound
+pub mod PlacedItems
+pub mod DefinedNames
+pub mod TokenPieces
+pub mod MacroTexts
+pub mod InlinedTexts
+pub mod MacroPieces
+pub mod RenamedMacro
+pub mod KeptTrails
+pub mod InlinedMacro
+pub mod IntroducedMacro
 pub mod Ranks
 pub mod FirstItems
 pub mod NamedEntries

@@ -7,7 +7,7 @@ use Rattle.edit_spec.specs.Edits as edits
 use Rattle.edit_spec.specs.Edits.{Spells}
 use Rattle.bib_names.specs.Label.{key_base}
 use Rattle.bib_data.specs.declared.edit.Edit.{Edit}
-use Rattle.bib_data.specs.declared.edit.Edit.TheVariants.{SetField, DropField, AddEntry, RemoveEntry, MoveEntry, RenameKey, RegenerateKeys}
+use Rattle.bib_data.specs.declared.edit.Edit.TheVariants.{SetField, DropField, AddEntry, RemoveEntry, MoveEntry, RenameKey, RegenerateKeys, RenameMacro, InlineMacro, IntroduceMacro}
 use Rattle.bib_data.specs.declared.edit.NewEntry.{NewEntry}
 
 -- the base of a made key, which is that of the record's label
@@ -36,6 +36,9 @@ pub data AsksFor : Edit → edits.Edit → Type 0 where
   move_entry : (key : Text) (place : ℕ) → AsksFor (MoveEntry key place) (edits.MoveEntry key place)
   rename_key : (from to : Text) → AsksFor (RenameKey from to) (edits.RenameKey from to)
   regenerate_keys : AsksFor RegenerateKeys (edits.RegenerateKeys default_depth)
+  rename_macro : (from to : Text) → AsksFor (RenameMacro from to) (edits.RenameMacro from to)
+  inline_macro : (name : Text) → AsksFor (InlineMacro name) (edits.InlineMacro name)
+  introduce_macro : (name text : Text) → AsksFor (IntroduceMacro name text) (edits.IntroduceMacro name text)
 
 -- it holds of the edit that is asked for
 abbrev pub OfEdit : Edit → (edits.Edit → Type 0) → Type 0

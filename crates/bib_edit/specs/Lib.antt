@@ -11,4 +11,6 @@ pub mod Limits
 pub mod Dangling
 pub mod NewKeys
 pub mod TakenKeys
+pub mod PlacedParts
+pub mod Definitions
 pub mod Laws

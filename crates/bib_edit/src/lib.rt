@@ -5,8 +5,11 @@
 mod add_entry;
 mod address;
 mod dangling;
+mod defining;
 mod drop_field;
 mod fault;
+mod inline_macro;
+mod introduce_macro;
 mod laws;
 mod limits;
 mod made_keys;
@@ -23,9 +26,13 @@ mod regenerate_keys;
 mod rekeying;
 mod remove_entry;
 mod rename_key;
+mod rename_macro;
+mod replacing;
 mod set_field;
+mod sought;
 mod taken_keys;
 mod taking_out;
+mod tokens;
 mod values;
 
 pub use bib_data::{Edit, NewEntry};
