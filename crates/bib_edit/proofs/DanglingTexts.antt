@@ -1,11 +1,11 @@
 -- Dangling crossrefs, entry by entry.
-use Rattle.std.proofs.Common.{◌≡◌, ℕ, zero, suc, ◌+◌, ◌<◌, ◌≤◌, Bool, true, false, not, ◌&&◌, ◌||◌, cond, nat_lt, List, [], ◌∷◌, Option, Some, None, is_none, is_some, filter_map, option_and_then, count_by, map, slice_get, drop, length, ⊎_elim, refl, sym, ◌∙◌, ap, ap₂, subst, arith}
+use Rattle.std.proofs.Common.{◌≡◌, ℕ, ◌+◌, ◌<◌, ◌≤◌, Bool, true, false, not, ◌&&◌, ◌||◌, cond, nat_lt, List, [], ◌∷◌, Option, Some, None, is_none, is_some, filter_map, option_and_then, count_by, slice_get, drop, length, ⊎_elim, refl, sym, ◌∙◌, ap, ap₂, arith}
 use Rattle.std.specs.List.{list_any, cons_option}
 use Rattle.std.proofs.Math.ListN.{drop_of_length-le}
 use Rattle.std.proofs.lemmas.Bool.{cases_Bool, both_ways, and_from, or_from, false_from_ne_true, true_from_ne_false, ltb-false}
 use Rattle.bib_spec.specs.Text.{Text, folded, same}
 use Rattle.bib_spec.specs.Texts.{is_empty}
-use Rattle.bib_spec.specs.Records.{EntryTexts, keys_of, is_named, crossref_text, target_of, target, dangling_text, dangling_texts}
+use Rattle.bib_spec.specs.Records.{EntryTexts, keys_of, is_named, crossref_text, target_of, target, dangling_text}
 use Rattle.bib_spec.proofs.Keys.{option_cases}
 use Rattle.bib_spec.proofs.Counts.{count-yes, count-no}
 use Rattle.bib_spec.proofs.Names.{same-true, true-same}

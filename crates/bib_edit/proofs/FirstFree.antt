@@ -1,5 +1,5 @@
--- The first candidate that is not taken, behind some that are.
-use Rattle.std.proofs.Common.{◌≡◌, ℕ, zero, suc, ◌+◌, ◌-◌, ◌≤◌, ◌<◌, true, false, not, List, [], ◌∷◌, ◌++◌, Option, Some, None, unwrap_or, find, length, refl, sym, ◌∙◌, ap, ap₂, arith, append-nil, zero-add, add-zero, below_more}
+-- The first candidate that is not taken, after some that are.
+use Rattle.std.proofs.Common.{◌≡◌, ℕ, zero, suc, ◌+◌, ◌-◌, ◌≤◌, ◌<◌, true, false, not, List, Option, Some, unwrap_or, find, length, sym, ◌∙◌, ap, ap₂, arith, append-nil, zero-add, add-zero, below_more}
 use Rattle.std.proofs.lemmas.Bool.{cond-true, cond-false, not_from_true, not_from_false}
 use Rattle.bib_spec.specs.Text.{Text}
 use Rattle.bib_spec.specs.MadeKeys.{candidate, candidates, is_taken, free_key}

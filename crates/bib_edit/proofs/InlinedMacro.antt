@@ -29,11 +29,8 @@ use Rattle.bib_edit.proofs.OpenFiles.{none-long}
 use Rattle.bib_edit.proofs.LongTexts.{any_long, too_long-any}
 use Rattle.bib_edit.proofs.AskedEdits.{of-inline_macro}
 use Rattle.bib_edit.proofs.KeptTrails.{clean-inlined, inlined-clean}
+use Rattle.bib_edit.proofs.GivenNames.{and_name}
 use Rattle.bib_edit.proofs.Ranks.{IsClear, clear_none, clear_more, first_refusal, all_clear}
-
-and_name : (a : Bool) → a ≡ ((a && true) && true)
-and_name true = refl
-and_name false = refl
 
 module _ (name : Text) (db : Reading) where
   abbrev Passes : ℕ → Type 0
@@ -113,7 +110,7 @@ refused-definition name file named code.FileTooLong h = λ db reads. absurd (h d
 refused-definition name file named code.TextTooLong h = λ db reads. absurd (h db reads)
 refused-definition name file named code.Memory h = tt
 
--- what is found in the file: the one definition, and the uses behind it
+-- what is found in the file: the one definition, and the uses after it
 module _ (file name : Text) (n : ℕ) (lone : OfReading file (λ db. IsDefinedAt name db n)) (tokens : List (ℕ × Text))
     (told : OfReading file (λ db. tokens ≡ tokens_of (uses name) (items_placed (start_of db (n + 1)) (drop (n + 1) db.items)))) where
   pub inlining-pieces : (db : Reading) → Reads file db → pieces_of made_base db (InlineMacro name) ≡ removal_of db n ∷ map (replaced_by (braced (text_of_macro name db))) tokens

@@ -28,11 +28,8 @@ use Rattle.bib_edit.proofs.MacroPieces.{introduced-pieces, olds-tokens, news-tok
 use Rattle.bib_edit.proofs.MacroTexts.{long-introduced}
 use Rattle.bib_edit.proofs.OpenFiles.{none-long}
 use Rattle.bib_edit.proofs.LongTexts.{any_long, too_long-any}
+use Rattle.bib_edit.proofs.GivenNames.{and_name}
 use Rattle.bib_edit.proofs.Ranks.{IsClear, clear_none, clear_more, first_refusal, all_clear}
-
-and_name : (a : Bool) → a ≡ ((a && true) && true)
-and_name true = refl
-and_name false = refl
 
 module _ (name text : Text) (db : Reading) where
   abbrev Passes : ℕ → Type 0

@@ -1,9 +1,8 @@
 -- The pieces of entries that get new keys are those of the edit's chunks.
-use Rattle.std.proofs.Common.{◌≡◌, ℕ, zero, suc, ◌+◌, ◌-◌, ◌≤◌, ◌<◌, Bool, true, false, List, [], ◌∷◌, ◌++◌, Option, Some, None, length, drop, find, filter, slice_get, option_and_then, scan, ⊎_elim, refl, sym, ◌∙◌, ap, ap₂, subst, arith, add-one, append_assoc, append-nil, length-append, zero-add}
+use Rattle.std.proofs.Common.{◌≡◌, ℕ, suc, ◌+◌, ◌≤◌, ◌<◌, Bool, true, false, List, [], ◌∷◌, ◌++◌, Option, Some, None, length, drop, find, slice_get, option_and_then, scan, ⊎_elim, refl, sym, ◌∙◌, ap, ap₂, subst, arith, add-one, append_assoc, append-nil, length-append, zero-add}
 use Rattle.std.specs.List.{flat_map}
 use Rattle.std.proofs.Math.ListN.{drop_of_length-le}
 use Rattle.std.proofs.lemmas.Bool.{cases_Bool, cond-true, cond-false, false≢true}
-use Rattle.std.proofs.lemmas.Option.{none-some, same_Some}
 use Rattle.bib_spec.specs.Bytes.{file_limit, comma}
 use Rattle.bib_spec.specs.Text.{Text, same}
 use Rattle.bib_spec.specs.Tree.{Value, Row, Entry, Tree, CommentTree, DefinitionTree, PreambleTree, EntryTree, value_bytes, row_bytes, opening_bytes, tree_bytes, entry_bytes}
@@ -13,7 +12,7 @@ use Rattle.bib_spec.specs.Records.{EntryTexts, entries_of, crossref, target}
 use Rattle.bib_spec.specs.Pieces.{Piece, Chunk, Kept, Replaced, old_of, pieces_from, end_of}
 use Rattle.edit_spec.specs.Edits.{in_braces, next_number}
 use Rattle.edit_spec.specs.EditChunks.{token, kept_rows, value_replaced, crossref_chunks, behind_rows, entry_chunks, tree_key_chunks, item_key_chunks}
-use Rattle.edit_spec.proofs.TreeChunks.{read, old-read, read-append, last-read, entry-read, token_old, rows-kept, row-parts}
+use Rattle.edit_spec.proofs.TreeChunks.{read, old-read, last-read, entry-read, token_old, rows-kept, row-parts}
 use Rattle.bib_scan.specs.View.{Field, field_behind, fields_behind, View, view_of}
 use Rattle.bib_store.specs.Meaning.{is_entry_tree, entry_items}
 use Rattle.bib_store.proofs.EntryItems.{length-entry_items}
@@ -321,7 +320,7 @@ before-none new db done none = record {
       ∙ sym (ap (λ at. pieces_from at (keyed_chunks (key_of new) (entries_of db) 0 db.items)) (zero-add (length db.front)));
 }
 
--- behind the last item
+-- after the last item
 pub before-all : (new : NewKeys) (db : Reading) (i n start : ℕ) (done : List Piece) → IsBefore new db i n start done → length db.items ≤ i → done ≡ rekeying new db
 before-all new db i n start done before past =
     sym (append-nil done)

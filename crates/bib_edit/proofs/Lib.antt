@@ -12,6 +12,7 @@ pub mod KeptTrails
 pub mod InlinedMacro
 pub mod IntroducedMacro
 pub mod Ranks
+pub mod GivenNames
 pub mod FirstItems
 pub mod NamedEntries
 pub mod PieceLists

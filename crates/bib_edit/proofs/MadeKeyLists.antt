@@ -1,15 +1,14 @@
 -- Keys that are made, one after another.
-use Rattle.std.proofs.Common.{◌≡◌, ℕ, zero, suc, ◌+◌, ◌<◌, ◌≤◌, List, [], ◌∷◌, ◌++◌, Option, Some, None, option_map, slice_get, drop, map, length, refl, sym, ◌∙◌, ap, ap₂, subst, arith, append_assoc, append-nil, zero-add, add-zero}
+use Rattle.std.proofs.Common.{◌≡◌, ℕ, zero, suc, ◌+◌, ◌<◌, ◌≤◌, List, [], ◌∷◌, ◌++◌, Some, option_map, slice_get, drop, map, length, refl, sym, ◌∙◌, ap, subst, arith, append_assoc, append-nil, zero-add, add-zero}
 use Rattle.std.specs.List.{enumerate_from, AllByRecursion}
 use Rattle.std.proofs.Math.ListN.{drop_of_length-le}
-use Rattle.std.proofs.lemmas.Option.{none-some, same_Some, slice_get_within}
+use Rattle.std.proofs.lemmas.Option.{none-some, same_Some}
 use Rattle.std.proofs.lemmas.List.{length-map}
 use Rattle.std.proofs.lemmas.List.FromFn.{length-enumerate_from}
 use Rattle.bib_spec.specs.Bytes.{name_limit}
 use Rattle.bib_spec.specs.Text.{Text}
 use Rattle.bib_spec.specs.Records.{EntryTexts, Record, record_of, default_depth, expanded, dangling_texts}
 use Rattle.bib_spec.specs.MadeKeys.{free_key, made_keys, bases, new_keys}
-use Rattle.bib_spec.proofs.Keys.{option_cases}
 use Rattle.bib_edit.specs.Asking.{made_base}
 use Rattle.bib_edit.specs.TakenKeys.{AreTaken}
 use Rattle.bib_edit.specs.declared.taken_keys.TakenKeys.{TakenKeys}

@@ -1,11 +1,11 @@
 -- New keys make no raw text too long.
-use Rattle.std.proofs.Common.{◌≡◌, ℕ, suc, ◌+◌, ◌≤◌, Bool, true, false, ◌||◌, nat_lt, List, [], ◌∷◌, Option, Some, None, is_some, length, map, option_and_then, ⊎_elim, refl, sym, ◌∙◌, ap, ap₂, arith, append-nil}
+use Rattle.std.proofs.Common.{◌≡◌, ℕ, ◌≤◌, Bool, false, List, [], ◌∷◌, Option, Some, None, is_some, length, map, option_and_then, ⊎_elim, refl, sym, ◌∙◌, ap, arith, append-nil}
 use Rattle.std.specs.List.{list_any}
 use Rattle.std.proofs.lemmas.Bool.{cases_Bool, cond-true, cond-false, or_parts, or_from, le-ltb}
 use Rattle.std.proofs.lemmas.Option.{none-some}
 use Rattle.bib_spec.specs.Bytes.{name_limit}
 use Rattle.bib_spec.specs.Text.{Text, same}
-use Rattle.bib_spec.specs.Tree.{Row, Entry, Tree, CommentTree, DefinitionTree, PreambleTree, EntryTree}
+use Rattle.bib_spec.specs.Tree.{Row, Tree, CommentTree, DefinitionTree, PreambleTree, EntryTree}
 use Rattle.bib_spec.specs.Reading.{Item, Reading}
 use Rattle.bib_spec.specs.Texts.{Macros, months, raw_text, raw_limit, macros_after, raw_texts_in, too_long_at}
 use Rattle.bib_spec.specs.Records.{EntryTexts, entries_of, crossref, target}

@@ -1,25 +1,23 @@
 -- When renaming a key is refused, and for which reason.
-use Rattle.std.proofs.Common.{◌≡◌, ℕ, zero, suc, ◌+◌, ◌-◌, ◌<◌, ◌≤◌, ◌==◌, ◌&&◌, nat_lt, Bool, true, false, List, [], ◌∷◌, Option, Some, None, is_some, slice_get, length, count_by, option_map, ⊎_elim, true≢false, refl, sym, ◌∙◌, ap, ap₂, subst, arith, lt-ltb, eq-eqb, ne_eqb}
+use Rattle.std.proofs.Common.{◌≡◌, ℕ, ◌+◌, ◌-◌, ◌<◌, ◌≤◌, ◌==◌, ◌&&◌, nat_lt, true, false, List, [], ◌∷◌, Option, Some, None, slice_get, length, ⊎_elim, true≢false, sym, ◌∙◌, ap, ap₂, subst, arith, ne_eqb}
 use Rattle.std.proofs.Math.Path.{fun_ext}
-use Rattle.std.proofs.lemmas.Bool.{cases_Bool, cond-true, cond-false, false≢true, both_ways, ltb-true, ltb-false, eqb-true, eqb-false, le-ltb}
-use Rattle.std.proofs.lemmas.Option.{none-some, same_Some, cond_some, slice_get_past}
+use Rattle.std.proofs.lemmas.Bool.{cases_Bool, cond-true, cond-false, false≢true, ltb-true, ltb-false, eqb-true, eqb-false}
+use Rattle.std.proofs.lemmas.Option.{cond_some, slice_get_past}
 use Rattle.std.proofs.lemmas.List.Elements.{All-nil}
 use Rattle.bib_spec.specs.Bytes.{name_limit, file_limit}
 use Rattle.bib_spec.specs.Text.{Text, is_new_key}
 use Rattle.bib_spec.specs.Tree.{IsValue}
 use Rattle.bib_spec.specs.Reading.{Reading, Reads, bytes_of}
 use Rattle.bib_spec.specs.Texts.{Opens}
-use Rattle.bib_spec.specs.Records.{entries_of, entry_named, first_named, is_named}
+use Rattle.bib_spec.specs.Records.{entries_of, entry_named}
 use Rattle.bib_spec.specs.Pieces.{Piece, Kept, pieces_of_chunks}
 use Rattle.edit_spec.specs.Edits as edits
 use Rattle.edit_spec.specs.Edits.{holders, key_for, Refuses, IsAccepted, IsFirstRefusal}
 use Rattle.edit_spec.specs.EditChunks.{key_chunks, pieces_of}
 use Rattle.edit_spec.proofs.WrittenRows.{new_key-length}
-use Rattle.bib_spec.proofs.Counts.{count-yes, count-no}
-use Rattle.bib_spec.proofs.Places.{suc_some}
 use Rattle.bib_store.specs.Meaning.{OfReading}
 use Rattle.bib_edit.specs.Asking.{made_base}
-use Rattle.bib_edit.specs.Planning.{IsAllowedEdit, ArePiecesOf, IsRefusal}
+use Rattle.bib_edit.specs.Planning.{IsRefusal}
 use Rattle.bib_edit.specs.Addressing.{IsLoneNumber, IsHolderFault}
 use Rattle.bib_edit.specs.Dangling.{is_in_use}
 use Rattle.bib_edit.specs.Limits.{olds_len, news_len}

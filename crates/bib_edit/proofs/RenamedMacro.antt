@@ -1,19 +1,15 @@
 -- Why a renaming of a macro is refused, and that it is not.
-use Rattle.std.proofs.Common.{◌≡◌, ℕ, suc, ◌+◌, ◌*◌, ◌<◌, ◌≤◌, ◌&&◌, ◌||◌, Bool, true, false, not, is_some, List, ◌∷◌, length, map, drop, ⊎_elim, refl, sym, ◌∙◌, ap, arith}
-use Rattle.std.specs.List.{list_any}
-use Rattle.std.proofs.lemmas.Bool.{true≢false, both_ways, or_parts, and_cases, not-false}
+use Rattle.std.proofs.Common.{◌≡◌, ℕ, suc, ◌+◌, ◌*◌, ◌<◌, ◌≤◌, ◌&&◌, true, false, not, List, ◌∷◌, length, map, drop, sym, ◌∙◌, ap, arith}
+use Rattle.std.proofs.lemmas.Bool.{true≢false, both_ways}
 use Rattle.std.proofs.lemmas.List.Elements.{All-nil}
 use Rattle.bib_spec.specs.Bytes.{name_limit, file_limit}
-use Rattle.bib_spec.specs.Text.{Text, folded, same, is_name}
-use Rattle.bib_spec.specs.Tree.{Part, Braced, Quoted, Digits, Macro, Definition, IsValue}
+use Rattle.bib_spec.specs.Text.{Text, same, is_name}
+use Rattle.bib_spec.specs.Tree.{Definition, IsValue}
 use Rattle.bib_spec.specs.Reading.{Reading, Reads, bytes_of}
 use Rattle.bib_spec.specs.Texts.{months, Opens}
-use Rattle.edit_spec.specs.Edits.{RenameMacro, BadKey, BadName, BadValue, BadPosition, NotFound, Ambiguous, KeyInUse, NameInUse, Referred, WouldMerge, FileTooLong, TextTooLong, definitions, defines, uses, any_part, is_in_use, rename_macro, EditFault, rank, Refuses, IsAccepted, IsFirstRefusal}
+use Rattle.edit_spec.specs.Edits.{RenameMacro, BadKey, BadName, BadValue, BadPosition, NotFound, Ambiguous, KeyInUse, NameInUse, Referred, WouldMerge, FileTooLong, TextTooLong, definitions, uses, is_in_use, rename_macro, EditFault, rank, Refuses, IsAccepted, IsFirstRefusal}
 use Rattle.edit_spec.specs.EditChunks.{pieces_of}
-use Rattle.bib_spec.proofs.Names.{same-true, true-same}
-use Rattle.edit_spec.proofs.Simulation.{InItems}
-use Rattle.edit_spec.proofs.InUse.{InItems_none, InItems_all}
-use Rattle.edit_spec.proofs.RenameMacro.{IsFree, IsFreePart}
+use Rattle.edit_spec.proofs.MacroLaws.{all_free}
 use Rattle.bib_spec.specs.Texts.{IsOpenable}
 use Rattle.bib_scan.specs.Layout.{start_of}
 use Rattle.bib_edit.proofs.DefinedNames.{first-definition}
@@ -32,35 +28,10 @@ use Rattle.bib_edit.proofs.MacroTexts.{long-renamed}
 use Rattle.bib_edit.proofs.OpenFiles.{none-long}
 use Rattle.bib_edit.proofs.LongTexts.{any_long, too_long-any}
 use Rattle.bib_edit.proofs.AskedEdits.{of-rename_macro}
+use Rattle.bib_edit.proofs.GivenNames.{and_names}
 use Rattle.bib_edit.proofs.Ranks.{IsClear, clear_none, clear_more, first_refusal, all_clear}
 
--- ---- names that are free
-
-free_part : (from to : Text) (part : Part) → same to from ≡ true → IsFreePart from to part
-free_part from to (Macro name) e = λ h. true-same name from (same-true name to h ∙ same-true to from e)
-free_part from to (Braced text) e = tt
-free_part from to (Quoted text) e = tt
-free_part from to (Digits text) e = tt
-
-unused_part : (from to : Text) (part : Part) → uses to part ≡ false → IsFreePart from to part
-unused_part from to (Macro name) h = λ e. absurd (both_ways (same name to) h e)
-unused_part from to (Braced text) h = tt
-unused_part from to (Quoted text) h = tt
-unused_part from to (Digits text) h = tt
-
-all_free : (from to : Text) (db : Reading) → (not (same to from) && is_in_use to db.items) ≡ false → InItems (IsFreePart from to) (IsFree from to) db.items
-all_free from to db unused = ⊎_elim
-    (λ e. let respelled = not-false (same to from) e in InItems_all (IsFreePart from to) (IsFree from to) (λ part. free_part from to part respelled) (λ name h. true-same name from (same-true name to h ∙ same-true to from respelled)) db.items)
-    (λ none. InItems_none (IsFreePart from to) (IsFree from to) (uses to) (unused_part from to) to (λ name h e. absurd (both_ways (same name to) h e)) db.items
-    (or_parts (is_some (months (folded to))) (list_any (λ item. defines to item.tree || any_part (uses to) item.tree) db.items) none).1)
-    (and_cases (not (same to from)) (is_in_use to db.items) unused)
-
 -- ---- the reasons in their order
-
-and_names : (a b : Bool) → (a && b) ≡ ((a && (b && true)) && true)
-and_names true true = refl
-and_names true false = refl
-and_names false b = refl
 
 module _ (from to : Text) (db : Reading) where
   abbrev Passes : ℕ → Type 0

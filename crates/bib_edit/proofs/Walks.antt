@@ -1,7 +1,7 @@
 -- A list, walked through from its front.
 use Rattle.std.proofs.Common.{◌≡◌, ℕ, zero, suc, ◌+◌, ◌<◌, List, [], ◌∷◌, Some, slice_get, drop, length, refl, sym, ◌∙◌, ap, arith, add-one}
 
--- what stands at a place, and what behind it
+-- what stands at a place, and what after it
 pub next-of : {X : Type 0} (xs : List X) (i : ℕ) → i < length xs → (x : X) × (slice_get xs i ≡ Some x) × (drop i xs ≡ x ∷ drop (i + 1) xs)
 next-of xs i lt =
     let found = at xs i lt in

@@ -38,11 +38,11 @@ IsHolderFault key db other = ⊥
 abbrev pub is_field : Text → Field → Bool
 is_field name field = same field.name name
 
--- the place behind a field's value
+-- the place after a field's value
 abbrev pub field_end : Field → ℕ
 field_end field = field.value_at + length field.value
 
--- the place behind the last value, or, where there is none, this one
+-- the place after the last value, or, where there is none, this one
 abbrev pub fields_end : ℕ → List Field → ℕ
 fields_end end [] = end
 fields_end end (field ∷ fields) = fields_end (field_end field) fields

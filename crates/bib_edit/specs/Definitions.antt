@@ -37,6 +37,6 @@ name_token at d = (at + length (opening_bytes d.opening), d.assignment.name)
 abbrev pub braced : Text → Text
 braced text = open_brace ∷ text ++ close_brace ∷ []
 
--- a definition as it is written, with the line's end behind it
+-- a definition as it is written, with the line's end after it
 abbrev pub definition_text : Text → Text → Text
 definition_text name text = codes "@string{" ++ name ++ codes " = " ++ braced text ++ codes "}\n"

@@ -74,7 +74,7 @@ pub record IsPlacedField (start : ℕ) (field : Field) : Type 0 where
 abbrev pub ArePlacedFields : ℕ → List Field → Type 0
 ArePlacedFields start fields = AllByRecursion (IsPlacedField start) fields
 
--- the tokens of these fields stand behind the old ones, where their item begins at this place
+-- the tokens of these fields stand after the old ones, where their item begins at this place
 abbrev pub AreFieldTokens : (Part → Bool) → ℕ → List Field → List (ℕ × Text) → List (ℕ × Text) → Type 0
 AreFieldTokens test start [] old new = new ≡ old
 AreFieldTokens test start (field ∷ fields) old new =

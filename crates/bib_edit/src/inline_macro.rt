@@ -14,7 +14,7 @@ use bib_scan::{Seq, is_name, one_reading};
 use bib_store::{Database, ItemList, Piece};
 use std::alloc::Global;
 
-/// The pieces that take the macro's one definition out and put what it says, in braces, for each use behind it, or the
+/// The pieces that take the macro's one definition out and put what it says, in braces, for each use after it, or the
 /// first reason against it. Whether the file would be too long is told before the text is copied. It takes time and
 /// memory in the length of the file and of the new one.
 pub(crate) fn inline_macro<L: ItemList>(

@@ -38,7 +38,7 @@ fn braced(alloc: Global, key: &[u8]) -> Result<Text, AllocError>
     Ok(Seq::from_vec(text))
 }
 
-/// Puts the piece that gives the entry its new key behind the others, if it gets one.
+/// Adds the piece that gives the entry its new key, if it gets one.
 fn push_key(
     alloc: Global,
     pieces: &mut Vec<Piece>,
@@ -61,7 +61,7 @@ fn push_key(
     Ok(())
 }
 
-/// Puts the piece that names the target by its new key behind the others, if that gets one.
+/// Adds the piece that names the target by its new key, if that gets one.
 fn push_crossref(
     alloc: Global,
     pieces: &mut Vec<Piece>,
@@ -98,7 +98,7 @@ fn new_target<'a, L: ItemList>(db: &Database<L>, new: &'a NewKeys, n: usize) -> 
     }
 }
 
-/// Puts the pieces of entry `n`, which begins at this place, behind the others.
+/// Adds the pieces of entry `n`, which begins at this place.
 fn push_entry<L: ItemList>(
     alloc: Global,
     db: &Database<L>,

@@ -12,7 +12,7 @@ use crate::tokens::Token;
 use bib_store::{Database, ItemList, Piece};
 use std::alloc::Global;
 
-/// Puts a piece for each token, for which the new bytes stand, behind the pieces. It takes memory for a copy of the new
+/// Adds a piece for each token, for which the new bytes stand. It takes memory for a copy of the new
 /// bytes for each.
 pub(crate) fn push_replaced(
     alloc: Global,

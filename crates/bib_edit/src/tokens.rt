@@ -56,7 +56,7 @@ fn token_of<'a>(at: usize, parts: &Parts, value: &'a [u8], n: usize) -> Token<'a
     }
 }
 
-/// Puts the sought parts of a value, which stands at this place in the file, behind the tokens.
+/// Adds the sought parts of a value, which stands at this place in the file, to the tokens.
 fn push_in_value<'a>(
     alloc: Global,
     tokens: &mut Vec<Token<'a>>,
@@ -78,7 +78,7 @@ fn push_in_value<'a>(
     Ok(())
 }
 
-/// Puts the sought parts of an item's fields, where the item stands at this place in the file, behind the tokens.
+/// Adds the sought parts of an item's fields, where the item stands at this place in the file, to the tokens.
 fn push_in_fields<'a>(
     alloc: Global,
     tokens: &mut Vec<Token<'a>>,
@@ -97,7 +97,7 @@ fn push_in_fields<'a>(
     Ok(())
 }
 
-/// Puts the sought parts of item `n` and of those behind it behind the tokens, in their order. It takes time in the
+/// Adds the sought parts of item `n` and of those after it to the tokens, in their order. It takes time in the
 /// length of these items.
 pub(crate) fn push_from<'a, L: ItemList>(
     alloc: Global,

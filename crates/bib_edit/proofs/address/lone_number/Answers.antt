@@ -1,5 +1,4 @@
-use Rattle.std.proofs.Common.{◌≤◌, arith}
-use Rattle.edit_spec.specs.Edits.{holders}
+use Rattle.std.proofs.Common.{arith}
 use Rattle.bib_edit.proofs.LoneNumbers.{lone-number, no-number}
 use Rattle.bib_edit.proofs.address.lone_number.Goals as goal
 

@@ -1,5 +1,4 @@
-use Rattle.std.proofs.Common.{◌≡◌, ℕ, ◌+◌, ◌≤◌, ◌<◌, [], ◌++◌, List, length, sym, ◌∙◌, ap, arith, append-nil}
-use Rattle.bib_spec.specs.Bytes.{file_limit}
+use Rattle.std.proofs.Common.{[], ◌++◌, List, length, ◌∙◌, ap, arith, append-nil}
 use Rattle.bib_spec.specs.Text.{Text}
 use Rattle.bib_spec.specs.Reading.{Reading, Reads}
 use Rattle.bib_spec.specs.Records.{entries_of, keys_of, dangling_texts}

@@ -1,10 +1,8 @@
-use Rattle.std.proofs.Common.{◌≡◌, ℕ, ◌+◌, ◌≤◌, ◌<◌, List, [], length, sym, ◌∙◌, ap, ap₂, subst, arith}
+use Rattle.std.proofs.Common.{◌≡◌, ℕ, ◌+◌, ◌≤◌, ◌<◌, List, length, sym, ◌∙◌, ap, ap₂, subst, arith}
 use Rattle.bib_spec.specs.Bytes.{file_limit}
 use Rattle.bib_spec.specs.Text.{Text}
-use Rattle.bib_spec.specs.Reading.{Reading, Reads, bytes_of}
-use Rattle.bib_spec.specs.Records.{entries_of}
+use Rattle.bib_spec.specs.Reading.{Reading, Reads}
 use Rattle.bib_spec.specs.Pieces.{Piece}
-use Rattle.bib_store.specs.Meaning.{is_entry_tree}
 use Rattle.bib_edit.proofs.KeyPieces.{IsBefore, before-none, before-all, next-entry, item-within, number-within, entry-seen, before-entry, before-other}
 use Rattle.bib_edit.proofs.rekeying.rekeying.Goals as goal
 use Rattle.bib_edit.proofs.rekeying.rekeying.Goals.{then-is_entry+in_ok-push_entry, else-is_entry}
@@ -66,7 +64,7 @@ items-preserved g c db reads =
     let start : c.items.start + (length c.item-view.result.body + length c.item-view.result.trail) ≡ c.items.start + (length c.body.result.now + length c.trail.result.now) =
     sym (ap₂ (λ (body trail : Text). c.items.start + (length body + length trail)) c.body.ensures c.trail.ensures) in
     elim c.if-is_entry.branch [
-      then-is_entry+in_ok-push_entry w ↦
+      | then-is_entry+in_ok-push_entry w ↦
           subst (λ (k : ℕ). IsBefore c.args.new.now db (c.items.i + 1) c.if-is_entry.n k c.if-is_entry.pieces.items) start
           (subst (λ (n : ℕ). IsBefore c.args.new.now db (c.items.i + 1) n (c.items.start + (length c.item-view.result.body + length c.item-view.result.trail)) c.if-is_entry.pieces.items) (sym w.n-is)
           (before-entry c.args.new.now db c.items.i c.items.n c.items.start c.items.pieces.items before lt c.item-view.result (c.item-view.ensures db reads) (sym entry ∙ w.if-is_entry.true) c.if-is_entry.pieces.items

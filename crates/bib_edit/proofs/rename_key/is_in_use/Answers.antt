@@ -1,6 +1,5 @@
-use Rattle.std.proofs.Common.{◌≡◌, ◌&&◌, ◌||◌, Bool, true, false, not, nat_lt, count_by, sym, ◌∙◌, ap}
+use Rattle.std.proofs.Common.{◌≡◌, ◌&&◌, ◌||◌, not, nat_lt, count_by, sym, ◌∙◌, ap}
 use Rattle.bib_spec.specs.Text.{same}
-use Rattle.bib_spec.specs.Reading.{Reading}
 use Rattle.bib_spec.specs.Records.{entries_of, keys_of, is_named}
 use Rattle.edit_spec.proofs.RenameKey.{new_key_parts}
 use Rattle.bib_edit.specs.Dangling.{is_awaited}
@@ -12,7 +11,7 @@ pub returns-then-holders-gt0 : goal.returns-then-holders-gt0
 returns-then-holders-gt0 g c db reads =
     let held : (not (same c.args.from.now c.args.to.now) && nat_lt 0 (count_by (is_named c.args.to.now) (keys_of (entries_of db)))) ≡ c.if-not-same_folded.value =
     elim c.if-not-same_folded.branch [
-      then-not-same_folded w ↦
+      | then-not-same_folded w ↦
           ap (λ b. not b && nat_lt 0 (count_by (is_named c.args.to.now) (keys_of (entries_of db)))) (sym c.same_folded.ensures ∙ w.if-not-same_folded.true)
           ∙ ap (nat_lt 0) (sym (w.holders.ensures db reads)) ∙ sym w.value-is
       | else-not-same_folded w ↦
@@ -26,7 +25,7 @@ pub returns-else-holders-gt0 : goal.returns-else-holders-gt0
 returns-else-holders-gt0 g c db reads =
     let held : (not (same c.args.from.now c.args.to.now) && nat_lt 0 (count_by (is_named c.args.to.now) (keys_of (entries_of db)))) ≡ c.if-not-same_folded.value =
     elim c.if-not-same_folded.branch [
-      then-not-same_folded w ↦
+      | then-not-same_folded w ↦
           ap (λ b. not b && nat_lt 0 (count_by (is_named c.args.to.now) (keys_of (entries_of db)))) (sym c.same_folded.ensures ∙ w.if-not-same_folded.true)
           ∙ ap (nat_lt 0) (sym (w.holders.ensures db reads)) ∙ sym w.value-is
       | else-not-same_folded w ↦

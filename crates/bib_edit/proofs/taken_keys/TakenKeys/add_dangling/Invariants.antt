@@ -1,4 +1,4 @@
-use Rattle.std.proofs.Common.{◌≡◌, ◌+◌, ◌≤◌, ◌++◌, List}
+use Rattle.std.proofs.Common.{◌+◌, ◌≤◌, ◌++◌, List}
 use Rattle.bib_spec.specs.Text.{Text}
 use Rattle.bib_spec.specs.Records.{entries_of, dangling_texts}
 use Rattle.bib_store.specs.Meaning.{OfReading}

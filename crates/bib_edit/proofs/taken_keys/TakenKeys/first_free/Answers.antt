@@ -1,7 +1,7 @@
 use Rattle.std.proofs.Common.{◌≤◌, ◌<◌, ◌^◌, not, length, sym, ◌∙◌, ap, subst, arith}
 use Rattle.bib_spec.specs.Bytes.{name_limit}
 use Rattle.bib_spec.specs.Text.{Text, folded}
-use Rattle.bib_spec.specs.MadeKeys.{candidate, is_taken}
+use Rattle.bib_spec.specs.MadeKeys.{candidate}
 use Rattle.bib_value.specs.FoldedMap.{value_at}
 use Rattle.bib_edit.proofs.CandidateLengths.{candidate-short}
 use Rattle.bib_edit.proofs.FirstFree.{free-found, free-exhausted, tried-more}

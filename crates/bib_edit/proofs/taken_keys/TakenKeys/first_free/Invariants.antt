@@ -1,4 +1,4 @@
-use Rattle.std.proofs.Common.{◌≡◌, ◌+◌, ◌-◌, ◌<◌, ◌≤◌, ◌^◌, List}
+use Rattle.std.proofs.Common.{◌+◌, ◌-◌, List}
 use Rattle.bib_spec.specs.Text.{Text}
 use Rattle.bib_edit.specs.TakenKeys.{AreTaken, AreTried}
 use Rattle.bib_edit.proofs.taken_keys.TakenKeys.first_free.Given as goal
