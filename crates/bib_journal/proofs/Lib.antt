@@ -2,3 +2,4 @@ pub mod TextLemmas
 pub mod Turning
 pub mod Moves
 pub mod OneMoreRequest
+pub mod KeptRecords

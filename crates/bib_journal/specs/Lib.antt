@@ -1,3 +1,4 @@
 pub mod Faults
 pub mod Session
 pub mod Kept
+pub mod Renaming

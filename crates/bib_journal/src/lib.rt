@@ -5,6 +5,7 @@
 
 mod fault;
 mod performing;
+mod renaming;
 mod session;
 mod step_text;
 mod stepping;
@@ -12,4 +13,7 @@ mod stepping;
 pub use bib_data::Request;
 pub use fault::SessionFault;
 pub use performing::{Performed, perform};
+pub use renaming::{
+    a_script_of_renamings_keeps_every_record, keys_are_made_once, renaming_keeps_every_record,
+};
 pub use session::{CHANGE_LIMIT, STEP_TEXTS_LIMIT, Session};
