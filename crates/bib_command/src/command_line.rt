@@ -183,6 +183,11 @@ Each line is an edit, its words parted by tabs (shown here as spaces):
   add POSITION TYPE KEY FIELD VALUE ..   puts a new entry before the item at POSITION, counted from 0
   remove KEY                             takes the entry away
   move KEY POSITION                      puts the entry before the item at POSITION among the others
+  rename-key FROM TO                     gives the entry another key, and changes each crossref that names it
+  rename-macro FROM TO                   gives the macro another name, in its definition and from there on
+  inline NAME                            puts the macro's text in the place of each use, and takes the definition away
+  introduce NAME TEXT                    makes each value or part that is this text a use of a new macro
+  regenerate                             makes all keys anew, of names and years, and changes the crossrefs
 The first line that is refused ends the script; the edits before it stand. What it did is kept in the journal
 F.bibkeep, for undo.
 

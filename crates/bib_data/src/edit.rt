@@ -24,4 +24,14 @@ pub enum Edit {
     RemoveEntry { key: Text },
     /// The entry goes, and then stands before item `place` of what remains.
     MoveEntry { key: Text, place: usize },
+    /// The entry gets another key, and each crossref that names it names it by that.
+    RenameKey { from: Text, to: Text },
+    /// All entries get made keys at once, and each crossref names its target by the new one.
+    RegenerateKeys,
+    /// The macro gets another name, in its definition and in each use from there on.
+    RenameMacro { from: Text, to: Text },
+    /// Each use of the macro behind its definition becomes what the macro says, in braces, and the definition goes.
+    InlineMacro { name: Text },
+    /// Each part that is the text, in braces or in quotes, becomes a use of a macro that is defined as it before the first.
+    IntroduceMacro { name: Text, text: Text },
 }

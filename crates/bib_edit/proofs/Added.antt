@@ -24,7 +24,7 @@ use Rattle.bib_edit.specs.declared.fault.EditFault.TheVariants as code
 use Rattle.bib_edit.specs.Planning.{IsRefusal}
 use Rattle.bib_edit.specs.NewEntries.{names_of, HaveValues, IsLong, IsAnyLong, field_line, lines_of, line_before_close, entry_text, IsGoodEntry, IsEntryFault, insertion_of}
 use Rattle.bib_edit.proofs.PiecePlaces.{insertion-pieces, length-edited}
-use Rattle.bib_edit.proofs.PieceLists.{olds_len, news_len}
+use Rattle.bib_edit.specs.Limits.{olds_len, news_len}
 use Rattle.bib_edit.proofs.LongTexts.{is_long, any_long, too_long-any}
 use Rattle.bib_edit.proofs.PlacedTexts.{inserted-long}
 use Rattle.bib_edit.proofs.AskedEdits.{of-add_entry}

@@ -5,11 +5,12 @@ use Rattle.bib_scan.proofs.PlaceOfFault.{value_or_hopeless}
 use Rattle.bib_edit.specs.Laws.{EditsAreAskedFor}
 use Rattle.bib_spec.specs.Text.{Text}
 use Rattle.bib_spec.specs.Tree.{Value}
+use Rattle.bib_spec.specs.Records.{default_depth}
 use Rattle.edit_spec.specs.Edits as edits
 use Rattle.edit_spec.specs.Edits.{Spells}
-use Rattle.bib_data.specs.declared.edit.Edit.TheVariants.{SetField, DropField, AddEntry, RemoveEntry, MoveEntry}
+use Rattle.bib_data.specs.declared.edit.Edit.TheVariants.{SetField, DropField, AddEntry, RemoveEntry, MoveEntry, RenameKey, RegenerateKeys, RenameMacro, InlineMacro, IntroduceMacro}
 use Rattle.bib_data.specs.declared.edit.NewEntry.{NewEntry}
-use Rattle.bib_edit.specs.Asking.{SpellFields, SpellsEntry, OfEdit, set_field, drop_field, add_entry, remove_entry, move_entry}
+use Rattle.bib_edit.specs.Asking.{SpellFields, SpellsEntry, OfEdit, set_field, drop_field, add_entry, remove_entry, move_entry, rename_key, regenerate_keys, rename_macro, inline_macro, introduce_macro}
 
 pub of-set_field : (key field value : Text) (P : edits.Edit → Type 0) → ((v : Value) → Spells value v → P (edits.SetField key field v)) → OfEdit (SetField key field value) P
 of-set_field key field value P h e (set_field k f t v s) = h v s
@@ -43,6 +44,11 @@ asked_for (DropField key field) = (edits.DropField key field, drop_field key fie
 asked_for (AddEntry place entry) = let new = some_entry entry in (edits.AddEntry place new.0, add_entry place entry new.0 new.1)
 asked_for (RemoveEntry key) = (edits.RemoveEntry key, remove_entry key)
 asked_for (MoveEntry key place) = (edits.MoveEntry key place, move_entry key place)
+asked_for (RenameKey from to) = (edits.RenameKey from to, rename_key from to)
+asked_for RegenerateKeys = (edits.RegenerateKeys default_depth, regenerate_keys)
+asked_for (RenameMacro from to) = (edits.RenameMacro from to, rename_macro from to)
+asked_for (InlineMacro name) = (edits.InlineMacro name, inline_macro name)
+asked_for (IntroduceMacro name text) = (edits.IntroduceMacro name text, introduce_macro name text)
 
 pub of-add_entry : (place : ℕ) (asked : NewEntry) (P : edits.Edit → Type 0) → ((new : edits.NewEntry) → SpellsEntry asked new → P (edits.AddEntry place new)) → OfEdit (AddEntry place asked) P
 of-add_entry place asked P h e (add_entry n a new spells) = h new spells
@@ -52,3 +58,18 @@ of-remove_entry key P h e (remove_entry k) = h
 
 pub of-move_entry : (key : Text) (place : ℕ) (P : edits.Edit → Type 0) → P (edits.MoveEntry key place) → OfEdit (MoveEntry key place) P
 of-move_entry key place P h e (move_entry k n) = h
+
+pub of-rename_key : (from to : Text) (P : edits.Edit → Type 0) → P (edits.RenameKey from to) → OfEdit (RenameKey from to) P
+of-rename_key from to P h e (rename_key f t) = h
+
+pub of-regenerate_keys : (P : edits.Edit → Type 0) → P (edits.RegenerateKeys default_depth) → OfEdit RegenerateKeys P
+of-regenerate_keys P h e regenerate_keys = h
+
+pub of-rename_macro : (from to : Text) (P : edits.Edit → Type 0) → P (edits.RenameMacro from to) → OfEdit (RenameMacro from to) P
+of-rename_macro from to P h e (rename_macro f t) = h
+
+pub of-inline_macro : (name : Text) (P : edits.Edit → Type 0) → P (edits.InlineMacro name) → OfEdit (InlineMacro name) P
+of-inline_macro name P h e (inline_macro n) = h
+
+pub of-introduce_macro : (name text : Text) (P : edits.Edit → Type 0) → P (edits.IntroduceMacro name text) → OfEdit (IntroduceMacro name text) P
+of-introduce_macro name text P h e (introduce_macro n t) = h

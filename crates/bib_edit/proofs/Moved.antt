@@ -26,7 +26,7 @@ use Rattle.bib_edit.specs.NewEntries.{insertion_of}
 use Rattle.bib_edit.specs.Moving.{seat, line_of, moved_pieces, IsFieldLong}
 use Rattle.bib_edit.proofs.FoundItems.{first-within}
 use Rattle.bib_edit.proofs.PiecePlaces.{length-edited}
-use Rattle.bib_edit.proofs.PieceLists.{olds_len, news_len}
+use Rattle.bib_edit.specs.Limits.{olds_len, news_len}
 use Rattle.bib_edit.proofs.JoinedTexts.{joins-clean, clean-joins}
 use Rattle.bib_edit.proofs.LongTexts.{any_long, too_long-any}
 use Rattle.bib_edit.proofs.PlacedTexts.{is_long_in, removed-short, inserted-long}

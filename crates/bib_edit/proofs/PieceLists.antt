@@ -8,6 +8,7 @@ use Rattle.bib_spec.specs.Records.{Record}
 use Rattle.bib_spec.specs.Pieces.{Piece, end_of, Fit, Chunk, Kept, Replaced, old_of, new_of, pieces_from}
 use Rattle.edit_spec.specs.Edits.{Edit, edited}
 use Rattle.edit_spec.specs.EditChunks.{kept_items, kept_rows, behind_rows, entry_chunks, chunks, pieces_of}
+use Rattle.bib_edit.specs.Limits.{olds_len, news_len}
 use Rattle.edit_spec.proofs.EditFiles.{chunks-are-files, pieces-lead}
 use Rattle.edit_spec.proofs.TreeChunks.{old-read, items-kept}
 
@@ -52,14 +53,6 @@ pieces-entry at rows e =
     pieces-append inside rows (Kept (behind_rows e) ∷ []) ∙ append-nil (pieces_from inside rows)
 
 -- ---- lengths
-
-abbrev pub olds_len : List Piece → ℕ
-olds_len [] = 0
-olds_len (p ∷ ps) = length p.old + olds_len ps
-
-abbrev pub news_len : List Piece → ℕ
-news_len [] = 0
-news_len (p ∷ ps) = length p.new + news_len ps
 
 -- what is replaced goes, and what replaces it comes
 pub lengths-chunks : (at : ℕ) (chunks : List Chunk) → length (new_of chunks) + olds_len (pieces_from at chunks) ≡ length (old_of chunks) + news_len (pieces_from at chunks)

@@ -12,7 +12,8 @@ use Rattle.edit_spec.specs.EditChunks.{kept_item, kept_items, chunks_from_first,
 use Rattle.edit_spec.proofs.EditFiles.{chunks-are-files}
 use Rattle.bib_scan.specs.Layout.{start_of}
 use Rattle.bib_edit.specs.Removal.{IsFirstAt, body_at, trail_at}
-use Rattle.bib_edit.proofs.PieceLists.{pieces-behind_items, pieces-kept_items, olds_len, news_len, lengths-chunks}
+use Rattle.bib_edit.specs.Limits.{olds_len, news_len}
+use Rattle.bib_edit.proofs.PieceLists.{pieces-behind_items, pieces-kept_items, lengths-chunks}
 
 abbrev pub items_bytes : List Item → Text
 items_bytes items = flat_map item_bytes items

@@ -19,7 +19,7 @@ use Rattle.bib_edit.specs.Planning.{IsRefusal}
 use Rattle.bib_edit.specs.Addressing.{IsHolderFault}
 use Rattle.bib_edit.specs.Removal.{IsFirstAt, JoinsCleanly, removal_of}
 use Rattle.bib_edit.proofs.PiecePlaces.{removal-pieces, length-edited}
-use Rattle.bib_edit.proofs.PieceLists.{news_len}
+use Rattle.bib_edit.specs.Limits.{news_len}
 use Rattle.bib_edit.proofs.OpenFiles.{none-long, bytes-short}
 use Rattle.bib_edit.proofs.JoinedTexts.{joins-clean, clean-joins}
 use Rattle.bib_edit.proofs.LongTexts.{any_long, too_long-any}

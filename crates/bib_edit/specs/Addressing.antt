@@ -3,6 +3,7 @@ use Rattle.std.specs.Prelude.{ℕ, suc, ◌≡◌, ◌+◌, ◌<◌, Bool, List,
 use Rattle.bib_spec.specs.Text.{Text, same}
 use Rattle.bib_spec.specs.Tree.{Tree}
 use Rattle.bib_spec.specs.Reading.{Item, Reading}
+use Rattle.bib_spec.specs.Records.{entries_of, entry_named}
 use Rattle.edit_spec.specs.Edits.{is_entry, holders}
 use Rattle.bib_scan.specs.View.{Field}
 use Rattle.bib_edit.specs.declared.fault.EditFault.{EditFault}
@@ -22,6 +23,11 @@ pub record IsHeldAt (key : Text) (db : Reading) (n : ℕ) : Type 0 where
   pub item : item_named key db ≡ Some n
   pub once : holders key db ≡ 1
 
+-- one entry has the key, and this is its number among the entries
+pub record IsLoneNumber (key : Text) (db : Reading) (n : ℕ) : Type 0 where
+  pub named : entry_named (entries_of db) key ≡ Some n
+  pub once : holders key db ≡ 1
+
 -- no entry has the key, or several do
 abbrev pub IsHolderFault : Text → Reading → EditFault → Type 0
 IsHolderFault key db NotFound = holders key db ≡ 0
@@ -32,11 +38,11 @@ IsHolderFault key db other = ⊥
 abbrev pub is_field : Text → Field → Bool
 is_field name field = same field.name name
 
--- the place behind a field's value
+-- the place after a field's value
 abbrev pub field_end : Field → ℕ
 field_end field = field.value_at + length field.value
 
--- the place behind the last value, or, where there is none, this one
+-- the place after the last value, or, where there is none, this one
 abbrev pub fields_end : ℕ → List Field → ℕ
 fields_end end [] = end
 fields_end end (field ∷ fields) = fields_end (field_end field) fields

@@ -2,12 +2,12 @@
 use Rattle.std.specs.Prelude.{ℕ, List, [], ◌∷◌, ◌≡◌}
 use Rattle.bib_spec.specs.Text.{Text}
 use Rattle.bib_spec.specs.Tree.{Value}
-use Rattle.bib_spec.specs.Records.{Record}
+use Rattle.bib_spec.specs.Records.{Record, default_depth}
 use Rattle.edit_spec.specs.Edits as edits
 use Rattle.edit_spec.specs.Edits.{Spells}
 use Rattle.bib_names.specs.Label.{key_base}
 use Rattle.bib_data.specs.declared.edit.Edit.{Edit}
-use Rattle.bib_data.specs.declared.edit.Edit.TheVariants.{SetField, DropField, AddEntry, RemoveEntry, MoveEntry}
+use Rattle.bib_data.specs.declared.edit.Edit.TheVariants.{SetField, DropField, AddEntry, RemoveEntry, MoveEntry, RenameKey, RegenerateKeys, RenameMacro, InlineMacro, IntroduceMacro}
 use Rattle.bib_data.specs.declared.edit.NewEntry.{NewEntry}
 
 -- the base of a made key, which is that of the record's label
@@ -34,6 +34,11 @@ pub data AsksFor : Edit → edits.Edit → Type 0 where
   add_entry : (place : ℕ) (asked : NewEntry) (new : edits.NewEntry) → SpellsEntry asked new → AsksFor (AddEntry place asked) (edits.AddEntry place new)
   remove_entry : (key : Text) → AsksFor (RemoveEntry key) (edits.RemoveEntry key)
   move_entry : (key : Text) (place : ℕ) → AsksFor (MoveEntry key place) (edits.MoveEntry key place)
+  rename_key : (from to : Text) → AsksFor (RenameKey from to) (edits.RenameKey from to)
+  regenerate_keys : AsksFor RegenerateKeys (edits.RegenerateKeys default_depth)
+  rename_macro : (from to : Text) → AsksFor (RenameMacro from to) (edits.RenameMacro from to)
+  inline_macro : (name : Text) → AsksFor (InlineMacro name) (edits.InlineMacro name)
+  introduce_macro : (name text : Text) → AsksFor (IntroduceMacro name text) (edits.IntroduceMacro name text)
 
 -- it holds of the edit that is asked for
 abbrev pub OfEdit : Edit → (edits.Edit → Type 0) → Type 0

@@ -7,4 +7,10 @@ pub mod Removal
 pub mod NewEntries
 pub mod Moving
 pub mod FieldPieces
+pub mod Limits
+pub mod Dangling
+pub mod NewKeys
+pub mod TakenKeys
+pub mod PlacedParts
+pub mod Definitions
 pub mod Laws

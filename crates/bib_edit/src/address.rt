@@ -5,7 +5,7 @@ ghost use Rattle.std.specs.List.{last_or};
 ghost use Rattle.std.specs.Option.{option_map};
 ghost use Rattle.bib_scan.specs.View.{field_seen};
 ghost use Rattle.bib_store.specs.Meaning.{OfReading};
-ghost use Rattle.bib_edit.specs.Addressing.{item_named, IsHeldAt, IsHolderFault, is_field};
+ghost use Rattle.bib_edit.specs.Addressing.{item_named, IsHeldAt, IsLoneNumber, IsHolderFault, is_field};
 
 use crate::fault::EditFault;
 use bib_scan::{FieldView, ItemView, same_folded};
@@ -21,18 +21,27 @@ pub(crate) fn item_named<L: ItemList>(db: &Database<L>, key: &[u8]) -> Option<us
     }
 }
 
-/// The number of the item that is the one entry with this key.
-pub(crate) fn lone_entry<L: ItemList>(db: &Database<L>, key: &[u8]) -> Result<usize, EditFault>
-    ensures lone { IfOk result (λ n. OfReading db.now (λ r. IsHeldAt key.now r n)) }
+/// The number among the entries of the one entry with this key.
+pub(crate) fn lone_number<L: ItemList>(db: &Database<L>, key: &[u8]) -> Result<usize, EditFault>
+    ensures lone { IfOk result (λ n. OfReading db.now (λ r. IsLoneNumber key.now r n)) }
     ensures refused { IfErr result (λ fault. OfReading db.now (λ r. IsHolderFault key.now r fault)) }
 {
     if db.holders(key) > 1 {
         return Err(EditFault::Ambiguous);
     }
-    match item_named(db, key) {
-        Some(n) => Ok(n),
-        None => Err(EditFault::NotFound),
+    match db.find(key) {
+        Ok(n) => Ok(n),
+        Err(_) => Err(EditFault::NotFound),
     }
+}
+
+/// The number of the item that is the one entry with this key.
+pub(crate) fn lone_entry<L: ItemList>(db: &Database<L>, key: &[u8]) -> Result<usize, EditFault>
+    ensures lone { IfOk result (λ n. OfReading db.now (λ r. IsHeldAt key.now r n)) }
+    ensures refused { IfErr result (λ fault. OfReading db.now (λ r. IsHolderFault key.now r fault)) }
+{
+    let n = lone_number(db, key)?;
+    Ok(db.entry_item(n))
 }
 
 /// How many fields have this name.

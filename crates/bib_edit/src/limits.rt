@@ -6,9 +6,10 @@ ghost use Rattle.bib_spec.specs.Texts.{months, macros_at, raw_text, raw_limit};
 ghost use Rattle.bib_scan.specs.ValueParts.{IsPartsOf};
 ghost use Rattle.bib_value.specs.Raw.{OfValue};
 ghost use Rattle.bib_store.specs.Meaning.{OfReading, IsItemPlace};
+ghost use Rattle.bib_edit.specs.Limits.{olds_len, news_len};
 
 use bib_scan::{FILE_LIMIT, Parts};
-use bib_store::{Database, ItemList};
+use bib_store::{Database, ItemList, Piece};
 use bib_value::{RAW_LIMIT, raw_len};
 
 /// Whether the file would be too long if so many of its bytes went and so many others came.
@@ -21,6 +22,35 @@ pub(crate) fn is_file_too_long<L: ItemList>(
 {
     db.opens();
     new_len.saturating_sub(old_len) > FILE_LIMIT - db.byte_count()
+}
+
+/// How many bytes go with these pieces.
+fn old_len(pieces: &[Piece]) -> usize
+    requires { olds_len pieces.now ≤ file_limit }
+    ensures { result ≡ olds_len pieces.now }
+{
+    let mut len = 0;
+    for piece in pieces {
+        len += piece.old.as_slice().len();
+    }
+    len
+}
+
+/// Whether the file would be too long with these pieces' new bytes in the place of their old ones.
+pub(crate) fn are_too_long<L: ItemList>(db: &Database<L>, pieces: &[Piece]) -> bool
+    requires { olds_len pieces.now ≤ file_limit }
+    ensures { IsTrue result ↔ file_limit + olds_len pieces.now < length db.now + news_len pieces.now }
+{
+    db.opens();
+    let mut room = FILE_LIMIT - db.byte_count() + old_len(pieces);
+    for piece in pieces {
+        let len = piece.new.as_slice().len();
+        if len > room {
+            return true;
+        }
+        room -= len;
+    }
+    false
 }
 
 /// Whether the value's raw text would be too long in item `n`.

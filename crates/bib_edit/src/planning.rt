@@ -6,8 +6,13 @@ ghost use Rattle.bib_edit.specs.Planning.{IsAllowedEdit, ArePiecesOf, IsRefusal}
 use crate::add_entry::add_entry;
 use crate::drop_field::drop_field;
 use crate::fault::EditFault;
+use crate::inline_macro::inline_macro;
+use crate::introduce_macro::introduce_macro;
 use crate::move_entry::move_entry;
+use crate::regenerate_keys::regenerate_keys;
 use crate::remove_entry::remove_entry;
+use crate::rename_key::rename_key;
+use crate::rename_macro::rename_macro;
 use crate::set_field::set_field;
 use bib_data::Edit;
 use bib_scan::Seq;
@@ -16,7 +21,8 @@ use std::alloc::Global;
 
 /// The pieces that make the edit, or the first reason that refuses it. Nothing has changed yet. It takes time in the
 /// length of the edit and of the entry that it names, beside what the database takes to find that entry and its place;
-/// a removal takes time in the number of entries too. Want of memory may come before any other reason. (dialect)
+/// a removal takes time in the number of entries too, and an edit of macros in the length of the file, old and new. Want
+/// of memory may come before any other reason. (dialect)
 pub fn plan<L: ItemList>(
     alloc: Global,
     db: &Database<L>,
@@ -40,5 +46,14 @@ pub fn plan<L: ItemList>(
         Edit::AddEntry { place, entry } => add_entry(alloc, db, *place, entry),
         Edit::RemoveEntry { key } => remove_entry(alloc, db, key.as_slice()),
         Edit::MoveEntry { key, place } => move_entry(alloc, db, key.as_slice(), *place),
+        Edit::RenameKey { from, to } => rename_key(alloc, db, from.as_slice(), to.as_slice()),
+        Edit::RegenerateKeys => regenerate_keys(alloc, db),
+        Edit::RenameMacro { from, to } => {
+            rename_macro(alloc, db, from.as_slice(), to.as_slice())
+        }
+        Edit::InlineMacro { name } => inline_macro(alloc, db, name.as_slice()),
+        Edit::IntroduceMacro { name, text } => {
+            introduce_macro(alloc, db, name.as_slice(), text.as_slice())
+        }
     }
 }

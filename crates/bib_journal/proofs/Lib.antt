@@ -5,3 +5,4 @@ pub mod ReplayLemmas
 pub mod TurnableSteps
 pub mod LoadLemmas
 pub mod SeveralRuns
+pub mod KeptRecords

@@ -3,3 +3,4 @@ pub mod Session
 pub mod Kept
 pub mod Loading
 pub mod Runs
+pub mod Renaming

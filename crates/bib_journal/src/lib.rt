@@ -7,6 +7,7 @@ mod fault;
 mod laws;
 mod loading;
 mod performing;
+mod renaming;
 mod replay;
 mod saving;
 mod session;
@@ -17,5 +18,8 @@ pub use fault::SessionFault;
 pub use journal_format::{CHANGE_LIMIT, STEP_TEXTS_LIMIT};
 pub use laws::{a_journal_keeps_one_history, several_runs_are_one_session};
 pub use performing::{Performed, perform, repeat};
+pub use renaming::{
+    a_script_of_renamings_keeps_every_record, keys_are_made_once, renaming_keeps_every_record,
+};
 pub use saving::Saved;
 pub use session::Session;

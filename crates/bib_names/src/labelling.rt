@@ -12,7 +12,7 @@ use bib_scan::{Seq, Text};
 use std::alloc::{AllocError, Global};
 
 /// The letters of a number: none of 0, then a, b, .. z, aa, ab, ..
-fn letters_of(alloc: Global, number: usize) -> Result<Vec<u8>, AllocError>
+pub(crate) fn letters_of(alloc: Global, number: usize) -> Result<Vec<u8>, AllocError>
     ensures { IfOk result (λ r. r.items ≡ reverse (letters number)) }
 {
     let mut letters = Vec::new(alloc);

@@ -24,7 +24,7 @@ mod word;
 pub use fault::NameFault;
 pub use label::{label_base, label_names, text_in};
 pub use labelling::labels;
-pub use made_key::{BASE_LIMIT, key_base, key_bases_are_keys};
+pub use made_key::{BASE_LIMIT, candidate, key_base, key_bases_are_keys};
 pub use name::{Name, split_name};
 pub use name_list::split_names;
 pub use template::{Template, one_template};

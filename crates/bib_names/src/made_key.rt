@@ -3,11 +3,12 @@
 ghost use Rattle.std.specs.Prelude.{◌≡◌, ◌≤◌, IfOk, IfErr, true, length, filter, take};
 ghost use Rattle.std.specs.Char.{is_ascii_alphanumeric};
 ghost use Rattle.bib_spec.specs.Text.{is_new_key};
-ghost use Rattle.bib_spec.specs.MadeKeys.{base_limit, IsKeyBase};
+ghost use Rattle.bib_spec.specs.MadeKeys.{base_limit, candidate, IsKeyBase};
 ghost use Rattle.bib_names.specs.Label.{or_anon, key_base};
 
 use crate::fault::NameFault;
 use crate::label::{base_of, or_anon};
+use crate::labelling::letters_of;
 use bib_data::Record;
 use bib_scan::{Seq, Text};
 use std::alloc::{AllocError, Global};
@@ -39,6 +40,16 @@ pub fn key_base(alloc: Global, entry: &Record) -> Result<Text, NameFault>
 {
     let base = base_of(alloc, entry.fields.as_slice())?;
     Ok(Seq::from_vec(key_letters(alloc, base.as_slice())?))
+}
+
+/// The key that is candidate `n` of a base: the base, and behind it no letters for 0, then a, b, .. z, aa, ab, .. It takes
+/// time logarithmic in the number.
+pub fn candidate(alloc: Global, base: &[u8], n: usize) -> Result<Text, AllocError>
+    ensures { IfOk result (λ key. key ≡ candidate base.now n) }
+{
+    let mut key = Vec::from_slice(alloc, base)?;
+    key.extend_from_slice(letters_of(alloc, n)?.as_slice())?;
+    Ok(Seq::from_vec(key))
 }
 
 /// Made keys have a base: it does not depend on the citation key, and it is a short key.

@@ -6,7 +6,7 @@ use Rattle.std.specs.Char.{is_ascii_digit}
 use Rattle.bib_spec.specs.Text.{Text}
 use Rattle.bib_spec.specs.Texts.{is_empty}
 use Rattle.bib_data.specs.declared.edit.Edit.{Edit}
-use Rattle.bib_data.specs.declared.edit.Edit.TheVariants.{SetField, DropField, AddEntry, RemoveEntry, MoveEntry}
+use Rattle.bib_data.specs.declared.edit.Edit.TheVariants.{SetField, DropField, AddEntry, RemoveEntry, MoveEntry, RenameKey, RenameMacro, InlineMacro, IntroduceMacro, RegenerateKeys}
 use Rattle.bib_data.specs.declared.edit.NewEntry.{NewEntry}
 use Rattle.bib_data.specs.declared.request.Request.{Request}
 use Rattle.bib_data.specs.declared.request.Request.TheVariants as request
@@ -58,6 +58,41 @@ abbrev pub move_of : List Text → Option Edit
 move_of (key ∷ place ∷ []) = option_map (MoveEntry key) (number_of place)
 move_of _ = None
 
+-- `rename-key FROM TO`
+abbrev pub rename_key_of : List Text → Option Edit
+rename_key_of (from ∷ to ∷ []) = Some (RenameKey from to)
+rename_key_of _ = None
+
+-- `rename-macro FROM TO`
+abbrev pub rename_macro_of : List Text → Option Edit
+rename_macro_of (from ∷ to ∷ []) = Some (RenameMacro from to)
+rename_macro_of _ = None
+
+-- `inline NAME`
+abbrev pub inline_of : List Text → Option Edit
+inline_of (name ∷ []) = Some (InlineMacro name)
+inline_of _ = None
+
+-- `introduce NAME TEXT`
+abbrev pub introduce_of : List Text → Option Edit
+introduce_of (name ∷ text ∷ []) = Some (IntroduceMacro name text)
+introduce_of _ = None
+
+-- `regenerate`
+abbrev pub regenerate_of : List Text → Option Edit
+regenerate_of [] = Some RegenerateKeys
+regenerate_of _ = None
+
+-- the edit of keys or macros that a verb and the words behind it say
+abbrev pub renaming_of : Text → List Text → Option Edit
+renaming_of verb words =
+    if bytes_eq verb (codes "rename-key") then rename_key_of words
+    else if bytes_eq verb (codes "rename-macro") then rename_macro_of words
+    else if bytes_eq verb (codes "inline") then inline_of words
+    else if bytes_eq verb (codes "introduce") then introduce_of words
+    else if bytes_eq verb (codes "regenerate") then regenerate_of words
+    else None
+
 -- the edit that a line's words say
 abbrev pub edit_of : List Text → Option Edit
 edit_of [] = None
@@ -67,7 +102,7 @@ edit_of (verb ∷ words) =
     else if bytes_eq verb (codes "add") then add_of words
     else if bytes_eq verb (codes "remove") then remove_of words
     else if bytes_eq verb (codes "move") then move_of words
-    else None
+    else renaming_of verb words
 
 -- ---- lines
 

@@ -1,7 +1,7 @@
 //! The words of each edit.
 
 ghost use Rattle.std.specs.Prelude.{◌≡◌, map, IfOk};
-ghost use Rattle.bib_script.specs.Script.{set_of, drop_of, add_of, remove_of, move_of, edit_of};
+ghost use Rattle.bib_script.specs.Script.{set_of, drop_of, add_of, remove_of, move_of, rename_key_of, rename_macro_of, inline_of, introduce_of, regenerate_of, renaming_of, edit_of};
 
 use crate::fields::{copied, fields_of};
 use crate::numbers::number_of;
@@ -84,6 +84,87 @@ fn move_of(alloc: Global, words: &[&[u8]]) -> Result<Option<Edit>, AllocError>
     }))
 }
 
+/// `rename-key FROM TO`
+fn rename_key_of(alloc: Global, words: &[&[u8]]) -> Result<Option<Edit>, AllocError>
+    ensures { IfOk result (λ edit. edit ≡ rename_key_of (map (λ w. w.now) words.now)) }
+{
+    let [from, to] = words else {
+        return Ok(None);
+    };
+    Ok(Some(Edit::RenameKey {
+        from: copied(alloc, from)?,
+        to: copied(alloc, to)?,
+    }))
+}
+
+/// `rename-macro FROM TO`
+fn rename_macro_of(alloc: Global, words: &[&[u8]]) -> Result<Option<Edit>, AllocError>
+    ensures { IfOk result (λ edit. edit ≡ rename_macro_of (map (λ w. w.now) words.now)) }
+{
+    let [from, to] = words else {
+        return Ok(None);
+    };
+    Ok(Some(Edit::RenameMacro {
+        from: copied(alloc, from)?,
+        to: copied(alloc, to)?,
+    }))
+}
+
+/// `inline NAME`
+fn inline_of(alloc: Global, words: &[&[u8]]) -> Result<Option<Edit>, AllocError>
+    ensures { IfOk result (λ edit. edit ≡ inline_of (map (λ w. w.now) words.now)) }
+{
+    let [name] = words else {
+        return Ok(None);
+    };
+    Ok(Some(Edit::InlineMacro {
+        name: copied(alloc, name)?,
+    }))
+}
+
+/// `introduce NAME TEXT`
+fn introduce_of(alloc: Global, words: &[&[u8]]) -> Result<Option<Edit>, AllocError>
+    ensures { IfOk result (λ edit. edit ≡ introduce_of (map (λ w. w.now) words.now)) }
+{
+    let [name, text] = words else {
+        return Ok(None);
+    };
+    Ok(Some(Edit::IntroduceMacro {
+        name: copied(alloc, name)?,
+        text: copied(alloc, text)?,
+    }))
+}
+
+/// `regenerate`
+fn regenerate_of(words: &[&[u8]]) -> Option<Edit>
+    ensures { result ≡ regenerate_of (map (λ w. w.now) words.now) }
+{
+    if words.is_empty() {
+        Some(Edit::RegenerateKeys)
+    } else {
+        None
+    }
+}
+
+/// The edit of keys or macros that a verb and the words behind it say.
+fn renaming_of(alloc: Global, verb: &[u8], words: &[&[u8]]) -> Result<Option<Edit>, AllocError>
+    ensures { IfOk result (λ edit. edit ≡ renaming_of verb.now (map (λ w. w.now) words.now)) }
+{
+    if verb == b"rename-key".as_slice() {
+        rename_key_of(alloc, words)
+    } else if verb == b"rename-macro".as_slice() {
+        rename_macro_of(alloc, words)
+    } else if verb == b"inline".as_slice() {
+        inline_of(alloc, words)
+    } else if verb == b"introduce".as_slice() {
+        introduce_of(alloc, words)
+    } else if verb == b"regenerate".as_slice() {
+        Ok(regenerate_of(words))
+    } else {
+        Ok(None)
+    }
+}
+
 /// The edit that a line's words say.
 pub(crate) fn edit_of(alloc: Global, words: &[&[u8]]) -> Result<Option<Edit>, AllocError>
     ensures { IfOk result (λ edit. edit ≡ edit_of (map (λ w. w.now) words.now)) }
@@ -102,6 +183,6 @@ pub(crate) fn edit_of(alloc: Global, words: &[&[u8]]) -> Result<Option<Edit>, Al
     } else if *verb == b"move".as_slice() {
         move_of(alloc, words)
     } else {
-        Ok(None)
+        renaming_of(alloc, verb, words)
     }
 }

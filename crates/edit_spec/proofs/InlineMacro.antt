@@ -29,7 +29,7 @@ module _ (name held : Text) where
   abbrev new_tree : Tree → Tree
   new_tree tree = tree_with leaving (use_inlined name held) tree
 
-  abbrev new_items : List Item → List Item
+  abbrev pub new_items : List Item → List Item
   new_items items = items_with leaving (use_inlined name held) items
 
   pub gives : (m n : Macros) → Agree m n → (part : Part) → IsAny part → part_text n (changed (use_inlined name held) part) ≡ part_text m part
@@ -49,7 +49,7 @@ module _ (name held : Text) where
   )
 
   -- behind the definition, and with it left out
-  begins : (m : Macros) (tree : Tree) → defines name tree ≡ true → held ≡ unwrap_or (macros_after m tree (folded name)) [] → Agree (macros_after m tree) m
+  pub begins : (m : Macros) (tree : Tree) → defines name tree ≡ true → held ≡ unwrap_or (macros_after m tree (folded name)) [] → Agree (macros_after m tree) m
   begins m (CommentTree c) e is = absurd (false≢true e)
   begins m (PreambleTree p) e is = absurd (false≢true e)
   begins m (EntryTree t) e is = absurd (false≢true e)
@@ -60,11 +60,11 @@ module _ (name held : Text) where
         (λ x p. sym (cond-false (bytes_eq (folded x) (folded d.assignment.name)) (Some t) (m (folded x)) (sym (same_of x name x d.assignment.name refl (sym (same-true d.assignment.name name e)) ∙ same-is x d.assignment.name) ∙ p))),
       )
 
-  abbrev count : List Item → ℕ
+  abbrev pub count : List Item → ℕ
   count items = count_by (λ item. defines name item.tree) items
 
   -- items that do not define the name
-  uncounted : (items : List Item) → count items ≡ 0 → InItems IsAny IsOther items
+  pub uncounted : (items : List Item) → count items ≡ 0 → InItems IsAny IsOther items
   uncounted [] h = tt
   uncounted (item ∷ items) h =
       let none : defines name item.tree ≡ false = false_from_ne_true (defines name item.tree) (λ e. let c = count-yes (λ item. defines name item.tree) item items e in absurd (omega (arith, c, h))) in (
@@ -79,7 +79,7 @@ module _ (name held : Text) where
       let none : defines name item.tree ≡ false = false_from_ne_true (defines name item.tree) (λ e. let c = count-yes (λ item. defines name item.tree) item items e in absurd (omega (arith, c, h))) in
       or_from (defines name item.tree) (is_behind name items n) none (none_behind items (sym (count-no (λ item. defines name item.tree) item items none) ∙ h) n)
 
-  rest_uncounted : (item : Item) (items : List Item) → count (item ∷ items) ≡ 1 → defines name item.tree ≡ true → count items ≡ 0
+  pub rest_uncounted : (item : Item) (items : List Item) → count (item ∷ items) ≡ 1 → defines name item.tree ≡ true → count items ≡ 0
   rest_uncounted item items h e = let c = count-yes (λ item. defines name item.tree) item items e in omega (arith, c, h)
 
   -- the held text is what the name stands for at the end
@@ -87,7 +87,7 @@ module _ (name held : Text) where
   IsHeld m items = held ≡ unwrap_or (macros_at m items (length items) (folded name)) []
 
   -- so it is what the one definition gives
-  held_here : (m : Macros) (item : Item) (items : List Item) → count (item ∷ items) ≡ 1 → IsHeld m (item ∷ items) → defines name item.tree ≡ true → held ≡ unwrap_or (macros_after m item.tree (folded name)) []
+  pub held_here : (m : Macros) (item : Item) (items : List Item) → count (item ∷ items) ≡ 1 → IsHeld m (item ∷ items) → defines name item.tree ≡ true → held ≡ unwrap_or (macros_after m item.tree (folded name)) []
   held_here m item items h is e =
       is ∙ ap (λ o. unwrap_or o []) (undefined name (macros_after m item.tree) items (length items) (none_behind items (rest_uncounted item items h e) (length items)))
 
@@ -96,7 +96,7 @@ module _ (name held : Text) where
   left front items = without_first (defines name) front (from_first (defines name) (uses_inlined name held) items)
 
   -- the items with the first definition first, and with another item first
-  left-defined : (front : Text) (item : Item) (items : List Item) → defines name item.tree ≡ true → (left front (item ∷ items)).items ≡ new_items items
+  pub left-defined : (front : Text) (item : Item) (items : List Item) → defines name item.tree ≡ true → (left front (item ∷ items)).items ≡ new_items items
   left-defined front item items e =
       ap (λ new. (without_first (defines name) front new).items) (cond-true (defines name item.tree) (item ∷ new_items items) (item ∷ from_first (defines name) (uses_inlined name held) items) e)
       ∙ ap (λ db. db.items) (cond-true (defines name item.tree) found other e)
@@ -107,7 +107,7 @@ module _ (name held : Text) where
       other : Reading
       other = let rest = without_first (defines name) item.trail (new_items items) in record { front = front; items = record item { trail = rest.front } ∷ rest.items }
 
-  left-other : (front : Text) (item : Item) (items : List Item) → defines name item.tree ≡ false →
+  pub left-other : (front : Text) (item : Item) (items : List Item) → defines name item.tree ≡ false →
       (left front (item ∷ items)).items ≡ record item { trail = (left item.trail items).front } ∷ (left item.trail items).items
   left-other front item items e =
       ap (λ new. (without_first (defines name) front new).items) (cond-false (defines name item.tree) (item ∷ new_items items) (item ∷ from_first (defines name) (uses_inlined name held) items) e)

@@ -51,7 +51,7 @@ unused_part from to (Quoted text) h = tt
 unused_part from to (Digits text) h = tt
 
 module _ (from to : Text) (db : Reading) (unused : (not (same to from) && is_in_use to db.items) ≡ false) where
-  all_free : InItems (IsFreePart from to) (IsFree from to) db.items
+  pub all_free : InItems (IsFreePart from to) (IsFree from to) db.items
   all_free = ⊎_elim
       (λ e. respelled (not-false (same to from) e))
       (λ none. InItems_none (IsFreePart from to) (IsFree from to) (uses to) (unused_part from to) to (λ name h e. absurd (both_ways (same name to) h e)) db.items

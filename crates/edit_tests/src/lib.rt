@@ -6,6 +6,12 @@ mod lengths;
 #[cfg(test)]
 mod lists;
 #[cfg(test)]
+mod macros;
+#[cfg(test)]
+mod renames;
+#[cfg(test)]
+mod rows;
+#[cfg(test)]
 mod runs;
 #[cfg(test)]
 mod sessions;

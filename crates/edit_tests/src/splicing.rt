@@ -6,22 +6,22 @@ use bib_store::{Database, Flat, Piece, StoreFault};
 use std::alloc::{AllocError, Global};
 use std::test::Fail;
 
-fn text(alloc: Global, bytes: &[u8]) -> Result<Text, AllocError> {
+pub fn text(alloc: Global, bytes: &[u8]) -> Result<Text, AllocError> {
     Ok(Seq::from_vec(bytes.to_vec(alloc)?))
 }
 
-fn opened(alloc: Global, file: &[u8]) -> Result<Database<Flat>, ReadFault> {
+pub fn opened(alloc: Global, file: &[u8]) -> Result<Database<Flat>, ReadFault> {
     Database::open_bytes(alloc, file, Flat::new(alloc))
 }
 
 /// The pieces of an edit of the file.
-fn planned(alloc: Global, file: &[u8], edit: &Edit) -> Result<Seq<Piece>, Fail> {
+pub fn planned(alloc: Global, file: &[u8], edit: &Edit) -> Result<Seq<Piece>, Fail> {
     let db = opened(alloc, file)?;
     Ok(plan(alloc, &db, edit)?)
 }
 
 /// Whether the piece has this place, and these bytes.
-fn is_piece(piece: &Piece, place: u64, old: &[u8], new: &[u8]) -> bool {
+pub fn is_piece(piece: &Piece, place: u64, old: &[u8], new: &[u8]) -> bool {
     piece.place == place && piece.old.as_slice() == old && piece.new.as_slice() == new
 }
 

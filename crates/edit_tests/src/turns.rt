@@ -12,6 +12,7 @@ use std::alloc::{AllocError, Global};
 pub enum Turn<'a> {
     Script(&'a [u8]),
     Set(usize, &'a [u8]),
+    Regenerate(usize),
     Undo(usize),
     Redo(usize),
 }
@@ -77,6 +78,10 @@ fn taken(alloc: Global, session: &mut Session<Flat>, turn: &Turn<'_>) -> Result<
         }
         Turn::Set(times, value) => {
             let request = Request::Edit(set(alloc, value)?);
+            Ok(repeated(session, *times, &request))
+        }
+        Turn::Regenerate(times) => {
+            let request = Request::Edit(Edit::RegenerateKeys);
             Ok(repeated(session, *times, &request))
         }
         Turn::Undo(times) => Ok(repeated(session, *times, &Request::Undo)),

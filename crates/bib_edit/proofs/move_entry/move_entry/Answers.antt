@@ -17,9 +17,15 @@ use Rattle.bib_edit.proofs.OpenFiles.{opens-as, none-long}
 use Rattle.bib_edit.proofs.MovedPieces.{move-pieces}
 use Rattle.bib_edit.proofs.MovedTexts.{entry-values, seat-within}
 use Rattle.bib_edit.proofs.AskedEdits.{of-move_entry}
-use Rattle.bib_edit.proofs.Moved.{found-item, place-within, move-merges, move-long_file, move-long_text, move-accepted, refused_address}
+use Rattle.bib_edit.proofs.Moved.{found-item, place-within, move-high, move-merges, move-long_file, move-long_text, move-accepted, refused_address}
 use Rattle.bib_edit.proofs.Results.{if_ok-as, on_ok-of}
 use Rattle.bib_edit.proofs.move_entry.move_entry.Goals as goal
+
+pub returns-then-place-last_place-clause-refused : goal.returns-then-place-last_place-clause-refused
+returns-then-place-last_place-clause-refused g c db reads =
+    let bound = c.if-place-last_place.true in
+    let last : c.last_place.result ≡ last_place db (MoveEntry c.args.key.now c.args.place) = c.last_place.ensures db reads in
+    of-move_entry c.args.key.now c.args.place _ (move-high c.args.key.now c.args.place db (omega (arith, bound, last)))
 
 pub returns-in_err-n-clause-refused : goal.returns-in_err-n-clause-refused
 returns-in_err-n-clause-refused g c =

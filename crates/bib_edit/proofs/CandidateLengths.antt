@@ -1,0 +1,49 @@
+-- A candidate of a base is no longer than a key may be.
+use Rattle.std.proofs.Common.{ℕ, zero, suc, ◌+◌, ◌-◌, ◌*◌, ◌^◌, ◌≤◌, ◌<◌, nat_lt, [], ◌∷◌, length, reverse, ⊎_elim, arith, length-append, ltb-true}
+use Rattle.std.proofs.lemmas.Bool.{cases_Bool, ltb-false}
+use Rattle.std.proofs.lemmas.List.{length-reverse}
+use Rattle.bib_spec.specs.Bytes.{name_limit}
+use Rattle.bib_spec.specs.Text.{Text}
+use Rattle.bib_spec.specs.MadeKeys.{letters, candidate, base_limit}
+use Rattle.bib_spec.proofs.FreeKeys.{AreLower, lower_letters, written, written-letters}
+
+abbrev doubled : ℕ → ℕ
+doubled zero = 1
+doubled (suc n) = 2 * doubled n
+
+doubled-some : (n : ℕ) → 1 ≤ doubled n
+doubled-some zero = omega arith
+doubled-some (suc n) = let le = doubled-some n in omega (arith, le)
+
+doubled-grows : (k n : ℕ) → k ≤ n → doubled k ≤ doubled n
+doubled-grows zero n le = doubled-some n
+doubled-grows (suc k) zero le = absurd (omega (arith, le))
+doubled-grows (suc k) (suc n) le = let less = doubled-grows k n (omega (arith, le)) in omega (arith, less)
+
+doubled-written : (cs : Text) → AreLower cs → doubled (length cs) ≤ suc (written cs)
+doubled-written [] h = let le : 1 ≤ 1 = omega arith in le
+doubled-written (c ∷ cs) h = more c (doubled (length cs)) (written cs) h.0.0 (doubled-written cs h.1)
+  where
+    more : (c d w : ℕ) → 97 ≤ c → d ≤ suc w → 2 * d ≤ suc ((c - 96) + 26 * w)
+    more c d w low le = omega (arith, low, le)
+
+few_letters : (n : ℕ) → n < 2 ^ 64 → length (letters n) ≤ 65
+few_letters n small = ⊎_elim
+    (λ t. let lt = ltb-true (length (letters n)) 66 t in omega (arith, lt))
+    (λ e. absurd (too_many (ltb-false (length (letters n)) 66 e)))
+    (cases_Bool (nat_lt (length (letters n)) 66))
+  where
+    too_many : 66 ≤ length (letters n) → ⊥
+    too_many le =
+        let least : 73786976294838206464 ≤ doubled (length (letters n)) = doubled-grows 66 (length (letters n)) le in
+        let most = doubled-written (letters n) (lower_letters n) in
+        let says = written-letters n in
+        let low : n < 18446744073709551616 = small in
+        omega (arith, least, most, says, low)
+
+pub candidate-short : (base : Text) (n : ℕ) → length base ≤ base_limit → n < 2 ^ 64 → length (candidate base n) ≤ name_limit
+candidate-short base n short small =
+    let few = few_letters n small in
+    let long = length-append base (reverse (letters n)) in
+    let same_length = length-reverse (letters n) in
+    omega (arith, few, long, same_length, short)

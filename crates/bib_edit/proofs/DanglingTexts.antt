@@ -1,0 +1,142 @@
+-- Dangling crossrefs, entry by entry.
+use Rattle.std.proofs.Common.{◌≡◌, ℕ, ◌+◌, ◌<◌, ◌≤◌, Bool, true, false, not, ◌&&◌, ◌||◌, cond, nat_lt, List, [], ◌∷◌, Option, Some, None, is_none, is_some, filter_map, option_and_then, count_by, slice_get, drop, length, ⊎_elim, refl, sym, ◌∙◌, ap, ap₂, arith}
+use Rattle.std.specs.List.{list_any, cons_option}
+use Rattle.std.proofs.Math.ListN.{drop_of_length-le}
+use Rattle.std.proofs.lemmas.Bool.{cases_Bool, both_ways, and_from, or_from, false_from_ne_true, true_from_ne_false, ltb-false}
+use Rattle.bib_spec.specs.Text.{Text, folded, same}
+use Rattle.bib_spec.specs.Texts.{is_empty}
+use Rattle.bib_spec.specs.Records.{EntryTexts, keys_of, is_named, crossref_text, target_of, target, dangling_text}
+use Rattle.bib_spec.proofs.Keys.{option_cases}
+use Rattle.bib_spec.proofs.Counts.{count-yes, count-no}
+use Rattle.bib_spec.proofs.Names.{same-true, true-same}
+use Rattle.bib_edit.specs.Dangling.{dangling_at, is_text, is_awaited, is_in_use}
+use Rattle.bib_edit.proofs.Walks.{next-of}
+
+-- an entry with a target has no such text, and another that of its crossref
+pub dangling-none : (entries : List EntryTexts) (n : ℕ) → is_some (target entries n) ≡ true → None ≡ dangling_at entries n
+dangling-none entries n has = ⊎_elim
+    (λ none. sym (ap (option_and_then (dangling_text entries)) none))
+    (λ some.
+    let named : is_some (target_of entries some.0) ≡ true = sym (ap (λ o. is_some (option_and_then (target_of entries) o)) some.1) ∙ has in
+    sym (ap (option_and_then (dangling_text entries)) some.1 ∙ of (target_of entries some.0) (crossref_text some.0) named))
+    (option_cases (slice_get entries n))
+  where
+    of : (t : Option ℕ) (said : Option Text) → is_some t ≡ true → cond (is_none t) said None ≡ None
+    of None said h = absurd (both_ways false refl h)
+    of (Some m) said h = refl
+
+pub dangling-some : (entries : List EntryTexts) (n : ℕ) (said : Option Text) → is_some (target entries n) ≡ false → said ≡ option_and_then crossref_text (slice_get entries n) → said ≡ dangling_at entries n
+dangling-some entries n said has is = is ∙ ⊎_elim
+    (λ none. ap (option_and_then crossref_text) none ∙ sym (ap (option_and_then (dangling_text entries)) none))
+    (λ some.
+    let named : is_some (target_of entries some.0) ≡ false = sym (ap (λ o. is_some (option_and_then (target_of entries) o)) some.1) ∙ has in
+    ap (option_and_then crossref_text) some.1 ∙ sym (ap (option_and_then (dangling_text entries)) some.1 ∙ of (target_of entries some.0) (crossref_text some.0) named))
+    (option_cases (slice_get entries n))
+  where
+    of : (t : Option ℕ) (said : Option Text) → is_some t ≡ false → cond (is_none t) said None ≡ said
+    of None said h = refl
+    of (Some m) said h = absurd (both_ways true h refl)
+
+-- the texts of the entries from number n on
+abbrev pub texts_from : List EntryTexts → ℕ → List Text
+texts_from entries n = filter_map (dangling_text entries) (drop n entries)
+
+module _ (entries : List EntryTexts) (n : ℕ) (lt : n < length entries) where
+  pub texts-next : texts_from entries n ≡ cons_option (dangling_at entries n) (texts_from entries (n + 1))
+  texts-next =
+      let next = next-of entries n lt in
+      ap (filter_map (dangling_text entries)) next.2
+      ∙ sym (ap (λ o. cons_option (option_and_then (dangling_text entries) o) (texts_from entries (n + 1))) next.1)
+
+pub texts-past : (entries : List EntryTexts) (n : ℕ) → length entries ≤ n → texts_from entries n ≡ []
+texts-past entries n le = ap (filter_map (dangling_text entries)) (drop_of_length-le entries le)
+
+pub any-next : (key : Text) (o : Option Text) (texts : List Text) → list_any (same key) (cons_option o texts) ≡ (is_text key o || list_any (same key) texts)
+any-next key None texts = refl
+any-next key (Some text) texts = refl
+
+-- a key that was not waited for yet
+pub record IsAwaitedFrom (key : Text) (entries : List EntryTexts) (n : ℕ) : Type 0 where
+  pub same_answer : is_awaited key entries ≡ list_any (same key) (texts_from entries n)
+
+pub awaited-first : (key : Text) (entries : List EntryTexts) → IsAwaitedFrom key entries 0
+awaited-first key entries = record { same_answer = refl }
+
+module _ (key : Text) (entries : List EntryTexts) (n : ℕ) (from : IsAwaitedFrom key entries n) where
+  told : n < length entries → is_awaited key entries ≡ (is_text key (dangling_at entries n) || list_any (same key) (texts_from entries (n + 1)))
+  told lt = from.same_answer ∙ ap (list_any (same key)) (texts-next entries n lt) ∙ any-next key (dangling_at entries n) (texts_from entries (n + 1))
+
+  pub awaited-here : n < length entries → is_text key (dangling_at entries n) ≡ true → true ≡ is_awaited key entries
+  awaited-here lt t = sym (told lt ∙ ap (λ b. b || list_any (same key) (texts_from entries (n + 1))) t)
+
+  pub awaited-more : n < length entries → is_text key (dangling_at entries n) ≡ false → IsAwaitedFrom key entries (n + 1)
+  awaited-more lt t = record { same_answer = told lt ∙ ap (λ b. b || list_any (same key) (texts_from entries (n + 1))) t }
+
+  pub awaited-none : length entries ≤ n → false ≡ is_awaited key entries
+  awaited-none le = sym (from.same_answer ∙ ap (list_any (same key)) (texts-past entries n le))
+
+-- ---- keys in use
+
+empty_folded : (t : Text) → is_empty t ≡ false → folded t ≡ [] → ⊥
+empty_folded [] e f = both_ways (is_empty []) e refl
+empty_folded (c ∷ cs) e f = cc
+
+-- a key that is the same as one that is not empty
+not_empty : (to key : Text) → is_empty to ≡ false → same to key ≡ true → not (is_empty key) ≡ true
+not_empty to [] h t = absurd (empty_folded to h (same-true to [] t))
+not_empty to (c ∷ cs) h t = refl
+
+-- where the old key is another, those that have the new one are other entries
+counted : (to : Text) (keys : List Text) → is_empty to ≡ false → nat_lt 0 (count_by (is_named to) keys) ≡ list_any (same to) keys
+counted to [] h = refl
+counted to (key ∷ keys) h = ⊎_elim
+    (λ t.
+    let named : is_named to key ≡ true = and_from (not (is_empty key)) (same key to) (not_empty to key h t) (true-same key to (sym (same-true to key t))) in
+    ap (nat_lt 0) (count-yes (is_named to) key keys named) ∙ positive (count_by (is_named to) keys) ∙ sym (ap (λ b. b || list_any (same to) keys) t))
+    (λ t.
+    let named : is_named to key ≡ false = false_from_ne_true (is_named to key) (λ n. both_ways (same to key) t (true-same to key (sym (same-true key to (second (not (is_empty key)) (same key to) n))))) in
+    ap (nat_lt 0) (count-no (is_named to) key keys named) ∙ counted to keys h ∙ sym (ap (λ b. b || list_any (same to) keys) t))
+    (cases_Bool (same to key))
+  where
+    positive : (n : ℕ) → nat_lt 0 (1 + n) ≡ true
+    positive n = true_from_ne_false (nat_lt 0 (1 + n)) (λ e. let le = ltb-false 0 (1 + n) e in absurd (omega (arith, le)))
+
+    second : (a b : Bool) → (a && b) ≡ true → b ≡ true
+    second true b e = e
+    second false b e = absurd (both_ways false refl e)
+
+-- none of those with the new key has the old one, if that is another
+others : (from to : Text) (keys : List Text) → same from to ≡ false → list_any (λ key. same to key && not (is_named from key)) keys ≡ list_any (same to) keys
+others from to [] other = refl
+others from to (key ∷ keys) other = ap₂ ◌||◌ (each (same to key) (is_named from key) (λ t n. both_ways (same from to) other
+    (true-same from to (sym (same-true key from (second (not (is_empty key)) (same key from) n)) ∙ sym (same-true to key t))))) (others from to keys other)
+  where
+    second : (a b : Bool) → (a && b) ≡ true → b ≡ true
+    second true b e = e
+    second false b e = absurd (both_ways false refl e)
+
+    each : (a b : Bool) → (a ≡ true → b ≡ true → ⊥) → (a && not b) ≡ a
+    each false b h = refl
+    each true false h = refl
+    each true true h = absurd (h refl refl)
+
+-- and each of them, if it is the same
+none_other : (from to : Text) (keys : List Text) → is_empty to ≡ false → same from to ≡ true → list_any (λ key. same to key && not (is_named from key)) keys ≡ false
+none_other from to [] h same_key = refl
+none_other from to (key ∷ keys) h same_key =
+    or_from (same to key && not (is_named from key)) (list_any (λ key. same to key && not (is_named from key)) keys)
+    (each (same to key) (is_named from key) (λ t. and_from (not (is_empty key)) (same key from) (not_empty to key h t) (true-same key from (sym (same-true to key t) ∙ sym (same-true from to same_key)))))
+    (none_other from to keys h same_key)
+  where
+    each : (a b : Bool) → (a ≡ true → b ≡ true) → (a && not b) ≡ false
+    each false b h = refl
+    each true true h = refl
+    each true false h = absurd (both_ways false refl (h refl))
+
+-- the new key is in use as it is tested
+pub in-use : (from to : Text) (entries : List EntryTexts) → is_empty to ≡ false →
+    ((not (same from to) && nat_lt 0 (count_by (is_named to) (keys_of entries))) || is_awaited to entries) ≡ is_in_use from to entries
+in-use from to entries h = ap (λ b. b || is_awaited to entries) (⊎_elim
+    (λ t. ap (λ b. not b && nat_lt 0 (count_by (is_named to) (keys_of entries))) t ∙ sym (none_other from to (keys_of entries) h t))
+    (λ t. ap (λ b. not b && nat_lt 0 (count_by (is_named to) (keys_of entries))) t ∙ counted to (keys_of entries) h ∙ sym (others from to (keys_of entries) t))
+    (cases_Bool (same from to)))

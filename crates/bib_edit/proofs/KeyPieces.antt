@@ -1,0 +1,328 @@
+-- The pieces of entries that get new keys are those of the edit's chunks.
+use Rattle.std.proofs.Common.{◌≡◌, ℕ, suc, ◌+◌, ◌≤◌, ◌<◌, Bool, true, false, List, [], ◌∷◌, ◌++◌, Option, Some, None, length, drop, find, slice_get, option_and_then, scan, ⊎_elim, refl, sym, ◌∙◌, ap, ap₂, subst, arith, add-one, append_assoc, append-nil, length-append, zero-add}
+use Rattle.std.specs.List.{flat_map}
+use Rattle.std.proofs.Math.ListN.{drop_of_length-le}
+use Rattle.std.proofs.lemmas.Bool.{cases_Bool, cond-true, cond-false, false≢true}
+use Rattle.bib_spec.specs.Bytes.{file_limit, comma}
+use Rattle.bib_spec.specs.Text.{Text, same}
+use Rattle.bib_spec.specs.Tree.{Value, Row, Entry, Tree, CommentTree, DefinitionTree, PreambleTree, EntryTree, value_bytes, row_bytes, opening_bytes, tree_bytes, entry_bytes}
+use Rattle.bib_spec.specs.Reading.{Item, Reading, item_bytes, bytes_of}
+use Rattle.bib_spec.specs.Texts.{row_start}
+use Rattle.bib_spec.specs.Records.{EntryTexts, entries_of, crossref, target}
+use Rattle.bib_spec.specs.Pieces.{Piece, Chunk, Kept, Replaced, old_of, pieces_from, end_of}
+use Rattle.edit_spec.specs.Edits.{in_braces, next_number}
+use Rattle.edit_spec.specs.EditChunks.{token, kept_rows, value_replaced, crossref_chunks, behind_rows, entry_chunks, tree_key_chunks, item_key_chunks}
+use Rattle.edit_spec.proofs.TreeChunks.{read, old-read, last-read, entry-read, token_old, rows-kept, row-parts}
+use Rattle.bib_scan.specs.View.{Field, field_behind, fields_behind, View, view_of}
+use Rattle.bib_store.specs.Meaning.{is_entry_tree, entry_items}
+use Rattle.bib_store.proofs.EntryItems.{length-entry_items}
+use Rattle.bib_edit.specs.Addressing.{is_field}
+use Rattle.bib_edit.specs.NewKeys.{key_of, new_target, braced, key_piece, value_piece, crossref_piece, entry_item, IsEntrySeen, rekeying}
+use Rattle.bib_edit.specs.declared.new_keys.NewKeys.{NewKeys}
+use Rattle.bib_edit.proofs.Walks.{next-of}
+use Rattle.bib_edit.proofs.PieceLists.{pieces-append, pieces-kept_rows}
+use Rattle.bib_edit.proofs.SettingPieces.{value-place}
+
+-- ---- rows
+
+braces-are : (key : Text) → value_bytes (in_braces key) ≡ braced key
+braces-are key = append-nil (braced key)
+
+module _ (start : ℕ) (key : Text) where
+  abbrev pub first_field : List Field → Option Field
+  first_field fields = find (is_field crossref) fields
+
+  abbrev there : Row → List Row → List Chunk
+  there row rows = Kept (row_start row) ∷ Replaced (value_bytes row.assignment.value) (value_bytes (in_braces key)) ∷ Kept row.assignment.space_behind ∷ kept_rows rows
+
+  abbrev further : Row → List Row → List Chunk
+  further row rows = Kept (row_bytes row) ∷ value_replaced crossref (in_braces key) rows
+
+  -- the rows stand behind the text `before`
+  pieces-valued : (before : Text) (rows : List Row) → pieces_from (start + length before) (value_replaced crossref (in_braces key) rows) ≡ value_piece start key (first_field (fields_behind before rows))
+  pieces-valued before [] = refl
+  pieces-valued before (row ∷ rows) =
+      let field : Field = field_behind (length before) (before ++ comma ∷ row.space_before_name) row.assignment in
+      let others : List Field = fields_behind (before ++ row_bytes row) rows in
+      let at : field.value_at ≡ length before + length (row_start row) = value-place before row in
+      let place : start + length before + length (row_start row) ≡ start + field.value_at = omega (arith, at) in
+      let long : length (before ++ row_bytes row) ≡ length before + length (row_bytes row) = length-append before (row_bytes row) in
+      let next : start + length before + length (row_bytes row) ≡ start + length (before ++ row_bytes row) = omega (arith, long) in
+      ⊎_elim
+      (λ t. ap (pieces_from (start + length before)) (cond-true (same row.assignment.name crossref) (there row rows) (further row rows) t)
+      ∙ ap₂ (λ (n : ℕ) (ps : List Piece). record { place = n; old = value_bytes row.assignment.value; new = value_bytes (in_braces key) } ∷ ps) place
+      (pieces-kept_rows (start + length before + length (row_start row) + length (value_bytes row.assignment.value) + length row.assignment.space_behind) rows)
+      ∙ ap (λ (new : Text). let p : Piece = record { place = start + field.value_at; old = value_bytes row.assignment.value; new = new } in p ∷ []) (braces-are key)
+      ∙ sym (ap (value_piece start key) (cond-true (same row.assignment.name crossref) (Some field) (first_field others) t)))
+      (λ t. ap (pieces_from (start + length before)) (cond-false (same row.assignment.name crossref) (there row rows) (further row rows) t)
+      ∙ ap (λ n. pieces_from n (value_replaced crossref (in_braces key) rows)) next
+      ∙ pieces-valued (before ++ row_bytes row) rows
+      ∙ sym (ap (value_piece start key) (cond-false (same row.assignment.name crossref) (Some field) (first_field others) t)))
+      (cases_Bool (same row.assignment.name crossref))
+
+-- ---- an entry
+
+abbrev before_rows : Entry → Text
+before_rows e = opening_bytes e.opening ++ e.key ++ e.space_behind_key
+
+pieces-crossref : (start : ℕ) (o : Option Text) (e : Entry) (trail : Text) →
+    pieces_from (start + length (before_rows e)) (crossref_chunks o e.rows) ≡ crossref_piece start (view_of (entry_item e trail)) o
+pieces-crossref start None e trail = pieces-kept_rows (start + length (before_rows e)) e.rows
+pieces-crossref start (Some key) e trail = pieces-valued start key (before_rows e) e.rows
+
+pieces-key : (start : ℕ) (o : Option Text) (e : Entry) (trail : Text) (rest : List Chunk) →
+    pieces_from (start + length (opening_bytes e.opening)) (token e.key o ∷ rest) ≡ key_piece start (view_of (entry_item e trail)) o ++ pieces_from (start + length (opening_bytes e.opening) + length e.key) rest
+pieces-key start None e trail rest = refl
+pieces-key start (Some key) e trail rest = refl
+
+pieces-then_kept : (at : ℕ) (chunks : List Chunk) (t : Text) → pieces_from at (chunks ++ Kept t ∷ []) ≡ pieces_from at chunks
+pieces-then_kept at chunks t = pieces-append at chunks (Kept t ∷ []) ∙ append-nil (pieces_from at chunks)
+
+module _ (start : ℕ) (key named : Option Text) (e : Entry) (trail : Text) where
+  abbrev its_rows : List Chunk
+  its_rows = Kept e.space_behind_key ∷ crossref_chunks named e.rows
+
+  abbrev pub its_chunks : List Chunk
+  its_chunks = entry_chunks (token e.key key) its_rows e ++ Kept trail ∷ []
+
+  pub pieces-entry : pieces_from start its_chunks ≡ key_piece start (view_of (entry_item e trail)) key ++ crossref_piece start (view_of (entry_item e trail)) named
+  pieces-entry =
+      let inside : ℕ = start + length (opening_bytes e.opening) + length e.key in
+      let long : length (before_rows e) ≡ length (opening_bytes e.opening ++ e.key) + length e.space_behind_key = length-append (opening_bytes e.opening ++ e.key) e.space_behind_key in
+      let short : length (opening_bytes e.opening ++ e.key) ≡ length (opening_bytes e.opening) + length e.key = length-append (opening_bytes e.opening) e.key in
+      let place : inside + length e.space_behind_key ≡ start + length (before_rows e) = omega (arith, long, short) in
+      pieces-then_kept start (entry_chunks (token e.key key) its_rows e) trail
+      ∙ pieces-key start key e trail (its_rows ++ Kept (behind_rows e) ∷ [])
+      ∙ ap (λ ps. key_piece start (view_of (entry_item e trail)) key ++ ps)
+      (pieces-then_kept inside its_rows (behind_rows e)
+      ∙ ap (λ n. pieces_from n (crossref_chunks named e.rows)) place
+      ∙ pieces-crossref start named e trail)
+
+-- ---- what an entry's pieces replace lies in it
+
+-- each piece lies within so many bytes of the place
+abbrev EndWithin : ℕ → List Piece → Type 0
+EndWithin end [] = Unit {0}
+EndWithin end (p ∷ ps) = (end_of p ≤ end) × EndWithin end ps
+
+pieces-within : (at : ℕ) (chunks : List Chunk) (end : ℕ) → at + length (old_of chunks) ≤ end → EndWithin end (pieces_from at chunks)
+pieces-within at [] end le = tt
+pieces-within at (Kept t ∷ chunks) end le = let long = length-append t (old_of chunks) in pieces-within (at + length t) chunks end (omega (arith, le, long))
+pieces-within at (Replaced old new ∷ chunks) end le =
+    let long = length-append old (old_of chunks) in
+    (omega (arith, le, long), pieces-within (at + length old) chunks end (omega (arith, le, long)))
+
+regroup : (x y z : Text) → x ++ (y ++ z) ≡ (x ++ y) ++ z
+regroup x y z = simp append_assoc
+
+replaced-old : (name : Text) (value : Value) (rows : List Row) → read false (value_replaced name value rows) ≡ flat_map row_bytes rows
+replaced-old name value [] = refl
+replaced-old name value (row ∷ rows) = ⊎_elim
+    (λ t. ap (read false) (cond-true (same row.assignment.name name)
+    (Kept (row_start row) ∷ Replaced (value_bytes row.assignment.value) (value_bytes value) ∷ Kept row.assignment.space_behind ∷ kept_rows rows) (Kept (row_bytes row) ∷ value_replaced name value rows) t)
+    ∙ ap (λ r. row_start row ++ (value_bytes row.assignment.value ++ (row.assignment.space_behind ++ r))) (rows-kept false rows)
+    ∙ ap (λ r. row_start row ++ r) (regroup (value_bytes row.assignment.value) row.assignment.space_behind (flat_map row_bytes rows))
+    ∙ regroup (row_start row) (value_bytes row.assignment.value ++ row.assignment.space_behind) (flat_map row_bytes rows)
+    ∙ ap (λ r. r ++ flat_map row_bytes rows) (sym (row-parts row)))
+    (λ t. ap (read false) (cond-false (same row.assignment.name name)
+    (Kept (row_start row) ∷ Replaced (value_bytes row.assignment.value) (value_bytes value) ∷ Kept row.assignment.space_behind ∷ kept_rows rows) (Kept (row_bytes row) ∷ value_replaced name value rows) t)
+    ∙ ap (λ r. row_bytes row ++ r) (replaced-old name value rows))
+    (cases_Bool (same row.assignment.name name))
+
+crossref-old : (o : Option Text) (rows : List Row) → read false (crossref_chunks o rows) ≡ flat_map row_bytes rows
+crossref-old None rows = rows-kept false rows
+crossref-old (Some key) rows = replaced-old crossref (in_braces key) rows
+
+entry-old : (key named : Option Text) (e : Entry) (trail : Text) → old_of (entry_chunks (token e.key key) (Kept e.space_behind_key ∷ crossref_chunks named e.rows) e ++ Kept trail ∷ []) ≡ item_bytes (entry_item e trail)
+entry-old key named e trail =
+    let chunks : List Chunk = entry_chunks (token e.key key) (Kept e.space_behind_key ∷ crossref_chunks named e.rows) e in
+    old-read (chunks ++ Kept trail ∷ [])
+    ∙ last-read false chunks trail (entry_bytes e)
+    (entry-read false (token e.key key) (Kept e.space_behind_key ∷ crossref_chunks named e.rows) e e.key e.space_behind_key e.rows (token_old e.key key)
+    (ap (λ t. e.space_behind_key ++ t) (crossref-old named e.rows)))
+
+module _ (start : ℕ) (view : View) (seen : IsEntrySeen start view) where
+  within-entry : (key named : Option Text) → EndWithin file_limit (key_piece start view key ++ crossref_piece start view named)
+  within-entry key named =
+      let e : Entry = seen.entry in
+      let old = ap length (entry-old key named e seen.trail) in
+      let within = seen.within in
+      subst (λ (v : View). EndWithin file_limit (key_piece start v key ++ crossref_piece start v named)) (sym seen.is)
+      (subst (EndWithin file_limit) (pieces-entry start key named e seen.trail)
+      (pieces-within start (its_chunks start key named e seen.trail) file_limit (omega (arith, old, within))))
+
+  pub key-within : start + view.key_at ≤ file_limit
+  key-within = let w = (within-entry (Some []) None).0 in omega (arith, w)
+
+  pub value-within : (field : Field) → Some field ≡ find (is_field crossref) view.fields → start + field.value_at ≤ file_limit
+  value-within field found =
+      let w = (subst (λ (o : Option Field). EndWithin file_limit (value_piece start [] o)) (sym found) (within-entry None (Some []))).0 in omega (arith, w)
+
+-- ---- all items
+
+module _ (new : ℕ → Option Text) (entries : List EntryTexts) where
+  -- the chunks of items, where the first entry among them has the number n
+  abbrev pub keyed_chunks : ℕ → List Item → List Chunk
+  keyed_chunks n items = flat_map (λ chunks. chunks) (scan (λ n item. next_number n item.tree) (item_key_chunks new entries) n items)
+
+  other-chunks : (n : ℕ) (item : Item) → is_entry_tree item.tree ≡ false → item_key_chunks new entries n item ≡ Kept (tree_bytes item.tree) ∷ Kept item.trail ∷ []
+  other-chunks n item = of item.tree item.trail
+    where
+      of : (tree : Tree) (trail : Text) → is_entry_tree tree ≡ false → tree_key_chunks new entries n tree ++ Kept trail ∷ [] ≡ Kept (tree_bytes tree) ∷ Kept trail ∷ []
+      of (CommentTree h) trail e = refl
+      of (DefinitionTree d) trail e = refl
+      of (PreambleTree p) trail e = refl
+      of (EntryTree x) trail e = absurd (false≢true (sym e))
+
+  other-number : (n : ℕ) (tree : Tree) → is_entry_tree tree ≡ false → next_number n tree ≡ n
+  other-number n (CommentTree h) e = refl
+  other-number n (DefinitionTree d) e = refl
+  other-number n (PreambleTree p) e = refl
+  other-number n (EntryTree x) e = absurd (false≢true (sym e))
+
+  -- an item that is no entry has no piece
+  pub pieces-other : (start n : ℕ) (item : Item) (items : List Item) → is_entry_tree item.tree ≡ false →
+      pieces_from start (keyed_chunks n (item ∷ items)) ≡ pieces_from (start + (length (tree_bytes item.tree) + length item.trail)) (keyed_chunks n items)
+  pieces-other start n item items e =
+      let place : start + length (tree_bytes item.tree) + length item.trail ≡ start + (length (tree_bytes item.tree) + length item.trail) = omega arith in
+      ap₂ (λ (chunks : List Chunk) (m : ℕ). pieces_from start (chunks ++ keyed_chunks m items)) (other-chunks n item e) (other-number n item.tree e)
+      ∙ ap (λ at. pieces_from at (keyed_chunks n items)) place
+
+  pub pieces-more : (start n : ℕ) (e : Entry) (trail : Text) (items : List Item) →
+      pieces_from start (keyed_chunks n (entry_item e trail ∷ items)) ≡
+      (key_piece start (view_of (entry_item e trail)) (new n) ++ crossref_piece start (view_of (entry_item e trail)) (option_and_then new (target entries n)))
+      ++ pieces_from (start + (length (tree_bytes (EntryTree e)) + length trail)) (keyed_chunks (n + 1) items)
+  pieces-more start n e trail items =
+      let named : Option Text = option_and_then new (target entries n) in
+      let old = ap length (entry-old (new n) named e trail) in
+      let long = length-append (entry_bytes e) trail in
+      let place : start + length (old_of (its_chunks start (new n) named e trail)) ≡ start + (length (tree_bytes (EntryTree e)) + length trail) = omega (arith, old, long) in
+      pieces-append start (its_chunks start (new n) named e trail) (keyed_chunks (suc n) items)
+      ∙ ap₂ ◌++◌ (pieces-entry start (new n) named e trail)
+      (ap₂ (λ (at m : ℕ). pieces_from at (keyed_chunks m items)) place (sym (add-one n)))
+
+-- ---- the walk over the items
+
+pub record IsBefore (new : NewKeys) (db : Reading) (i n start : ℕ) (done : List Piece) : Type 0 where
+  pub place : start + length (flat_map item_bytes (drop i db.items)) ≡ length (bytes_of db)
+  pub number : n + length (entry_items (drop i db.items)) ≡ length (entries_of db)
+  pub few : n ≤ i
+  pub pieces : done ++ pieces_from start (keyed_chunks (key_of new) (entries_of db) n (drop i db.items)) ≡ rekeying new db
+
+entry-is : (item : Item) → is_entry_tree item.tree ≡ true → (e : Entry) × (item ≡ entry_item e item.trail)
+entry-is item = of item.tree item.trail
+  where
+    of : (tree : Tree) (trail : Text) → is_entry_tree tree ≡ true → (e : Entry) × ((let it : Item = record { tree = tree; trail = trail } in it) ≡ entry_item e trail)
+    of (CommentTree h) trail e = absurd (false≢true e)
+    of (DefinitionTree d) trail e = absurd (false≢true e)
+    of (PreambleTree p) trail e = absurd (false≢true e)
+    of (EntryTree x) trail e = (x, refl)
+
+module _ (new : NewKeys) (db : Reading) (i n start : ℕ) (done : List Piece) (before : IsBefore new db i n start done) (lt : i < length db.items) (view : View)
+    (seen : (item : Item) → slice_get db.items i ≡ Some item → view ≡ view_of item) where
+  abbrev item : Item
+  item = (next-of db.items i lt).0
+
+  abbrev rest : List Item
+  rest = drop (i + 1) db.items
+
+  shown : view ≡ view_of item
+  shown = seen item (next-of db.items i lt).1
+
+  placed : start + length (item_bytes item) + length (flat_map item_bytes rest) ≡ length (bytes_of db)
+  placed =
+      let here = before.place in
+      let is = ap (λ (l : List Item). length (flat_map item_bytes l)) (next-of db.items i lt).2 in
+      let long = length-append (item_bytes item) (flat_map item_bytes rest) in
+      omega (arith, here, is, long)
+
+  lengths : length view.body + length view.trail ≡ length (item_bytes item)
+  lengths = ap (λ (v : View). length v.body + length v.trail) shown ∙ sym (length-append (tree_bytes item.tree) item.trail)
+
+  pub item-within : start + (length view.body + length view.trail) ≤ length (bytes_of db)
+  item-within = let p = placed in let l = lengths in omega (arith, p, l)
+
+  module _ (entry : is_entry_tree item.tree ≡ true) where
+    counted : n + suc (length (entry_items rest)) ≡ length (entries_of db)
+    counted =
+        let here = before.number in
+        let is = ap (λ (l : List Item). length (entry_items l)) (next-of db.items i lt).2 in
+        let more = ap length (cond-true (is_entry_tree item.tree) (item ∷ entry_items rest) (entry_items rest) entry) in
+        omega (arith, here, is, more)
+
+    pub number-within : n < length (entries_of db)
+    number-within = let c = counted in omega (arith, c)
+
+    pub entry-seen : length (bytes_of db) ≤ file_limit → IsEntrySeen start view
+    entry-seen short =
+        let e = entry-is item entry in
+        let p = placed in
+        let long = ap (λ (x : Item). length (item_bytes x)) e.1 in
+        record { entry = e.0; trail = item.trail; is = shown ∙ ap view_of e.1; within = omega (arith, p, long, short) }
+
+    pub before-entry : (more : List Piece) → more ≡ done ++ (key_piece start view (key_of new n) ++ crossref_piece start view (new_target new db n)) →
+        IsBefore new db (i + 1) (n + 1) (start + (length view.body + length view.trail)) more
+    before-entry more is =
+        let e = entry-is item entry in
+        let p = placed in
+        let l = lengths in
+        let c = counted in
+        let f = before.few in
+        let pieces : List Piece = key_piece start view (key_of new n) ++ crossref_piece start view (new_target new db n) in
+        let behind : List Piece = pieces_from (start + (length view.body + length view.trail)) (keyed_chunks (key_of new) (entries_of db) (n + 1) rest) in
+        record {
+          place = omega (arith, p, l);
+          number = omega (arith, c);
+          few = omega (arith, f);
+          pieces =
+              ap (λ ps. ps ++ behind) is ∙ append_assoc done pieces behind
+              ∙ ap (λ ps. done ++ ps)
+              (ap₂ (λ (v : View) (k : ℕ). (key_piece start v (key_of new n) ++ crossref_piece start v (new_target new db n)) ++ pieces_from (start + k) (keyed_chunks (key_of new) (entries_of db) (n + 1) rest))
+              (shown ∙ ap view_of e.1) (ap (λ (v : View). length v.body + length v.trail) (shown ∙ ap view_of e.1))
+              ∙ sym (pieces-more (key_of new) (entries_of db) start n e.0 item.trail rest)
+              ∙ sym (ap (λ (x : Item). pieces_from start (keyed_chunks (key_of new) (entries_of db) n (x ∷ rest))) e.1)
+              ∙ sym (ap (λ (l : List Item). pieces_from start (keyed_chunks (key_of new) (entries_of db) n l)) (next-of db.items i lt).2))
+              ∙ before.pieces;
+        }
+
+  pub before-other : is_entry_tree item.tree ≡ false → IsBefore new db (i + 1) n (start + (length view.body + length view.trail)) done
+  before-other other =
+      let p = placed in
+      let l = lengths in
+      let here = before.number in
+      let f = before.few in
+      let is = ap (λ (l : List Item). length (entry_items l)) (next-of db.items i lt).2 in
+      let same_count = ap length (cond-false (is_entry_tree item.tree) (item ∷ entry_items rest) (entry_items rest) other) in
+      record {
+        place = omega (arith, p, l);
+        number = omega (arith, here, is, same_count);
+        few = omega (arith, f);
+        pieces =
+            ap (λ ps. done ++ ps)
+            (ap (λ (v : View). pieces_from (start + (length v.body + length v.trail)) (keyed_chunks (key_of new) (entries_of db) n rest)) shown
+            ∙ sym (pieces-other (key_of new) (entries_of db) start n item rest other)
+            ∙ sym (ap (λ (l : List Item). pieces_from start (keyed_chunks (key_of new) (entries_of db) n l)) (next-of db.items i lt).2))
+            ∙ before.pieces;
+      }
+
+-- what is seen of the next item tells whether it is an entry
+pub next-entry : (db : Reading) (i : ℕ) (lt : i < length db.items) (view : View) → ((item : Item) → slice_get db.items i ≡ Some item → view ≡ view_of item) →
+    (is : Bool) → ((item : Item) → view ≡ view_of item → is ≡ is_entry_tree item.tree) → is ≡ is_entry_tree (next-of db.items i lt).0.tree
+next-entry db i lt view seen is tells = let next = next-of db.items i lt in tells next.0 (seen next.0 next.1)
+
+-- before the first item
+pub before-none : (new : NewKeys) (db : Reading) (done : List Piece) → done ≡ [] → IsBefore new db 0 0 (length db.front) done
+before-none new db done none = record {
+  place = sym (length-append db.front (flat_map item_bytes db.items));
+  number = zero-add (length (entry_items db.items)) ∙ length-entry_items db;
+  few = omega arith;
+  pieces = ap (λ ps. ps ++ pieces_from (length db.front) (keyed_chunks (key_of new) (entries_of db) 0 db.items)) none
+      ∙ sym (ap (λ at. pieces_from at (keyed_chunks (key_of new) (entries_of db) 0 db.items)) (zero-add (length db.front)));
+}
+
+-- after the last item
+pub before-all : (new : NewKeys) (db : Reading) (i n start : ℕ) (done : List Piece) → IsBefore new db i n start done → length db.items ≤ i → done ≡ rekeying new db
+before-all new db i n start done before past =
+    sym (append-nil done)
+    ∙ sym (ap (λ (l : List Item). done ++ pieces_from start (keyed_chunks (key_of new) (entries_of db) n l)) (drop_of_length-le db.items past))
+    ∙ before.pieces

@@ -1,0 +1,98 @@
+-- Keys that are made, one after another.
+use Rattle.std.proofs.Common.{◌≡◌, ℕ, zero, suc, ◌+◌, ◌<◌, ◌≤◌, List, [], ◌∷◌, ◌++◌, Some, option_map, slice_get, drop, map, length, refl, sym, ◌∙◌, ap, subst, arith, append_assoc, append-nil, zero-add, add-zero}
+use Rattle.std.specs.List.{enumerate_from, AllByRecursion}
+use Rattle.std.proofs.Math.ListN.{drop_of_length-le}
+use Rattle.std.proofs.lemmas.Option.{none-some, same_Some}
+use Rattle.std.proofs.lemmas.List.{length-map}
+use Rattle.std.proofs.lemmas.List.FromFn.{length-enumerate_from}
+use Rattle.bib_spec.specs.Bytes.{name_limit}
+use Rattle.bib_spec.specs.Text.{Text}
+use Rattle.bib_spec.specs.Records.{EntryTexts, Record, record_of, default_depth, expanded, dangling_texts}
+use Rattle.bib_spec.specs.MadeKeys.{free_key, made_keys, bases, new_keys}
+use Rattle.bib_edit.specs.Asking.{made_base}
+use Rattle.bib_edit.specs.TakenKeys.{AreTaken}
+use Rattle.bib_edit.specs.declared.taken_keys.TakenKeys.{TakenKeys}
+use Rattle.bib_edit.proofs.Walks.{next-of}
+use Rattle.bib_edit.proofs.RekeyedTexts.{AreShort}
+
+-- ---- bases
+
+numbered : {X Y : Type 0} (f : ℕ × X → Y) (m : ℕ) (xs : List X) (n : ℕ) → slice_get (map f (enumerate_from m xs)) n ≡ option_map (λ x. f (m + n, x)) (slice_get xs n)
+numbered f m [] n = refl
+numbered f m (x ∷ xs) zero = ap (λ (k : ℕ). Some (f (k, x))) (sym (add-zero m))
+numbered f m (x ∷ xs) (suc n) = numbered f (m + 1) xs n ∙ ap (λ (k : ℕ). option_map (λ x. f (k, x)) (slice_get xs n)) (further m n)
+  where
+    further : (m n : ℕ) → m + 1 + n ≡ m + suc n
+    further m n = omega arith
+
+abbrev pub bases_of : List EntryTexts → List Text
+bases_of entries = bases made_base default_depth entries
+
+length-bases : (entries : List EntryTexts) → length (bases_of entries) ≡ length entries
+length-bases entries = length-map (enumerate_from 0 entries) (λ p. made_base (record_of default_depth entries p.0 p.1)) ∙ length-enumerate_from 0 entries
+
+-- the base of the record that an entry has
+pub base-of : (entries : List EntryTexts) (n : ℕ) (r : Record) → expanded default_depth entries n ≡ Some r → (entry : EntryTexts) → slice_get entries n ≡ Some entry → made_base r ≡ made_base (record_of default_depth entries n entry)
+base-of entries n r is entry at = ap made_base (same_Some r (record_of default_depth entries n entry) (sym is ∙ ap (option_map (record_of default_depth entries n)) at))
+
+-- ---- the walk over the entries
+
+-- these keys are made, and those of the entries from number n on are made of what is taken
+pub record AreMadeTo (entries : List EntryTexts) (n : ℕ) (t : TakenKeys) (keys : List Text) : Type 0 where
+  pub taken : List Text
+  pub are : AreTaken taken t
+  pub made : keys ++ made_keys taken (drop n (bases_of entries)) ≡ new_keys made_base default_depth entries
+
+pub made-none : (entries : List EntryTexts) (t : TakenKeys) (keys : List Text) → AreTaken (dangling_texts entries ++ []) t → keys ≡ [] → AreMadeTo entries 0 t keys
+made-none entries t keys are none = record {
+  taken = dangling_texts entries;
+  are = subst (λ (l : List Text). AreTaken l t) (append-nil (dangling_texts entries)) are;
+  made = ap (λ (l : List Text). l ++ made_keys (dangling_texts entries) (bases_of entries)) none;
+}
+
+pub made-more : (entries : List EntryTexts) (n : ℕ) (t tried s : TakenKeys) (keys more : List Text) (base key : Text) → AreMadeTo entries n t keys → n < length entries →
+    ((entry : EntryTexts) → slice_get entries n ≡ Some entry → base ≡ made_base (record_of default_depth entries n entry)) →
+    ((taken : List Text) → AreTaken taken t → key ≡ free_key taken base) →
+    ((taken : List Text) → AreTaken taken t → AreTaken taken tried) →
+    ((taken : List Text) → AreTaken taken tried → AreTaken (key ∷ taken) s) →
+    more ≡ keys ++ key ∷ [] → AreMadeTo entries (n + 1) s more
+made-more entries n t tried s keys more base key to lt is_base is_key stays adds is =
+    let count = length-bases entries in
+    let next = next-of (bases_of entries) n (omega (arith, lt, count)) in
+    let entry = next-of entries n lt in
+    let here : slice_get (bases_of entries) n ≡ Some (made_base (record_of default_depth entries n entry.0)) =
+    numbered (λ p. made_base (record_of default_depth entries p.0 p.1)) 0 entries n
+    ∙ ap (λ o. option_map (λ e. made_base (record_of default_depth entries (0 + n) e)) o) entry.1
+    ∙ ap (λ (k : ℕ). Some (made_base (record_of default_depth entries k entry.0))) (zero-add n) in
+    let base_is : next.0 ≡ base = same_Some next.0 (made_base (record_of default_depth entries n entry.0)) (sym next.1 ∙ here) ∙ sym (is_base entry.0 entry.1) in
+    let key_is : free_key to.taken base ≡ key = sym (is_key to.taken to.are) in
+    let rest : List Text = drop (n + 1) (bases_of entries) in
+    record {
+      taken = key ∷ to.taken;
+      are = adds to.taken (stays to.taken to.are);
+      made =
+          ap (λ (l : List Text). l ++ made_keys (key ∷ to.taken) rest) is
+          ∙ append_assoc keys (key ∷ []) (made_keys (key ∷ to.taken) rest)
+          ∙ ap (λ (k : Text). keys ++ k ∷ made_keys (k ∷ to.taken) rest) (sym key_is)
+          ∙ sym (ap (λ (b : Text). keys ++ made_keys to.taken (b ∷ rest)) base_is)
+          ∙ sym (ap (λ (l : List Text). keys ++ made_keys to.taken l) next.2)
+          ∙ to.made;
+    }
+
+pub made-all : (entries : List EntryTexts) (n : ℕ) (t : TakenKeys) (keys : List Text) → AreMadeTo entries n t keys → length entries ≤ n → keys ≡ new_keys made_base default_depth entries
+made-all entries n t keys to le =
+    let count = length-bases entries in
+    sym (append-nil keys)
+    ∙ sym (ap (λ (l : List Text). keys ++ made_keys to.taken l) (drop_of_length-le (bases_of entries) (omega (arith, le, count))))
+    ∙ to.made
+
+-- ---- short keys
+
+pub short-more : (keys : List Text) (key : Text) → AllByRecursion (λ k. length k ≤ name_limit) keys → length key ≤ name_limit → AllByRecursion (λ k. length k ≤ name_limit) (keys ++ key ∷ [])
+short-more [] key all short = (short, tt)
+short-more (k ∷ keys) key all short = (all.0, short-more keys key all.1 short)
+
+pub short-at : (keys : List Text) → AllByRecursion (λ k. length k ≤ name_limit) keys → AreShort (slice_get keys)
+short-at [] all n key e = absurd (none-some key e)
+short-at (k ∷ keys) all zero key e = subst (λ (t : Text). length t ≤ name_limit) (same_Some k key e) all.0
+short-at (k ∷ keys) all (suc n) key e = short-at keys all.1 n key e

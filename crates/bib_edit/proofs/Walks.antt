@@ -1,0 +1,13 @@
+-- A list, walked through from its front.
+use Rattle.std.proofs.Common.{◌≡◌, ℕ, zero, suc, ◌+◌, ◌<◌, List, [], ◌∷◌, Some, slice_get, drop, length, refl, sym, ◌∙◌, ap, arith, add-one}
+
+-- what stands at a place, and what after it
+pub next-of : {X : Type 0} (xs : List X) (i : ℕ) → i < length xs → (x : X) × (slice_get xs i ≡ Some x) × (drop i xs ≡ x ∷ drop (i + 1) xs)
+next-of xs i lt =
+    let found = at xs i lt in
+    (found.0, found.1, found.2 ∙ ap (λ n. found.0 ∷ drop n xs) (sym (add-one i)))
+  where
+    at : {X : Type 0} (xs : List X) (i : ℕ) → i < length xs → (x : X) × (slice_get xs i ≡ Some x) × (drop i xs ≡ x ∷ drop (suc i) xs)
+    at [] i lt = absurd (omega (arith, lt))
+    at (x ∷ xs) zero lt = (x, refl, refl)
+    at (x ∷ xs) (suc i) lt = at xs i (omega (arith, lt))

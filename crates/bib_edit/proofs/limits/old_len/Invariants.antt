@@ -1,0 +1,6 @@
+use Rattle.std.proofs.Common.{◌≡◌, ◌+◌, drop}
+use Rattle.bib_edit.specs.Limits.{olds_len}
+use Rattle.bib_edit.proofs.limits.old_len.Given as goal
+
+abbrev pub invariant-loop-piece : goal.invariant-loop-piece
+invariant-loop-piece l = l.len + olds_len (drop l.piece-index l.pieces) ≡ olds_len l.pieces

@@ -1,0 +1,9 @@
+use Rattle.std.proofs.Common.{arith}
+use Rattle.std.proofs.lemmas.Option.{slice_get_within}
+use Rattle.bib_edit.proofs.DefinedNames.{definition_item}
+use Rattle.bib_edit.proofs.rename_macro.names_from.Goals as goal
+
+pub push_from-requires : goal.push_from-requires
+push_from-requires g c db reads =
+    let d = c.requires db reads in
+    let within = slice_get_within db.items c.args.n (definition_item d.0 d.1.0) d.1.1 in omega (arith, within)

@@ -1,0 +1,6 @@
+use Rattle.std.proofs.Common.{◌≡◌, ◌++◌, drop, map}
+use Rattle.bib_edit.specs.PlacedParts.{tokens_seen, replaced_by}
+use Rattle.bib_edit.proofs.replacing.push_replaced.Given as goal
+
+abbrev pub invariant-loop-token : goal.invariant-loop-token
+invariant-loop-token l = l.pieces.items ++ map (replaced_by l.new) (tokens_seen (drop l.token-index l.tokens)) ≡ l.initial.pieces.items ++ map (replaced_by l.new) (tokens_seen l.tokens)

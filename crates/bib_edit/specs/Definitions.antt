@@ -1,0 +1,42 @@
+-- The definition of a macro that an edit names.
+use Rattle.std.specs.Prelude.{ℕ, ◌≡◌, ◌+◌, ◌<◌, List, Some, slice_get, length, codes, ◌++◌, ◌∷◌, []}
+use Rattle.bib_spec.specs.Bytes.{open_brace, close_brace}
+use Rattle.bib_spec.specs.Text.{Text}
+use Rattle.bib_spec.specs.Tree.{Definition, DefinitionTree, opening_bytes}
+use Rattle.bib_spec.specs.Reading.{Item, Reading}
+use Rattle.bib_store.specs.Meaning.{OfReading}
+use Rattle.edit_spec.specs.Edits.{defines, definitions}
+use Rattle.bib_edit.specs.Addressing.{first_item}
+use Rattle.bib_edit.specs.declared.fault.EditFault.{EditFault}
+use Rattle.bib_edit.specs.declared.fault.EditFault.TheVariants.{NotFound, Ambiguous}
+
+-- the macro has one definition, and it is this item
+pub record IsDefinedAt (name : Text) (db : Reading) (n : ℕ) : Type 0 where
+  pub item : first_item (defines name) db.items ≡ Some n
+  pub once : definitions name db ≡ 1
+
+-- the macro has no definition, or several
+abbrev pub IsDefinitionFault : Text → Reading → EditFault → Type 0
+IsDefinitionFault name db NotFound = definitions name db ≡ 0
+IsDefinitionFault name db Ambiguous = 1 < definitions name db
+IsDefinitionFault name db other = ⊥
+
+-- item n is this definition
+abbrev pub IsDefinitionAt : List Item → ℕ → Definition → Type 0
+IsDefinitionAt items n d = (trail : Text) × (slice_get items n ≡ Some (record { tree = DefinitionTree d; trail = trail }))
+
+-- item n is a definition
+abbrev pub IsDefinitionNumber : Text → ℕ → Type 0
+IsDefinitionNumber file n = OfReading file (λ db. (d : Definition) × IsDefinitionAt db.items n d)
+
+-- the name of a definition, with its place, where the definition begins at this one
+abbrev pub name_token : ℕ → Definition → ℕ × Text
+name_token at d = (at + length (opening_bytes d.opening), d.assignment.name)
+
+-- the text in braces
+abbrev pub braced : Text → Text
+braced text = open_brace ∷ text ++ close_brace ∷ []
+
+-- a definition as it is written, with the line's end after it
+abbrev pub definition_text : Text → Text → Text
+definition_text name text = codes "@string{" ++ name ++ codes " = " ++ braced text ++ codes "}\n"

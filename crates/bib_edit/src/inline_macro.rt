@@ -1,0 +1,56 @@
+//! Writes a macro's text for its uses.
+
+ghost use Rattle.std.specs.Prelude.{OnOk, IfOk, IfErr};
+ghost use Rattle.bib_edit.specs.Planning.{IsAllowedEdit, ArePiecesOf, IsRefusal};
+ghost use Rattle.bib_data.specs.declared.edit.Edit.TheVariants.{InlineMacro};
+
+use crate::defining::{braced_text, lone_definition};
+use crate::fault::EditFault;
+use crate::replacing::{is_result_too_long, push_replaced};
+use crate::sought::Sought;
+use crate::taking_out::{body_of, joins_cleanly, removal_of};
+use crate::tokens::push_from;
+use bib_scan::{Seq, is_name, one_reading};
+use bib_store::{Database, ItemList, Piece};
+use std::alloc::Global;
+
+/// The pieces that take the macro's one definition out and put what it says, in braces, for each use after it, or the
+/// first reason against it. Whether the file would be too long is told before the text is copied. It takes time and
+/// memory in the length of the file and of the new one.
+pub(crate) fn inline_macro<L: ItemList>(
+    alloc: Global,
+    db: &Database<L>,
+    name: &[u8],
+) -> Result<Seq<Piece>, EditFault>
+    ensures pieces { IfOk result (ArePiecesOf db.now (InlineMacro name.now)) }
+    ensures allowed { OnOk result (IsAllowedEdit db.now (InlineMacro name.now)) }
+    ensures refused { IfErr result (IsRefusal db.now (InlineMacro name.now)) }
+{
+    db.opens();
+    one_reading();
+    if !is_name(name) {
+        return Err(EditFault::BadName);
+    }
+    // An item's number, which is below their count, can grow by one.
+    let _ = db.item_count();
+    let n = lone_definition(db, name)?;
+    if !joins_cleanly(alloc, db, n)? {
+        return Err(EditFault::WouldMerge);
+    }
+    let text = braced_text(alloc, db, name)?;
+    let mut tokens = Vec::new(alloc);
+    push_from(alloc, &mut tokens, db, n + 1, Sought::Uses(name))?;
+    if is_result_too_long(
+        db,
+        tokens.as_slice(),
+        text.as_slice().len(),
+        body_of(db, n).len(),
+        0,
+    ) {
+        return Err(EditFault::FileTooLong);
+    }
+    let mut pieces = Vec::new(alloc);
+    pieces.push(removal_of(alloc, db, n)?)?;
+    push_replaced(alloc, &mut pieces, tokens.as_slice(), text.as_slice())?;
+    Ok(Seq::from_vec(pieces))
+}

@@ -1,0 +1,36 @@
+//! Gives all entries made keys.
+
+ghost use Rattle.std.specs.Prelude.{OnOk, IfOk, IfErr};
+ghost use Rattle.bib_edit.specs.Planning.{IsAllowedEdit, ArePiecesOf, IsRefusal};
+ghost use Rattle.bib_data.specs.declared.edit.Edit.TheVariants.{RegenerateKeys};
+
+use crate::fault::EditFault;
+use crate::limits::are_too_long;
+use crate::made_keys::made_keys;
+use crate::new_keys::NewKeys;
+use crate::rekeying::rekeying;
+use bib_scan::{Seq, one_reading};
+use bib_store::{Database, ItemList, Piece};
+use std::alloc::Global;
+
+/// The pieces that give all entries their made keys at once, and name their targets by these, or the first reason against
+/// it. Since all is told by the old keys, two entries may exchange theirs. It takes time in the length of the file and of
+/// the entries' records, each with what it inherits, and memory for the pieces and the keys.
+pub(crate) fn regenerate_keys<L: ItemList>(
+    alloc: Global,
+    db: &Database<L>,
+) -> Result<Seq<Piece>, EditFault>
+    ensures pieces { IfOk result (ArePiecesOf db.now RegenerateKeys) }
+    ensures allowed { OnOk result (IsAllowedEdit db.now RegenerateKeys) }
+    ensures refused { IfErr result (IsRefusal db.now RegenerateKeys) }
+{
+    db.opens();
+    one_reading();
+    let keys = made_keys(alloc, db)?;
+    let new = NewKeys { first: 0, keys };
+    let pieces = rekeying(alloc, db, &new)?;
+    if are_too_long(db, pieces.as_slice()) {
+        return Err(EditFault::FileTooLong);
+    }
+    Ok(pieces)
+}

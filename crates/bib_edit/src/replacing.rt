@@ -1,0 +1,63 @@
+//! Bytes that stand for many tokens.
+
+ghost use Rattle.std.specs.Prelude.{◌≡◌, ◌↔◌, ◌+◌, ◌*◌, ◌<◌, ◌≤◌, ◌^◌, ◌++◌, length, map, IsTrue, OnOk, IfErr};
+ghost use Rattle.bib_spec.specs.Bytes.{file_limit};
+ghost use Rattle.bib_edit.specs.PlacedParts.{tokens_seen, replaced_by, covered};
+ghost use Rattle.bib_edit.specs.declared.fault.EditFault.TheVariants.{Memory};
+
+use crate::fault::EditFault;
+use crate::limits::is_file_too_long;
+use crate::pieces::copied;
+use crate::tokens::Token;
+use bib_store::{Database, ItemList, Piece};
+use std::alloc::Global;
+
+/// Adds a piece for each token, for which the new bytes stand. It takes memory for a copy of the new
+/// bytes for each.
+pub(crate) fn push_replaced(
+    alloc: Global,
+    pieces: &mut Vec<Piece>,
+    tokens: &[Token<'_>],
+    new: &[u8],
+) -> Result<(), EditFault>
+    ensures pieces { OnOk result (pieces.new.items ≡ pieces.old.items ++ map (replaced_by new.now) (tokens_seen tokens.now)) }
+    ensures only { IfErr result (λ fault. fault ≡ Memory) }
+{
+    for token in tokens {
+        pieces.push(Piece {
+            place: token.place as u64,
+            old: copied(alloc, token.bytes)?,
+            new: copied(alloc, new)?,
+        })?;
+    }
+    Ok(())
+}
+
+/// How many bytes the tokens have together.
+fn covered(tokens: &[Token<'_>]) -> usize
+    requires { covered (tokens_seen tokens.now) < 2 ^ 64 }
+    ensures { result ≡ covered (tokens_seen tokens.now) }
+{
+    let mut len = 0;
+    for token in tokens {
+        len += token.bytes.len();
+    }
+    len
+}
+
+/// Whether the file would be too long if so many new bytes stood for each token, and beside these so many bytes went and
+/// so many others came. Nothing is built.
+pub(crate) fn is_result_too_long<L: ItemList>(
+    db: &Database<L>,
+    tokens: &[Token<'_>],
+    new_len: usize,
+    gone: usize,
+    come: usize,
+) -> bool
+    requires inside { gone + covered (tokens_seen tokens.now) ≤ length db.now }
+    ensures { IsTrue result ↔ file_limit + (gone + covered (tokens_seen tokens.now)) < length db.now + (come + length tokens.now * new_len) }
+{
+    db.opens();
+    let new = tokens.len().saturating_mul(new_len).saturating_add(come);
+    is_file_too_long(db, gone + covered(tokens), new)
+}

@@ -1,0 +1,165 @@
+-- What renamings keep, of the files of a session.
+use Rattle.std.proofs.Common.{◌≡◌, ◌≢◌, ℕ, zero, suc, ◌&&◌, Bool, true, false, List, [], ◌∷◌, Option, Some, None, option_map, slice_get, take, refl, sym, ◌∙◌, ap, subst}
+use Rattle.std.specs.List.{list_all}
+use Rattle.std.proofs.lemmas.Bool.{false≢true, and_parts}
+use Rattle.bib_spec.specs.Bytes.{name_limit}
+use Rattle.bib_spec.specs.Text.{Text}
+use Rattle.bib_spec.specs.Reading.{Reading, Reads, bytes_of}
+use Rattle.bib_spec.specs.Records.{Record, entries_of, entry_named, expanded, default_depth}
+use Rattle.bib_spec.specs.MadeKeys.{IsKeyBase, new_keys}
+use Rattle.bib_scan.proofs.OneReading.{one_reading}
+use Rattle.edit_spec.specs.Edits as edits
+use Rattle.edit_spec.specs.Edits.{edited, IsAccepted, key_for}
+use Rattle.edit_spec.specs.Laws.{KeepsEntries, record_with_key, no_new_key}
+use Rattle.edit_spec.specs.Steps.{KeptSteps, IsSound}
+use Rattle.edit_spec.proofs.EditedReads.{edited-reads}
+use Rattle.edit_spec.proofs.RenameKey.{rename-key-keeps}
+use Rattle.edit_spec.proofs.Regenerate.{regenerate-keys-keeps, made-keys-differ, regenerating-again}
+use Rattle.edit_spec.proofs.MacroLaws.{rename-macro-keeps, inline-macro-keeps, introduce-macro-keeps}
+use Rattle.bib_data.specs.declared.edit.Edit.{Edit}
+use Rattle.bib_data.specs.declared.edit.Edit.TheVariants.{SetField, DropField, AddEntry, RemoveEntry, MoveEntry, RenameKey, RegenerateKeys, RenameMacro, InlineMacro, IntroduceMacro}
+use Rattle.bib_data.specs.declared.request.Request.{Request}
+use Rattle.bib_data.specs.declared.request.Request.TheVariants as request
+use Rattle.bib_edit.specs.declared.fault.EditFault.{EditFault}
+use Rattle.bib_edit.specs.declared.fault.EditFault.TheVariants as edit_fault
+use Rattle.bib_edit.specs.Asking.{AsksFor, OfEdit, made_base, rename_key, regenerate_keys, rename_macro, inline_macro, introduce_macro}
+use Rattle.bib_edit.specs.Planning.{IsRefusal}
+use Rattle.bib_edit.proofs.AskedEdits.{asked_for}
+use Rattle.bib_edit.proofs.KeyBases.{has_key_base}
+use Rattle.bib_journal.specs.declared.fault.SessionFault.{SessionFault}
+use Rattle.bib_journal.specs.declared.fault.SessionFault.TheVariants.{Refused}
+use Rattle.bib_journal.specs.Session.{MakesEdit, RefusesEdit, Does, DoesAll, Performs}
+use Rattle.bib_journal.specs.Renaming.{Keeps, OfReadings, edit_keeps, MakesNothingAgain, keys_are_made_once, is_renaming, without_key, KeepsTexts, requests_keep}
+
+is_base : IsKeyBase made_base
+is_base = has_key_base (edits.RegenerateKeys default_depth)
+
+-- ---- the file that an edit makes
+
+-- The file after an edit says what the edit makes of what it said before.
+made-reads : (edit : Edit) (old new : KeptSteps) → MakesEdit edit old new → (db : Reading) → Reads old.present db → (e : edits.Edit) → AsksFor edit e
+    → Reads new.present (edited made_base db e)
+made-reads edit old new made db reads e asks =
+    let is : Reads (bytes_of (edited made_base db e)) (edited made_base db e) = edited-reads made_base old.present db e (has_key_base e) reads (made.allowed db reads e asks) in
+    subst (λ (file : Text). Reads file (edited made_base db e)) (sym (made.file db reads e asks).present) is
+
+-- ---- one renaming
+
+-- what an accepted edit makes keeps what the edit keeps
+made-keeps : (edit : Edit) (db db' : Reading) → OfEdit edit (IsAccepted made_base db) → OfEdit edit (λ e. db' ≡ edited made_base db e) → Keeps edit db db'
+made-keeps (RenameKey from to) db db' allowed is =
+    subst (Keeps (RenameKey from to) db) (sym (is (edits.RenameKey from to) (rename_key from to))) (rename-key-keeps made_base db from to (allowed (edits.RenameKey from to) (rename_key from to)))
+made-keeps RegenerateKeys db db' allowed is =
+    let accepted = allowed (edits.RegenerateKeys default_depth) regenerate_keys in
+    let keeps = regenerate-keys-keeps made_base is_base db default_depth accepted in
+    subst (Keeps RegenerateKeys db) (sym (is (edits.RegenerateKeys default_depth) regenerate_keys))
+    (keeps.0, keeps.1, keeps.2, made-keys-differ made_base is_base db default_depth accepted)
+made-keeps (RenameMacro from to) db db' allowed is =
+    subst (Keeps (RenameMacro from to) db) (sym (is (edits.RenameMacro from to) (rename_macro from to))) (rename-macro-keeps made_base db from to (allowed (edits.RenameMacro from to) (rename_macro from to)))
+made-keeps (InlineMacro name) db db' allowed is =
+    subst (Keeps (InlineMacro name) db) (sym (is (edits.InlineMacro name) (inline_macro name))) (inline-macro-keeps made_base db name (allowed (edits.InlineMacro name) (inline_macro name)))
+made-keeps (IntroduceMacro name text) db db' allowed is =
+    subst (Keeps (IntroduceMacro name text) db) (sym (is (edits.IntroduceMacro name text) (introduce_macro name text)))
+    (introduce-macro-keeps made_base db name text (allowed (edits.IntroduceMacro name text) (introduce_macro name text)))
+made-keeps (SetField key field value) db db' allowed is = tt
+made-keeps (DropField key field) db db' allowed is = tt
+made-keeps (AddEntry place entry) db db' allowed is = tt
+made-keeps (RemoveEntry key) db db' allowed is = tt
+made-keeps (MoveEntry key place) db db' allowed is = tt
+
+pub edit-keeps : edit_keeps
+edit-keeps edit old new made db reads db' reads' =
+    made-keeps edit db db' (made.allowed db reads)
+    (λ e asks. one_reading name_limit new.present db' (edited made_base db e) reads' (made-reads edit old new made db reads e asks))
+
+-- ---- making keys again
+
+-- an edit that no reason is against is refused for none
+not-refused : (edit : Edit) (e : edits.Edit) → AsksFor edit e → (fault : EditFault) (file : Text) (db : Reading) → Reads file db → IsAccepted made_base db e → fault ≢ edit_fault.Memory → IsRefusal file edit fault → ⊥
+not-refused edit e asks edit_fault.Memory file db reads accepted other is = other refl
+not-refused edit e asks edit_fault.BadKey file db reads accepted other is = accepted edits.BadKey (is db reads e asks).holds
+not-refused edit e asks edit_fault.BadName file db reads accepted other is = accepted edits.BadName (is db reads e asks).holds
+not-refused edit e asks edit_fault.BadValue file db reads accepted other is = accepted edits.BadValue (is db reads e asks).holds
+not-refused edit e asks edit_fault.BadPosition file db reads accepted other is = accepted edits.BadPosition (is db reads e asks).holds
+not-refused edit e asks edit_fault.NotFound file db reads accepted other is = accepted edits.NotFound (is db reads e asks).holds
+not-refused edit e asks edit_fault.Ambiguous file db reads accepted other is = accepted edits.Ambiguous (is db reads e asks).holds
+not-refused edit e asks edit_fault.KeyInUse file db reads accepted other is = accepted edits.KeyInUse (is db reads e asks).holds
+not-refused edit e asks edit_fault.NameInUse file db reads accepted other is = accepted edits.NameInUse (is db reads e asks).holds
+not-refused edit e asks edit_fault.Referred file db reads accepted other is = accepted edits.Referred (is db reads e asks).holds
+not-refused edit e asks edit_fault.WouldMerge file db reads accepted other is = accepted edits.WouldMerge (is db reads e asks).holds
+not-refused edit e asks edit_fault.FileTooLong file db reads accepted other is = accepted edits.FileTooLong (is db reads e asks).holds
+not-refused edit e asks edit_fault.TextTooLong file db reads accepted other is = accepted edits.TextTooLong (is db reads e asks).holds
+
+pub keys-are-made-once : keys_are_made_once
+keys-are-made-once old new sound made =
+    let db : Reading = sound.present.0 in
+    let reads : Reads old.present db = sound.present.1.reads in
+    let e : edits.Edit = edits.RegenerateKeys default_depth in
+    let db' : Reading = edited made_base db e in
+    let reads' : Reads new.present db' = made-reads RegenerateKeys old new made db reads e regenerate_keys in
+    let again = regenerating-again made_base is_base db default_depth (made.allowed db reads e regenerate_keys) in
+    record {
+      allowed = λ fault refuses. not-refused RegenerateKeys e regenerate_keys fault new.present db' reads' again.0 refuses.0 refuses.1;
+      file = λ more makes. (makes.file db' reads' e regenerate_keys).present ∙ ap bytes_of again.1 ∙ reads'.bytes;
+    }
+
+-- ---- many renamings
+
+no_matter_the_key : (key : Option Text) (o : Option Record) → option_map without_key (option_map (record_with_key key) o) ≡ option_map without_key o
+no_matter_the_key key None = refl
+no_matter_the_key None (Some r) = refl
+no_matter_the_key (Some key) (Some r) = refl
+
+keeps-texts : (new_key : ℕ → Option Text) (old new : Reading) → KeepsEntries new_key old new → KeepsTexts old new
+keeps-texts new_key old new keeps = record {
+  count = keeps.count;
+  records = λ depth n. ap (option_map without_key) (keeps.records depth n) ∙ no_matter_the_key (new_key n) (expanded depth (entries_of old) n);
+  parents = keeps.parents;
+  preambles = keeps.preambles;
+}
+
+renaming-texts : (edit : Edit) → is_renaming (request.Edit edit) ≡ true → (old new : Reading) → Keeps edit old new → KeepsTexts old new
+renaming-texts (RenameKey from to) is old new keeps = keeps-texts (key_for (entry_named (entries_of old) from) to) old new keeps.0
+renaming-texts RegenerateKeys is old new keeps = keeps-texts (slice_get (new_keys made_base default_depth (entries_of old))) old new keeps.0
+renaming-texts (RenameMacro from to) is old new keeps = keeps-texts no_new_key old new keeps.0
+renaming-texts (InlineMacro name) is old new keeps = keeps-texts no_new_key old new keeps.0
+renaming-texts (IntroduceMacro name text) is old new keeps = keeps-texts no_new_key old new keeps.0
+renaming-texts (SetField key field value) is old new keeps = absurd (false≢true is)
+renaming-texts (DropField key field) is old new keeps = absurd (false≢true is)
+renaming-texts (AddEntry place entry) is old new keeps = absurd (false≢true is)
+renaming-texts (RemoveEntry key) is old new keeps = absurd (false≢true is)
+renaming-texts (MoveEntry key place) is old new keeps = absurd (false≢true is)
+
+texts-stay : (db : Reading) → KeepsTexts db db
+texts-stay db = record { count = refl; records = λ _ _. refl; parents = λ _. refl; preambles = refl }
+
+texts-kept-on : (a b c : Reading) → KeepsTexts a b → KeepsTexts b c → KeepsTexts a c
+texts-kept-on a b c ab bc = record {
+  count = bc.count ∙ ab.count;
+  records = λ depth n. bc.records depth n ∙ ab.records depth n;
+  parents = λ n. bc.parents n ∙ ab.parents n;
+  preambles = bc.preambles ∙ ab.preambles;
+}
+
+all-keep : (requests : List Request) (old new : KeptSteps) → list_all is_renaming requests ≡ true → DoesAll requests old new → OfReadings old.present new.present KeepsTexts
+all-keep [] old new is all db reads db' reads' =
+    subst (KeepsTexts db) (one_reading name_limit old.present db db' reads (subst (λ (kept : KeptSteps). Reads kept.present db') all reads')) (texts-stay db)
+all-keep (request.Undo ∷ requests) old new is all db reads db' reads' = absurd (false≢true is)
+all-keep (request.Redo ∷ requests) old new is all db reads db' reads' = absurd (false≢true is)
+all-keep (request.Edit edit ∷ requests) old new is all db reads db' reads' =
+    let both = and_parts (is_renaming (request.Edit edit)) (list_all is_renaming requests) is in
+    let one : (e : edits.Edit) × AsksFor edit e = asked_for edit in
+    let mid : Reading = edited made_base db one.0 in
+    let mid_reads : Reads all.0.present mid = made-reads edit old all.0 all.1 db reads one.0 one.1 in
+    texts-kept-on db mid db' (renaming-texts edit both.0 db mid (edit-keeps edit old all.0 all.1 db reads mid mid_reads))
+    (all-keep requests all.0 new both.1 all.2 mid mid_reads db' reads')
+
+some-pass : {X : Type 0} (p : X → Bool) (n : ℕ) (xs : List X) → list_all p xs ≡ true → list_all p (take n xs) ≡ true
+some-pass p zero xs all = refl
+some-pass p (suc n) [] all = refl
+some-pass p (suc n) (x ∷ xs) all =
+    let both = and_parts (p x) (list_all p xs) all in
+    ap (λ b. b && list_all p (take n xs)) both.0 ∙ some-pass p n xs both.1
+
+pub requests-keep : requests_keep
+requests-keep requests done fault old new renamings performs = all-keep (take done requests) old new (some-pass is_renaming done requests renamings) performs.did

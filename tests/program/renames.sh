@@ -1,0 +1,85 @@
+# `bibkeep edit` with lines that rename keys and macros, inline and introduce macros, and make keys.
+# shellcheck shell=sh
+
+two='@misc{a}\n@misc{b}\n'
+month='@string{jan = jan # { x}}@misc{a, month = jan}'
+parts='@string{conf={conf}}@misc{conf95}@misc{b, crossref = conf # {95}}'
+uses='@misc{a, t = m}@string{m = 1}@misc{b, t = m}'
+crossed='@misc{Lam86, author = {Donald E. Knuth}, year = 1984}\n@misc{Knu84, author = {Leslie Lamport}, year = 1986, crossref = {lam86}}\n'
+made='@misc{Knu84, author = {Donald E. Knuth}, year = 1984}\n@misc{Lam86, author = {Leslie Lamport}, year = 1986, crossref = {Knu84}}\n'
+
+makes "$two" 'rename-key\ta\tA' '@misc{A}\n@misc{b}\n'
+makes "$parts" 'rename-key\tconf95\ticc' '@string{conf={conf}}@misc{icc}@misc{b, crossref = {icc}}'
+makes '@misc{b, crossref = {A}}@misc(a )' 'rename-key\ta\tc' '@misc{b, crossref = {c}}@misc(c )'
+makes '@misc{a, crossref = {a}}' 'rename-key\ta\tc' '@misc{c, crossref = {c}}'
+makes "$month" 'rename-macro\tjan\tj' '@string{j = j # { x}}@misc{a, month = j}'
+makes "$month" 'rename-macro\tjan\tJAN' '@string{JAN = JAN # { x}}@misc{a, month = JAN}'
+makes "$parts" 'rename-macro\tconf\tc' '@string{c={conf}}@misc{conf95}@misc{b, crossref = c # {95}}'
+makes "$uses" 'rename-macro\tm\tn' '@misc{a, t = m}@string{n = 1}@misc{b, t = n}'
+makes '@string{m = "a" # {"}}@misc{k, t = m # 1}' 'inline\tm' '@misc{k, t = {a"} # 1}'
+makes '@string{x={1}}@string{m=x}@string{x={2}}@misc{k,t=m}' 'inline\tm' '@string{x={1}}@string{x={2}}@misc{k,t={1}}'
+makes '@misc{a, t = {x} # "x"}' 'introduce\tm\tx' '@string{m = {x}}\n@misc{a, t = m # m}'
+makes '@misc{a}\n@misc{b, t = "x"}\n' 'introduce\tm\tx' '@misc{a}\n@string{m = {x}}\n@misc{b, t = m}\n'
+makes "$crossed" 'regenerate' "$made"
+makes "$crossed" 'regenerate\nregenerate' "$made"
+makes '@misc{,year=1999}@misc{x,year=1999}@misc{c,year=2000,crossref={anon99A}}' 'regenerate' '@misc{anon99,year=1999}@misc{anon99b,year=1999}@misc{anon00,year=2000,crossref={anon99A}}'
+makes '' 'regenerate' ''
+makes '@misc{a, crossref = {b}}@misc{c}' 'rename-key\ta\td\nrename-key\tc\ta\nregenerate' '@misc{anon, crossref = {b}}@misc{anona}'
+
+refuses 31 BadKey "$two" 'rename-key\ta\tb c'
+refuses 35 NotFound "$two" 'rename-key\tc\td'
+refuses 36 Ambiguous '@misc{a}@misc{A}' 'rename-key\ta\tb'
+refuses 37 KeyInUse "$two" 'rename-key\ta\tB'
+refuses 37 KeyInUse '@misc{a}@misc{b, crossref = {Z}}' 'rename-key\ta\tz'
+refuses 32 BadName '@string{m = 1}' 'rename-macro\tm\t1'
+refuses 35 NotFound "$month" 'rename-macro\tfeb\tj'
+refuses 36 Ambiguous '@string{p={A}}@misc{a,t=p}@string{p={B}}@misc{b,t=p}' 'rename-macro\tp\tq'
+refuses 38 NameInUse "$month" 'rename-macro\tjan\tMay'
+refuses 36 Ambiguous '@string{m = 1}@string{M = 2}' 'inline\tm'
+refuses 40 WouldMerge 'a@foo \n@string{m = 1}{b' 'inline\tm'
+refuses 33 BadValue '@misc{a, t = {x}}' 'introduce\tm\t{x'
+refuses 35 NotFound '@misc{a, t = m}@string{n = 1}@misc{b, t = n}' 'introduce\tm\t1'
+refuses 38 NameInUse '@misc{a, t = {x} # m}' 'introduce\tm\tx'
+refuses 38 NameInUse '@misc{a, t = {x} # "x"}' 'introduce\tmay\tx'
+refuses 71 BadScript "$two" 'rename-key\ta'
+refuses 71 BadScript "$two" 'rename-key\ta\tb\tc'
+refuses 71 BadScript "$two" 'rename-macro\ta'
+refuses 71 BadScript "$two" 'inline'
+refuses 71 BadScript "$two" 'inline\ta\tb'
+refuses 71 BadScript "$two" 'introduce\ta'
+refuses 71 BadScript "$two" 'regenerate\t'
+refuses 71 BadScript "$two" 'regenerate\t1'
+
+# What is shown of an entry, without its type and key: a renaming keeps it.
+keeps() {
+    given_edit "$1" "$2"
+    when_shell_runs '"$program" show edited.bib '"$3"' | tail -n +2 | grep -v "^crossref"'
+    cp seen/out wanted
+    edit
+    when_shell_runs '"$program" show edited.bib '"$4"' | tail -n +2 | grep -v "^crossref"'
+    case="what is shown of $3 after $2 of $1"
+    writes wanted
+}
+
+keeps '@string{conf={conf}}@misc{conf95, title = {T}}@misc{b, note = {N}, crossref = conf # {95}}' 'rename-key\tconf95\ticc' b b
+keeps "$crossed" 'regenerate' Lam86 Knu84
+keeps "$crossed" 'regenerate' Knu84 Lam86
+keeps "$month" 'rename-macro\tjan\tj' a a
+keeps '@string{x={1}}@string{m=x}@string{x={2}}@misc{k,t=m # x}' 'inline\tm' k k
+keeps '@misc{a, t = {x } # "x" # mar}' 'introduce\tm\tx' a a
+
+# Many entries of one base.
+{ yes '@misc{x}' | head -n 100000; } >edited.bib
+given script 'regenerate\n'
+given wanted 'applied 1\n'
+edit; ends_with 0; writes wanted; says_nothing
+when_shell_runs 'sed -n "1p;27p;28p;100000p" edited.bib'; given wanted '@misc{anon}\n@misc{anonz}\n@misc{anonaa}\n@misc{anoneqxc}\n'; writes wanted
+when_shell_runs 'sort -u edited.bib | wc -l | tr -d " "'; given wanted '100000\n'; writes wanted
+
+# A result of gigabytes is refused, and not built.
+{ printf '@string{m={'; head -c 1000000 /dev/zero | tr '\0' x; printf '}}@misc{k'; yes ',t=m' | head -n 100000; printf '}'; } >edited.bib
+cp edited.bib before.bib
+given script 'inline\tm\n'
+given wanted 'applied 0\n'
+when_shell_runs 'ulimit -v 400000; "$program" edit edited.bib <script'; ends_with 1; writes wanted; says 'bibkeep: line 1: 9 FileTooLong'
+when_shell_runs 'cmp before.bib edited.bib'; ends_with 0
