@@ -185,7 +185,7 @@ Each line is an edit, its words parted by tabs (shown here as spaces):
   move KEY POSITION                      puts the entry before the item at POSITION among the others
   rename-key FROM TO                     gives the entry another key, and changes each crossref that names it
   rename-macro FROM TO                   gives the macro another name, in its definition and from there on
-  inline NAME                            puts the macro's text in the place of each use, and takes the definition away
+  inline NAME                            puts the macro's text in the place of each use, and takes its definition away
   introduce NAME TEXT                    makes each value or part that is this text a use of a new macro
   regenerate                             makes all keys anew, of names and years, and changes the crossrefs
 The first line that is refused ends the script; the edits before it stand. What it did is kept in the journal
@@ -193,7 +193,8 @@ F.bibkeep, for undo.
 
 Examples:
   printf 'set\\tknuth86\\tyear\\t1986\\n' | bibkeep edit refs.bib
-  printf 'set\\tknuth86\\tnote\\t{x}\\ndrop\\tknuth86\\tpages\\n' | bibkeep edit refs.bib",
+  printf 'set\\tknuth86\\tnote\\t{x}\\ndrop\\tknuth86\\tpages\\n' | bibkeep edit refs.bib
+  printf 'rename-key\\ttype86\\ttype\\n' | bibkeep edit refs.bib",
     )
 }
 
