@@ -69,17 +69,17 @@ keeps '@string{x={1}}@string{m=x}@string{x={2}}@misc{k,t=m # x}' 'inline\tm' k k
 keeps '@misc{a, t = {x } # "x" # mar}' 'introduce\tm\tx' a a
 
 # Many entries of one base.
+given_edit '' 'regenerate\n'
 { yes '@misc{x}' | head -n 100000; } >edited.bib
-given script 'regenerate\n'
 given wanted 'applied 1\n'
 edit; ends_with 0; writes wanted; says_nothing
 when_shell_runs 'sed -n "1p;27p;28p;100000p" edited.bib'; given wanted '@misc{anon}\n@misc{anonz}\n@misc{anonaa}\n@misc{anoneqxc}\n'; writes wanted
 when_shell_runs 'sort -u edited.bib | wc -l | tr -d " "'; given wanted '100000\n'; writes wanted
 
 # A result of gigabytes is refused, and not built.
+given_edit '' 'inline\tm\n'
 { printf '@string{m={'; head -c 1000000 /dev/zero | tr '\0' x; printf '}}@misc{k'; yes ',t=m' | head -n 100000; printf '}'; } >edited.bib
 cp edited.bib before.bib
-given script 'inline\tm\n'
 given wanted 'applied 0\n'
 when_shell_runs 'ulimit -v 400000; "$program" edit edited.bib <script'; ends_with 1; writes wanted; says 'bibkeep: line 1: 9 FileTooLong'
 when_shell_runs 'cmp before.bib edited.bib'; ends_with 0
