@@ -12,4 +12,5 @@ pub mod Progress
 pub mod WholeFile
 pub mod Endings
 pub mod LabelLines
+pub mod LabelFields
 pub mod NameLines
