@@ -13,4 +13,5 @@ pub mod WholeFile
 pub mod Endings
 pub mod LabelLines
 pub mod LabelFields
+pub mod SeenSteps
 pub mod NameLines

@@ -8,4 +8,5 @@ mod kinds;
 pub mod labels;
 pub mod names;
 mod reporting;
+mod seen_names;
 pub mod show;
