@@ -14,7 +14,7 @@ use Rattle.bib_store.specs.Meaning.{is_entry_tree}
 use Rattle.bib_value.proofs.Entries.{name_short}
 use Rattle.bib_run.specs.Check.{Assigned, row_assigned, assigned, defined_in, field_reports, of_entry, repeated_report, crossref_report, item_reports, reports_on, entries_before}
 use Rattle.bib_run.proofs.ItemCounts.{number_within}
-use Rattle.bib_run.specs.Fields.{IsFieldOf, AreFieldsOf, AreSound}
+use Rattle.bib_run.specs.Fields.{Views, IsFieldOf, AreFieldsOf, AreSound}
 
 field_of_assignment : (a : Assignment) (field : Field) → IsAssignment name_limit a → field.name ≡ a.name → field.value ≡ value_bytes a.value
     → IsFieldOf (a.name, a.value) field
@@ -49,10 +49,6 @@ sound_of (a ∷ values) (field ∷ fields) are = (
   },
   sound_of values fields are.1,
 )
-
--- what a view tells of item n
-abbrev pub Views : Reading → ℕ → View → Type 0
-Views db n view = (item : Item) → slice_get db.items n ≡ Some item → view ≡ view_of item
 
 -- item n of a file, with its view
 pub record IsViewed (db : Reading) (n : ℕ) (view : View) : Type 0 where

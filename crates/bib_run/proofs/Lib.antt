@@ -12,6 +12,8 @@ pub mod Progress
 pub mod WholeFile
 pub mod Endings
 pub mod LabelLines
+pub mod LabelFields
+pub mod SeenSteps
 pub mod NameLines
 pub mod SessionAnswers
 pub mod LogLemmas

@@ -8,10 +8,9 @@ use Rattle.bib_spec.specs.Text.{Text, folded, same}
 use Rattle.bib_spec.specs.Tree.{Part}
 use Rattle.bib_spec.specs.Texts.{Macros, parts_of}
 use Rattle.bib_scan.specs.View.{Field}
-use Rattle.bib_value.specs.FoldedMap.{value_at, IsWith}
 use Rattle.bib_value.specs.Raw.{OfValue}
 use Rattle.bib_run.specs.Check.{Assigned, use_reports, extra_report, field_reports}
-use Rattle.bib_run.specs.Fields.{AreFieldsOf, AreSound, HasNames}
+use Rattle.bib_run.specs.Fields.{AreFieldsOf, AreSound}
 use Rattle.bib_run.proofs.LineLists.{lines_more}
 
 -- ---- uses
@@ -36,54 +35,48 @@ pub uses_all : (bytes : Text) (line : Part → Text) (n : ℕ) (start out : Text
 uses_all bytes line n start out all to v ok same =
     to v ok same ∙ ap (λ k. start ++ flat_map line (take k (parts_of v))) (all v ok same) ∙ ap (λ (ps : List Part). start ++ flat_map line ps) (take-length (parts_of v))
 
--- ---- names
-
-pub no_names : {V : Type 0} (table : List (Text × V)) → ((x : Text) → value_at table x ≡ None) → HasNames table []
-no_names table none x = ap is_some (none x)
-
-pub names_more : {V : Type 0} (old new : List (Text × V)) (names : List Text) (name : Text) (v : V) → HasNames old names → IsWith old name v new → HasNames new (name ∷ names)
-names_more {V} old new names name v has is x = ap is_some (is x) ∙ by_case (bytes_eq x (folded name)) ∙ ap (λ (b : Bool). bytes_eq x (folded name) || b) (has x)
-  where
-    by_case : (b : Bool) → is_some (cond b (Some v) (value_at old x)) ≡ (b || is_some (value_at old x))
-    by_case true = refl
-    by_case false = refl
+-- where the value has one part, its report is the value's
+pub uses_alone : (bytes : Text) (line : Part → Text) (part : Part) (start : Text) → OfValue bytes (λ v. parts_of v ≡ part ∷ [])
+    → OfValue bytes (λ v. start ++ line part ≡ start ++ flat_map line (parts_of v))
+uses_alone bytes line part start alone v ok same =
+    ap (λ (t : Text). start ++ t) (sym (append-nil (line part)) ∙ sym (ap (flat_map line) (alone v ok same)))
 
 -- ---- fields
 
--- the fields left, of which nothing is reported yet, and the names before them
-pub record IsLeft {V : Type 0} (own : Text → Option Text) (macros : Macros) (key whole out : Text) (table : List (Text × V)) (fields : List Field) : Type 0 where
+-- the fields left, of which nothing is reported yet, and the names before them, which were seen
+pub record IsLeft (own : Text → Option Text) (macros : Macros) (key whole out : Text) (seen : List Text → Type 0) (fields : List Field) : Type 0 where
   pub names : List Text
   pub values : List Assigned
   pub are : AreFieldsOf values fields
-  pub has : HasNames table names
+  pub has : seen names
   pub joined : out ++ field_reports own macros key names values ≡ whole
 
-pub record IsReporting {V : Type 0} (own : Text → Option Text) (macros : Macros) (key : Text) (all : List Field) (start out : Text) (table : List (Text × V)) (fields : List Field) : Type 0 where
+pub record IsReporting (own : Text → Option Text) (macros : Macros) (key : Text) (all : List Field) (start out : Text) (seen : List Text → Type 0) (fields : List Field) : Type 0 where
   pub sound : AreSound fields
-  pub left : (values : List Assigned) → AreFieldsOf values all → IsLeft own macros key (start ++ field_reports own macros key [] values) out table fields
+  pub left : (values : List Assigned) → AreFieldsOf values all → IsLeft own macros key (start ++ field_reports own macros key [] values) out seen fields
 
-pub reporting_start : {V : Type 0} (own : Text → Option Text) (macros : Macros) (key : Text) (all : List Field) (start : Text) (table : List (Text × V))
-    → AreSound all → ((x : Text) → value_at table x ≡ None) → IsReporting own macros key all start start table all
-reporting_start own macros key all start table sound none = record {
+pub reporting_start : (own : Text → Option Text) (macros : Macros) (key : Text) (all : List Field) (start : Text) (seen : List Text → Type 0)
+    → AreSound all → seen [] → IsReporting own macros key all start start seen all
+reporting_start own macros key all start seen sound none = record {
   sound = sound;
-  left = λ values are. record { names = []; values = values; are = are; has = no_names table none; joined = refl };
+  left = λ values are. record { names = []; values = values; are = are; has = none; joined = refl };
 }
 
-left_more : {V : Type 0} (own : Text → Option Text) (macros : Macros) (key whole out out1 out2 : Text) (old new : List (Text × V)) (field : Field) (fields : List Field) (v : V)
-    → ((names : List Text) → HasNames old names → out1 ≡ out ++ extra_report key names field.name)
+left_more : (own : Text → Option Text) (macros : Macros) (key whole out out1 out2 : Text) (old new : List Text → Type 0) (field : Field) (fields : List Field)
+    → ((names : List Text) → old names → out1 ≡ out ++ extra_report key names field.name)
     → OfValue field.value (λ x. out2 ≡ out1 ++ use_reports (own field.name) macros x)
-    → IsWith old field.name v new
+    → ((names : List Text) → old names → new (field.name ∷ names))
     → IsLeft own macros key whole out old (field ∷ fields) → IsLeft own macros key whole out2 new fields
-left_more {V} own macros key whole out out1 out2 old new field fields v extra uses with is = go is.names is.values is.are is.has is.joined
+left_more own macros key whole out out1 out2 old new field fields extra uses with is = go is.names is.values is.are is.has is.joined
   where
-    go : (names : List Text) (values : List Assigned) → AreFieldsOf values (field ∷ fields) → HasNames old names → out ++ field_reports own macros key names values ≡ whole
+    go : (names : List Text) (values : List Assigned) → AreFieldsOf values (field ∷ fields) → old names → out ++ field_reports own macros key names values ≡ whole
         → IsLeft own macros key whole out2 new fields
     go names [] are has joined = absurd are
     go names (a ∷ values) are has joined = record {
       names = a.0 ∷ names;
       values = values;
       are = are.1;
-      has = subst (λ (n : Text). HasNames new (n ∷ names)) are.0.name (names_more old new names field.name v has with);
+      has = subst (λ (n : Text). new (n ∷ names)) are.0.name (with names has);
       joined =
           ap (λ (t : Text). t ++ field_reports own macros key (a.0 ∷ names) values)
           (uses a.1 are.0.value are.0.bytes ∙ ap (λ (t : Text). t ++ use_reports (own field.name) macros a.1) (extra names has)
@@ -93,21 +86,21 @@ left_more {V} own macros key whole out out1 out2 old new field fields v extra us
           ∙ joined;
     }
 
-pub reporting_more : {V : Type 0} (own : Text → Option Text) (macros : Macros) (key : Text) (all : List Field) (start out out1 out2 : Text) (old new : List (Text × V)) (field : Field) (fields : List Field) (v : V)
-    → ((names : List Text) → HasNames old names → out1 ≡ out ++ extra_report key names field.name)
+pub reporting_more : (own : Text → Option Text) (macros : Macros) (key : Text) (all : List Field) (start out out1 out2 : Text) (old new : List Text → Type 0) (field : Field) (fields : List Field)
+    → ((names : List Text) → old names → out1 ≡ out ++ extra_report key names field.name)
     → OfValue field.value (λ x. out2 ≡ out1 ++ use_reports (own field.name) macros x)
-    → IsWith old field.name v new
+    → ((names : List Text) → old names → new (field.name ∷ names))
     → IsReporting own macros key all start out old (field ∷ fields) → IsReporting own macros key all start out2 new fields
-reporting_more own macros key all start out out1 out2 old new field fields v extra uses with is = record {
+reporting_more own macros key all start out out1 out2 old new field fields extra uses with is = record {
   sound = is.sound.1;
-  left = λ values are. left_more own macros key _ out out1 out2 old new field fields v extra uses with (is.left values are);
+  left = λ values are. left_more own macros key _ out out1 out2 old new field fields extra uses with (is.left values are);
 }
 
-pub reporting_all : {V : Type 0} (own : Text → Option Text) (macros : Macros) (key : Text) (all : List Field) (start out : Text) (table : List (Text × V))
-    → IsReporting own macros key all start out table [] → (values : List Assigned) → AreFieldsOf values all → out ≡ start ++ field_reports own macros key [] values
-reporting_all own macros key all start out table is values are = go left.values left.are left.joined
+pub reporting_all : (own : Text → Option Text) (macros : Macros) (key : Text) (all : List Field) (start out : Text) (seen : List Text → Type 0)
+    → IsReporting own macros key all start out seen [] → (values : List Assigned) → AreFieldsOf values all → out ≡ start ++ field_reports own macros key [] values
+reporting_all own macros key all start out seen is values are = go left.values left.are left.joined
   where
-    left : IsLeft own macros key (start ++ field_reports own macros key [] values) out table []
+    left : IsLeft own macros key (start ++ field_reports own macros key [] values) out seen []
     left = is.left values are
 
     go : (rest : List Assigned) → AreFieldsOf rest [] → out ++ field_reports own macros key left.names rest ≡ start ++ field_reports own macros key [] values

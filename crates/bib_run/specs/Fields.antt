@@ -1,13 +1,17 @@
 -- Fields as views tell them, and as the grammar has them.
-use Rattle.std.specs.Prelude.{◌≡◌, ◌≤◌, List, length, is_some, bytes_eq}
-use Rattle.std.specs.List.{AllByRecursion, AllZip, list_any}
+use Rattle.std.specs.Prelude.{ℕ, ◌≡◌, ◌≤◌, List, Some, length, slice_get}
+use Rattle.std.specs.List.{AllByRecursion, AllZip}
 use Rattle.bib_spec.specs.Bytes.{name_limit}
-use Rattle.bib_spec.specs.Text.{Text, folded}
+use Rattle.bib_spec.specs.Text.{Text}
 use Rattle.bib_spec.specs.Tree.{IsValue, value_bytes}
 use Rattle.bib_spec.specs.Reading.{IsValueWithin}
-use Rattle.bib_scan.specs.View.{Field}
-use Rattle.bib_value.specs.FoldedMap.{value_at}
+use Rattle.bib_spec.specs.Reading.{Item, Reading}
+use Rattle.bib_scan.specs.View.{View, Field, view_of}
 use Rattle.bib_run.specs.Check.{Assigned}
+
+-- item n is seen so
+abbrev pub Views : Reading → ℕ → View → Type 0
+Views db n view = (item : Item) → slice_get db.items n ≡ Some item → view ≡ view_of item
 
 -- the field has this name and the bytes of this value
 pub record IsFieldOf (a : Assigned) (field : Field) : Type 0 where
@@ -27,7 +31,3 @@ pub record IsSound (field : Field) : Type 0 where
 
 abbrev pub AreSound : List Field → Type 0
 AreSound = AllByRecursion IsSound
-
--- the table has these names, folded, and no others
-abbrev pub HasNames : {V : Type 0} → List (Text × V) → List Text → Type 0
-HasNames table names = (x : Text) → is_some (value_at table x) ≡ list_any (λ name. bytes_eq x (folded name)) names

@@ -1,10 +1,11 @@
 -- `labels`: short names for the entries that keys cite. (dialect)
-use Rattle.std.specs.Prelude.{ℕ, List, [], ◌∷◌, ◌++◌, map, filter_map, zip, codes}
+use Rattle.std.specs.Prelude.{ℕ, List, [], ◌∷◌, ◌++◌, map, filter_map, option_map, zip, codes}
 use Rattle.std.specs.List.{flat_map}
 use Rattle.bib_spec.specs.Text.{Text}
 use Rattle.bib_spec.specs.Reading.{Reading}
 use Rattle.bib_spec.specs.Records.{EntryTexts, Record, entries_of, default_depth, expanded, listed, unknown}
-use Rattle.bib_names.specs.Label.{label_base, labels_of}
+use Rattle.bib_store.specs.Choosing.{with_chosen}
+use Rattle.bib_names.specs.Label.{label_base, label_names, labels_of}
 use Rattle.bib_run.specs.declared.answers.Answer.{Answer}
 use Rattle.bib_run.specs.Messages.{no_such_entry_line}
 use Rattle.bib_run.specs.Outcome.{answer_of}
@@ -16,6 +17,10 @@ default_min = 2
 -- the records of these entries
 abbrev pub records_at : List EntryTexts → List ℕ → List Record
 records_at entries list = filter_map (expanded default_depth entries) list
+
+-- the same, with no other fields than those that labels are made of
+abbrev pub chosen_at : List EntryTexts → List ℕ → List Record
+chosen_at entries list = filter_map (λ n. option_map (with_chosen label_names) (expanded default_depth entries n)) list
 
 -- a label, a tab, and the key of its record, a line
 abbrev pub label_line : Text × Record → Text

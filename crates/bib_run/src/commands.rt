@@ -9,5 +9,6 @@ pub mod labels;
 pub mod log;
 pub mod names;
 mod reporting;
+mod seen_names;
 pub mod show;
 pub mod turning;

@@ -8,7 +8,7 @@ ghost use Rattle.bib_run.specs.Opened.{AnswersFile};
 ghost use Rattle.bib_run.specs.Check.{is_definition, count_items, count_lines, all_reports, check_answer};
 
 use crate::answers::{Answer, done, unread};
-use crate::commands::kinds::{count_kind, item_is};
+use crate::commands::kinds::{count_kind, is_same_kind};
 use crate::commands::reporting::add_item_reports;
 use crate::opening::open;
 use bib_scan::{Kind, Text};
@@ -75,8 +75,9 @@ fn add_reports(alloc: Global, out: &mut Vec<u8>, db: &Database<Flat>) -> Result<
 {
     let mut entries: usize = 0;
     'items: for n in 0..db.item_count() {
-        add_item_reports(alloc, out, db, n, entries)?;
-        if item_is(db, n, Kind::Entry) {
+        let item = db.item(n);
+        add_item_reports(alloc, out, db, n, &item, entries)?;
+        if is_same_kind(item.kind(), Kind::Entry) {
             entries += 1;
         }
     }

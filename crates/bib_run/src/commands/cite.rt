@@ -10,7 +10,7 @@ ghost use Rattle.bib_run.specs.Cite.{with_listed, listed_line, listed_lines, unk
 ghost use Rattle.bib_run.specs.Marks.{AreMarks, AreEntryNumbers, ArePlaces};
 
 use crate::answers::{Answer, done, unread};
-use crate::opening::{open, parent_of};
+use crate::opening::open;
 use bib_scan::Text;
 use bib_store::{Database, Flat};
 use std::alloc::{AllocError, Global};
@@ -105,7 +105,7 @@ fn add_parent(
     ensures { OnOk result (OfReading db.now (λ r. (list : List ℕ) → AreMarks (length (entries_of r)) list marks.now
         → out.new.items ≡ out.old.items ++ option_map_or (with_listed (entries_of r) list) (parent (entries_of r) n) [])) }
 {
-    let Some(parent) = parent_of(db, n) else {
+    let Some(parent) = db.parent(n) else {
         return Ok(());
     };
     if !is_marked(marks, parent) {

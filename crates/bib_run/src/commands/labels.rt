@@ -5,13 +5,13 @@ ghost use Rattle.std.specs.List.{flat_map};
 ghost use Rattle.bib_spec.specs.Records.{entries_of};
 ghost use Rattle.bib_store.specs.Meaning.{OfReading};
 ghost use Rattle.bib_run.specs.Opened.{AnswersFile};
-ghost use Rattle.bib_run.specs.Labels.{label_line, labelled, records_at, labels_answer};
+ghost use Rattle.bib_run.specs.Labels.{label_line, labelled, records_at, chosen_at, labels_answer};
 ghost use Rattle.bib_run.specs.Marks.{AreEntryNumbers};
 
 use crate::answers::{Answer, done, refused, unread};
 use crate::messages::NO_SUCH_ENTRY;
 use crate::opening::open;
-use bib_names::labels;
+use bib_names::{label_names, labels};
 use bib_scan::Text;
 use bib_store::{Database, Flat, Record};
 use std::alloc::{AllocError, Global};
@@ -41,21 +41,31 @@ fn label(alloc: Global, db: &Database<Flat>, keys: &[Text]) -> Result<Answer, Al
             Text::from_vec(Vec::from_slice(alloc, NO_SUCH_ENTRY)?),
         ));
     }
-    let records = records_at(alloc, db, cited.listed.as_slice())?;
-    Ok(done(alloc, label_lines(alloc, records.as_slice())?))
+    Ok(done(alloc, lines_of(alloc, db, cited.listed.as_slice())?))
 }
 
-/// The records of these entries.
+/// A line for each of these entries, with its label.
+fn lines_of(alloc: Global, db: &Database<Flat>, list: &[usize]) -> Result<Text, AllocError>
+    requires { AreEntryNumbers db.now list.now }
+    ensures { IfOk result (λ text. OfReading db.now (λ r. text ≡ flat_map label_line (labelled (records_at (entries_of r) list.now)))) }
+{
+    let records = records_at(alloc, db, list)?;
+    label_lines(alloc, records.as_slice())
+}
+
+/// The records of these entries, with no other fields than those that labels are made of.
 fn records_at(alloc: Global, db: &Database<Flat>, list: &[usize]) -> Result<Vec<Record>, AllocError>
     requires { AreEntryNumbers db.now list.now }
-    ensures { IfOk result (λ records. OfReading db.now (λ r. records.items ≡ records_at (entries_of r) list.now)) }
+    ensures { IfOk result (λ records. OfReading db.now (λ r. records.items ≡ chosen_at (entries_of r) list.now)) }
 {
-    let mut records = Vec::new(alloc);
+    let label_names = label_names(alloc)?;
+    let names = label_names.as_slice();
+    let mut records = Vec::with_capacity(alloc, list.len())?;
     'expand: for n in list {
-        let Ok(expanded) = db.expanded(*n) else {
+        let Ok(record) = db.expanded_with(*n, names) else {
             return Err(AllocError);
         };
-        records.push(expanded.rec)?;
+        records.push(record)?;
     }
     Ok(records)
 }

@@ -10,36 +10,39 @@ ghost use Rattle.bib_value.specs.Macros.{is_own};
 ghost use Rattle.bib_value.specs.Raw.{OfValue};
 ghost use Rattle.bib_store.specs.Meaning.{OfReading, IsItemNumber};
 ghost use Rattle.bib_run.specs.Check.{Assigned, report, report_both, use_report, use_reports, defined_in, extra_report, field_reports, of_entry, repeated_report, target_report, crossref_report, entries_before, reports_on};
-ghost use Rattle.bib_run.specs.Fields.{AreFieldsOf, AreSound, HasNames};
+ghost use Rattle.bib_run.specs.Fields.{Views, AreFieldsOf, AreSound};
+ghost use Rattle.bib_run.specs.Seen.{HaveSeen};
 
 use crate::answers::MEMORY;
 use crate::commands::kinds::is_same_kind;
-use bib_scan::{ItemView, Kind, Part, read_value, same_folded};
+use crate::commands::seen_names::SeenNames;
+use bib_scan::{ItemView, Kind, Part, only_part, read_value, same_folded};
 use bib_store::{Database, Flat};
-use bib_value::{FoldedMap, MacroTable};
+use bib_value::MacroTable;
 use std::alloc::{AllocError, Global};
 
-/// The reports on item `n`, before which there are so many entries. It takes time in the item's length.
+/// The reports on item `n`, which is seen so, and before which there are so many entries. It takes time in the item's length.
 pub fn add_item_reports(
     alloc: Global,
     out: &mut Vec<u8>,
     db: &Database<Flat>,
     n: usize,
+    item: &ItemView<'_>,
     entries: usize,
 ) -> Result<(), AllocError>
     requires item { IsItemNumber db.now n }
+    requires seen { OfReading db.now (λ r. Views r n item.now) }
     requires entries { OfReading db.now (λ r. entries ≡ entries_before r n) }
     ensures { OnOk result (OfReading db.now (λ r. out.new.items ≡ out.old.items ++ reports_on r n)) }
 {
     db.opens();
-    let item = db.item(n);
     let macros = db.macros_at(n);
     if !is_same_kind(item.kind(), Kind::Entry) {
-        add_field_reports(alloc, out, &item, &macros)?;
+        add_field_reports(alloc, out, item, &macros)?;
         return Ok(());
     }
     add_repeated(out, db.is_repeated(entries), item.key())?;
-    add_field_reports(alloc, out, &item, &macros)?;
+    add_field_reports(alloc, out, item, &macros)?;
     add_crossref(
         out,
         item.key(),
@@ -63,7 +66,7 @@ fn add_field_reports<M: MacroTable>(
     ensures { OnOk result ((values : List Assigned) → AreFieldsOf values item.now.fields
         → out.new.items ≡ out.old.items ++ field_reports (defined_in item.now.kind) (M.macros macros.now) item.now.key [] values) }
 {
-    let mut earlier = FoldedMap::new(alloc);
+    let mut earlier = SeenNames::new(alloc);
     let mut fields = item.fields();
     'fields: while let Some(field) = fields.next() {
         add_extra(out, &earlier, item.key(), field.name)?;
@@ -74,7 +77,7 @@ fn add_field_reports<M: MacroTable>(
             defined_in(item.kind(), field.name),
             field.value,
         )?;
-        earlier.insert(field.name, ())?;
+        earlier.add(field.name)?;
     }
     Ok(())
 }
@@ -92,23 +95,41 @@ fn defined_in(kind: Kind, name: &[u8]) -> Option<&[u8]>
 /// An earlier field has this name.
 fn add_extra(
     out: &mut Vec<u8>,
-    earlier: &FoldedMap<()>,
+    earlier: &SeenNames<'_>,
     key: &[u8],
     name: &[u8],
 ) -> Result<(), AllocError>
-    ensures { OnOk result ((names : List Text) → HasNames earlier.now names → out.new.items ≡ out.old.items ++ extra_report key.now names name.now) }
+    ensures { OnOk result ((names : List Text) → HaveSeen earlier.now names → out.new.items ≡ out.old.items ++ extra_report key.now names name.now) }
 {
-    if earlier.get(name).is_none() {
-        return Ok(());
+    if earlier.has(name) {
+        return add_report_both(out, b"extra field", key, name);
     }
-    add_report_both(out, b"extra field", key, name)?;
     Ok(())
 }
 
 // ---- uses
 
-/// The reports on the macros that a value uses.
+/// The reports on the macros that a value uses. Most values have one part, and are not taken apart: no memory is asked for
+/// but for reports.
 fn add_uses<M: MacroTable>(
+    alloc: Global,
+    out: &mut Vec<u8>,
+    macros: &M,
+    own: Option<&[u8]>,
+    value: &[u8],
+) -> Result<(), AllocError>
+    requires { IsValueWithin name_limit value.now }
+    ensures { OnOk result (OfValue value.now (λ v. out.new.items ≡ out.old.items ++ use_reports (option_copied own.entry) (M.macros macros.now) v)) }
+{
+    if let Some(part) = only_part(value) {
+        add_use(out, part, macros, own)?;
+        return Ok(());
+    }
+    add_each_use(alloc, out, macros, own, value)
+}
+
+/// The reports on the macros that the parts of a value use.
+fn add_each_use<M: MacroTable>(
     alloc: Global,
     out: &mut Vec<u8>,
     macros: &M,

@@ -7,16 +7,16 @@ use Rattle.bib_run.proofs.commands.cite.add_parent.Goals as goal
 
 pub returns-then-not-is_marked : goal.returns-then-not-is_marked
 returns-then-not-is_marked c r reads list are =
-    let has : parent (entries_of r) c.args.n ≡ Some c.in-Some.parent = sym (c.parent_of.ensures r reads) ∙ c.in-Some.is in
+    let has : parent (entries_of r) c.args.n ≡ Some c.in-Some.parent = sym (c.parent.ensures.parent r reads) ∙ c.in-Some.is in
     let stopped : c.is_marked.result ≡ false = search rules in
     parent_unlisted (entries_of r) list c.args.marks.now c.args.n are c.in-Some.parent c.args.out.now.items has (sym c.is_marked.ensures ∙ stopped)
 
 pub entry-requires : goal.entry-requires
-entry-requires c r reads = parent_within (entries_of r) c.args.n c.in-Some.parent (sym (c.parent_of.ensures r reads) ∙ c.in-Some.is)
+entry-requires c r reads = parent_within (entries_of r) c.args.n c.in-Some.parent (sym (c.parent.ensures.parent r reads) ∙ c.in-Some.is)
 
 pub returns : goal.returns
 returns c r reads list are =
-    let has : parent (entries_of r) c.args.n ≡ Some c.in-Some.parent = sym (c.parent_of.ensures r reads) ∙ c.in-Some.is in
+    let has : parent (entries_of r) c.args.n ≡ Some c.in-Some.parent = sym (c.parent.ensures.parent r reads) ∙ c.in-Some.is in
     let marked : c.is_marked.result ≡ true = search rules in
     let key_is = c.key.ensures ∙ entry_key r c.in-Some.parent c.entry.result (parent_within (entries_of r) c.args.n c.in-Some.parent has) (c.entry.ensures r reads) in
     c.in_ok-extend_from_slice-2.ensures.items
