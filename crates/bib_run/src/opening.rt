@@ -5,14 +5,14 @@ ghost use Rattle.bib_spec.specs.Texts.{IsOpenable};
 ghost use Rattle.bib_store.specs.Meaning.{IsOpenFault};
 
 use bib_scan::ReadFault;
-use bib_store::{Database, Flat};
+use bib_store::{Database, Paged};
 use std::alloc::Global;
 
 /// Opens the file. The bytes are kept once, in its items.
-pub fn open(alloc: Global, file: Vec<u8>) -> Result<Database<Flat>, ReadFault>
+pub fn open(alloc: Global, file: Vec<u8>) -> Result<Database<Paged>, ReadFault>
     ensures opened { IfOk result (λ db. db ≡ file.items) }
     ensures file { OnOk result (IsOpenable file.items) }
     ensures fault { IfErr result (λ fault. IsOpenFault file.items fault.kind fault.place) }
 {
-    Database::open_bytes(alloc, file.as_slice(), Flat::new(alloc))
+    Database::open_bytes(alloc, file.as_slice(), Paged::new(alloc))
 }

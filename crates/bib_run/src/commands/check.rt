@@ -12,7 +12,7 @@ use crate::commands::kinds::{count_kind, is_same_kind};
 use crate::commands::reporting::add_item_reports;
 use crate::opening::open;
 use bib_scan::{Kind, Text};
-use bib_store::{Database, Flat};
+use bib_store::{Database, Paged};
 use std::alloc::{AllocError, Global};
 
 /// What is in the file, and what is wrong with it.
@@ -25,7 +25,7 @@ pub fn answer_check(alloc: Global, file: Vec<u8>) -> Result<Answer, AllocError>
     }
 }
 
-fn check(alloc: Global, db: &Database<Flat>) -> Result<Answer, AllocError>
+fn check(alloc: Global, db: &Database<Paged>) -> Result<Answer, AllocError>
     ensures { IfOk result (λ answer. OfReading db.now (λ r. answer ≡ check_answer r)) }
 {
     let mut out = count_text(alloc, db)?;
@@ -34,7 +34,7 @@ fn check(alloc: Global, db: &Database<Flat>) -> Result<Answer, AllocError>
 }
 
 /// How many items, entries, macro definitions, preambles and comments there are.
-fn count_text(alloc: Global, db: &Database<Flat>) -> Result<Vec<u8>, AllocError>
+fn count_text(alloc: Global, db: &Database<Paged>) -> Result<Vec<u8>, AllocError>
     ensures { IfOk result (λ text. OfReading db.now (λ r. text.items ≡ count_lines (length r.items) (length (entries_of r))
         (count_items is_definition r) (length (preambles_of r)) (count_items is_comment r))) }
 {
@@ -70,7 +70,7 @@ fn write_counts(
 }
 
 /// The reports on all items, in order.
-fn add_reports(alloc: Global, out: &mut Vec<u8>, db: &Database<Flat>) -> Result<(), AllocError>
+fn add_reports(alloc: Global, out: &mut Vec<u8>, db: &Database<Paged>) -> Result<(), AllocError>
     ensures { OnOk result (OfReading db.now (λ r. out.new.items ≡ out.old.items ++ all_reports r)) }
 {
     let mut entries: usize = 0;

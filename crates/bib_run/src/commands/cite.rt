@@ -12,7 +12,7 @@ ghost use Rattle.bib_run.specs.Marks.{AreMarks, AreEntryNumbers, ArePlaces};
 use crate::answers::{Answer, done, unread};
 use crate::opening::open;
 use bib_scan::Text;
-use bib_store::{Database, Flat};
+use bib_store::{Database, Paged};
 use std::alloc::{AllocError, Global};
 
 /// The entries that the keys cite, where `min` children list a parent, and the keys that find none.
@@ -31,7 +31,7 @@ pub fn answer_cite(
     }
 }
 
-fn cite(alloc: Global, db: &Database<Flat>, keys: &[Text], min: u32) -> Result<Answer, AllocError>
+fn cite(alloc: Global, db: &Database<Paged>, keys: &[Text], min: u32) -> Result<Answer, AllocError>
     requires { 1 ≤ min }
     ensures { IfOk result (λ answer. OfReading db.now (λ r. answer ≡ cite_answer keys.now min r)) }
 {
@@ -45,7 +45,7 @@ fn cite(alloc: Global, db: &Database<Flat>, keys: &[Text], min: u32) -> Result<A
 }
 
 /// A line for each entry of the list.
-fn listed_text(alloc: Global, db: &Database<Flat>, list: &[usize]) -> Result<Vec<u8>, AllocError>
+fn listed_text(alloc: Global, db: &Database<Paged>, list: &[usize]) -> Result<Vec<u8>, AllocError>
     requires { AreEntryNumbers db.now list.now }
     ensures { IfOk result (λ text. OfReading db.now (λ r. text.items ≡ listed_lines (entries_of r) list.now)) }
 {
@@ -80,7 +80,7 @@ fn is_marked(marks: &[bool], n: usize) -> bool
 /// The line of an entry in the list.
 fn add_listed(
     out: &mut Vec<u8>,
-    db: &Database<Flat>,
+    db: &Database<Paged>,
     marks: &[bool],
     n: usize,
 ) -> Result<(), AllocError>
@@ -97,7 +97,7 @@ fn add_listed(
 /// A tab and the parent's key, where the parent is marked.
 fn add_parent(
     out: &mut Vec<u8>,
-    db: &Database<Flat>,
+    db: &Database<Paged>,
     marks: &[bool],
     n: usize,
 ) -> Result<(), AllocError>

@@ -10,7 +10,7 @@ use crate::sessions::{outcome_left, session_fault_name, unopened};
 use bib_journal::{Saved, Session, SessionFault, perform};
 use bib_scan::{FILE_LIMIT, ReadFault, Text};
 use bib_script::{Script, read_script};
-use bib_store::Flat;
+use bib_store::Paged;
 use std::alloc::{AllocError, Global};
 
 /// The number of a line that says no edit.
@@ -25,7 +25,7 @@ pub fn answer_edit(
 ) -> Result<Answer, AllocError>
     ensures { IfOk result (IsEditAnswer file.items (option_map (λ text. text.now) journal.entry) input.now) }
 {
-    let mut session = match Session::open(alloc, file.as_slice(), journal, Flat::new(alloc)) {
+    let mut session = match Session::open(alloc, file.as_slice(), journal, Paged::new(alloc)) {
         Ok(session) => session,
         Err(fault) => return unopened(alloc, fault),
     };
@@ -40,7 +40,7 @@ pub fn answer_edit(
 }
 
 /// What the script makes of a session.
-fn edit(alloc: Global, session: &mut Session<Flat>, input: &[u8]) -> Result<Answer, AllocError>
+fn edit(alloc: Global, session: &mut Session<Paged>, input: &[u8]) -> Result<Answer, AllocError>
     ensures { IfOk result (HasEdited (said_of input.now) session.old) }
 {
     let script = read_script(alloc, input)?;

@@ -8,10 +8,10 @@ ghost use Rattle.bib_store.specs.Meaning.{OfReading, IsItemNumber};
 ghost use Rattle.bib_run.specs.Kinds.{is_of_kind};
 
 use bib_scan::Kind;
-use bib_store::{Database, Flat};
+use bib_store::{Database, Paged};
 
 /// How many items are of this kind.
-pub fn count_kind(db: &Database<Flat>, kind: Kind) -> usize
+pub fn count_kind(db: &Database<Paged>, kind: Kind) -> usize
     ensures { OfReading db.now (λ r. result ≡ count_by (λ item. is_of_kind kind item.tree) r.items) }
 {
     let mut count: usize = 0;
@@ -24,7 +24,7 @@ pub fn count_kind(db: &Database<Flat>, kind: Kind) -> usize
 }
 
 /// Whether item `n` is of this kind.
-pub fn item_is(db: &Database<Flat>, n: usize, kind: Kind) -> bool
+pub fn item_is(db: &Database<Paged>, n: usize, kind: Kind) -> bool
     requires { IsItemNumber db.now n }
     ensures { OfReading db.now (λ r. (item : Item) → slice_get r.items n ≡ Some item → result ≡ is_of_kind kind item.tree) }
 {

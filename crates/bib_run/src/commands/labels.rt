@@ -13,7 +13,7 @@ use crate::messages::NO_SUCH_ENTRY;
 use crate::opening::open;
 use bib_names::{label_names, labels};
 use bib_scan::Text;
-use bib_store::{Database, Flat, Record};
+use bib_store::{Database, Paged, Record};
 use std::alloc::{AllocError, Global};
 
 /// How many children list a parent. (btxdoc 2.1)
@@ -29,7 +29,7 @@ pub fn answer_labels(alloc: Global, file: Vec<u8>, keys: &[Text]) -> Result<Answ
     }
 }
 
-fn label(alloc: Global, db: &Database<Flat>, keys: &[Text]) -> Result<Answer, AllocError>
+fn label(alloc: Global, db: &Database<Paged>, keys: &[Text]) -> Result<Answer, AllocError>
     ensures { IfOk result (λ answer. OfReading db.now (λ r. answer ≡ labels_answer keys.now r)) }
 {
     let Ok(cited) = db.cited(keys, MIN_CROSSREFS) else {
@@ -45,7 +45,7 @@ fn label(alloc: Global, db: &Database<Flat>, keys: &[Text]) -> Result<Answer, Al
 }
 
 /// A line for each of these entries, with its label.
-fn lines_of(alloc: Global, db: &Database<Flat>, list: &[usize]) -> Result<Text, AllocError>
+fn lines_of(alloc: Global, db: &Database<Paged>, list: &[usize]) -> Result<Text, AllocError>
     requires { AreEntryNumbers db.now list.now }
     ensures { IfOk result (λ text. OfReading db.now (λ r. text ≡ flat_map label_line (labelled (records_at (entries_of r) list.now)))) }
 {
@@ -54,7 +54,11 @@ fn lines_of(alloc: Global, db: &Database<Flat>, list: &[usize]) -> Result<Text, 
 }
 
 /// The records of these entries, with no other fields than those that labels are made of.
-fn records_at(alloc: Global, db: &Database<Flat>, list: &[usize]) -> Result<Vec<Record>, AllocError>
+fn records_at(
+    alloc: Global,
+    db: &Database<Paged>,
+    list: &[usize],
+) -> Result<Vec<Record>, AllocError>
     requires { AreEntryNumbers db.now list.now }
     ensures { IfOk result (λ records. OfReading db.now (λ r. records.items ≡ chosen_at (entries_of r) list.now)) }
 {

@@ -10,7 +10,7 @@ use crate::answers::{Answer, Outcome, done};
 use crate::sessions::unopened;
 use bib_journal::Session;
 use bib_scan::Text;
-use bib_store::{Flat, Piece};
+use bib_store::{Paged, Piece};
 use bib_words::status;
 use std::alloc::{AllocError, Global};
 
@@ -22,14 +22,14 @@ pub fn answer_log(
 ) -> Result<Answer, AllocError>
     ensures { IfOk result (IsLogAnswer file.items (option_map (λ text. text.now) journal.entry)) }
 {
-    match Session::open(alloc, file.as_slice(), journal, Flat::new(alloc)) {
+    match Session::open(alloc, file.as_slice(), journal, Paged::new(alloc)) {
         Ok(session) => Ok(done(alloc, log_text(alloc, &session)?)),
         Err(fault) => unopened(alloc, fault),
     }
 }
 
 /// A line for each past step from the oldest, and then for each future step from the next.
-fn log_text(alloc: Global, session: &Session<Flat>) -> Result<Text, AllocError>
+fn log_text(alloc: Global, session: &Session<Paged>) -> Result<Text, AllocError>
     ensures { IfOk result (λ text. text ≡ log_text session.now) }
 {
     let undos = session.undo_count();
@@ -50,7 +50,7 @@ fn log_text(alloc: Global, session: &Session<Flat>) -> Result<Text, AllocError>
 fn add_steps(
     alloc: Global,
     out: &mut Vec<u8>,
-    session: &Session<Flat>,
+    session: &Session<Paged>,
     word: &str,
     from: usize,
     to: usize,
@@ -104,14 +104,14 @@ fn new_len(step: &[Piece]) -> u64
 pub fn answer_forget(alloc: Global, file: Vec<u8>) -> Result<Answer, AllocError>
     ensures { IfOk result (IsForgetAnswer file.items) }
 {
-    match Session::start(alloc, file.as_slice(), Flat::new(alloc)) {
+    match Session::start(alloc, file.as_slice(), Paged::new(alloc)) {
         Ok(session) => forget(alloc, &session),
         Err(fault) => unopened(alloc, fault),
     }
 }
 
 /// The new journal of a session in which nothing was done.
-fn forget(alloc: Global, session: &Session<Flat>) -> Result<Answer, AllocError>
+fn forget(alloc: Global, session: &Session<Paged>) -> Result<Answer, AllocError>
     requires { session.now ≡ started session.now.present }
     ensures { IfOk result (IsForgetAnswer session.now.present) }
 {

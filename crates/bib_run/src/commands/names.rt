@@ -14,7 +14,7 @@ use crate::messages::NO_SUCH_ENTRY;
 use crate::opening::open;
 use bib_names::{Name, NameFault, Template, split_name, split_names, text_in};
 use bib_scan::{Seq, Text};
-use bib_store::{Database, Flat, Record};
+use bib_store::{Database, Paged, Record};
 use std::alloc::{AllocError, Global};
 
 /// The names of the first entry with this key, printed by the template that the bytes spell, or why they are not.
@@ -46,7 +46,7 @@ fn spelled(alloc: Global, bytes: &[u8]) -> Result<Option<Template>, AllocError>
 
 fn names(
     alloc: Global,
-    db: &Database<Flat>,
+    db: &Database<Paged>,
     key: &[u8],
     template: &Option<Template>,
 ) -> Result<Answer, AllocError>
@@ -64,7 +64,7 @@ fn names(
 /// The names of entry `n`.
 fn entry_answer(
     alloc: Global,
-    db: &Database<Flat>,
+    db: &Database<Paged>,
     n: usize,
     template: &Option<Template>,
 ) -> Result<Answer, AllocError>

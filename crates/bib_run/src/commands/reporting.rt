@@ -17,7 +17,7 @@ use crate::answers::MEMORY;
 use crate::commands::kinds::is_same_kind;
 use crate::commands::seen_names::SeenNames;
 use bib_scan::{ItemView, Kind, Part, only_part, read_value, same_folded};
-use bib_store::{Database, Flat};
+use bib_store::{Database, Paged};
 use bib_value::MacroTable;
 use std::alloc::{AllocError, Global};
 
@@ -25,7 +25,7 @@ use std::alloc::{AllocError, Global};
 pub fn add_item_reports(
     alloc: Global,
     out: &mut Vec<u8>,
-    db: &Database<Flat>,
+    db: &Database<Paged>,
     n: usize,
     item: &ItemView<'_>,
     entries: usize,

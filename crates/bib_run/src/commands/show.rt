@@ -11,7 +11,7 @@ use crate::answers::{Answer, done, refused, unread};
 use crate::messages::NO_SUCH_ENTRY;
 use crate::opening::open;
 use bib_scan::Text;
-use bib_store::{Database, Flat, Record};
+use bib_store::{Database, Paged, Record};
 use std::alloc::{AllocError, Global};
 
 /// The first entry with this key, or that there is none.
@@ -24,7 +24,7 @@ pub fn answer_show(alloc: Global, file: Vec<u8>, key: &[u8]) -> Result<Answer, A
     }
 }
 
-fn show(alloc: Global, db: &Database<Flat>, key: &[u8]) -> Result<Answer, AllocError>
+fn show(alloc: Global, db: &Database<Paged>, key: &[u8]) -> Result<Answer, AllocError>
     ensures { IfOk result (λ answer. OfReading db.now (λ r. answer ≡ show_answer key.now r)) }
 {
     match db.find(key) {
@@ -37,7 +37,7 @@ fn show(alloc: Global, db: &Database<Flat>, key: &[u8]) -> Result<Answer, AllocE
 }
 
 /// Entry `n`: its record, and its parent.
-fn entry_text(alloc: Global, db: &Database<Flat>, n: usize) -> Result<Vec<u8>, AllocError>
+fn entry_text(alloc: Global, db: &Database<Paged>, n: usize) -> Result<Vec<u8>, AllocError>
     requires { IsEntryNumber db.now n }
     ensures { IfOk result (λ text. OfReading db.now (λ r. text.items ≡ shown (entries_of r) n)) }
 {

@@ -9,7 +9,7 @@ use crate::answers::Answer;
 use crate::sessions::{fault_line, outcome_left, unopened};
 use bib_journal::{Request, Session, SessionFault, repeat};
 use bib_scan::Text;
-use bib_store::Flat;
+use bib_store::Paged;
 use std::alloc::{AllocError, Global};
 
 /// Takes so many changes back, or as many as there are.
@@ -47,7 +47,7 @@ fn answer_turn(
 ) -> Result<Answer, AllocError>
     ensures { IfOk result (IsTurnAnswer word.now request.now n file.items (option_map (λ text. text.now) journal.entry)) }
 {
-    match Session::open(alloc, file.as_slice(), journal, Flat::new(alloc)) {
+    match Session::open(alloc, file.as_slice(), journal, Paged::new(alloc)) {
         Ok(mut session) => turn(alloc, &mut session, word, request, n),
         Err(fault) => unopened(alloc, fault),
     }
@@ -56,7 +56,7 @@ fn answer_turn(
 /// The same, of a session.
 fn turn(
     alloc: Global,
-    session: &mut Session<Flat>,
+    session: &mut Session<Paged>,
     word: &str,
     request: &Request,
     n: usize,
