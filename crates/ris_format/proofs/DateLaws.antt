@@ -1,16 +1,16 @@
 -- A date of the profile is read back.
-use Rattle.std.proofs.Common.{◌≡◌, ℕ, suc, ◌+◌, Bool, true, false, cond, not, ◌&&◌, ◌||◌, eqb, List, [], ◌∷◌, ◌++◌, take, drop, refl, sym, ap, subst, ◌∙◌, arith, ⊎_elim}
+use Rattle.std.proofs.Common.{◌≡◌, ℕ, suc, ◌+◌, true, false, cond, not, ◌&&◌, ◌||◌, List, [], ◌∷◌, ◌++◌, take, drop, refl, sym, ap, subst, ◌∙◌, arith, ⊎_elim}
 use Rattle.std.specs.Prelude.{codes, find, Some, is_some}
-use Rattle.std.specs.List.{prefix_len, list_any, list_all, take_while, AllByRecursion}
+use Rattle.std.specs.List.{prefix_len, list_any, AllByRecursion}
 use Rattle.std.specs.Option.{option_map_or}
 use Rattle.std.specs.Str.{bytes_eq}
-use Rattle.std.proofs.lemmas.Bool.{cases_Bool, or_parts, or_from, cond-true, cond-false}
+use Rattle.std.proofs.lemmas.Bool.{cases_Bool, or_parts, cond-false}
 use Rattle.bib_spec.specs.Text.{Text, is_space, after_run}
 use Rattle.bib_spec.specs.Texts.{is_empty}
 use Rattle.bib_spec.proofs.Names.{eq-true}
 use Rattle.bib_trim.specs.Trimming.{trimmed}
 use Rattle.ris_format.specs.Lines.{has_bytes}
-use Rattle.ris_format.specs.Dates.{Month, month, months, is_slash, has_slash, is_no_slash, names_month, month_digits, written_year, written_month, date_value, date_values, written_date, before_slash, after_slash, read_year, read_month, numbers_month, is_plain_month}
+use Rattle.ris_format.specs.Dates.{Month, month, months, is_slash, has_slash, is_no_slash, month_digits, written_year, written_month, date_value, date_values, written_date, before_slash, after_slash, read_year, read_month, numbers_month, is_plain_month}
 use Rattle.ris_format.proofs.Neat.{neat, neat-append}
 use Rattle.ris_format.proofs.Trims.{trimmed-neat, after_run-yes, after_run-no}
 use Rattle.ris_format.proofs.Values.{first, are_neat}

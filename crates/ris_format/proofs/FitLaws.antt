@@ -1,10 +1,10 @@
 -- Lines that are written of texts that are their own field texts can stand in a file.
-use Rattle.std.proofs.Common.{◌≡◌, ℕ, ◌+◌, ◌-◌, Bool, true, false, cond, not, ◌&&◌, ◌||◌, eqb, List, [], ◌∷◌, ◌++◌, take, drop, refl, sym, ap, subst, ◌∙◌, ⊎_elim, append-nil, map}
+use Rattle.std.proofs.Common.{◌≡◌, ℕ, ◌+◌, ◌-◌, Bool, true, false, cond, not, ◌&&◌, eqb, List, [], ◌∷◌, ◌++◌, take, drop, refl, sym, ap, subst, ◌∙◌, ⊎_elim, append-nil, map}
 use Rattle.std.specs.Prelude.{codes, Option, Some, None, option_map, find}
 use Rattle.std.specs.List.{flat_map, list_any, list_all, slice_range, prefix_len, AllByRecursion}
 use Rattle.std.specs.Option.{option_map_or}
 use Rattle.std.specs.Str.{bytes_eq}
-use Rattle.std.proofs.lemmas.Bool.{cases_Bool, cond-true, cond-false, cond_both, and_parts, and_from, or_from, or_cases, or_parts, not-true, not-false, not_from_false, both_ways, false_from_ne_true, eqb-true}
+use Rattle.std.proofs.lemmas.Bool.{cases_Bool, cond-true, cond_both, and_parts, and_from, or_from, or_cases, or_parts, not-true, not-false, not_from_false, both_ways, false_from_ne_true, eqb-true}
 use Rattle.std.proofs.lemmas.List.{take-append-drop}
 use Rattle.std.proofs.lemmas.Slice.Eq.{bytes_eq-Decides}
 use Rattle.bib_spec.specs.Text.{Text, is_space, IsBalanced}
@@ -19,20 +19,18 @@ use Rattle.bib_names.specs.Label.{balances}
 use Rattle.bib_names.specs.declared.name.Name.{Name}
 use Rattle.bib_names.proofs.BalanceLaws.{IsBalanced-from_test}
 use Rattle.ris_text.specs.declared.records.RisLine.{RisLine}
-use Rattle.ris_text.specs.declared.records.RisRecord.{RisRecord}
 use Rattle.ris_text.specs.Tags as tags
 use Rattle.ris_text.specs.Tags.{is_known}
 use Rattle.ris_text.specs.Writing.{ends_line, fits_line, is_well_formed_line, is_well_formed}
 use Rattle.ris_format.specs.declared.kinds.Kind.{Kind}
 use Rattle.ris_format.specs.declared.kinds.Kind.TheVariants.{Article, Book, Incollection, Inproceedings, Phdthesis, Techreport, Unpublished, Misc}
 use Rattle.ris_format.specs.Kinds.{ris_type, publisher_field, serial_field, is_article, kind_of_entry}
-use Rattle.ris_format.specs.Lines.{has_bytes, single, line, Tagged, tagged, tagged_lines, lines_of}
+use Rattle.ris_format.specs.Lines.{has_bytes, single, line, Tagged, tagged_lines, lines_of}
 use Rattle.ris_format.specs.People.{words_end, part_text, family, Person, person, with_comma, ris_name, is_somebody, taken_apart, is_broken, is_refused, written_person, written_name, written_people}
-use Rattle.ris_format.specs.Dates.{Month, months, has_slash, month_digits, names_month, written_year, written_month, date_value, date_values, written_date}
+use Rattle.ris_format.specs.Dates.{Month, months, has_slash, names_month, written_year, written_month, date_value, written_date}
 use Rattle.ris_format.specs.Pages.{is_no_hyphen, before_dash, has_dash, before_cut, after_cut, is_margin, page, are_two, written_start, written_end}
-use Rattle.ris_format.specs.Keywords.{written_keywords}
-use Rattle.ris_format.specs.Mapping.{Fields, is_filled, text_of, field, booktitle_text, written_fields, written, ris}
-use Rattle.ris_format.specs.Fitting.{has_own_text, is_spaced, SpacedRecordsFit}
+use Rattle.ris_format.specs.Mapping.{Fields, is_filled, text_of, written, ris}
+use Rattle.ris_format.specs.Fitting.{has_own_text, SpacedRecordsFit}
 use Rattle.ris_format.proofs.Neat.{neat, neat-space, neat-word, neat-append, neat-slice, neat-field_text}
 use Rattle.ris_format.proofs.Trims.{neat-cut, trimmed-neat}
 use Rattle.ris_format.proofs.Values.{are_neat, single-neat, are_neat-append}

@@ -1,15 +1,15 @@
 -- Depth of places in parts of a text.
-use Rattle.std.proofs.Common.{◌≡◌, ℕ, zero, suc, ◌+◌, ◌-◌, ◌≤◌, ◌<◌, Bool, true, false, cond, not, ◌&&◌, ◌||◌, eqb, List, [], ◌∷◌, ◌++◌, length, take, drop, get_or, refl, sym, ap, ◌∙◌, arith, ⊎_elim, append_assoc, append-nil, map, length-append, subst, leb, inl, inr, ◌⊎◌, below_more}
-use Rattle.std.specs.Prelude.{count_by, codes, filter}
-use Rattle.std.specs.List.{sum_by, slice_range, range_with_len, prefix_len, list_any, AllByRecursion}
-use Rattle.std.proofs.lemmas.Bool.{cases_Bool, cond-true, cond-false, eqb-true, eq-eqb, ne_eqb, and_parts, and_from, not-true, or_parts, both_ways, leb-true, leb-false}
-use Rattle.std.proofs.lemmas.List.{take-append-drop, take-append-le, take_all, get_or-append-add, get_or_append_left, get_or-drop, get_or-take, get_or_past, length-drop, length-take-le}
+use Rattle.std.proofs.Common.{◌≡◌, ℕ, zero, suc, ◌+◌, ◌-◌, ◌≤◌, ◌<◌, Bool, true, false, cond, not, ◌&&◌, ◌||◌, eqb, List, [], ◌∷◌, ◌++◌, length, take, drop, get_or, refl, sym, ap, ◌∙◌, arith, ⊎_elim, subst, leb, inl, inr, ◌⊎◌, below_more}
+use Rattle.std.specs.Prelude.{count_by}
+use Rattle.std.specs.List.{slice_range, list_any, AllByRecursion}
+use Rattle.std.proofs.lemmas.Bool.{cases_Bool, cond-true, cond-false, eqb-true, eq-eqb, ne_eqb, and_parts, or_parts, both_ways, leb-true, leb-false}
+use Rattle.std.proofs.lemmas.List.{take-append-drop, take-append-le, take_all, get_or-append-add, get_or_append_left, length-drop, length-take-le}
 use Rattle.std.proofs.lemmas.List.Sums.{sum_by-append, sum_by-cons}
-use Rattle.std.proofs.Math.Seq.{take-append-add, take-append_seam}
+use Rattle.std.proofs.Math.Seq.{take-append-add}
 use Rattle.bib_spec.specs.Text.{Text, is_space, after_run, opened_before, closed_before, IsBalanced}
 use Rattle.bib_spec.proofs.Names.{both_true}
 use Rattle.bib_names.specs.Places.{is_level, places_from, between, Stretch, stretch}
-use Rattle.bib_trim.specs.Trimming.{up_to_last, before_run, trimmed}
+use Rattle.bib_trim.specs.Trimming.{before_run}
 use Rattle.bib_names.specs.Name.{is_comma, commas}
 use Rattle.bib_names.proofs.CommaLemmas.{level_behind}
 use Rattle.ris_format.proofs.Trims.{after_run-yes, after_run-no, before_run-cons, before_run-none, fails}

@@ -1,5 +1,5 @@
 -- What is found after tags in lines that were written of neat values.
-use Rattle.std.proofs.Common.{◌≡◌, Bool, true, false, cond, ◌&&◌, List, [], ◌∷◌, ◌++◌, refl, sym, ap, ◌∙◌, ⊎_elim, append_assoc, append-nil, map}
+use Rattle.std.proofs.Common.{◌≡◌, Bool, true, false, List, [], ◌∷◌, ◌++◌, refl, sym, ap, ◌∙◌, ⊎_elim, map}
 use Rattle.std.specs.Prelude.{filter, if◌then◌else◌}
 use Rattle.std.specs.List.{flat_map, list_any, list_all}
 use Rattle.std.specs.Str.{bytes_eq}
@@ -7,7 +7,6 @@ use Rattle.std.proofs.lemmas.Bool.{cases_Bool, cond-true, cond-false, and_from, 
 use Rattle.std.proofs.lemmas.List.{map-append}
 use Rattle.std.proofs.lemmas.List.Elements.{filter-append}
 use Rattle.bib_spec.specs.Text.{Text}
-use Rattle.bib_spec.specs.Texts.{field_text}
 use Rattle.ris_text.specs.declared.records.RisLine.{RisLine}
 use Rattle.ris_format.specs.Lines.{has_bytes, line, Tagged, tagged_lines, lines_of, spaced, read_lines, has_tag, values_at}
 use Rattle.ris_format.proofs.Neat.{neat, field_text-neat, neat-has_bytes}

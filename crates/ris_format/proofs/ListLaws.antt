@@ -1,20 +1,20 @@
 -- The names of a list, as parts of it.
-use Rattle.std.proofs.Common.{◌≡◌, ℕ, zero, suc, ◌+◌, ◌-◌, ◌≤◌, ◌<◌, Bool, true, false, cond, not, ◌&&◌, ◌||◌, eqb, ltb, List, [], ◌∷◌, ◌++◌, length, take, drop, get_or, refl, sym, ap, subst, ◌∙◌, arith, ⊎_elim, append_assoc, append-nil, map, length-append, inl, inr, ◌⊎◌, below_more, lit<}
+use Rattle.std.proofs.Common.{◌≡◌, ℕ, zero, suc, ◌+◌, ◌-◌, ◌≤◌, ◌<◌, true, false, cond, ◌&&◌, eqb, ltb, List, [], ◌∷◌, ◌++◌, length, take, drop, get_or, refl, sym, ap, subst, ◌∙◌, arith, ⊎_elim, map, inl, inr, ◌⊎◌, below_more, lit<}
 use Rattle.std.specs.Prelude.{codes, count_by}
-use Rattle.std.specs.List.{slice_range, range_with_len, list_all, prefix_len, AllByRecursion}
+use Rattle.std.specs.List.{slice_range, list_all, prefix_len, AllByRecursion}
 use Rattle.std.specs.Char.{to_ascii_lowercase}
 use Rattle.std.proofs.lemmas.Bool.{cases_Bool, cond-true, cond-false, eqb-true, eq-eqb, ne_eqb, and_parts, and_from, both_ways, cases_lt, ltb-true, lt-ltb, false_from_ne_true}
 use Rattle.std.proofs.lemmas.List.{take-append-drop, take-append-le, take_all, drop-append-le, get_or_past, length-drop, length-take-le}
 use Rattle.std.proofs.Math.Seq.{drop-append-add}
 use Rattle.bib_spec.specs.Text.{Text, is_space, after_run, same, opened_before, closed_before, IsBalanced}
-use Rattle.bib_trim.specs.Trimming.{before_run, trimmed}
+use Rattle.bib_trim.specs.Trimming.{trimmed}
 use Rattle.bib_names.specs.Places.{is_level, places_from, between, Stretch, stretch}
 use Rattle.bib_names.specs.NameList.{is_and, is_cut, cuts, names_of}
 use Rattle.ris_format.specs.Lines.{has_bytes}
 use Rattle.ris_format.proofs.Neat.{neat}
 use Rattle.ris_format.proofs.Trims.{cut_out, neat-cut}
 use Rattle.ris_format.proofs.Levels.{opens, closes, count-append, count-cons, count-before_run, count-after_run, space-no_brace, IsWithin, level-within, byte-within, balanced-within, level_at, cut_off, take-sum}
-use Rattle.ris_format.proofs.PartLaws.{all-map, none-in}
+use Rattle.ris_format.proofs.PartLaws.{none-in}
 
 -- how often a byte stands in the text
 abbrev count_of : ℕ → Text → ℕ

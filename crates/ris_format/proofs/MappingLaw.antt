@@ -1,9 +1,9 @@
 -- A record of the profile is the same again after both mappings, and nothing of it is dropped.
-use Rattle.std.proofs.Common.{◌≡◌, Bool, true, false, cond, not, ◌&&◌, ◌||◌, eqb, List, [], ◌∷◌, ◌++◌, refl, sym, ap, subst, ◌∙◌, ⊎_elim, map, append-nil}
-use Rattle.std.specs.Prelude.{ℕ, ◌<◌, nat_lt, filter, find, codes, unwrap_or, is_some, if◌then◌else◌}
+use Rattle.std.proofs.Common.{◌≡◌, Bool, true, false, cond, not, ◌&&◌, ◌||◌, eqb, List, [], ◌∷◌, ◌++◌, refl, sym, ap, ◌∙◌, ⊎_elim, map, append-nil}
+use Rattle.std.specs.Prelude.{ℕ, ◌<◌, nat_lt, filter, find, codes, unwrap_or, if◌then◌else◌}
 use Rattle.std.specs.List.{flat_map, list_any, list_all}
 use Rattle.std.specs.Str.{bytes_eq}
-use Rattle.std.proofs.lemmas.Bool.{cases_Bool, cond-true, cond-false, and_from, and_parts, and_left, and_right, not-true, or_cases, both_ways, false_from_ne_true, eq-eqb, ltb-true}
+use Rattle.std.proofs.lemmas.Bool.{cases_Bool, cond-true, cond-false, and_from, and_parts, and_right, not-true, both_ways, false_from_ne_true, eq-eqb, ltb-true}
 use Rattle.bib_spec.specs.Text.{Text, is_space, is_new_key, is_new_key_byte}
 use Rattle.bib_spec.specs.Texts.{field_text}
 use Rattle.bib_spec.specs.Records.{Record, RecordField}
@@ -13,12 +13,12 @@ use Rattle.ris_format.specs.declared.kinds.Kind.{Kind}
 use Rattle.ris_format.specs.declared.kinds.Kind.TheVariants.{Article, Book, Incollection, Inproceedings, Phdthesis, Techreport, Unpublished, Misc}
 use Rattle.ris_format.specs.Kinds.{kinds, entry_type, ris_type, publisher_field, serial_field, is_article, is_entry_type, kind_of_entry, kind_of_ris}
 use Rattle.ris_format.specs.Lines.{has_bytes, single, Tagged, tagged, lines_of, read_lines, values_at, value_at, or_else}
-use Rattle.ris_format.specs.People.{is_refused, written_people, read_people, are_plain_names}
-use Rattle.ris_format.specs.Dates.{Month, months, has_slash, month_digits, written_date, read_year, read_month, is_plain_month, names_month}
-use Rattle.ris_format.specs.Pages.{written_start, written_end, read_pages, are_plain_pages}
-use Rattle.ris_format.specs.Keywords.{written_keywords, read_keywords, are_plain_keywords}
-use Rattle.ris_format.specs.Mapping.{Fields, field, text_of, booktitle_text, later_names, field_names, written_fields, read_journal, read_booktitle, read_fields, is_carried, is_dropped, dropped, written, ris, record_in, back}
-use Rattle.ris_format.specs.Profile.{are_in_order, has_form, is_plain_field, in_profile, ProfileIsKept}
+use Rattle.ris_format.specs.People.{written_people, read_people}
+use Rattle.ris_format.specs.Dates.{has_slash, written_date, read_year, read_month}
+use Rattle.ris_format.specs.Pages.{written_start, written_end, read_pages}
+use Rattle.ris_format.specs.Keywords.{written_keywords, read_keywords}
+use Rattle.ris_format.specs.Mapping.{Fields, field, text_of, booktitle_text, later_names, field_names, written_fields, read_journal, read_fields, is_carried, is_dropped, record_in}
+use Rattle.ris_format.specs.Profile.{are_in_order, has_form, is_plain_field, ProfileIsKept}
 use Rattle.ris_format.proofs.Neat.{neat, neat-field_text, neat-word}
 use Rattle.ris_format.proofs.Levels.{space-no_brace}
 use Rattle.ris_format.proofs.Values.{first, are_neat, single-neat, first-single}

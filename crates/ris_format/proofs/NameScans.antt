@@ -1,13 +1,13 @@
 -- The commas and the cuts of a name, from left to right.
-use Rattle.std.proofs.Common.{◌≡◌, ℕ, zero, suc, ◌+◌, ◌-◌, ◌≤◌, ◌<◌, Bool, true, false, cond, not, ◌&&◌, ◌||◌, eqb, ltb, List, [], ◌∷◌, ◌++◌, length, take, drop, get_or, refl, sym, ap, subst, ◌∙◌, arith, ⊎_elim, append_assoc, append-nil, map, length-append, ◌==◌, if◌then◌else◌}
-use Rattle.std.specs.Prelude.{filter, codes}
-use Rattle.std.specs.List.{slice_range, range_with_len, list_all, onto_first}
-use Rattle.std.proofs.lemmas.Bool.{cases_Bool, cond-true, cond-false, eqb-true, eq-eqb, and_parts, and_from, both_ways, lt-ltb, le-ltb}
+use Rattle.std.proofs.Common.{◌≡◌, ℕ, ◌+◌, ◌-◌, ◌≤◌, Bool, true, false, cond, not, ◌&&◌, eqb, ltb, List, [], ◌∷◌, ◌++◌, length, take, drop, get_or, refl, sym, ap, ◌∙◌, arith, ⊎_elim, append_assoc, append-nil, map, length-append, ◌==◌}
+use Rattle.std.specs.Prelude.{codes}
+use Rattle.std.specs.List.{slice_range, list_all, onto_first}
+use Rattle.std.proofs.lemmas.Bool.{cases_Bool, cond-true, cond-false, eqb-true, eq-eqb, and_parts, and_from, lt-ltb}
 use Rattle.std.proofs.lemmas.List.{take-append-le, take_all, drop-append-le, drop_all, get_or-append-add, length-drop}
 use Rattle.std.proofs.Math.Seq.{take-append_seam, drop-append_seam, get_or-append_seam}
 use Rattle.std.specs.Char.{to_ascii_lowercase}
 use Rattle.bib_spec.specs.Text.{Text, is_space, same}
-use Rattle.bib_names.specs.Places.{is_level, places_from, between, Stretch, stretch}
+use Rattle.bib_names.specs.Places.{is_level, places_from, between, Stretch}
 use Rattle.bib_names.specs.NameList.{is_and, is_cut, cuts, names_of}
 use Rattle.bib_names.specs.Name.{is_comma, commas}
 use Rattle.bib_trim.specs.Trimming.{trimmed}

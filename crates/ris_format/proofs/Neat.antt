@@ -1,10 +1,10 @@
 -- Texts that are their own field texts.
-use Rattle.std.proofs.Common.{◌≡◌, ℕ, Bool, true, false, cond, not, ◌&&◌, eqb, List, [], ◌∷◌, ◌++◌, refl, sym, ap, ◌∙◌, ◌==◌, if◌then◌else◌}
+use Rattle.std.proofs.Common.{◌≡◌, ℕ, Bool, true, false, cond, not, ◌&&◌, eqb, [], ◌∷◌, ◌++◌, refl, sym, ap, ◌∙◌, ◌==◌, if◌then◌else◌}
 use Rattle.std.proofs.lemmas.Bool.{cases_Bool, cond-true, cond-false, eqb-true, and_parts}
 use Rattle.std.proofs.Common.{⊎_elim}
 use Rattle.bib_spec.specs.Bytes.{space}
 use Rattle.bib_spec.specs.Text.{Text, is_space}
-use Rattle.bib_spec.specs.Texts.{is_empty, field_text}
+use Rattle.bib_spec.specs.Texts.{field_text}
 use Rattle.bib_value.proofs.FieldTextLemmas.{more_text, more_text-all}
 use Rattle.ris_format.specs.Lines.{has_bytes}
 

@@ -1,5 +1,5 @@
 -- When a value of RIS would be read as another name than it says.
-use Rattle.std.proofs.Common.{◌≡◌, ℕ, ◌+◌, ◌≤◌, ◌<◌, Bool, true, false, ◌||◌, ltb, List, length, map, refl, sym, ap, ◌∙◌, arith}
+use Rattle.std.proofs.Common.{◌≡◌, ℕ, ◌+◌, ◌≤◌, ◌<◌, true, false, ◌||◌, ltb, List, length, sym, ap, ◌∙◌, arith}
 use Rattle.std.proofs.lemmas.Bool.{or_left, lt-ltb, le-ltb}
 use Rattle.std.proofs.lemmas.List.{length-map}
 use Rattle.bib_spec.specs.Text.{Text}

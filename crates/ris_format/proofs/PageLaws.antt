@@ -1,13 +1,11 @@
 -- Pages of the profile are read back.
-use Rattle.std.proofs.Common.{◌≡◌, ℕ, suc, ◌+◌, ◌<◌, ◌≤◌, Bool, true, false, cond, not, ◌&&◌, ◌||◌, eqb, ltb, List, [], ◌∷◌, ◌++◌, length, take, drop, refl, sym, ap, ◌∙◌, arith, ⊎_elim, append_assoc, append-nil}
-use Rattle.std.specs.Prelude.{codes}
+use Rattle.std.proofs.Common.{◌≡◌, ℕ, suc, ◌+◌, ◌<◌, true, false, not, ◌&&◌, eqb, ltb, [], ◌∷◌, ◌++◌, length, take, drop, refl, sym, ap, ◌∙◌, arith, ⊎_elim, append_assoc, append-nil}
 use Rattle.std.specs.List.{prefix_len, list_all}
-use Rattle.std.proofs.lemmas.Bool.{cases_Bool, cond-true, cond-false, and_parts, and_from, and_right, or_left, or_right, or_cases, not-true, eqb-true, ltb-true, lt-ltb, le-ltb}
+use Rattle.std.proofs.lemmas.Bool.{cases_Bool, cond-true, cond-false, and_parts, and_from, and_right, or_left, or_cases, not-true, eqb-true, ltb-true, lt-ltb, le-ltb}
 use Rattle.std.proofs.lemmas.List.{drop_all}
 use Rattle.bib_spec.specs.Text.{Text, is_space}
-use Rattle.bib_spec.specs.Texts.{is_empty}
 use Rattle.bib_spec.proofs.Names.{eq-true}
-use Rattle.ris_format.specs.Lines.{has_bytes, single}
+use Rattle.ris_format.specs.Lines.{has_bytes}
 use Rattle.ris_format.specs.Pages.{is_no_hyphen, begins_with_hyphen, before_dash, has_dash, before_cut, after_cut, is_margin, page, are_two, written_start, written_end, read_pages, is_plain_page, are_plain_pages}
 use Rattle.ris_format.proofs.Neat.{neat}
 use Rattle.ris_format.proofs.Trims.{neat-cut}

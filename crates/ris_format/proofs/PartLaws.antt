@@ -1,8 +1,8 @@
 -- The parts of a name as texts: where they begin and end.
-use Rattle.std.proofs.Common.{◌≡◌, ℕ, zero, suc, ◌+◌, ◌-◌, ◌≤◌, ◌<◌, Bool, true, false, cond, not, ◌&&◌, ◌||◌, eqb, List, [], ◌∷◌, ◌++◌, length, take, drop, get_or, refl, sym, ap, subst, ◌∙◌, arith, ⊎_elim, append_assoc, append-nil, map, length-append, inl, inr, ◌⊎◌}
-use Rattle.std.specs.Prelude.{filter, Option, Some, None}
+use Rattle.std.proofs.Common.{◌≡◌, ℕ, zero, suc, ◌+◌, ◌-◌, ◌≤◌, ◌<◌, Bool, true, false, cond, not, ◌||◌, eqb, List, [], ◌∷◌, ◌++◌, length, take, drop, get_or, refl, sym, ap, subst, ◌∙◌, arith, ⊎_elim, append_assoc, map, inl, inr, ◌⊎◌}
+use Rattle.std.specs.Prelude.{Some}
 use Rattle.std.specs.List.{slice_range, range_with_len, prefix_len, AllByRecursion}
-use Rattle.std.proofs.lemmas.Bool.{cases_Bool, cond-true, cond-false, eqb-true, eq-eqb, and_parts, and_from, not-true, not-false, or_cases, or_left, both_ways, cases_lt, false_from_ne_true, not_from_true}
+use Rattle.std.proofs.lemmas.Bool.{cases_Bool, cond-true, cond-false, eqb-true, eq-eqb, and_parts, and_from, not-true, not-false, or_cases, or_left, both_ways, cases_lt, false_from_ne_true}
 use Rattle.std.proofs.lemmas.List.{take-append-drop, take-append-le, take_all, drop-append-le, get_or-drop, get_or-take, length-drop, length-take-le}
 use Rattle.std.proofs.lemmas.List.Sums.{prefix_len-le-length, prefix_len_passes, prefix_len_stops}
 use Rattle.std.proofs.lemmas.List.FromFn.{length-range_with_len, get_or-range_with_len}
@@ -11,14 +11,14 @@ use Rattle.bib_spec.specs.Text.{Text, is_space, opened_before, closed_before, Is
 use Rattle.bib_names.specs.Marks.{is_separator, is_dropped_at_end}
 use Rattle.bib_trim.specs.Trimming.{up_to_last}
 use Rattle.bib_names.specs.Places.{is_level, places, places_from, between, Stretch, stretch}
-use Rattle.bib_names.specs.Words.{NameWord, is_gap, begins_word, word_end, word_at, words_of}
-use Rattle.bib_names.specs.Name.{is_comma, commas, von_end, von_start, hyphened_start, cut_at, without_comma, with_commas, parts_of_pieces, parts_of_bare, parts_of, without_end}
+use Rattle.bib_names.specs.Words.{NameWord, is_gap, begins_word, word_at, words_of}
+use Rattle.bib_names.specs.Name.{is_comma, commas, von_end, von_start, hyphened_start, cut_at, without_comma, with_commas, parts_of_pieces, parts_of, without_end}
 use Rattle.bib_names.specs.declared.name.Name.{Name}
 use Rattle.bib_names.proofs.BraceLemmas.{opened_more, closed_more}
 use Rattle.ris_format.specs.Lines.{has_bytes}
-use Rattle.ris_format.specs.People.{words_end, part_text, family, Person, person}
+use Rattle.ris_format.specs.People.{words_end, part_text, family}
 use Rattle.ris_format.proofs.Neat.{begins_plain, ends_plain}
-use Rattle.ris_format.proofs.Levels.{opens, closes, space-no_brace, IsWithin, IsStretch, count-append, stretch-is, balanced-within, comma-within, count-before_run, all-stretches}
+use Rattle.ris_format.proofs.Levels.{opens, closes, space-no_brace, IsWithin, IsStretch, stretch-is, balanced-within, comma-within, count-before_run, all-stretches}
 
 -- ---- lists whose members are all alike
 

@@ -1,28 +1,28 @@
 -- Names of the profile are read back.
-use Rattle.std.proofs.Common.{◌≡◌, ℕ, zero, suc, ◌+◌, ◌-◌, ◌≤◌, ◌<◌, Bool, true, false, cond, not, ◌&&◌, ◌||◌, eqb, ltb, List, [], ◌∷◌, ◌++◌, length, take, drop, refl, sym, ap, subst, ◌∙◌, arith, ⊎_elim, append_assoc, append-nil, map, length-append, inl, inr, ◌⊎◌}
-use Rattle.std.specs.Prelude.{codes, Option, Some, None, is_none}
+use Rattle.std.proofs.Common.{◌≡◌, ℕ, zero, suc, ◌+◌, ◌-◌, ◌≤◌, ◌<◌, Bool, true, false, cond, not, ◌&&◌, ◌||◌, eqb, ltb, List, [], ◌∷◌, ◌++◌, length, take, refl, sym, ap, ◌∙◌, arith, ⊎_elim, append_assoc, append-nil, map}
+use Rattle.std.specs.Prelude.{Option, Some, None, is_none}
 use Rattle.std.specs.List.{flat_map, list_any, list_all, onto_first, AllByRecursion}
 use Rattle.std.specs.Option.{option_map_or}
 use Rattle.std.specs.Str.{bytes_eq}
-use Rattle.std.proofs.lemmas.Bool.{cases_Bool, cond-true, cond-false, and_parts, and_from, and_left, or_from, not-true, le-ltb, both_ways, cases_lt}
+use Rattle.std.proofs.lemmas.Bool.{cond-true, cond-false, and_parts, and_from, or_from, le-ltb, cases_lt}
 use Rattle.std.proofs.lemmas.List.{take-append-le, take_all}
 use Rattle.std.proofs.Math.Seq.{take-append-add}
 use Rattle.bib_spec.specs.Text.{Text, is_space, opened_before, closed_before, IsBalanced}
 use Rattle.bib_spec.proofs.Names.{eq-true}
 use Rattle.bib_trim.specs.Trimming.{before_run, trimmed}
 use Rattle.bib_names.specs.Places.{between, Stretch}
-use Rattle.bib_names.specs.NameList.{cuts, names_of}
+use Rattle.bib_names.specs.NameList.{names_of}
 use Rattle.bib_names.specs.Name.{commas, parts_of}
 use Rattle.bib_names.specs.Label.{balances}
 use Rattle.bib_names.specs.declared.name.Name.{Name}
 use Rattle.bib_names.proofs.BalanceLaws.{IsBalanced-from_test, balances-is}
 use Rattle.ris_format.specs.Lines.{has_bytes}
-use Rattle.ris_format.specs.People.{part_text, family, Person, person, with_comma, ris_name, is_somebody, taken_apart, is_broken, is_refused, written_person, written_name, written_people, name_pieces, in_braces, or_braces, bib_name, person_of, is_opaque, read_balanced, read_name, name_list, read_people, is_plain_person, is_plain_name, are_plain_names}
-use Rattle.ris_format.proofs.Neat.{neat, neat-append, neat-word, neat-gap, neat-slice, neat-after, begins_plain, ends_plain, neat-has_bytes}
+use Rattle.ris_format.specs.People.{Person, person, with_comma, ris_name, is_somebody, taken_apart, is_broken, is_refused, written_person, written_name, written_people, name_pieces, in_braces, or_braces, bib_name, person_of, is_opaque, read_name, name_list, read_people, is_plain_person, is_plain_name, are_plain_names}
+use Rattle.ris_format.proofs.Neat.{neat, neat-append, neat-word, neat-gap, neat-slice}
 use Rattle.ris_format.proofs.Trims.{trimmed-neat, after_run-yes}
 use Rattle.ris_format.proofs.Values.{are_neat}
 use Rattle.ris_format.proofs.Levels.{opens, closes, count-append}
-use Rattle.ris_format.proofs.PartLaws.{IsPart, AreParts, name-parts}
+use Rattle.ris_format.proofs.PartLaws.{IsPart, name-parts}
 use Rattle.ris_format.specs.Pieces.{pieces_from}
 use Rattle.ris_format.proofs.NameScans.{pieces-are, pieces-alone, pieces-comma, commas-count, free, free-is, free-one, free-comma, is_nil}
 use Rattle.ris_format.proofs.ListLaws.{IsListed, names-listed}

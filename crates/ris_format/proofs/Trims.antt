@@ -1,12 +1,12 @@
 -- Texts without some bytes at their ends, as parts of the whole.
-use Rattle.std.proofs.Common.{◌≡◌, ℕ, zero, suc, ◌+◌, Bool, true, false, cond, not, ◌&&◌, ◌||◌, List, [], ◌∷◌, ◌++◌, take, drop, refl, sym, ap, ◌∙◌, arith, ⊎_elim, append_assoc}
+use Rattle.std.proofs.Common.{◌≡◌, ℕ, suc, ◌+◌, Bool, true, false, cond, not, ◌||◌, [], ◌∷◌, ◌++◌, take, drop, refl, sym, ap, ◌∙◌, arith, ⊎_elim, append_assoc}
 use Rattle.std.proofs.lemmas.Bool.{cases_Bool, both_ways, not-true}
 use Rattle.std.proofs.lemmas.List.{take-append-drop}
 use Rattle.std.specs.List.{prefix_len, list_any}
 use Rattle.bib_spec.specs.Text.{Text, is_space, after_run}
 use Rattle.bib_trim.specs.Trimming.{up_to_last, before_run, trimmed}
 use Rattle.ris_format.specs.Lines.{has_bytes}
-use Rattle.ris_format.proofs.Neat.{neat, begins_plain, ends_plain, neat-slice, neat-after, neat-front, neat-begins, neat-ends}
+use Rattle.ris_format.proofs.Neat.{neat, begins_plain, ends_plain, neat-slice, neat-begins, neat-ends}
 
 -- the first byte, if there is one, fails the test
 abbrev pub begins_not : (ℕ → Bool) → Text → Bool

@@ -1,13 +1,12 @@
 -- Dates: `year/MM//`, where the month is a number of two digits. (dialect)
-use Rattle.std.specs.Prelude.{ℕ, Bool, not, ◌&&◌, ◌||◌, ◌==◌, List, [], ◌∷◌, ◌++◌, take, drop, codes, find, map, Option, option_map, is_none, if◌then◌else◌}
-use Rattle.std.specs.List.{list_any, list_all, take_while}
+use Rattle.std.specs.Prelude.{ℕ, Bool, not, ◌&&◌, ◌||◌, ◌==◌, List, [], ◌∷◌, ◌++◌, take, drop, codes, find, Option, option_map, if◌then◌else◌}
+use Rattle.std.specs.List.{list_any, take_while}
 use Rattle.std.specs.Option.{option_map_or}
 use Rattle.std.specs.Str.{bytes_eq}
 use Rattle.std.specs.Borrow.{Bor}
 use Rattle.bib_spec.specs.Text.{Text, same, after_run}
 use Rattle.bib_spec.specs.Texts.{is_empty}
 use Rattle.bib_trim.specs.Trimming.{trimmed}
-use Rattle.ris_format.specs.Lines.{has_bytes}
 
 -- a month's name, and its number with two digits
 pub record Month : Type 0 where

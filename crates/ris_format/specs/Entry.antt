@@ -1,6 +1,6 @@
 -- A record as an entry that an edit adds.
-use Rattle.std.specs.Prelude.{◌∷◌, [], ◌++◌, Bool, not, map}
-use Rattle.std.specs.List.{list_any, list_all}
+use Rattle.std.specs.Prelude.{Bool, map}
+use Rattle.std.specs.List.{list_all}
 use Rattle.bib_spec.specs.Records.{Record, RecordField}
 use Rattle.bib_names.specs.Label.{balances}
 use Rattle.bib_data.specs.declared.edit.NewEntry.{NewEntry}

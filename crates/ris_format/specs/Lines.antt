@@ -1,5 +1,5 @@
 -- Lines of a RIS record by their tags, and what is found in them.
-use Rattle.std.specs.Prelude.{Bool, not, List, [], ◌∷◌, ◌++◌, map, filter, slice_index_or, if◌then◌else◌}
+use Rattle.std.specs.Prelude.{Bool, not, List, [], ◌∷◌, map, filter, slice_index_or, if◌then◌else◌}
 use Rattle.std.specs.List.{flat_map, list_any}
 use Rattle.std.specs.Str.{bytes_eq}
 use Rattle.bib_spec.specs.Text.{Text}

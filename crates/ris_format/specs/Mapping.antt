@@ -4,7 +4,6 @@ use Rattle.std.specs.List.{list_any}
 use Rattle.std.specs.Option.{option_map_or}
 use Rattle.std.specs.Str.{bytes_eq}
 use Rattle.bib_spec.specs.Text.{Text}
-use Rattle.bib_spec.specs.Texts.{is_empty}
 use Rattle.bib_spec.specs.Records.{Record, RecordField}
 use Rattle.ris_text.specs.declared.records.RisLine.{RisLine}
 use Rattle.ris_text.specs.declared.records.RisRecord.{RisRecord}

@@ -13,7 +13,7 @@ use Rattle.bib_names.specs.Words.{NameWord}
 use Rattle.bib_names.specs.Name.{commas, parts_of}
 use Rattle.bib_names.specs.Label.{balances}
 use Rattle.bib_names.specs.declared.name.Name.{Name}
-use Rattle.ris_format.specs.Lines.{has_bytes, single}
+use Rattle.ris_format.specs.Lines.{has_bytes}
 
 -- ---- the parts of a name as texts
 

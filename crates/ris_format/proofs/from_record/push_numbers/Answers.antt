@@ -1,4 +1,3 @@
-use Rattle.std.proofs.Common.{◌≡◌, ◌∙◌}
 use Rattle.std.proofs.lemmas.Result.{on_ok_weaker}
 use Rattle.ris_format.proofs.SectionLaws.{five_groups}
 use Rattle.ris_format.proofs.from_record.push_numbers.Goals as goal

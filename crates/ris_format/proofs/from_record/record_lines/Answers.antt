@@ -1,4 +1,4 @@
-use Rattle.std.proofs.Common.{◌≡◌, ◌∙◌, codes, rules}
+use Rattle.std.proofs.Common.{◌≡◌, codes, rules}
 use Rattle.ris_format.specs.Lines.{single, tagged}
 use Rattle.ris_format.specs.Mapping.{written_names, written_titles, written_numbers, written_publishers, written_notes}
 use Rattle.ris_format.proofs.SectionLaws.{six_sections}

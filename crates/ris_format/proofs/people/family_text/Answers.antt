@@ -1,7 +1,6 @@
-use Rattle.std.proofs.Common.{◌≡◌, ◌∙◌, List, [], ap, arith, rules}
-use Rattle.bib_names.specs.Words.{NameWord}
-use Rattle.ris_format.specs.People.{to_last_end, part_text, family}
-use Rattle.ris_format.proofs.SliceLemmas.{family-part, last-part}
+use Rattle.std.proofs.Common.{◌≡◌, ◌∙◌, ap, arith, rules}
+use Rattle.ris_format.specs.People.{to_last_end}
+use Rattle.ris_format.proofs.SliceLemmas.{family-part}
 use Rattle.ris_format.proofs.people.family_text.Goals as goal
 
 pub returns-in-len1-up : goal.returns-in-len1-up
