@@ -1,0 +1,13 @@
+use Rattle.std.proofs.Common.{◌≡◌, rules, subst, option_map}
+use Rattle.std.proofs.lemmas.Result.{IfOk-weaker}
+use Rattle.bib_spec.specs.Text.{Text}
+use Rattle.bib_journal.specs.Session.{RefusesOpen}
+use Rattle.bib_run.specs.Log.{listed, unopened}
+use Rattle.bib_run.proofs.commands.log.answer_log.Goals as goal
+
+pub returns-in-Err : goal.returns-in-Err
+returns-in-Err c =
+    let is : c.as_slice.result.now ≡ c.args.file.items = search rules in
+    IfOk-weaker c.unopened.result _ _
+    (λ answer tells. unopened (tells c.args.file.items (option_map (λ text. text.now) c.args.journal) (subst (λ (t : Text). RefusesOpen c.in-Err.fault t (option_map (λ text. text.now) c.args.journal)) is c.in-Err.ensures.refused)))
+    c.unopened.ensures
