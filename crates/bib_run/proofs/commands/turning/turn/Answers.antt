@@ -13,5 +13,5 @@ returns c =
       told = memory;
       performs = c.repeat-performed.ensures;
       saves = c.in-Ok.ensures.saved;
-      answered = cc (c.in_ok-output.ensures, c.in_ok-message.ensures, c.outcome_left.ensures);
+      answered = cc (c.in_ok-output.ensures, c.in_ok-message.ensures, c.outcome_left-outcome.ensures);
     }
