@@ -1,4 +1,4 @@
-use Rattle.std.proofs.Common.{◌≡◌, ◌∙◌, ◌≤◌, ◌<◌, [], ap, arith, length, rules, subst, option_map}
+use Rattle.std.proofs.Common.{◌≡◌, ◌∙◌, ◌≤◌, ◌<◌, [], ap, length, rules, subst, option_map}
 use Rattle.std.proofs.lemmas.Result.{IfOk-weaker}
 use Rattle.bib_spec.specs.Bytes.{file_limit}
 use Rattle.bib_spec.specs.Text.{Text}

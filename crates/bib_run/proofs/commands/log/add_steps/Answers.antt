@@ -9,6 +9,6 @@ pub step-preserved : goal.step-preserved
 step-preserved c = record {
   order = omega (arith, c.step.invariant.order);
   lines =
-    lines_more c.args.word.now (c.args.session.now.past ++ c.args.session.now.future) c.args.from c.step.n c.step-in-step.result.now c.args.out.now.items c.step.out.items
-    c.in_ok-line.line c.extend_from_slice.new.self.items c.step.invariant.order c.step-in-step.ensures c.step.invariant.lines c.in_ok-line.ensures (search rules);
+      lines_more c.args.word.now (c.args.session.now.past ++ c.args.session.now.future) c.args.from c.step.n c.step-in-step.result.now c.args.out.now.items c.step.out.items
+      c.in_ok-line.line c.extend_from_slice.new.self.items c.step.invariant.order c.step-in-step.ensures c.step.invariant.lines c.in_ok-line.ensures (search rules);
 }

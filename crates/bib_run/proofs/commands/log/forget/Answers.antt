@@ -1,4 +1,4 @@
-use Rattle.std.proofs.Common.{refl, rules, subst}
+use Rattle.std.proofs.Common.{rules, subst}
 use Rattle.edit_spec.specs.Steps.{KeptSteps}
 use Rattle.bib_journal.specs.Loading.{Saves}
 use Rattle.bib_run.specs.Log.{forgot}

@@ -1,4 +1,4 @@
-use Rattle.std.proofs.Common.{◌≡◌, ◌≢◌, rules, Some}
+use Rattle.std.proofs.Common.{◌≢◌, rules, Some}
 use Rattle.bib_journal.specs.declared.fault.SessionFault.TheVariants.{Memory}
 use Rattle.bib_run.proofs.commands.turning.turn.Goals as goal
 
