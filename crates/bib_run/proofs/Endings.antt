@@ -1,5 +1,5 @@
 -- The ways in which a run ends.
-use Rattle.std.proofs.Common.{◌≡◌, ◌+◌, true, [], length, take, Option, refl, subst, sym, arith}
+use Rattle.std.proofs.Common.{◌≡◌, ◌+◌, Bool, true, false, [], length, take, Option, refl, subst, sym, arith}
 use Rattle.std.proofs.lemmas.List.{take_all}
 use Rattle.std.specs.Io.KnownBytes.{Appends}
 use Rattle.bib_spec.specs.Bytes.{file_limit}
@@ -7,7 +7,7 @@ use Rattle.bib_spec.specs.Text.{Text}
 use Rattle.bib_words.specs.declared.commands.Command.{Command}
 use Rattle.bib_run.specs.declared.answers.Answer.{Answer}
 use Rattle.bib_run.specs.Answers.{IsAnswer}
-use Rattle.bib_run.specs.Runs.{HasAnswer, HasJournal, HasInput, ReadsInput, TapView, TapsView, read, unread, front, nothing}
+use Rattle.bib_run.specs.Runs.{HasAnswer, HasJournal, HasInput, ReadsInput, TapView, TapsView, held, has_any_failed, read, unread, front, nothing}
 use Rattle.bib_run.specs.Transfers.{ReadsUpTo, WritesPrefix}
 use Rattle.bib_run.proofs.WholeFile.{source_bytes, IsAnswer-front, IsAnswer-input_front}
 
@@ -48,3 +48,8 @@ pub Appends-whole : (before after : Option Text) (bytes : Text) → WritesPrefix
 Appends-whole before after bytes w =
     let count_is : w.count ≡ length bytes = w.whole refl in
     subst (Appends before after) (take_all w.count bytes (omega (arith, count_is))) w.given
+
+-- no call on the journal's tap failed, whether there is a journal or not
+pub held-sound : (is_there : Bool) (old new : TapView) → new.failed ≡ old.failed → has_any_failed (held is_there new) ≡ has_any_failed (held is_there old)
+held-sound true old new sound = sound
+held-sound false old new sound = refl

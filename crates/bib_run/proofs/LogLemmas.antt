@@ -1,6 +1,7 @@
 -- The steps of a log, and the lengths in its lines.
-use Rattle.std.proofs.Common.{◌≡◌, ℕ, ◌+◌, ◌*◌, ◌≤◌, ◌<◌, ◌^◌, List, [], ◌∷◌, ◌++◌, length, sum_by, Some, get_or, sym, ◌∙◌, ap, subst, arith, length-append, take, drop}
+use Rattle.std.proofs.Common.{◌≡◌, ℕ, ◌+◌, ◌*◌, ◌≤◌, ◌<◌, ◌^◌, ◌-◌, min, List, [], ◌∷◌, ◌++◌, length, Some, sym, ◌∙◌, ap, subst, arith, length-append, take, drop}
 use Rattle.std.specs.List.{AllByRecursion, All, between, flat_map, slice_get}
+use Rattle.std.proofs.Math.Nat.{min-eq_left}
 use Rattle.std.proofs.Math.Seq.{drop-append_seam, take-append_seam}
 use Rattle.std.proofs.lemmas.Slice.{between_is, between_from_start, between_to_end}
 use Rattle.std.proofs.lemmas.List.{take_more, drop-append-le, flat_map_more, length-take-le}
@@ -66,3 +67,13 @@ old_len_small step s =
 pub new_len_small : (step : Step) → IsStep step → new_len step < 2 ^ 64
 new_len_small step s =
     few_small (length step) (new_len step) s.few (sum_by-le (λ (p : Piece). length p.new) number_limit step (All-from_recursion (λ (p : Piece). length p.new ≤ number_limit) step (new_small step s.small)))
+
+-- so a step's lengths are shown as they are
+shown_whole : (n : ℕ) → n < 2 ^ 64 → min n (2 ^ 64 - 1) ≡ n
+shown_whole n small = min-eq_left (omega (arith, small))
+
+pub old_len_shown : (step : Step) → IsStep step → min (old_len step) (2 ^ 64 - 1) ≡ old_len step
+old_len_shown step s = shown_whole (old_len step) (old_len_small step s)
+
+pub new_len_shown : (step : Step) → IsStep step → min (new_len step) (2 ^ 64 - 1) ≡ new_len step
+new_len_shown step s = shown_whole (new_len step) (new_len_small step s)

@@ -24,6 +24,11 @@ pub record TapView : Type 0 where
 abbrev pub view_of : {T : Type 0} → (T → Option Text) → Tap T → TapView
 view_of bytes t = record { bytes = bytes (tap_inner t); failed = has_failed t }
 
+-- the tap of the journal, where there is one
+abbrev pub held : Bool → TapView → Option TapView
+held true tap = Some tap
+held false tap = None
+
 -- the taps of a run at one moment, that of the journal where there is one
 pub record TapsView : Type 0 where
   pub file : TapView

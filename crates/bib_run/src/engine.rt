@@ -5,7 +5,7 @@ ghost use Rattle.bib_words.specs.Command.{IsCommand, ReadsJournal};
 ghost use Rattle.bib_run.specs.Answers.{IsAnswer};
 ghost use Rattle.bib_run.specs.Outcome.{outcome_of};
 ghost use Rattle.bib_run.specs.Lent.{held_before, held_after};
-ghost use Rattle.bib_run.specs.Runs.{IsRun, HasJournal, ReadsInput, taps, view_of, has_any_failed};
+ghost use Rattle.bib_run.specs.Runs.{IsRun, HasJournal, ReadsInput, taps, view_of, held, has_any_failed};
 ghost use Rattle.bib_taps.specs.Taps.{has_failed};
 ghost use Rattle.bib_run.specs.declared.source.SourceFault.TheVariants.{Failed, OutOfMemory};
 
@@ -50,7 +50,38 @@ pub fn run<F: Read, J: Read, I: Read, W: Write>(
     ensures journal { ¬ ReadsJournal command.now → held_after journal.exit ≡ held_before journal.entry }
     ensures input { command.now.name ≢ codes "edit" → input.new ≡ input.old }
 {
-    match try_perform(alloc, command, file, journal, input, out) {
+    match journal {
+        Some(journal) => perform(alloc, command, file, true, journal, input, out),
+        None => perform(
+            alloc,
+            command,
+            file,
+            false,
+            &mut Tap::new(b"".as_slice()),
+            input,
+            out,
+        ),
+    }
+}
+
+/// The run of a command. Where there is no journal, the tap that stands for it is not called.
+fn perform<F: Read, J: Read, I: Read, W: Write>(
+    alloc: Global,
+    command: &Command,
+    file: &mut Tap<F>,
+    has_journal: bool,
+    journal: &mut Tap<J>,
+    input: &mut Tap<I>,
+    out: &mut Tap<W>,
+) -> Outcome
+    requires { IsCommand command.now }
+    ensures ran { IsRun command.now
+        (taps (view_of F.remaining file.old) (held has_journal (view_of J.remaining journal.old)) (view_of I.remaining input.old) (view_of W.contents out.old))
+        (taps (view_of F.remaining file.new) (held has_journal (view_of J.remaining journal.new)) (view_of I.remaining input.new) (view_of W.contents out.new)) result }
+    ensures unread { ¬ ReadsJournal command.now → journal.new ≡ journal.old }
+    ensures input { command.now.name ≢ codes "edit" → input.new ≡ input.old }
+{
+    match try_perform(alloc, command, file, has_journal, journal, input, out) {
         Ok(outcome) => outcome,
         Err(AllocError) => outcome_of(Text::from_vec(Vec::new(alloc)), status::MEMORY),
     }
@@ -61,19 +92,20 @@ fn try_perform<F: Read, J: Read, I: Read, W: Write>(
     alloc: Global,
     command: &Command,
     file: &mut Tap<F>,
-    journal: Option<&mut Tap<J>>,
+    has_journal: bool,
+    journal: &mut Tap<J>,
     input: &mut Tap<I>,
     out: &mut Tap<W>,
 ) -> Result<Outcome, AllocError>
     requires { IsCommand command.now }
     ensures ran { IfOk result (IsRun command.now
-        (taps (view_of F.remaining file.old) (option_map (view_of J.remaining) (held_before journal.entry)) (view_of I.remaining input.old) (view_of W.contents out.old))
-        (taps (view_of F.remaining file.new) (option_map (view_of J.remaining) (held_after journal.exit)) (view_of I.remaining input.new) (view_of W.contents out.new))) }
+        (taps (view_of F.remaining file.old) (held has_journal (view_of J.remaining journal.old)) (view_of I.remaining input.old) (view_of W.contents out.old))
+        (taps (view_of F.remaining file.new) (held has_journal (view_of J.remaining journal.new)) (view_of I.remaining input.new) (view_of W.contents out.new))) }
     ensures file { OnErr result (has_failed file.new ≡ has_failed file.old) }
-    ensures journal { OnErr result (has_any_failed (option_map (view_of J.remaining) (held_after journal.exit)) ≡ has_any_failed (option_map (view_of J.remaining) (held_before journal.entry))) }
+    ensures journal { OnErr result (has_failed journal.new ≡ has_failed journal.old) }
     ensures failed { OnErr result (has_failed input.new ≡ has_failed input.old) }
     ensures silent { OnErr result (out.new ≡ out.old) }
-    ensures unread { ¬ ReadsJournal command.now → held_after journal.exit ≡ held_before journal.entry }
+    ensures unread { ¬ ReadsJournal command.now → journal.new ≡ journal.old }
     ensures input { command.now.name ≢ codes "edit" → input.new ≡ input.old }
 {
     let read_fault = fault(alloc, READ_FAULT)?;
@@ -83,7 +115,7 @@ fn try_perform<F: Read, J: Read, I: Read, W: Write>(
         Err(SourceFault::Failed) => return Ok(read_fault),
         Err(SourceFault::OutOfMemory) => return Err(AllocError),
     };
-    let history = match read_journal(alloc, command, journal) {
+    let history = match read_journal(alloc, command, has_journal, journal) {
         Ok(history) => history,
         Err(SourceFault::Failed) => return Ok(read_fault),
         Err(SourceFault::OutOfMemory) => return Err(AllocError),
@@ -104,25 +136,28 @@ fn try_perform<F: Read, J: Read, I: Read, W: Write>(
 fn read_journal<J: Read>(
     alloc: Global,
     command: &Command,
-    journal: Option<&mut Tap<J>>,
+    has_journal: bool,
+    journal: &mut Tap<J>,
 ) -> Result<Option<Vec<u8>>, SourceFault>
     ensures ok { IfOk result (λ text. HasJournal command.now
-        (option_map (view_of J.remaining) (held_before journal.entry)) (option_map (view_of J.remaining) (held_after journal.exit))
+        (held has_journal (view_of J.remaining journal.old)) (held has_journal (view_of J.remaining journal.new))
         (option_map (λ bytes. bytes.items) text)) }
-    ensures failed { result ≡ Err Failed → has_any_failed (option_map (view_of J.remaining) (held_after journal.exit)) ≡ true }
-    ensures sound { result ≢ Err Failed → has_any_failed (option_map (view_of J.remaining) (held_after journal.exit)) ≡ has_any_failed (option_map (view_of J.remaining) (held_before journal.entry)) }
-    ensures unread { ¬ ReadsJournal command.now → held_after journal.exit ≡ held_before journal.entry }
+    ensures failed { result ≡ Err Failed → has_any_failed (held has_journal (view_of J.remaining journal.new)) ≡ true }
+    ensures sound { result ≢ Err Failed → has_failed journal.new ≡ has_failed journal.old }
+    ensures unread { ¬ ReadsJournal command.now → journal.new ≡ journal.old }
 {
-    let Some(journal) = journal else {
+    if !has_journal {
         return Ok(None);
-    };
+    }
     if !command.reads_journal() {
         return Ok(None);
     }
-    match read_up_to(alloc, journal, JOURNAL_LIMIT + 1) {
-        Ok(bytes) => Ok(Some(bytes)),
-        Err(fault) => Err(fault),
-    }
+    let bytes = match read_up_to(alloc, journal, JOURNAL_LIMIT + 1) {
+        Ok(bytes) => bytes,
+        Err(SourceFault::Failed) => return Err(SourceFault::Failed),
+        Err(SourceFault::OutOfMemory) => return Err(SourceFault::OutOfMemory),
+    };
+    Ok(Some(bytes))
 }
 
 /// The input of a command, if it reads that.

@@ -32,6 +32,7 @@ pub fn answer_log(
 fn log_text(alloc: Global, session: &Session<Paged>) -> Result<Text, AllocError>
     ensures { IfOk result (λ text. text ≡ log_text session.now) }
 {
+    session.is_sound();
     let undos = session.undo_count();
     let mut out = Vec::new(alloc);
     add_steps(alloc, &mut out, session, "done", 0, undos)?;
@@ -59,6 +60,7 @@ fn add_steps(
     requires within { to ≤ length session.now.past + length session.now.future }
     ensures { OnOk result (out.new.items ≡ out.old.items ++ flat_map (step_line word.now) (between from to (session.now.past ++ session.now.future))) }
 {
+    session.is_sound();
     'step: for n in from..to {
         let line = step_line(alloc, word, session.step(n))?;
         out.extend_from_slice(line.as_slice())?;

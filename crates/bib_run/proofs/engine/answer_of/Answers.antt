@@ -8,7 +8,7 @@ use Rattle.bib_run.specs.Show.{show_answer}
 use Rattle.bib_run.specs.Cite.{cite_answer}
 use Rattle.bib_run.specs.Labels.{labels_answer}
 use Rattle.bib_run.specs.Names.{Spells, names_answer}
-use Rattle.bib_run.specs.Answers.{of_reading, check, show, cite, labels, names, edit, key_word, template_word}
+use Rattle.bib_run.specs.Answers.{of_reading, check, show, cite, labels, names, edit, undo, redo, log, forget, key_word, template_word}
 use Rattle.bib_run.proofs.engine.answer_of.Goals as goal
 
 pub returns-then-is_named-2 : goal.returns-then-is_named-2
@@ -60,3 +60,23 @@ returns-then-is_named-7 c =
     ∙ ap (λ (words : List Text). get_or words 2 []) c.as_slice-words.ensures in
     IfOk-weaker c.answer_names.result _ _ (λ answer h. of_reading _ (names named h.pattern (subst (λ t. Spells t h.pattern) template h.spells))
     (subst (λ k. AnswersFile (names_answer k h.pattern) c.args.file.items answer) key h.answers)) c.answer_names.ensures
+
+pub returns-then-is_named-8 : goal.returns-then-is_named-8
+returns-then-is_named-8 c =
+    let named : c.args.command.now.name ≡ codes "undo" = search rules in
+    IfOk-weaker c.answer_undo.result _ _ (λ answer h. undo named h) c.answer_undo.ensures
+
+pub returns-then-is_named-9 : goal.returns-then-is_named-9
+returns-then-is_named-9 c =
+    let named : c.args.command.now.name ≡ codes "redo" = search rules in
+    IfOk-weaker c.answer_redo.result _ _ (λ answer h. redo named h) c.answer_redo.ensures
+
+pub returns-then-is_named-10 : goal.returns-then-is_named-10
+returns-then-is_named-10 c =
+    let named : c.args.command.now.name ≡ codes "log" = search rules in
+    IfOk-weaker c.answer_log.result _ _ (λ answer h. log named h) c.answer_log.ensures
+
+pub returns-then-is_named-11 : goal.returns-then-is_named-11
+returns-then-is_named-11 c =
+    let named : c.args.command.now.name ≡ codes "forget" = search rules in
+    IfOk-weaker c.answer_forget.result _ _ (λ answer h. forget named h) c.answer_forget.ensures

@@ -1,8 +1,9 @@
-use Rattle.std.proofs.Common.{refl}
-use Rattle.bib_run.specs.Runs.{no_memory}
+use Rattle.std.proofs.Common.{Some, ap}
 use Rattle.bib_run.proofs.engine.run.Goals as goal
 
-pub returns-in-Err-clause-ran : goal.returns-in-Err-clause-ran
-returns-in-Err-clause-ran g c =
-    rw (c.outcome_of.ensures, c.from_vec.ensures, c.new.ensures.items, c.in-Err.ensures.silent)
-    (no_memory (record { file = c.in-Err.ensures.file; journal = c.in-Err.ensures.journal; input = c.in-Err.ensures.failed }) refl)
+-- the journal is known where the match took it
+pub returns-in-Some-clause-ran : goal.returns-in-Some-clause-ran
+returns-in-Some-clause-ran g c = rw (c.in-Some.is) c.perform.ensures.ran
+
+pub returns-in-Some-clause-journal : goal.returns-in-Some-clause-journal
+returns-in-Some-clause-journal g c = rw (c.in-Some.is) (λ left_alone. ap Some (c.perform.ensures.unread left_alone))
