@@ -120,7 +120,8 @@ def compare_bash(report, path, commands):
     text = read(path)
     words = re.search(r"local commands='(.*)'", text).group(1).split()
     report.expect_same([command.name for command in commands] + ["help"], words, path, "commands")
-    arms = dict(re.findall(r"^ +([\w| ]+)\) mapfile .*? -W '([^']*--help)'", text, re.M))
+    found = re.findall(r"^ +([\w| ]+)\) mapfile .*? -W '([^']*--help)'", text, re.M)
+    arms = {name.strip(): arm for names, arm in found for name in names.split("|")}
     compare_options(report, path, commands, lambda name: options_in(arms.get(name, "")))
     if shutil.which("bash"):
         compare_answers(report, path, commands)
