@@ -1,10 +1,10 @@
 //! Names split and printed, and labels made.
 
+use bib_data::Record;
 use bib_names::{
     NameFault, Template, Word, key_base, label_base, labels, split_name, split_names, text_in,
 };
 use bib_scan::{Seq, Text};
-use bib_data::Record;
 use std::alloc::Global;
 use std::test::Fail;
 
