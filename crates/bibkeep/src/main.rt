@@ -2,6 +2,8 @@
 //! decided here: `bib_command` reads the words, and `bib_run` knows what a command does.
 #![tactic(auto)]
 
+ghost use Rattle.std.specs.Prelude.{◌≡◌, ◌≢◌, ◌↔◌, IfOk, IsTrue, codes, pos};
+ghost use Rattle.std.specs.Fd.{file_raw_fd};
 ghost use Rattle.bib_words.specs.Command.{IsCommand};
 
 mod endings;
@@ -14,6 +16,7 @@ use endings::{end, end_run, end_unknown, end_unopened, end_usage, end_without_wo
 use std::alloc::Global;
 use std::fs::File;
 use std::io::{ErrorKind, Read};
+use std::os::fd::AsRawFd;
 use std::process::ExitCode;
 use std::{env, io, str};
 use storing::{journal_path, store};
@@ -61,14 +64,20 @@ fn perform(rt: &HostRuntime, alloc: Global, command: &Command) -> u8
     }
 }
 
-/// Opens the file, and its journal where there is one and the command reads it.
+/// Opens the file, and its journal where there is one and the command reads it. Where standard input is closed, the file
+/// takes its number: then it would be read as the input too.
 fn open(
     rt: &HostRuntime,
     alloc: Global,
     command: &Command,
     path: &str,
-) -> io::Result<(File, Option<File>)> {
+) -> io::Result<(File, Option<File>)>
+    ensures apart { command.now.name ≡ codes "edit" → IfOk result (λ opened. file_raw_fd opened.0 ≢ pos 0) }
+{
     let file = File::open(rt, path)?;
+    if reads_input(command) && file.as_raw_fd() == rt.stdin().as_raw_fd() {
+        return Err(ErrorKind::InvalidInput.into());
+    }
     if !command.reads_journal() {
         return Ok((file, None));
     }
@@ -78,6 +87,13 @@ fn open(
         Err(error) if error.kind() == ErrorKind::NotFound => Ok((file, None)),
         Err(error) => Err(error),
     }
+}
+
+/// Whether the command reads standard input beside its file.
+fn reads_input(command: &Command) -> bool
+    ensures { IsTrue result ↔ (command.now.name ≡ codes "edit") }
+{
+    command.is_named(b"edit")
 }
 
 /// Says how the run over this file ended, and puts the new file and the new journal in their places, if there are such.
