@@ -44,6 +44,9 @@ when cat too_long.bib; ends_with 1; writes_nothing; says 'bibkeep: 9 FileTooLong
 input=too_long.bib; when cat; ends_with 1; writes_nothing; says 'bibkeep: 9 FileTooLong at 16777216'
 input=/dev/zero; when cat; ends_with 1; writes_nothing; says 'bibkeep: 9 FileTooLong at 16777216'
 
+# Memory may be limited.
+when_shell_runs 'ulimit -v 16000; "$program" cat longest.bib'; ends_with 4; writes_nothing; says 'bibkeep: 10 Memory'
+
 # A file that cannot be opened or read is a read fault.
 when cat nothing.bib; ends_with 3; writes_nothing; says 'bibkeep: read fault'
 when cat ''; ends_with 3; writes_nothing; says 'bibkeep: read fault'

@@ -1,0 +1,255 @@
+"""Every command over worked files: what it is given, and what it answers and leaves.
+
+A new command gets a case here, and then all trials take it on.
+"""
+
+import hashlib
+from dataclasses import dataclass
+from typing import Optional
+
+FILE = "f.bib"
+JOURNAL = f"{FILE}.bibkeep"
+NEW_FILE = f"{FILE}.bibkeep-new"
+NEW_JOURNAL = f"{JOURNAL}.bibkeep-new"
+# The descriptors of standard input and output.
+INPUT = "0"
+OUTPUT = "1"
+
+
+@dataclass(frozen=True)
+class Case:
+    """A run of the program: its words, its sources (None: there is no such file), and what it has to answer."""
+
+    words: tuple
+    file: Optional[bytes] = None
+    journal: Optional[bytes] = None
+    input: bytes = b""
+    reads: tuple = (FILE,)
+    status: int = 0
+    output: bytes = b""
+    message: bytes = b""
+    # What the program puts in the place of the file and of the journal; None: they stay.
+    new_file: Optional[bytes] = None
+    new_journal: Optional[bytes] = None
+
+    @property
+    def name(self):
+        return " ".join(self.words)
+
+    @property
+    def command(self):
+        return self.words[0]
+
+    def source(self, name):
+        """The bytes of a source."""
+        return {FILE: self.file, JOURNAL: self.journal, INPUT: self.input}[name]
+
+    def stores(self):
+        return self.new_file is not None or self.new_journal is not None
+
+    def file_after(self):
+        return self.file if self.new_file is None else self.new_file
+
+    def journal_after(self):
+        return self.journal if self.new_journal is None else self.new_journal
+
+
+def journal(file, past=(), future=()):
+    """The journal of a file with these steps, each of which is a list of pieces: a place, old bytes and new bytes."""
+    digest = hashlib.sha256(file).hexdigest().encode()
+    text = b"bibkeep 1\n%s\n%d %d\n" % (digest, len(past), len(future))
+    for step in (*past, *future):
+        text += b"%d\n" % len(step)
+        for place, old, new in step:
+            text += b"%d %d %d\n%s%s\n" % (place, len(old), len(new), old, new)
+    return text
+
+
+def doubled(count):
+    """Macros, each of which says twice what the one before it says."""
+    macros = [b"@string{m0 = {x}}", *(b"@string{m%d = m%d # m%d}" % (n, n - 1, n - 1) for n in range(1, count + 1))]
+    return b"".join(macros)
+
+
+def edited(file, script, pieces, new_file, journal_before=None, past=()):
+    """An edit of one line, in a journal after these steps."""
+    return Case(
+        words=("edit", FILE),
+        file=file,
+        journal=journal_before,
+        input=script,
+        reads=(FILE, INPUT) if journal_before is None else (FILE, JOURNAL, INPUT),
+        output=b"applied 1\n",
+        new_file=new_file,
+        new_journal=journal(new_file, [*past, pieces]),
+    )
+
+
+ROW = b"mail joe@x.org\n@Misc{a,}\n"
+REPORTS = b"@misc{a, t = u, T = 1}@misc{A}"
+PARENTS = (
+    b"@inproceedings{c1, title = {One}, crossref = {p}}\n@inproceedings{c2, title = {Two}, crossref = {P}}\n"
+    b"@inproceedings{c3, title = {Three}, crossref = {p}}\n"
+    b"@proceedings{p, title = {Proc}, booktitle = {Proc}, year = 2001}\n"
+)
+BOOKS = (
+    b"@misc{Lam86, author = {Donald E. Knuth}, year = 1984}\n"
+    b"@misc{Knu84, author = {Leslie Lamport}, year = 1986, crossref = {lam86}}\n"
+)
+REGENERATED = (
+    b"@misc{Knu84, author = {Donald E. Knuth}, year = 1984}\n"
+    b"@misc{Lam86, author = {Leslie Lamport}, year = 1986, crossref = {Knu84}}\n"
+)
+FIELD = b"@misc{a, t = 1,}"
+TWO = b"@misc{a}\n@misc{b}\n"
+CONFERENCE = b"@string{conf={conf}}@misc{conf95}@misc{b, crossref = conf # {95}}"
+REMOVAL = [(3, b"@misc{k}", b"")]
+WITH_ENTRY = b"abc@misc{k}"
+REMOVED = journal(b"abc", past=[REMOVAL])
+TAKEN_BACK = journal(WITH_ENTRY, future=[REMOVAL])
+
+READING = [
+    Case(("cat", FILE), ROW, output=ROW),
+    Case(("cat",), input=ROW, reads=(INPUT,), output=ROW),
+    Case(
+        ("check", FILE),
+        REPORTS,
+        output=b"items 2\nentries 2\nmacros 0\npreambles 0\ncomments 0\n"
+        b"undefined macro u\nextra field a T\nrepeated entry A\n",
+    ),
+    Case(
+        ("show", FILE, "c1"),
+        PARENTS,
+        output=b"@inproceedings c1\ntitle = One\nbooktitle = Proc\nyear = 2001\ncrossref = p\n",
+    ),
+    Case(("show", FILE, "zz"), PARENTS, status=1, message=b"bibkeep: 11 NoSuchEntry\n"),
+    Case(("cite", FILE, "c1", "zz", "c2", "C1"), PARENTS, output=b"c1\tp\nc2\tp\np\n? zz\n"),
+    Case(("cite", FILE, "--min-crossrefs", "3", "c1", "zz", "c2", "C1"), PARENTS, output=b"c1\nc2\n? zz\n"),
+    Case(("labels", FILE, "Lam86", "knu84"), BOOKS, output=b"Knu84\tLam86\nLam86\tKnu84\n"),
+    Case(("names", FILE, "Lam86", "{f. }{vv~}{ll}"), BOOKS, output=b"D.~E. Knuth\n"),
+]
+
+EDITING = [
+    edited(WITH_ENTRY, b"remove\tk\n", REMOVAL, b"abc"),
+    edited(
+        b"abc",
+        b"add\t0\tmisc\tk\n",
+        [(3, b"", b"@misc{k}\n")],
+        b"abc@misc{k}\n",
+        journal_before=REMOVED,
+        past=[REMOVAL],
+    ),
+    edited(FIELD, b"set\ta\ty\t{2}", [(14, b"", b",\n  y = {2}")], b"@misc{a, t = 1,\n  y = {2},}"),
+    edited(FIELD, b"drop\ta\tT\n", [(7, b", t = 1", b"")], b"@misc{a,}"),
+    edited(TWO, b"move\ta\t1\n", [(0, b"@misc{a}", b""), (18, b"", b"@misc{a}\n")], b"\n@misc{b}\n@misc{a}\n"),
+    edited(
+        CONFERENCE,
+        b"rename-key\tconf95\ticc\n",
+        [(26, b"conf95", b"icc"), (53, b"conf # {95}", b"{icc}")],
+        b"@string{conf={conf}}@misc{icc}@misc{b, crossref = {icc}}",
+    ),
+    edited(
+        CONFERENCE,
+        b"rename-macro\tconf\tc\n",
+        [(8, b"conf", b"c"), (53, b"conf", b"c")],
+        b"@string{c={conf}}@misc{conf95}@misc{b, crossref = c # {95}}",
+    ),
+    edited(
+        b"@string{x={1}}@string{m=x}@string{x={2}}@misc{k,t=m}",
+        b"inline\tm\n",
+        [(14, b"@string{m=x}", b""), (50, b"m", b"{1}")],
+        b"@string{x={1}}@string{x={2}}@misc{k,t={1}}",
+    ),
+    edited(
+        b'@misc{a, t = {x} # "x"}',
+        b"introduce\tm\tx\n",
+        [(0, b"", b"@string{m = {x}}\n"), (13, b"{x}", b"m"), (19, b'"x"', b"m")],
+        b"@string{m = {x}}\n@misc{a, t = m # m}",
+    ),
+    edited(
+        BOOKS,
+        b"regenerate\n",
+        [
+            (BOOKS.index(b"Lam86"), b"Lam86", b"Knu84"),
+            (BOOKS.index(b"Knu84"), b"Knu84", b"Lam86"),
+            (BOOKS.index(b"{lam86}"), b"{lam86}", b"{Knu84}"),
+        ],
+        REGENERATED,
+    ),
+    # the edits before a refused line stand, and where there are none nothing is stored
+    Case(
+        ("edit", FILE),
+        FIELD,
+        input=b"set\ta\ty\t{2}\ndrop\ta\tq\nset\ta\tz\t3\n",
+        reads=(FILE, INPUT),
+        status=1,
+        output=b"applied 1\n",
+        message=b"bibkeep: line 2: 35 NotFound\n",
+        new_file=b"@misc{a, t = 1,\n  y = {2},}",
+        new_journal=journal(b"@misc{a, t = 1,\n  y = {2},}", [[(14, b"", b",\n  y = {2}")]]),
+    ),
+    Case(
+        ("edit", FILE),
+        b"abc",
+        journal=REMOVED,
+        input=b"remove\tk\n",
+        reads=(FILE, JOURNAL, INPUT),
+        status=1,
+        output=b"applied 0\n",
+        message=b"bibkeep: line 1: 35 NotFound\n",
+    ),
+]
+
+TURNING = [
+    Case(
+        ("undo", FILE),
+        b"abc",
+        REMOVED,
+        reads=(FILE, JOURNAL),
+        output=b"undone 1\n",
+        new_file=WITH_ENTRY,
+        new_journal=TAKEN_BACK,
+    ),
+    Case(
+        ("undo", FILE, "--steps", "3"),
+        b"abc",
+        REMOVED,
+        reads=(FILE, JOURNAL),
+        status=1,
+        output=b"undone 1\n",
+        message=b"bibkeep: 51 NothingToUndo\n",
+        new_file=WITH_ENTRY,
+        new_journal=TAKEN_BACK,
+    ),
+    Case(
+        ("redo", FILE),
+        WITH_ENTRY,
+        TAKEN_BACK,
+        reads=(FILE, JOURNAL),
+        output=b"redone 1\n",
+        new_file=b"abc",
+        new_journal=REMOVED,
+    ),
+    Case(
+        ("redo", FILE),
+        b"abc",
+        REMOVED,
+        reads=(FILE, JOURNAL),
+        status=1,
+        output=b"redone 0\n",
+        message=b"bibkeep: 52 NothingToRedo\n",
+    ),
+    Case(("log", FILE), b"abc", REMOVED, reads=(FILE, JOURNAL), output=b"done 1 8 0\n"),
+    Case(
+        ("log", FILE),
+        b"abd",
+        REMOVED,
+        reads=(FILE, JOURNAL),
+        status=1,
+        message=b"bibkeep: 54 JournalMismatch\n",
+    ),
+    # `forget` does not read the old journal
+    Case(("forget", FILE), b"abc", b"no journal", new_journal=journal(b"abc")),
+]
+
+CASES = READING + EDITING + TURNING

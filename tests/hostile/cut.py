@@ -1,0 +1,158 @@
+"""Files that are cut at each byte, that nest deeply, and that never end."""
+
+import contextlib
+import os
+import resource
+import subprocess
+
+from cases import BOOKS, CONFERENCE, FIELD, FILE, INPUT, JOURNAL, PARENTS, REGENERATED, REPORTS, ROW, TWO, Case, doubled
+from program import Left, answer_of, seen
+
+# Files that can be read, from worked examples.
+ACCEPTED = [
+    ROW,
+    b"@comment{ @misc{a}}",
+    b"@string{p={A}}@misc{a,t=p}@string{p={B}}@misc{b,t=p}",
+    FIELD,
+    b"@misc{a, t = 1,\n  y = {2},}",
+    b"@misc{a,}",
+    b"@misc{a, t = 1,\n  w = {4},}",
+    b"@string{jan = jan # { x}}@misc{a, month = jan}",
+    BOOKS,
+    REGENERATED,
+    b'@string{m = "a" # {"}}@misc{k, t = m # 1}',
+    b'@misc{k, t = {a"} # 1}',
+    b"@misc{a}@misc{b, crossref = {Z}}",
+    b"a@foo \n@misc{k}{b",
+    b"@comment@misc{k}s",
+    b"@misc(a, t=1)",
+    b"@misc(a, t=1 )",
+    b"@misc(a )",
+    PARENTS,
+    b"abc@misc{k}",
+    b"@article{k1, author = {King, Jr, Martin Luther and de la Fontaine, Jean}, title = {On Things}, journal = {J}, "
+    b"year = 1984, month = may, pages = {10--20}}",
+    b"@misc{,year=1999}@misc{x,year=1999}@misc{c,year=2000,crossref={anon99A}}",
+    b"@misc{anon99,year=1999}@misc{anon99b,year=1999}@misc{anon00,year=2000,crossref={anon99A}}",
+    TWO,
+    b"@misc{a}\n@book{c,\n  title = {T}\n}\n@misc{b}\n",
+    b"\n@misc{b}\n@misc{a}\n",
+    b'@misc{a, t = {x} # "x"}',
+    b"@string{m = {x}}\n@misc{a, t = m # m}",
+    b'@preamble{"a" # { b}}',
+    REPORTS,
+    b"@misc{a, crossref={a}}@misc{b}@misc{c, crossref={b}}@misc{d,crossref={q}}",
+    b"@string{x={1}}@string{m=x}@string{x={2}}@misc{k,t=m}",
+    CONFERENCE,
+    b"@misc{a, t = m}@string{m = 1}@misc{b, t = m}",
+    b"@string{p={a}}@misc{a}@misc{b}@misc{c,crossref=p}",
+    b"@misc{a}x@misc{b}}}",
+    b"@misc{a,x={x@misc{b}}}",
+    b"@article{anon,\n  title = {A long one}\n}\n",
+]
+
+
+def nested(depth):
+    return b"@misc{a,t=" + b"{" * depth + b"}" * depth + b"}"
+
+
+DEEP = [
+    Case(("cat", FILE), nested(500000), output=nested(500000)),
+    Case(("check", FILE), nested(500000), output=b"items 1\nentries 1\nmacros 0\npreambles 0\ncomments 0\n"),
+    Case(("cat", FILE), nested(1000000), output=nested(1000000)),
+    Case(("check", FILE), nested(1000000), status=1, message=b"bibkeep: 8 TextTooLong at 10\n"),
+    Case(("cat", FILE), b"@misc{a,t=" + b"{" * 8000000, status=1, message=b"bibkeep: 1 Unended at 8000010\n"),
+    Case(("cat", FILE), doubled(40), output=doubled(40)),
+    Case(("check", FILE), doubled(40), status=1, message=b"bibkeep: 8 TextTooLong at 482\n"),
+]
+# Room for one buffer of 65,536 bytes, and as much again.
+STACK = 131072
+
+FILE_TOO_LONG = b"bibkeep: 9 FileTooLong at 16777216\n"
+# One byte past the longest journal.
+JOURNAL_WITHOUT_LINE = b"bibkeep: 53 BadJournal at 67108952\n"
+READERS = [
+    ("cat", FILE),
+    ("check", FILE),
+    ("show", FILE, "a"),
+    ("cite", FILE, "a"),
+    ("labels", FILE, "a"),
+    ("names", FILE, "a", "{ll}"),
+    ("forget", FILE),
+]
+WITH_JOURNAL = [("edit", FILE), ("undo", FILE), ("redo", FILE), ("log", FILE)]
+
+
+def tried(report, program):
+    for file in [*ACCEPTED, doubled(20)]:
+        for command in ("cat", "check"):
+            report.tried("a file is cut at each byte", command, cut(program, command, file))
+    for case in DEEP:
+        report.tried("deep braces and long texts, on a small stack", case.command, on_a_small_stack(program, case))
+    for words in READERS + WITH_JOURNAL:
+        report.tried("a file never ends", words[0], endless(program, words, FILE, FILE_TOO_LONG))
+    for words in WITH_JOURNAL:
+        report.tried("a journal never ends", words[0], endless(program, words, JOURNAL, JOURNAL_WITHOUT_LINE))
+    for words in [("cat",), ("edit", FILE)]:
+        report.tried("an input never ends", words[0], endless(program, words, INPUT, FILE_TOO_LONG))
+
+
+def cut(program, command, file):
+    """Each prefix is a file, or one that ended too early."""
+    for size in range(len(file)):
+        prefix = file[:size]
+        left = program.try_case(Case((command, FILE), prefix))
+        unended = Left(1, b"", b"bibkeep: 1 Unended at %d\n" % size, prefix, None)
+        read = Left(0, prefix if command == "cat" else left.output, b"", prefix, None)
+        yield seen(left, {"read": read, "ended too early": unended}, f"{command} of {prefix!r}")
+
+
+def on_a_small_stack(program, case):
+    def limit():
+        resource.setrlimit(resource.RLIMIT_STACK, (STACK, STACK))
+
+    left = program.try_case(case, preexec_fn=limit)
+    yield seen(left, {"answered": answer_of(case)}, case.name)
+
+
+def endless(program, words, source, message):
+    """A run over a device that never ends, and one over a pipe."""
+    for give in (zeros, ever_more):
+        program.clear()
+        program.lay(FILE, b"abc")
+        with give(program, source) as given:
+            left = program.run(words, given)
+        refused = Left(1, b"", message, None if source == FILE else b"abc", None)
+        yield seen(left, {"refused": refused}, f"{words}, {source} without end")
+
+
+@contextlib.contextmanager
+def zeros(program, source):
+    """The source is a device that gives zeros for ever."""
+    if source == INPUT:
+        with open("/dev/zero", "rb") as device:
+            yield device
+    else:
+        replace(program, source, lambda path: os.symlink("/dev/zero", path))
+        yield b""
+
+
+@contextlib.contextmanager
+def ever_more(program, source):
+    """The source is a pipe, into which zeros are written for ever."""
+    if source == INPUT:
+        with subprocess.Popen(["cat", "/dev/zero"], stdout=subprocess.PIPE) as writer:
+            yield writer.stdout
+            writer.kill()
+    else:
+        replace(program, source, os.mkfifo)
+        with subprocess.Popen(["sh", "-c", 'exec cat /dev/zero >"$0"', program.path(source)], stderr=subprocess.DEVNULL) as writer:
+            yield b""
+            writer.kill()
+
+
+def replace(program, source, make):
+    path = program.path(source)
+    if os.path.exists(path):
+        os.remove(path)
+    make(path)
