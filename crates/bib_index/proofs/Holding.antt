@@ -18,18 +18,18 @@ use Rattle.bib_index.specs.KeyIndex.{is_text, has_text, with_text, IsIndexOf, wi
 
 -- ---- one id among others
 
-lacks_at : (ids : List ℕ) (m id x : ℕ) → Lacks ids x → slice_get ids m ≡ Some id → id ≡ x → ⊥
+pub lacks_at : (ids : List ℕ) (m id x : ℕ) → Lacks ids x → slice_get ids m ≡ Some id → id ≡ x → ⊥
 lacks_at [] m id x l e same = none-some id e
 lacks_at (y ∷ ids) zero id x l e same = l.0 (same_Some y id e ∙ same)
 lacks_at (y ∷ ids) (suc m) id x l e same = lacks_at ids m id x l.1 e same
 
 -- an id, what stands before it and what stands after it
-record Parts (ids : List ℕ) (n id : ℕ) : Type 0 where
+pub record Parts (ids : List ℕ) (n id : ℕ) : Type 0 where
   pub whole : ids ≡ take n ids ++ id ∷ drop (suc n) ids
   pub front : Lacks (take n ids) id
   pub back : Lacks (drop (suc n) ids) id
 
-parts : (ids : List ℕ) (n id : ℕ) → IsDistinct ids → slice_get ids n ≡ Some id → Parts ids n id
+pub parts : (ids : List ℕ) (n id : ℕ) → IsDistinct ids → slice_get ids n ≡ Some id → Parts ids n id
 parts [] n id d e = absurd (none-some id e)
 parts (x ∷ ids) zero id d e = record { whole = ap (λ (y : ℕ). y ∷ ids) (same_Some x id e); front = tt; back = subst (Lacks ids) (same_Some x id e) d.0 }
 parts (x ∷ ids) (suc n) id d e =
@@ -95,10 +95,10 @@ before_fits test ids n =
 
 -- ---- one text more or fewer
 
-with_same : (texts : ℕ → Option Text) (id : ℕ) (t : Option Text) → with_text texts id t id ≡ t
+pub with_same : (texts : ℕ → Option Text) (id : ℕ) (t : Option Text) → with_text texts id t id ≡ t
 with_same texts id t = cond-true (id == id) t (texts id) (eq-eqb id id refl)
 
-with_other : (texts : ℕ → Option Text) (id : ℕ) (t : Option Text) (y : ℕ) → y ≢ id → with_text texts id t y ≡ texts y
+pub with_other : (texts : ℕ → Option Text) (id : ℕ) (t : Option Text) (y : ℕ) → y ≢ id → with_text texts id t y ≡ texts y
 with_other texts id t y other = cond-false (y == id) t (texts y) (ne_eqb y id other)
 
 agrees : (texts : ℕ → Option Text) (id : ℕ) (t : Option Text) (x : Text) (y : ℕ) → y ≢ id → has_text (with_text texts id t) x y ≡ has_text texts x y
