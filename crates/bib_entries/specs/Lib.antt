@@ -1,1 +1,2 @@
 pub mod EntryTable
+pub mod Numbers

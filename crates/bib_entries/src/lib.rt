@@ -4,5 +4,7 @@
 #![tactic(auto)]
 
 mod entry_table;
+mod numbers;
 
 pub use entry_table::EntryTable;
+pub use numbers::Numbers;
