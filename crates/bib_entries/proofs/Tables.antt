@@ -1,10 +1,11 @@
 -- A table of entries, where one comes or goes, and what it finds.
-use Rattle.std.proofs.Common.{◌≡◌, ◌≢◌, ℕ, zero, suc, ◌+◌, ◌≤◌, ◌<◌, Bool, true, false, List, [], ◌∷◌, ◌++◌, Option, None, Some, option_map, length, map, take, drop, insert, remove, slice_get, slice_index, count_by, sym, subst, ⊎_elim, ◌∙◌, ap, ap₂, refl, arith}
+use Rattle.std.proofs.Common.{◌≡◌, ◌≢◌, ℕ, zero, suc, ◌+◌, ◌≤◌, ◌<◌, Bool, true, false, List, [], ◌∷◌, ◌++◌, Option, None, Some, option_map, length, map, take, drop, insert, remove, slice_get, slice_index, set, count_by, sym, subst, ⊎_elim, ◌∙◌, ap, ap₂, refl, arith}
 use Rattle.std.specs.Prelude.{◌==◌}
+use Rattle.std.specs.List.{AllByRecursion}
 use Rattle.std.specs.Option.{IfSome, IfNone}
 use Rattle.std.proofs.lemmas.Bool.{cases_Bool, cond-true, cond-false, cases_eq, both_ways, eqb-true}
 use Rattle.std.proofs.Math.Nat.{suc-ne-zero}
-use Rattle.std.proofs.lemmas.List.{map-append, take-map, drop-map, length-map}
+use Rattle.std.proofs.lemmas.List.{map-append, take-map, drop-map, length-map, length-set, get_or-set_same, get_or-set_other}
 use Rattle.std.proofs.lemmas.Option.{none-some, same_Some}
 use Rattle.bib_spec.specs.Text.{Text, folded}
 use Rattle.bib_spec.specs.Records.{is_named, first_named}
@@ -89,6 +90,29 @@ lacks-remove [] n old id e other l = tt
 lacks-remove (x ∷ ids) zero old id e other l = ((λ same. other (sym (same_Some x old e) ∙ same)), l)
 lacks-remove (x ∷ ids) (suc n) old id e other l = (l.0, lacks-remove ids n old id e other l.1)
 
+-- ---- room for what is said
+
+room-more : (few many : ℕ) (ids : List ℕ) → few ≤ many → AllByRecursion (λ id. id < few) ids → AllByRecursion (λ id. id < many) ids
+room-more few many [] h all = tt
+room-more few many (id ∷ ids) h all = (omega (arith, all.0, h), room-more few many ids h all.1)
+
+room-insert : (len : ℕ) (ids : List ℕ) (n id : ℕ) → id < len → AllByRecursion (λ id. id < len) ids → AllByRecursion (λ id. id < len) (insert ids n id)
+room-insert len [] zero id h all = (h, tt)
+room-insert len [] (suc n) id h all = (h, tt)
+room-insert len (x ∷ ids) zero id h all = (h, all)
+room-insert len (x ∷ ids) (suc n) id h all = (all.0, room-insert len ids n id h all.1)
+
+room-remove : (len : ℕ) (ids : List ℕ) (n : ℕ) → AllByRecursion (λ id. id < len) ids → AllByRecursion (λ id. id < len) (remove ids n)
+room-remove len [] zero all = tt
+room-remove len [] (suc n) all = tt
+room-remove len (x ∷ ids) zero all = all.1
+room-remove len (x ∷ ids) (suc n) all = (all.0, room-remove len ids n all.1)
+
+room-at : (len : ℕ) (ids : List ℕ) (n id : ℕ) → AllByRecursion (λ id. id < len) ids → slice_get ids n ≡ Some id → id < len
+room-at len [] n id all at = absurd (none-some id at)
+room-at len (x ∷ ids) zero id all at = subst (λ (y : ℕ). y < len) (same_Some x id at) all.0
+room-at len (x ∷ ids) (suc n) id all at = room-at len ids n id all.1 at
+
 -- ---- one entry more, and one fewer
 
 -- an entry comes, of an id that was in no use
@@ -112,6 +136,7 @@ inserted_table keys crossrefs old new n id key crossref t lacks ids added given 
       index = with.index;
       said = ap (map (crossref_of new.crossrefs)) ids ∙ map-insert (crossref_of new.crossrefs) old.ids n id
           ∙ ap₂ (λ (l : List (Option Text)) o. insert l n o) (map-other (crossref_of new.crossrefs) (crossref_of old.crossrefs) id given.others old.ids lacks ∙ t.said) given.itself;
+      room = subst (AllByRecursion (λ other. other < length new.crossrefs)) (sym ids) (room-insert (length new.crossrefs) old.ids n id given.within (room-more (length old.crossrefs) (length new.crossrefs) old.ids given.room t.room));
     }
 
 lacks_rest : (ids : List ℕ) (n id : ℕ) → IsDistinct ids → slice_get ids n ≡ Some id → Lacks (remove ids n) id
@@ -142,6 +167,8 @@ removed_table keys crossrefs old new n id key t distinct at has ids dropped kept
           (texts_follow.removed with.names old.ids (ids_in new.keys) n within (ap with.names (index_of old.ids n id at) ∙ gives.itself) with.index);
       said = ap₂ (λ (c : List (Option Text)) (l : List ℕ). map (crossref_of c) l) kept ids ∙ map-remove (crossref_of old.crossrefs) old.ids n
           ∙ ap (λ (l : List (Option Text)). remove l n) t.said;
+      room = subst (AllByRecursion (λ other. other < length new.crossrefs)) (sym ids)
+          (subst (λ (c : List (Option Text)). AllByRecursion (λ other. other < length c) (remove old.ids n)) (sym kept) (room-remove (length old.crossrefs) old.ids n t.room));
     }
   where
     name_at : (ids : List ℕ) (keys : List Text) (n : ℕ) → map t.names ids ≡ map name_of keys → slice_get ids n ≡ Some id → slice_get keys n ≡ Some key → t.names id ≡ name_of key
@@ -158,7 +185,8 @@ kept_table keys crossrefs old new ids index said t = record {
   named = ap (map t.names) ids ∙ t.named;
   others = λ id lacks. t.others id (subst (λ (l : List ℕ). Lacks l id) ids lacks);
   index = λ x. index x ∙ t.index x ∙ ap (holders (has_text t.names x)) (sym ids);
-  said = ap (map (crossref_of new.crossrefs)) ids ∙ map-same (crossref_of new.crossrefs) (crossref_of old.crossrefs) said old.ids ∙ t.said;
+  said = ap (map (crossref_of new.crossrefs)) ids ∙ map-same (crossref_of new.crossrefs) (crossref_of old.crossrefs) said.texts old.ids ∙ t.said;
+  room = subst (AllByRecursion (λ other. other < length new.crossrefs)) (sym ids) (room-more (length old.crossrefs) (length new.crossrefs) old.ids said.room t.room);
 }
 
 pub no_table : (t : Kept) → t.ids ≡ [] → IsIndexOf (λ _. None) [] (ids_in t.keys) → IsTableOf [] [] t
@@ -168,6 +196,7 @@ no_table t none index = record {
   others = λ _ _. refl;
   index = subst (λ (l : List ℕ). IsIndexOf (λ _. None) l (ids_in t.keys)) (sym none) index;
   said = ap (map (crossref_of t.crossrefs)) none;
+  room = subst (AllByRecursion (λ id. id < length t.crossrefs)) (sym none) tt;
 }
 
 -- ---- one name more, and one fewer
@@ -269,3 +298,35 @@ module _ (names : ℕ → Option Text) (text : Text) where
 
 pub same_count : (keys : List Text) (crossrefs : List (Option Text)) (t : Kept) → IsTableOf keys crossrefs t → length t.ids ≡ length keys
 same_count keys crossrefs t is = sym (length-map t.ids is.names) ∙ ap (length {A = _}) is.named ∙ length-map keys name_of
+
+-- ---- another crossref
+
+-- the ids' texts, where the n-th has another
+map-set : (f g : ℕ → Option Text) (ids : List ℕ) (n id : ℕ) (text : Option Text) → IsDistinct ids → slice_get ids n ≡ Some id → g id ≡ text → ((other : ℕ) → other ≢ id → g other ≡ f other) → map g ids ≡ set (map f ids) n text
+map-set f g [] n id text d at is same = absurd (none-some id at)
+map-set f g (x ∷ ids) zero id text d at is same =
+    let e = same_Some x id at in
+    ap₂ (λ y ys. y ∷ ys) (ap g e ∙ is) (map-other g f id same ids (subst (Lacks ids) e d.0))
+map-set f g (x ∷ ids) (suc n) id text d at is same =
+    ap₂ (λ y ys. y ∷ ys) (same x (λ e. lacks_at ids n id x d.0 at (sym e))) (map-set f g ids n id text d.1 at is same)
+
+pub set_table : (keys : List Text) (crossrefs : List (Option Text)) (old new : Kept) (n id : ℕ) (text : Option Text) → IsTableOf keys crossrefs old → IsDistinct old.ids → slice_get old.ids n ≡ Some id
+    → new.ids ≡ old.ids → new.keys ≡ old.keys → new.crossrefs ≡ set old.crossrefs id text → IsTableOf keys (set crossrefs n text) new
+set_table keys crossrefs old new n id text t distinct at ids index texts =
+    let within = room-at (length old.crossrefs) old.ids n id t.room at in
+    record {
+      names = t.names;
+      named = ap (map t.names) ids ∙ t.named;
+      others = λ other lacks. t.others other (subst (λ (l : List ℕ). Lacks l other) ids lacks);
+      index = λ x. ap (λ k. ids_in k x) index ∙ t.index x ∙ ap (holders (has_text t.names x)) (sym ids);
+      said = ap₂ (λ (c : List (Option Text)) (l : List ℕ). map (crossref_of c) l) texts ids
+          ∙ map-set (crossref_of old.crossrefs) (crossref_of (set old.crossrefs id text)) old.ids n id text distinct at
+          (get_or-set_same old.crossrefs id text None within) (λ other differ. get_or-set_other old.crossrefs id other text None differ)
+          ∙ ap (λ (l : List (Option Text)). set l n text) t.said;
+      room = subst (AllByRecursion (λ other. other < length new.crossrefs)) (sym ids)
+          (subst (λ (k : ℕ). AllByRecursion (λ other. other < k) old.ids) (sym (ap (length {A = Option Text}) texts ∙ length-set old.crossrefs id text)) t.room);
+    }
+
+-- where an id is in use, there is room for what it says
+pub has_room : (keys : List Text) (crossrefs : List (Option Text)) (t : Kept) (n id : ℕ) → IsTableOf keys crossrefs t → slice_get t.ids n ≡ Some id → id < length t.crossrefs
+has_room keys crossrefs t n id is at = room-at (length t.crossrefs) t.ids n id is.room at

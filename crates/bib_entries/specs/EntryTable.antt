@@ -1,5 +1,6 @@
 -- What a table says of the entries of a file.
-use Rattle.std.specs.Prelude.{ℕ, ◌≡◌, ◌≢◌, List, [], ◌∷◌, map, Option, None, Some, slice_index_or}
+use Rattle.std.specs.Prelude.{ℕ, ◌≡◌, ◌≢◌, ◌<◌, ◌≤◌, List, [], ◌∷◌, length, map, Option, None, Some, slice_index_or}
+use Rattle.std.specs.List.{AllByRecursion}
 use Rattle.bib_spec.specs.Text.{Text}
 use Rattle.bib_order.specs.Orders.{Lacks}
 use Rattle.bib_index.specs.KeyIndex.{IsIndexOf, ids_in}
@@ -26,6 +27,7 @@ pub record IsTableOf (keys : List Text) (crossrefs : List (Option Text)) (t : Ke
   pub others : (id : ℕ) → Lacks t.ids id → names id ≡ None
   pub index : IsIndexOf names t.ids (ids_in t.keys)
   pub said : map (crossref_of t.crossrefs) t.ids ≡ crossrefs
+  pub room : AllByRecursion (λ id. id < length t.crossrefs) t.ids
 
 -- what it says of entries, it says still
 abbrev pub SaysTheSame : Kept → Kept → Type 0
@@ -48,7 +50,10 @@ pub record IsIndexWith (old : ℕ → Option Text) (id : ℕ) (name : Option Tex
 pub record GivesCrossref (old new : List (Option Text)) (id : ℕ) (crossref : Option Text) : Type 0 where
   pub itself : crossref_of new id ≡ crossref
   pub others : (other : ℕ) → other ≢ id → crossref_of new other ≡ crossref_of old other
+  pub within : id < length new
+  pub room : length old ≤ length new
 
--- each id has the crossref text that it had
-abbrev pub HaveTheSame : List (Option Text) → List (Option Text) → Type 0
-HaveTheSame old new = (id : ℕ) → crossref_of new id ≡ crossref_of old id
+-- each id has the crossref text that it had, and room for one
+pub record HaveTheSame (old new : List (Option Text)) : Type 0 where
+  pub texts : (id : ℕ) → crossref_of new id ≡ crossref_of old id
+  pub room : length old ≤ length new

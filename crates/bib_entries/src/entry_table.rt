@@ -1,6 +1,6 @@
 //! The entries of a file by number and by key.
 
-ghost use Rattle.std.specs.Prelude.{◌≡◌, ◌≤◌, ◌<◌, ℕ, List, Option, None, length, OnOk, OnErr};
+ghost use Rattle.std.specs.Prelude.{◌≡◌, ◌≤◌, ◌<◌, ℕ, List, Option, None, length, set, OnOk, OnErr};
 ghost use Rattle.bib_spec.specs.Bytes.{name_limit};
 ghost use Rattle.bib_spec.specs.Text.{Text as Bytes};
 ghost use Rattle.bib_index.specs.KeyIndex.{IsIndexOf, ids_in, IsKept};
@@ -60,6 +60,15 @@ fn make_room(crossrefs: &mut Vec<Option<Text>>, id: usize) -> Result<(), AllocEr
     Ok(())
 }
 
+/// Gives an id another crossref text, where there is room for one.
+fn put_crossref(crossrefs: &mut Vec<Option<Text>>, id: usize, crossref: Option<Text>)
+    ensures { id < length crossrefs.old.items → crossrefs.new.items ≡ set crossrefs.old.items id crossref }
+{
+    if id < crossrefs.len() {
+        crossrefs[id] = crossref;
+    }
+}
+
 impl Model for EntryTable {
     ghost use Rattle.bib_entries.specs.EntryTable.{Kept};
 
@@ -69,7 +78,7 @@ impl Model for EntryTable {
 }
 
 impl EntryTable {
-    ghost use Rattle.std.specs.Prelude.{◌≡◌, ◌≤◌, ℕ, List, [], Option, None, length, insert, remove, set, slice_get, count_by, OnOk, OnErr};
+    ghost use Rattle.std.specs.Prelude.{◌≡◌, ◌≤◌, ◌<◌, ℕ, List, [], Option, None, length, insert, remove, set, slice_get, count_by, OnOk, OnErr};
     ghost use Rattle.std.specs.Option.{option_copied, option_flatten};
     ghost use Rattle.bib_spec.specs.Bytes.{name_limit};
     ghost use Rattle.bib_spec.specs.Text.{Text as Bytes};
@@ -161,6 +170,17 @@ impl EntryTable {
         add_key(&mut self.keys, &self.order, key, id)?;
         self.crossrefs[id] = crossref;
         Ok(())
+    }
+
+    /// Gives entry `n` another crossref text. It asks for no memory.
+    pub fn set_crossref(&mut self, n: usize, crossref: Option<Text>)
+        ensures { (keys : List Bytes) (crossrefs : List (Option Bytes)) → n < length keys → IsTableOf keys crossrefs self.old → IsTableOf keys (set crossrefs n crossref) self.new }
+    {
+        if n >= self.order.count() {
+            return;
+        }
+        let id = self.order.id_at(n);
+        put_crossref(&mut self.crossrefs, id, crossref);
     }
 
     /// Takes entry `n` out, whose key this is. It asks for no memory.

@@ -13,19 +13,18 @@ use Rattle.bib_items.specs.declared.list.Item.{Item}
 use Rattle.bib_store.specs.declared.tables.Tables.{Tables}
 use Rattle.bib_store.specs.Meaning.{entry_numbers}
 use Rattle.bib_items.specs.Items.{all_stored}
-use Rattle.bib_store.specs.Tables.{preamble_numbers, IsIndexOf, AreDefinitionsOf}
-use Rattle.bib_store.specs.KeyIndex.{holding_in}
+use Rattle.bib_entries.specs.EntryTable.{IsTableOf}
+use Rattle.bib_store.specs.Tables.{preamble_numbers, AreDefinitionsOf}
 use Rattle.bib_store.specs.Defined.{texts_at}
 use Rattle.bib_store.specs.ItemTexts.{first_too_long, placed_texts}
 
 -- the tables say of these items which are entries and preambles, which keys the entries have, what macros stand for
 -- where each item stands, and what the crossref of each entry says
 pub record AreTablesOf (items : List reading.Item) (t : Tables) : Type 0 where
-  pub entries : t.entries.items ≡ entry_numbers items
-  pub preambles : t.preambles.items ≡ preamble_numbers items
-  pub keys : IsIndexOf (keys_of (gathered entry_in months items)) (holding_in t.keys)
+  pub entries : t.entries ≡ entry_numbers items
+  pub preambles : t.preambles ≡ preamble_numbers items
+  pub named : IsTableOf (keys_of (gathered entry_in months items)) (map crossref_text (gathered entry_in months items)) t.named
   pub definitions : AreDefinitionsOf items (texts_at t.definitions)
-  pub crossrefs : t.crossrefs.items ≡ map crossref_text (gathered entry_in months items)
 
 -- the tables are those of this file
 abbrev pub AreTables : Reading → Tables → Type 0
@@ -39,13 +38,9 @@ pub record HasItems (front_len : ℕ) (kept : List Item) (db : Reading) : Type 0
   pub same : all_stored db.items ≡ kept
 
 -- the tables say what they said
-pub record AreSame (old new : Tables) : Type 0 where
+pub record SayTheSame (old new : Tables) : Type 0 where
   pub len : new.file_len ≡ old.file_len
-  pub entries : new.entries.items ≡ old.entries.items
-  pub preambles : new.preambles.items ≡ old.preambles.items
-  pub keys : new.keys ≡ old.keys
-  pub definitions : new.definitions ≡ old.definitions
-  pub crossrefs : new.crossrefs.items ≡ old.crossrefs.items
+  pub tables : (items : List reading.Item) → AreTablesOf items old → AreTablesOf items new
 
 -- ---- one item more
 

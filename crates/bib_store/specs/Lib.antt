@@ -9,7 +9,6 @@ pub mod Choosing
 pub mod Shifting
 pub mod Windows
 pub mod ItemTexts
-pub mod KeyIndex
 pub mod Beside
 pub mod Stored
 pub mod Amending

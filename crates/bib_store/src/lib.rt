@@ -16,7 +16,6 @@ mod exchanging;
 mod expanding;
 mod fitting;
 mod gathering;
-mod index;
 mod item_fault;
 mod joining;
 mod keeping;

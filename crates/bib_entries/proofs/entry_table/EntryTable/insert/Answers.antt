@@ -1,7 +1,7 @@
 use Rattle.std.proofs.Common.{◌≡◌, ◌≤◌, ◌∙◌, ℕ, List, sym, ap, length, subst, arith, insert}
 use Rattle.std.specs.Prelude.{remove}
 use Rattle.bib_index.specs.KeyIndex.{IsIndexOf, ids_in}
-use Rattle.bib_entries.specs.EntryTable.{Kept, IsTableOf, IsIndexWith, crossref_of, name_of}
+use Rattle.bib_entries.specs.EntryTable.{Kept, IsTableOf, IsIndexWith, HaveTheSame, name_of}
 use Rattle.bib_entries.proofs.Tables.{inserted_table, kept_table, put_out, same_count}
 use Rattle.bib_entries.proofs.entry_table.EntryTable.insert.Goals as goal
 
@@ -32,4 +32,4 @@ returns-in-Err-clause-err c keys crossrefs t =
     kept_table keys crossrefs old new
     (c.remove.ensures ∙ ap (λ (l : List ℕ). remove l c.min-n.result) ids ∙ put_out c.self.inside.order c.min-n.result c.in_ok-id.id few)
     (λ x. ap (λ (k : Kept). ids_in k.keys x) v ∙ c.in-Err.ensures.err.0 x)
-    (λ id. ap (λ (k : Kept). crossref_of k.crossrefs id) v ∙ c.in-Err.ensures.err.1 id) inside
+    (subst (λ (k : Kept). HaveTheSame c.self.inside.crossrefs.items k.crossrefs) (sym v) c.in-Err.ensures.err.1) inside
