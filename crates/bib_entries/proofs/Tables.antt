@@ -330,3 +330,22 @@ set_table keys crossrefs old new n id text t distinct at ids index texts =
 -- where an id is in use, there is room for what it says
 pub has_room : (keys : List Text) (crossrefs : List (Option Text)) (t : Kept) (n id : ℕ) → IsTableOf keys crossrefs t → slice_get t.ids n ≡ Some id → id < length t.crossrefs
 has_room keys crossrefs t n id is at = room-at (length t.crossrefs) t.ids n id is.room at
+
+pub same_length : (keys : List Text) (crossrefs : List (Option Text)) (t : Kept) → IsTableOf keys crossrefs t → length crossrefs ≡ length keys
+same_length keys crossrefs t is = sym (ap (length {A = _}) is.said) ∙ length-map t.ids (crossref_of t.crossrefs) ∙ same_count keys crossrefs t is
+
+-- what is put in stands there
+pub put_stands : {X : Type 0} (xs : List X) (n : ℕ) (x : X) → n ≤ length xs → slice_get (insert xs n x) n ≡ Some x
+put_stands xs zero x h = refl
+put_stands [] (suc n) x h = absurd (omega arith)
+put_stands (y ∷ xs) (suc n) x h = put_stands xs n x (omega arith)
+
+-- an entry that is put in and taken out again leaves the table as it was
+pub put_back : (keys : List Text) (crossrefs : List (Option Text)) (old with new : Kept) (n : ℕ) (key : Text) (crossref : Option Text) → n ≤ length keys → IsTableOf keys crossrefs old
+    → IsTableOf (insert keys n key) (insert crossrefs n crossref) with
+    → ((keys : List Text) (crossrefs : List (Option Text)) → slice_get keys n ≡ Some key → IsTableOf keys crossrefs with → IsTableOf (remove keys n) (remove crossrefs n) new)
+    → IsTableOf keys crossrefs new
+put_back keys crossrefs old with new n key crossref low t put take =
+    subst (λ (ks : List Text). IsTableOf ks crossrefs new) (put_out keys n key low)
+    (subst (λ (cs : List (Option Text)). IsTableOf (remove (insert keys n key) n) cs new) (put_out crossrefs n crossref (omega (arith, low, same_length keys crossrefs old t)))
+    (take (insert keys n key) (insert crossrefs n crossref) (put_stands keys n key low) put))

@@ -44,7 +44,7 @@ fn count_below(numbers: &[usize], n: usize) -> usize
 }
 
 impl Numbers {
-    ghost use Rattle.std.specs.Prelude.{[], ◌++◌, ◌∷◌, suc, map, IfOk, OnOk, OnErr};
+    ghost use Rattle.std.specs.Prelude.{[], ◌++◌, ◌∷◌, suc, map, Some, slice_get, OnOk, OnErr};
 
     /// No numbers. It asks for no memory.
     pub fn new(alloc: Global) -> Self
@@ -62,9 +62,25 @@ impl Numbers {
         self.list.as_slice()
     }
 
+    /// How many numbers there are.
+    pub fn count(&self) -> usize
+        ensures { result ≡ length self.now }
+    {
+        self.list.len()
+    }
+
+    /// Number `n` in order, counted from 0.
+    pub fn get(&self, n: usize) -> usize
+        requires { n < length self.now }
+        ensures { slice_get self.now n ≡ Some result }
+    {
+        self.list[n]
+    }
+
     /// How many numbers are below `n`. It takes time in the logarithm of their count.
     pub fn rank(&self, n: usize) -> usize
-        ensures { (front rest : List ℕ) → PartAt n front rest self.now → result ≡ length front }
+        ensures within { result ≤ length self.now }
+        ensures below { (front rest : List ℕ) → PartAt n front rest self.now → result ≡ length front }
     {
         count_below(self.list.as_slice(), n)
     }

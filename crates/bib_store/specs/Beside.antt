@@ -1,5 +1,5 @@
 -- The tables that are kept beside the items of a file.
-use Rattle.std.specs.Prelude.{ℕ, ◌≡◌, ◌≤◌, ◌++◌, List, [], ◌∷◌, length, map, Some, None, All}
+use Rattle.std.specs.Prelude.{ℕ, ◌≡◌, ◌≢◌, ◌≤◌, ◌<◌, ◌+◌, ◌^◌, ◌++◌, List, [], ◌∷◌, length, map, Some, None, All}
 use Rattle.bib_spec.specs.Bytes.{name_limit, file_limit}
 use Rattle.bib_spec.specs.Text.{Text}
 use Rattle.bib_spec.specs.Tree.{Tree, IsTree}
@@ -9,6 +9,7 @@ use Rattle.bib_spec.specs.Texts.{months, gathered}
 use Rattle.bib_spec.specs.Records.{entry_in, keys_of, crossref_text}
 use Rattle.bib_scan.specs.View.{View, view_of, kind_of}
 use Rattle.bib_scan.specs.declared.view.Kind.{Kind}
+use Rattle.bib_scan.specs.declared.view.Kind.TheVariants as kind
 use Rattle.bib_items.specs.declared.list.Item.{Item}
 use Rattle.bib_store.specs.declared.tables.Tables.{Tables}
 use Rattle.bib_store.specs.Meaning.{entry_numbers}
@@ -47,6 +48,15 @@ pub record SayTheSame (old new : Tables) : Type 0 where
 abbrev pub item_with : Tree → Text → reading.Item
 item_with tree trail = record { tree = tree; trail = trail }
 
+-- item n comes, before those that had its number and the greater ones; no raw text in it is too long
+pub record IsInsertion (n : ℕ) (tree : Tree) (old new : Tables) : Type 0 where
+  pub tables : (before after : List reading.Item) (trail : Text) → length before ≡ n → n + length after < 2 ^ 64 → AreTablesOf (before ++ after) old → AreTablesOf (before ++ item_with tree trail ∷ after) new
+  pub texts : first_too_long (placed_texts (texts_at old.definitions n) tree) ≡ None
+
+-- item n goes
+abbrev pub IsRemoval : ℕ → Tree → Tables → Tables → Type 0
+IsRemoval n tree old new = (before after : List reading.Item) (trail : Text) → length before ≡ n → n + length after < 2 ^ 64 → AreTablesOf (before ++ item_with tree trail ∷ after) old → AreTablesOf (before ++ after) new
+
 -- item n stands behind those whose tables these were, and no raw text in it is too long
 pub record IsStep (n : ℕ) (tree : Tree) (old new : Tables) : Type 0 where
   pub tables : (items : List reading.Item) (trail : Text) → length items ≡ n → AreTablesOf items old → AreTablesOf (items ++ item_with tree trail ∷ []) new
@@ -55,6 +65,10 @@ pub record IsStep (n : ℕ) (tree : Tree) (old new : Tables) : Type 0 where
 -- the first raw text that is too long in item n stands at this place of its body
 abbrev pub IsTooLongAt : ℕ → Tree → Tables → ℕ → Type 0
 IsTooLongAt n tree t place = first_too_long (placed_texts (texts_at t.definitions n) tree) ≡ Some place
+
+-- it holds of the tree that is seen, unless that is a definition
+abbrev pub OfOther : View → (Tree → Type 0) → Type 0
+OfOther view P = (tree : Tree) → IsTree name_limit tree → kind_of tree ≢ kind.Macro → view ≡ view_of (item_with tree []) → P tree
 
 -- it holds of the tree of this kind that is seen
 abbrev pub OfView : Kind → View → (Tree → Type 0) → Type 0

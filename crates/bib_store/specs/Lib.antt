@@ -12,4 +12,4 @@ pub mod ItemTexts
 pub mod Beside
 pub mod Stored
 pub mod Amending
-pub mod Appending
+pub mod Following

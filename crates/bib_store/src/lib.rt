@@ -4,17 +4,18 @@
 #![tactic(auto)]
 
 mod amending;
-mod appending;
 mod applying;
 mod change;
 mod choosing;
 mod citing;
 mod crossrefs;
 mod database;
+mod defining;
 mod definitions;
 mod exchanging;
 mod expanding;
 mod fitting;
+mod following;
 mod gathering;
 mod item_fault;
 mod joining;
