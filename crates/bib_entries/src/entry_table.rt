@@ -23,12 +23,7 @@ pub struct EntryTable {
 }
 
 /// Gives an id of the order its key, where it has none. Where memory is refused, each key has the ids that it had.
-fn add_key(
-    keys: &mut KeyIndex,
-    order: &Order,
-    key: &[u8],
-    id: usize,
-) -> Result<(), AllocError>
+fn add_key(keys: &mut KeyIndex, order: &Order, key: &[u8], id: usize) -> Result<(), AllocError>
     requires { length key.now ≤ name_limit }
     ensures ok { OnOk result ((names : ℕ → Option Bytes) → names id ≡ None → IsIndexOf names order.now (ids_in keys.old) → IsIndexWith names id (name_of key.now) order.now keys.new) }
     ensures err { OnErr result (IsKept (ids_in keys.old) (ids_in keys.new)) }
@@ -137,12 +132,7 @@ impl EntryTable {
     }
 
     /// Puts in an entry before entry `n`, or at the end. Where memory is refused, the table says what it said.
-    pub fn insert(
-        &mut self,
-        n: usize,
-        key: &[u8],
-        crossref: Option<Text>,
-    ) -> Result<(), AllocError>
+    pub fn insert(&mut self, n: usize, key: &[u8], crossref: Option<Text>) -> Result<(), AllocError>
         requires { length key.now ≤ name_limit }
         ensures ok { OnOk result ((keys : List Bytes) (crossrefs : List (Option Bytes)) → n ≤ length keys → IsTableOf keys crossrefs self.old → IsTableOf (insert keys n key.now) (insert crossrefs n crossref) self.new) }
         ensures err { OnErr result (SaysTheSame self.old self.new) }

@@ -20,6 +20,7 @@ pub mod ItemsMore
 pub mod Holdings
 pub mod Insertions
 pub mod Followed
+pub mod FollowedFiles
 pub mod Numbered
 pub mod EntryItems
 pub mod CrossrefTexts

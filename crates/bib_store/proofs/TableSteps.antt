@@ -1,5 +1,5 @@
 -- What an item that comes or goes does to the tables.
-use Rattle.std.proofs.Common.{◌≡◌, ℕ, suc, ◌+◌, ◌<◌, ◌≤◌, ◌^◌, cond, List, [], ◌∷◌, ◌++◌, length, map, filter, Option, Some, None, insert, remove, slice_get, refl, sym, ◌∙◌, ap, ap₂, subst, arith, append-nil, append_assoc, length-append}
+use Rattle.std.proofs.Common.{◌≡◌, ℕ, suc, ◌+◌, ◌<◌, ◌≤◌, ◌^◌, cond, List, [], ◌∷◌, ◌++◌, length, map, filter, Option, Some, None, insert, remove, slice_get, ◌⊎◌, ⊎_elim, refl, sym, ◌∙◌, ap, ap₂, subst, arith, append-nil, append_assoc, length-append}
 use Rattle.std.specs.List.{enumerate_from}
 use Rattle.std.proofs.lemmas.List.{length-map}
 use Rattle.bib_spec.specs.Bytes.{equals_sign}
@@ -36,6 +36,12 @@ kind_number kind.Comment = 3
 
 pub other_kind : {X : Type 0} (a b : Kind) → a ≡ b → (kind_number a < kind_number b) → X
 other_kind a b same apart = absurd (omega (arith, ap kind_number same, apart))
+
+pub no_macro : (k : Kind) → (k ≡ kind.Entry) ⊎ ((k ≡ kind.Preamble) ⊎ (k ≡ kind.Comment)) → k ≡ kind.Macro → ⊥
+no_macro k one is = ⊎_elim
+    (λ e. other_kind kind.Entry kind.Macro (sym e ∙ is) (omega arith))
+    (λ rest. ⊎_elim (λ e. other_kind kind.Macro kind.Preamble (sym is ∙ e) (omega arith)) (λ e. other_kind kind.Macro kind.Comment (sym is ∙ e) (omega arith)) rest)
+    one
 
 -- ---- entries are counted by their numbers
 

@@ -1,10 +1,14 @@
 //! Exchanging items for others.
 
-ghost use Rattle.std.specs.Prelude.{◌≡◌, ◌+◌, ◌≤◌, ◌⊎◌, List, None, length, IfErr, OnOk, OnErr};
+ghost use Rattle.std.specs.Prelude.{◌≡◌, ◌+◌, ◌≤◌, ◌⊎◌, ℕ, List, None, length, IsTrue, IfOk, IfErr, OnOk, OnErr};
+ghost use Rattle.bib_spec.specs.Reading as reading;
 ghost use Rattle.bib_spec.specs.Reading.{Reading, Reads};
 ghost use Rattle.bib_spec.specs.Texts.{too_long_at};
 ghost use Rattle.bib_scan.specs.Layout.{IsLayoutOf};
-ghost use Rattle.bib_store.specs.Beside.{AreTables};
+ghost use Rattle.bib_store.specs.Beside.{AreTables, HasItems};
+ghost use Rattle.bib_store.specs.Defined.{EndsBy};
+ghost use Rattle.bib_store.specs.Following.{bodies_between, AreItemsOf, DefineNothing};
+ghost use Rattle.bib_items.specs.Items.{without_range};
 ghost use Rattle.bib_store.specs.Stored.{SayTheSameOf};
 ghost use Rattle.bib_items.specs.declared.list.Item.{Item};
 ghost use Rattle.bib_store.specs.Windows.{IsWindow, ArePut, OfJoined, exchanged};
@@ -95,16 +99,80 @@ fn renew<L: ItemList>(
     ensures only { IfErr result (λ fault. (fault ≡ BadSplice) ⊎ (fault ≡ Memory)) }
     ensures err { OnErr result ((old : List Item) → (inner : Reading) → Reads change.now.text inner → ArePut change.now old (L.items items.now) count → SayTheSameOf old tables.old tables.new) }
 {
+    if can_follow(items, tables, change, count) {
+        return follow(alloc, items, tables, change, count);
+    }
+    *tables = remake(alloc, front_len, items, change, count)?;
+    Ok(())
+}
+
+/// Whether no macro is defined in the window or after it, before and after the change.
+fn can_follow<L: ItemList>(items: &L, tables: &Tables, change: &Change, count: usize) -> bool
+    requires ordered { change.now.window.from ≤ change.now.window.to }
+    requires within { change.now.window.to + count ≤ length (L.items items.now) }
+    ensures ends { IsTrue result → EndsBy change.now.window.from tables.now.definitions }
+    ensures others { IsTrue result → (all : List reading.Item) → AreItemsOf (bodies_between change.now.window.from (change.now.window.to + count) (L.items items.now)) all → DefineNothing all }
+{
     let window = change.window;
-    let first_old = window.from + count;
     // so many items fit
     let _ = items.count();
-    if tables.definitions.end() <= window.from && are_others(items, window.from, window.to + count) {
-        learn(alloc, tables, items, window.from, window.from, first_old)?;
-        forget(tables, items, first_old, first_old, window.to + count);
-        tables.file_len = change.file_len;
-        return Ok(());
+    if window.from < tables.definitions.end() {
+        return false;
     }
+    are_others(items, window.from, window.to + count)
+}
+
+/// Lets the tables follow the items of a change that come, of this count, and those of its window that go.
+fn follow<L: ItemList>(
+    alloc: Global,
+    items: &L,
+    tables: &mut Tables,
+    change: &Change,
+    count: usize,
+) -> Result<(), StoreFault>
+    requires ordered { change.now.window.from ≤ change.now.window.to }
+    requires within { change.now.window.to + count ≤ length (L.items items.now) }
+    requires ends { EndsBy change.now.window.from tables.old.definitions }
+    requires others { (all : List reading.Item) → AreItemsOf (bodies_between change.now.window.from (change.now.window.to + count) (L.items items.now)) all → DefineNothing all }
+    ensures tables { OnOk result ((old : List Item) → (front_len : ℕ) → ArePut change.now old (L.items items.now) count → OfJoined change.now front_len old tables.old (λ db. AreTables db tables.new × (too_long_at db ≡ None))) }
+    ensures len { OnOk result (tables.new.file_len ≡ change.now.file_len) }
+    ensures refused { IfErr result (λ fault. fault ≡ BadSplice → (old : List Item) → (front_len : ℕ) → ArePut change.now old (L.items items.now) count → OfJoined change.now front_len old tables.old (λ db. too_long_at db ≡ None → ⊥)) }
+    ensures only { IfErr result (λ fault. (fault ≡ BadSplice) ⊎ (fault ≡ Memory)) }
+    ensures err { OnErr result ((old : List Item) → (inner : Reading) → Reads change.now.text inner → ArePut change.now old (L.items items.now) count → SayTheSameOf old tables.old tables.new) }
+{
+    let window = change.window;
+    // so many items fit
+    let _ = items.count();
+    let first_old = window.from + count;
+    match learn(alloc, tables, items, window.from, window.from, first_old) {
+        Ok(()) => {
+            forget(tables, items, first_old, first_old, window.to + count);
+            tables.file_len = change.file_len;
+            Ok(())
+        }
+        Err(fault) => Err(fault),
+    }
+}
+
+/// The tables of all items but those of the window of a change, before which its own stand, of this count.
+fn remake<L: ItemList>(
+    alloc: Global,
+    front_len: usize,
+    items: &L,
+    change: &Change,
+    count: usize,
+) -> Result<Tables, StoreFault>
+    requires ordered { change.now.window.from ≤ change.now.window.to }
+    requires within { change.now.window.to + count ≤ length (L.items items.now) }
+    ensures tables { IfOk result (λ tables. (db : Reading) → HasItems front_len (without_range (change.now.window.from + count) (change.now.window.to + count) (L.items items.now)) db → AreTables db tables × (too_long_at db ≡ None)) }
+    ensures len { IfOk result (λ tables. tables.file_len ≡ change.now.file_len) }
+    ensures refused { IfErr result (λ fault. fault ≡ BadSplice → (db : Reading) → HasItems front_len (without_range (change.now.window.from + count) (change.now.window.to + count) (L.items items.now)) db → too_long_at db ≡ None → ⊥) }
+    ensures only { IfErr result (λ fault. (fault ≡ BadSplice) ⊎ (fault ≡ Memory)) }
+{
+    let window = change.window;
+    // so many items fit
+    let _ = items.count();
+    let first_old = window.from + count;
     match Tables::of(
         alloc,
         change.file_len,
@@ -113,10 +181,7 @@ fn renew<L: ItemList>(
         first_old,
         window.to + count,
     ) {
-        Ok(new) => {
-            *tables = new;
-            Ok(())
-        }
+        Ok(tables) => Ok(tables),
         Err(fault) => {
             if fault.kind == 8 {
                 return Err(StoreFault::BadSplice);

@@ -29,6 +29,7 @@ pub(crate) fn learn<L: ItemList>(
     ensures tables { OnOk result ((before new after : List Item) → length before ≡ at → AreOthersOf (bodies_between from to (L.items items.now)) new → at + (length new + length after) < 2 ^ 64 → AreTablesOf (before ++ after) tables.old → AreTablesOf (before ++ (new ++ after)) tables.new) }
     ensures short { OnOk result ((new : List Item) → AreOthersOf (bodies_between from to (L.items items.now)) new → HaveShortTexts (texts_at tables.old.definitions at) new) }
     ensures definitions { tables.new.definitions ≡ tables.old.definitions }
+    ensures len { tables.new.file_len ≡ tables.old.file_len }
     ensures refused { IfErr result (λ fault. fault ≡ BadSplice → (new : List Item) → AreOthersOf (bodies_between from to (L.items items.now)) new → HaveShortTexts (texts_at tables.old.definitions at) new → ⊥) }
     ensures only { IfErr result (λ fault. (fault ≡ BadSplice) ⊎ (fault ≡ Memory)) }
     ensures err { OnErr result ((before new after : List Item) → length before ≡ at → AreOthersOf (bodies_between from to (L.items items.now)) new → at + (length new + length after) < 2 ^ 64 → AreTablesOf (before ++ after) tables.old → AreTablesOf (before ++ after) tables.new) }
@@ -45,18 +46,13 @@ pub(crate) fn learn<L: ItemList>(
 
 /// Takes items out of the tables, from number `at` on: those of the list from number `from` up to `to`. None is a
 /// definition, and all definitions stand before them. It asks for no memory.
-pub(crate) fn forget<L: ItemList>(
-    tables: &mut Tables,
-    items: &L,
-    at: usize,
-    from: usize,
-    to: usize,
-)
+pub(crate) fn forget<L: ItemList>(tables: &mut Tables, items: &L, at: usize, from: usize, to: usize)
     requires ordered { from ≤ to }
     requires within { to ≤ length (L.items items.now) }
     requires ends { EndsBy at tables.old.definitions }
     ensures tables { (before gone after : List Item) → length before ≡ at → AreOthersOf (bodies_between from to (L.items items.now)) gone → at + (length gone + length after) < 2 ^ 64 → AreTablesOf (before ++ (gone ++ after)) tables.old → AreTablesOf (before ++ after) tables.new }
     ensures definitions { tables.new.definitions ≡ tables.old.definitions }
+    ensures len { tables.new.file_len ≡ tables.old.file_len }
 {
     'forget: for k in from..to {
         tables.remove(at, &ItemView::of(items.body(k), b""));
@@ -70,8 +66,9 @@ pub(crate) fn are_others<L: ItemList>(items: &L, from: usize, to: usize) -> bool
     ensures { IsTrue result → (new : List Item) → AreItemsOf (bodies_between from to (L.items items.now)) new → DefineNothing new }
 {
     'pass: for k in from..to {
-        if ItemView::of(items.body(k), b"").kind() == Kind::Macro {
-            return false;
+        match ItemView::of(items.body(k), b"").kind() {
+            Kind::Macro => return false,
+            Kind::Entry | Kind::Preamble | Kind::Comment => {}
         }
     }
     true

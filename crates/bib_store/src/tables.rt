@@ -129,6 +129,7 @@ impl Tables {
         requires { EndsBy n self.old.definitions }
         ensures step { OnOk result (OfOther view.now (λ tree. IsInsertion n tree self.old self.new)) }
         ensures definitions { self.new.definitions ≡ self.old.definitions }
+        ensures len { self.new.file_len ≡ self.old.file_len }
         ensures too_long { IfErr result (λ fault. (place : ℕ) → fault ≡ ItemTooLong place → OfOther view.now (λ tree. IsTooLongAt n tree self.old place)) }
         ensures err { OnErr result (SayTheSame self.old self.new) }
     {
@@ -154,6 +155,7 @@ impl Tables {
         requires { EndsBy n self.old.definitions }
         ensures step { OnOk result (OfView kind.Entry view.now (λ tree. IsInsertion n tree self.old self.new)) }
         ensures definitions { self.new.definitions ≡ self.old.definitions }
+        ensures len { self.new.file_len ≡ self.old.file_len }
         ensures too_long { IfErr result (λ fault. (place : ℕ) → fault ≡ ItemTooLong place → OfView kind.Entry view.now (λ tree. IsTooLongAt n tree self.old place)) }
         ensures err { OnErr result (SayTheSame self.old self.new) }
     {
@@ -168,6 +170,7 @@ impl Tables {
         requires { EndsBy n self.old.definitions }
         ensures step { OfOther view.now (λ tree. IsRemoval n tree self.old self.new) }
         ensures definitions { self.new.definitions ≡ self.old.definitions }
+        ensures len { self.new.file_len ≡ self.old.file_len }
     {
         match view.kind() {
             Kind::Entry => {
@@ -258,6 +261,7 @@ impl Tables {
         requires { EndsBy n self.old.definitions }
         ensures step { OnOk result (OfView kind.Preamble view.now (λ tree. IsInsertion n tree self.old self.new)) }
         ensures definitions { self.new.definitions ≡ self.old.definitions }
+        ensures len { self.new.file_len ≡ self.old.file_len }
         ensures too_long { IfErr result (λ fault. (place : ℕ) → fault ≡ ItemTooLong place → OfView kind.Preamble view.now (λ tree. IsTooLongAt n tree self.old place)) }
         ensures err { OnErr result (SayTheSame self.old self.new) }
     {

@@ -1,6 +1,7 @@
 use Rattle.std.proofs.Common.{◌≡◌, ◌+◌, ◌-◌, ◌∙◌, ℕ, List, suc, take, sym, ap, subst, arith}
 use Rattle.bib_spec.specs.Reading.{Item}
 use Rattle.bib_store.specs.Following.{bodies_between, DefineNothing}
+use Rattle.bib_store.proofs.TableSteps.{no_macro}
 use Rattle.bib_store.proofs.Followed.{body_between, length-between, pass_more, pass_all}
 use Rattle.bib_store.proofs.following.are_others.Goals as goal
 
@@ -12,4 +13,4 @@ pass-preserved g c new are =
     subst (λ (n : ℕ). DefineNothing (take n new)) next
     (pass_more (c.pass.k - c.args.from) (bodies_between c.args.from c.args.to items) c.body.result.now c.of.result new
     (body_between items c.args.from c.args.to c.pass.k c.body.result.now low c.pass-test.true c.requires.within c.body.ensures)
-    (λ e. ?) c.of.ensures.item are (c.pass.invariant new are))
+    (λ e. no_macro c.kind.result c.in-Entry.is (c.kind.ensures ∙ e)) c.of.ensures.item are (c.pass.invariant new are))

@@ -21,18 +21,22 @@ left_at from to j many = omega (arith, many)
 pub learn-init : goal.learn-init
 learn-init g c =
     let all : c.args.to - c.args.from ≡ c.args.to - c.args.from - 0 = omega arith in
-    let items = g.L.ItemList.items c.args.items.now in
-    subst (λ (m : ℕ). PutSoFar m c.args.at c.args.from c.args.to items c.args.tables.now c.args.tables.now) all
-    (learn_none c.args.at c.args.from c.args.to items c.args.tables.now c.requires.ordered c.requires.within)
+    let items = g.L.ItemList.items c.args.items.now in (
+      subst (λ (m : ℕ). PutSoFar m c.args.at c.args.from c.args.to items c.args.tables.now c.args.tables.now) all
+          (learn_none c.args.at c.args.from c.args.to items c.args.tables.now c.requires.ordered c.requires.within),
+      refl,
+    )
 
 pub learn-preserved : goal.learn-preserved
 learn-preserved g c =
     let items = g.L.ItemList.items c.args.items.now in
-    let left : ℕ = c.args.to - c.args.from - (c.learn.j + 1) in
-    learn_more left c.args.at c.args.from c.args.to items c.args.tables.now c.learn.tables c.insert.new.self c.body.result.now c.of.result
-    (next_body items c.args.from c.args.to c.learn.j c.body.result.now left c.learn-test.true c.requires.within c.body.ensures refl) c.of.ensures.item
-    (subst (λ (m : ℕ). PutSoFar m c.args.at c.args.from c.args.to items c.args.tables.now c.learn.tables) (left_at c.args.from c.args.to c.learn.j c.learn-test.true) c.learn.invariant)
-    c.in_default.ensures.step c.insert.ensures.definitions
+    let left : ℕ = c.args.to - c.args.from - (c.learn.j + 1) in (
+      learn_more left c.args.at c.args.from c.args.to items c.args.tables.now c.learn.tables c.insert.new.self c.body.result.now c.of.result
+          (next_body items c.args.from c.args.to c.learn.j c.body.result.now left c.learn-test.true c.requires.within c.body.ensures refl) c.of.ensures.item
+          (subst (λ (m : ℕ). PutSoFar m c.args.at c.args.from c.args.to items c.args.tables.now c.learn.tables) (left_at c.args.from c.args.to c.learn.j c.learn-test.true) c.learn.invariant.0)
+          c.in_default.ensures.step c.insert.ensures.definitions,
+      c.insert.ensures.len ∙ c.learn.invariant.1,
+    )
 
 pub returns-in-Err-clause-refused : goal.returns-in-Err-clause-refused
 returns-in-Err-clause-refused g c bad =
@@ -41,7 +45,7 @@ returns-in-Err-clause-refused g c bad =
     let long = c.of_splice.ensures.too_long bad in
     learn_over left c.args.at c.args.from c.args.to items c.args.tables.now c.learn.tables c.insert.new.self c.body.result.now c.of.result
     (next_body items c.args.from c.args.to c.learn.j c.body.result.now left c.learn-test.true c.requires.within c.body.ensures refl) c.of.ensures.item
-    long.0 c.learn.invariant.1 (c.in-Err.ensures.too_long long.0 long.1)
+    long.0 c.learn.invariant.0.1 (c.in-Err.ensures.too_long long.0 long.1)
 
 pub returns-in-Err-clause-err : goal.returns-in-Err-clause-err
 returns-in-Err-clause-err g c =
@@ -50,5 +54,5 @@ returns-in-Err-clause-err g c =
     let many = c.learn-test.true in
     learn_back left (c.args.to - 1 - c.learn.j + 1) c.args.at c.args.from c.args.to items c.args.tables.now c.learn.tables c.insert.new.self c.forget.new.tables
     (omega (arith, many)) (omega (arith, many)) c.requires.within
-    (subst (λ (m : ℕ). PutSoFar m c.args.at c.args.from c.args.to items c.args.tables.now c.learn.tables) (left_at c.args.from c.args.to c.learn.j many) c.learn.invariant)
+    (subst (λ (m : ℕ). PutSoFar m c.args.at c.args.from c.args.to items c.args.tables.now c.learn.tables) (left_at c.args.from c.args.to c.learn.j many) c.learn.invariant.0)
     c.in-Err.ensures.err c.forget.ensures.tables
