@@ -4,3 +4,5 @@ pub mod Ordering
 pub mod KeptOrder
 pub mod Following
 pub mod Counting
+pub mod Ascending
+pub mod Keeping

@@ -1,3 +1,4 @@
 pub mod Pages
 pub mod Orders
+pub mod Ids
 pub mod Holders

@@ -1,5 +1,5 @@
 -- A list of ids that are distinct, and what is kept of each id.
-use Rattle.std.specs.Prelude.{ℕ, ◌≡◌, ◌≢◌, ◌≤◌, ◌<◌, ◌+◌, ◌-◌, List, [], ◌∷◌, length, Option, None, slice_index_or, slice_index, insert, remove, if◌then◌else◌, nat_lt}
+use Rattle.std.specs.Prelude.{ℕ, Bool, true, false, ◌==◌, ◌≡◌, ◌≢◌, ◌≤◌, ◌<◌, ◌+◌, ◌-◌, List, [], ◌∷◌, length, Option, None, slice_index_or, slice_index, insert, remove, if◌then◌else◌, nat_lt}
 use Rattle.std.specs.List.{AllByRecursion}
 use Rattle.bib_order.specs.Pages.{joined, IsPaged}
 
@@ -12,15 +12,20 @@ abbrev pub IsDistinct : List ℕ → Type 0
 IsDistinct [] = Unit {0}
 IsDistinct (id ∷ ids) = Lacks ids id × IsDistinct ids
 
+-- the id is one of these
+abbrev pub is_among : List ℕ → ℕ → Bool
+is_among [] id = false
+is_among (other ∷ ids) id = if other == id then true else is_among ids id
+
+-- each id is larger than those before it
+abbrev pub Ascend : List ℕ → Type 0
+Ascend [] = Unit {0}
+Ascend (id ∷ ids) = AllByRecursion (λ other. id < other) ids × Ascend ids
+
 -- the id is in use
 pub record IsKnown (homes : List (Option ℕ)) (id : ℕ) : Type 0 where
   pub within : id < length homes
   pub home : slice_index_or homes id None ≢ None
-
--- the id is in no use
-pub record IsSpare (homes : List (Option ℕ)) (id : ℕ) : Type 0 where
-  pub within : id < length homes
-  pub none : slice_index_or homes id None ≡ None
 
 -- the ids in use are still, and there are no fewer ids
 pub record IsTold (old new : List (Option ℕ)) : Type 0 where

@@ -5,7 +5,7 @@ ghost use Rattle.std.specs.Option.{IfSome, IfNone};
 ghost use Rattle.bib_order.specs.Pages.{joined, page_at, ArePages, IsPaged, IsPlace, IsGap, IsRoom, parted_at};
 ghost use Rattle.bib_order.specs.Orders.{Lacks, IsKnown, IsTold};
 
-use crate::sheet::{Sheet, place_in};
+use crate::sheet::{Sheet, position_in};
 use std::alloc::{AllocError, Global};
 
 /// How many ids a page has at most.
@@ -159,20 +159,34 @@ pub(crate) fn put(
     put_in(sheets, p, k, id)
 }
 
-/// Takes id `n` away, and with it a page that has no other.
-pub(crate) fn take_away(sheets: &mut Vec<Sheet>, n: usize)
-    requires within { n < length (joined sheets.old.items) }
+/// Takes id `k` of page `p` out, and with it a page that has no other.
+fn take_out(sheets: &mut Vec<Sheet>, p: usize, k: usize)
+    requires page { p < length sheets.old.items }
+    requires within { k < length (page_at sheets.old.items p) }
     requires pages { ArePages sheets.old.items }
-    ensures list { joined sheets.new.items ≡ remove (joined sheets.old.items) n }
+    ensures list { (n : ℕ) → IsPlace sheets.old.items n p k → joined sheets.new.items ≡ remove (joined sheets.old.items) n }
     ensures pages { ArePages sheets.new.items }
 {
-    let (p, k) = locate(sheets, n);
     if sheets[p].len() == 1 {
         sheets.remove(p);
     } else {
         let sheet = &mut sheets[p];
         sheet.remove(k);
     }
+}
+
+/// Takes id `n` away, and answers it.
+pub(crate) fn take_away(sheets: &mut Vec<Sheet>, n: usize) -> usize
+    requires within { n < length (joined sheets.old.items) }
+    requires pages { ArePages sheets.old.items }
+    ensures id { result ≡ slice_index (joined sheets.old.items) n }
+    ensures list { joined sheets.new.items ≡ remove (joined sheets.old.items) n }
+    ensures pages { ArePages sheets.new.items }
+{
+    let (p, k) = locate(sheets, n);
+    let id = sheets[p].ids()[k];
+    take_out(sheets, p, k);
+    id
 }
 
 /// Id `n`.
@@ -203,7 +217,7 @@ pub(crate) fn seek(sheets: &[Sheet], name: Option<usize>, id: usize) -> Option<u
     let mut before = 0;
     'pass: for p in 0..sheets.len() {
         if is_meant(&sheets[p], name) {
-            if let Some(k) = place_in(sheets[p].ids(), id) {
+            if let Some(k) = position_in(sheets[p].ids(), id) {
                 return Some(before + k);
             }
         }
