@@ -47,3 +47,19 @@ fn an_id_in_no_use_has_no_text(rt: HostRuntime) -> Result<(), Fail> {
     assert_eq!(rt; index.count(b"a"), 0);
     Ok(())
 }
+
+#[test]
+fn an_id_gets_another_text(rt: HostRuntime) -> Result<(), Fail> {
+    let mut order = Order::new(rt.alloc());
+    let mut index = KeyIndex::new(rt.alloc());
+    let first = order.insert(0)?;
+    let last = order.insert(1)?;
+    index.add(&order, b"a", first)?;
+    index.add(&order, b"b", last)?;
+    index.rekey(&order, b"A", b"B", first)?;
+    assert_eq!(rt; index.count(b"a"), 0);
+    assert!(rt; index.holders(b"b") == [first, last].as_slice());
+    index.rekey(&order, b"b", b"B", first)?;
+    assert!(rt; index.holders(b"b") == [first, last].as_slice());
+    Ok(())
+}
