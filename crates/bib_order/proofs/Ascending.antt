@@ -9,7 +9,7 @@ use Rattle.std.specs.Result.{result_ok}
 use Rattle.std.proofs.lemmas.Bool.{cases_lt}
 use Rattle.std.proofs.lemmas.List.Sorted.{searched}
 use Rattle.bib_order.specs.Orders.{Lacks, IsDistinct, Ascend}
-use Rattle.bib_order.proofs.Paging.{all_append, all_front, all_back}
+use Rattle.bib_pages.proofs.Paging.{all_append, all_front, all_back}
 use Rattle.bib_order.proofs.Ordering.{split_ids}
 
 -- they are distinct

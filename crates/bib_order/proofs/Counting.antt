@@ -9,7 +9,7 @@ use Rattle.std.proofs.lemmas.List.Sums.{length-filter}
 use Rattle.std.proofs.lemmas.Option.{none-some, same_Some, get_or_from_slice_get}
 use Rattle.bib_order.specs.Orders.{Lacks, IsDistinct, is_among}
 use Rattle.bib_order.specs.Holders.{holders, before}
-use Rattle.bib_order.proofs.Paging.{all_front, all_back}
+use Rattle.bib_pages.proofs.Paging.{all_front, all_back}
 use Rattle.bib_order.proofs.Following.{holders-split}
 
 -- ---- among some

@@ -1,5 +1,3 @@
-pub mod Paging
-pub mod Ways
 pub mod Ordering
 pub mod KeptOrder
 pub mod Following

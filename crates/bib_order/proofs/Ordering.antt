@@ -6,9 +6,9 @@ use Rattle.std.proofs.lemmas.Bool.{cases_eq}
 use Rattle.std.proofs.lemmas.List.{drop_more, take_more, length-set, get_or-set_same, get_or-set_other, get_or_append_left}
 use Rattle.std.proofs.lemmas.List.Edits.{length-insert, length-remove}
 use Rattle.std.proofs.lemmas.Option.{none-some, slice_get-get_or, get_or_from_slice_get, slice_get_within}
-use Rattle.bib_order.specs.Pages.{joined, page_at, ArePages, IsPlace}
+use Rattle.bib_pages.specs.Pages.{joined, page_at, IsPlace}
 use Rattle.bib_order.specs.Orders.{Lacks, IsDistinct, IsKnown, IsTold, IsOrdered}
-use Rattle.bib_order.proofs.Paging.{all_append, all_front, all_back, joined-more, joined-past, length-joined-more, length-joined-split, read_at}
+use Rattle.bib_pages.proofs.Paging.{all_append, all_front, all_back, joined-more, joined-past, length-joined-more, length-joined-split, read_at}
 
 -- ---- in use
 
@@ -126,26 +126,28 @@ distinct_remove ids n d h = (distinct_out (take n ids) (drop (suc n) ids) (get_o
 -- ---- an id more, and one less
 
 -- nothing is changed in the order
-pub ordered_still : (sheets new : List (List ℕ)) (homes now : List (Option ℕ)) (count : ℕ) → IsOrdered sheets homes count → joined new ≡ joined sheets → ArePages new → IsTold homes now
+pub ordered_still : (sheets new : List (List ℕ)) (homes now : List (Option ℕ)) (count : ℕ) → IsOrdered sheets homes count → joined new ≡ joined sheets → IsTold homes now
     → IsOrdered new now count
-ordered_still sheets new homes now count o same pages told = record {
-  paged = record { pages_are = pages; count_is = o.paged.count_is ∙ ap (length {A = ℕ}) (sym same); fits = o.paged.fits };
+ordered_still sheets new homes now count o same told = record {
+  count_is = o.count_is ∙ ap (length {A = ℕ}) (sym same);
+  fits = o.fits;
   distinct = subst IsDistinct (sym same) o.distinct;
   known = subst (AllByRecursion (IsKnown now)) (sym same) (all_told homes now (joined sheets) told o.known);
 }
 
 pub ordered_insert : (sheets new : List (List ℕ)) (homes now later : List (Option ℕ)) (count n id name : ℕ) → IsOrdered sheets homes count → Lacks (joined sheets) id → IsTold homes now → id < length now → IsTold now later
-    → n ≤ length (joined sheets) → count + 1 < 2 ^ 64 → joined new ≡ insert (joined sheets) n id → ArePages new → IsOrdered new (set later id (Some name)) (count + 1)
-ordered_insert sheets new homes now later count n id name o lacks told inside next h fits is pages =
+    → n ≤ length (joined sheets) → count + 1 < 2 ^ 64 → joined new ≡ insert (joined sheets) n id → IsOrdered new (set later id (Some name)) (count + 1)
+ordered_insert sheets new homes now later count n id name o lacks told inside next h fits is =
     let ids = joined sheets in
-    let counted : count ≡ length ids = o.paged.count_is in
+    let counted : count ≡ length ids = o.count_is in
     let whole = take-append-drop n ids in
     let room : length now ≤ length later = next.len in
     let within : id < length later = omega arith in
     let all = all_told homes (set later id (Some name)) ids (told_on homes now (set later id (Some name)) told (told_on now later (set later id (Some name)) next (told_set later id name within))) o.known in
     let split = subst (AllByRecursion (IsKnown (set later id (Some name)))) (sym whole) all in
     record {
-      paged = record { pages_are = pages; count_is = omega (arith, ap (length {A = ℕ}) is, length-insert ids n id h); fits = fits };
+      count_is = omega (arith, ap (length {A = ℕ}) is, length-insert ids n id h);
+      fits = fits;
       distinct = subst IsDistinct (sym is) (distinct_insert ids n id o.distinct lacks);
       known = subst (AllByRecursion (IsKnown (set later id (Some name)))) (sym is)
           (all_append (IsKnown (set later id (Some name))) (take n ids) (id ∷ drop n ids) (all_front (IsKnown (set later id (Some name))) (take n ids) (drop n ids) split)
@@ -160,18 +162,19 @@ id_known sheets homes count n id o h e =
     (all_back (IsKnown homes) (take n ids) (id ∷ drop (suc n) ids) split).0
 
 pub ordered_remove : (sheets new : List (List ℕ)) (homes : List (Option ℕ)) (count n id : ℕ) → IsOrdered sheets homes count → n < length (joined sheets) → id ≡ get_or (joined sheets) n 0
-    → joined new ≡ remove (joined sheets) n → ArePages new → IsOrdered new (set homes id None) (count - 1)
-ordered_remove sheets new homes count n id o h e is pages =
+    → joined new ≡ remove (joined sheets) n → IsOrdered new (set homes id None) (count - 1)
+ordered_remove sheets new homes count n id o h e is =
     let ids = joined sheets in
-    let counted : count ≡ length ids = o.paged.count_is in
-    let fits : count < 2 ^ 64 = o.paged.fits in
+    let counted : count ≡ length ids = o.count_is in
+    let fits : count < 2 ^ 64 = o.fits in
     let whole = split_ids ids n id h e in
     let out = distinct_out (take n ids) (drop (suc n) ids) id (subst IsDistinct whole o.distinct) in
     let split = subst (AllByRecursion (IsKnown homes)) whole o.known in
     let rest : AllByRecursion (IsKnown homes) (remove ids n) = all_append (IsKnown homes) (take n ids) (drop (suc n) ids) (all_front (IsKnown homes) (take n ids) (id ∷ drop (suc n) ids) split)
     ((all_back (IsKnown homes) (take n ids) (id ∷ drop (suc n) ids) split).1) in
     record {
-      paged = record { pages_are = pages; count_is = omega (arith, ap (length {A = ℕ}) is, length-remove ids n h); fits = omega arith };
+      count_is = omega (arith, ap (length {A = ℕ}) is, length-remove ids n h);
+      fits = omega arith;
       distinct = subst IsDistinct (sym is) out.distinct;
       known = subst (AllByRecursion (IsKnown (set homes id None))) (sym is) (others_known homes (remove ids n) id out.lacks rest);
     }

@@ -1,7 +1,7 @@
 -- A list of ids that are distinct, and what is kept of each id.
-use Rattle.std.specs.Prelude.{ℕ, Bool, true, false, ◌==◌, ◌≡◌, ◌≢◌, ◌≤◌, ◌<◌, ◌+◌, ◌-◌, List, [], ◌∷◌, length, Option, None, slice_index_or, slice_index, insert, remove, if◌then◌else◌, nat_lt}
+use Rattle.std.specs.Prelude.{ℕ, Bool, true, false, ◌==◌, ◌≡◌, ◌≢◌, ◌≤◌, ◌<◌, ◌+◌, ◌-◌, ◌^◌, List, [], ◌∷◌, length, Option, None, slice_index_or, slice_index, insert, remove, if◌then◌else◌, nat_lt}
 use Rattle.std.specs.List.{AllByRecursion}
-use Rattle.bib_order.specs.Pages.{joined, IsPaged}
+use Rattle.bib_pages.specs.Pages.{joined}
 
 -- the id is none of these
 abbrev pub Lacks : List ℕ → ℕ → Type 0
@@ -32,9 +32,10 @@ pub record IsTold (old new : List (Option ℕ)) : Type 0 where
   pub len : length old ≤ length new
   pub known : (id : ℕ) → IsKnown old id → IsKnown new id
 
--- the pages have distinct ids, each of which is in use
+-- the pages have distinct ids, each of which is in use, and the count is that of all, which fits a machine number
 pub record IsOrdered (sheets : List (List ℕ)) (homes : List (Option ℕ)) (count : ℕ) : Type 0 where
-  pub paged : IsPaged sheets count
+  pub count_is : count ≡ length (joined sheets)
+  pub fits : count < 2 ^ 64
   pub distinct : IsDistinct (joined sheets)
   pub known : AllByRecursion (IsKnown homes) (joined sheets)
 

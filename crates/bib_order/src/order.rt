@@ -13,15 +13,15 @@ use std::marker::Model;
 /// How the ids of an order are kept.
 #[derive(Drop)]
 enum Ids {
-    // as long as each new one came after all others, so that they ascend
+    // they ascend: each new one came after all others
     Listed(Vec<usize>),
     Paged(Paged),
 }
 
 /// Distinct ids in an order: one for each member of a list that is kept elsewhere. An id stays with its member while
-/// others come and go, and is free again once it is taken away. As long as each new id came after all others, an id and
-/// its number are found at once, or by a search among the ids where some were taken away. From the first id that is put
-/// in before another the ids stand in pages of 1 to 64, and each call takes a few steps for each page.
+/// others come and go, and is free again once it is taken away. As long as each new id came after all others and none but
+/// the last was taken away, an id is its number, and both are found at once. From then on the ids stand in pages, and a
+/// call takes a step for each page and some for the ids of one.
 #[derive(Drop)]
 pub struct Order {
     alloc: Global,
@@ -135,8 +135,30 @@ impl Order {
         }
     }
 
-    /// Takes id `n` away. It asks for no memory.
+    /// Takes id `n` away. It needs no memory.
     pub fn remove(&mut self, n: usize)
+        requires { n < length self.old }
+        ensures { self.new ≡ remove self.old n }
+    {
+        if n < self.count() - 1 {
+            self.make_pages();
+        }
+        self.take_out(n);
+    }
+
+    /// Makes pages of a list, where there is memory for them. No id changes.
+    fn make_pages(&mut self)
+        ensures { self.new ≡ self.old }
+    {
+        if let Ids::Listed(ids) = &self.ids {
+            if let Ok(paged) = Paged::of(self.alloc, ids) {
+                self.ids = Ids::Paged(paged);
+            }
+        }
+    }
+
+    /// Takes id `n` away, from the list or its page.
+    fn take_out(&mut self, n: usize)
         requires { n < length self.old }
         ensures { self.new ≡ remove self.old n }
     {

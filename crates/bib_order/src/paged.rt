@@ -9,7 +9,7 @@ use crate::sheets::{id_of, put, seek, take_away};
 use std::alloc::{AllocError, Global};
 use std::marker::Model;
 
-/// Distinct ids in pages of 1 to 64. Each call takes a few steps for each page.
+/// Distinct ids in pages, each with at most 512. A call takes a step for each page, and some for the ids of one.
 #[derive(Drop)]
 pub(crate) struct Paged {
     alloc: Global,
@@ -24,7 +24,7 @@ pub(crate) struct Paged {
 
 impl Model for Paged {
     ghost use Rattle.std.specs.Prelude.{List, ℕ};
-    ghost use Rattle.bib_order.specs.Pages.{joined};
+    ghost use Rattle.bib_pages.specs.Pages.{joined};
     ghost use Rattle.bib_order.specs.Orders.{IsOrdered};
 
     ghost Value = { List ℕ };

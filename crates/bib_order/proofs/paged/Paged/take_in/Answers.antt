@@ -1,5 +1,5 @@
 use Rattle.std.proofs.Common.{◌≡◌, ◌≤◌, ◌<◌, ◌+◌, ◌^◌, ℕ, List, Some, length, set, ap, sym, subst, arith}
-use Rattle.bib_order.specs.Pages.{joined}
+use Rattle.bib_pages.specs.Pages.{joined}
 use Rattle.bib_order.specs.Orders.{Lacks, IsOrdered}
 use Rattle.bib_order.proofs.Ordering.{ordered_insert}
 use Rattle.bib_order.proofs.paged.Paged.take_in.Goals as goal
@@ -15,4 +15,4 @@ invariant_of-self-2 c =
     let fits : c.self.inside.count + 1 < 2 ^ 64 = first_of (omega arith, grind arith) in
     subst (λ (m : ℕ). IsOrdered c.put.new.sheets.items (set c.put.new.homes.items id (Some name)) m) (sym more)
     (ordered_insert sheets c.put.new.sheets.items c.self.inside.homes.items c.make_place.new.homes.items c.put.new.homes.items c.self.inside.count c.args.n id name
-    c.self.invariant lacks c.in_ok-make_place.ensures.told c.in_ok-make_place.ensures.within c.in_ok-name.ensures.told within fits c.in_ok-name.ensures.ok c.in_ok-name.ensures.pages)
+    c.self.invariant lacks c.in_ok-make_place.ensures.told c.in_ok-make_place.ensures.within c.in_ok-name.ensures.told within fits c.in_ok-name.ensures.ok)

@@ -4,8 +4,8 @@ use Rattle.bib_order.specs.Ids.{ids_of, AreKept}
 use Rattle.bib_order.specs.contracts.order.Order.{the_invariant}
 use Rattle.bib_order.proofs.Ascending.{ascend_less}
 use Rattle.bib_order.proofs.Ordering.{distinct_remove}
-use Rattle.bib_order.proofs.order.Order.remove.Goals.{in-Listed, in-Paged}
-use Rattle.bib_order.proofs.order.Order.remove.Goals as goal
+use Rattle.bib_order.proofs.order.Order.take_out.Goals.{in-Listed, in-Paged}
+use Rattle.bib_order.proofs.order.Order.take_out.Goals as goal
 
 pub invariant_of-self : goal.invariant_of-self
 invariant_of-self c =
