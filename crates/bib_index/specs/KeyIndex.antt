@@ -1,5 +1,5 @@
 -- Which ids have a text, and what an index says of it.
-use Rattle.std.specs.Prelude.{◌≡◌, ◌≤◌, ◌<◌, ℕ, Bool, false, not, ◌==◌, List, [], length, filter, insert, remove, slice_index, Option, None, Some, if◌then◌else◌, bytes_eq}
+use Rattle.std.specs.Prelude.{◌≡◌, ◌≤◌, ◌<◌, ℕ, Bool, true, false, not, ◌==◌, List, [], length, filter, insert, remove, slice_index, Option, None, Some, if◌then◌else◌, bytes_eq}
 use Rattle.bib_spec.specs.Text.{Text, folded}
 use Rattle.bib_value.specs.FoldedMap.{value_at}
 use Rattle.bib_order.specs.Holders.{holders}
@@ -20,6 +20,10 @@ with_text texts id t other = if other == id then t else texts other
 -- the index has, for each folded text, the ids that have it, in their order
 abbrev pub IsIndexOf : (ℕ → Option Text) → List ℕ → (Text → List ℕ) → Type 0
 IsIndexOf texts order index = (x : Text) → index x ≡ holders (has_text texts x) order
+
+-- what passes the test, and this id
+abbrev pub also : ℕ → (ℕ → Bool) → ℕ → Bool
+also id test other = if other == id then true else test other
 
 -- the ids without this one
 abbrev pub without : ℕ → List ℕ → List ℕ

@@ -1,12 +1,14 @@
 //! Ids by their texts, without regard to ASCII case.
 
-ghost use Rattle.std.specs.Prelude.{◌≡◌, ◌≤◌, ℕ, List, [], None, Some, Option, length, insert, slice_get, OnOk, OnErr};
+ghost use Rattle.std.specs.Prelude.{◌≡◌, ◌≢◌, ◌≤◌, ℕ, Bool, false, List, [], ◌∷◌, None, Some, Option, length, insert, slice_get, IsSome, OnOk, OnErr};
 ghost use Rattle.bib_spec.specs.Bytes.{name_limit};
 ghost use Rattle.bib_spec.specs.Text.{Text, folded};
-ghost use Rattle.bib_index.specs.KeyIndex.{ids_in, with_text, without, IsIndexOf, Has, IsKept, TextsFollow};
+ghost use Rattle.bib_value.specs.FoldedMap.{value_at};
+ghost use Rattle.bib_order.specs.Holders.{holders};
+ghost use Rattle.bib_index.specs.KeyIndex.{ids_in, also, with_text, without, IsIndexOf, Has, IsKept, TextsFollow};
 
+use crate::holders::Holders;
 use bib_order::Order;
-use bib_scan::Seq;
 use bib_value::FoldedMap;
 use std::alloc::{AllocError, Global};
 use std::marker::Model;
@@ -16,7 +18,7 @@ use std::marker::Model;
 #[derive(Drop)]
 pub struct KeyIndex {
     alloc: Global,
-    lists: FoldedMap<Seq<usize>>,
+    lists: FoldedMap<Holders>,
 }
 
 impl Model for KeyIndex {
@@ -32,13 +34,6 @@ impl Model for KeyIndex {
 pub fn texts_follow()
     ensures { TextsFollow }
 {}
-
-/// Takes an id out of some.
-fn take_out(ids: &mut Vec<usize>, id: usize)
-    ensures { ids.new.items ≡ without id ids.old.items }
-{
-    ids.retain(|other| *other != id);
-}
 
 impl KeyIndex {
     /// The index without ids. It asks for no memory.
@@ -56,8 +51,8 @@ impl KeyIndex {
     pub fn holders(&self, text: &[u8]) -> &[usize]
         ensures { result.now ≡ ids_in self.now (folded text.now) }
     {
-        if let Some(ids) = self.lists.get(text) {
-            return ids.as_slice();
+        if let Some(held) = self.lists.get(text) {
+            return held.as_slice();
         }
         &[]
     }
@@ -82,69 +77,92 @@ impl KeyIndex {
         ensures ok { OnOk result ((texts : ℕ → Option Text) → texts id ≡ None → IsIndexOf texts order.now (ids_in self.old) → IsIndexOf (with_text texts id (Some text.now)) order.now (ids_in self.new)) }
         ensures err { OnErr result (IsKept (ids_in self.old) (ids_in self.new)) }
     {
-        // the ids of an order are distinct
-        let _ = order.count();
-        let Some(n) = order.position_of(id) else {
-            return Ok(());
-        };
-        let k = order.count_before(self.holders(text), n);
-        self.put(text, k, id)?;
-        Ok(())
+        self.put_in(order, text, id)
     }
 
     /// Takes the text from an id that has it. It asks for no memory.
     pub fn remove(&mut self, text: &[u8], id: usize)
         ensures { (texts : ℕ → Option Text) → (order : List ℕ) → texts id ≡ Some text.now → IsIndexOf texts order (ids_in self.old) → IsIndexOf (with_text texts id None) order (ids_in self.new) }
     {
-        self.drop_id(text, id);
+        self.take_out(text, id);
     }
 
-    /// Puts an id before id `k` of those that have the text, or at the end.
-    fn put(&mut self, text: &[u8], k: usize, id: usize) -> Result<(), AllocError>
-        requires { length text.now ≤ name_limit }
-        ensures ok { OnOk result (k ≤ length (ids_in self.old (folded text.now)) → Has (ids_in self.old) (folded text.now) (insert (ids_in self.old (folded text.now)) k id) (ids_in self.new)) }
+    /// Gives an id of the order a new text in the place of the one that it has. Where memory is refused, nothing changes.
+    pub fn rekey(
+        &mut self,
+        order: &Order,
+        old: &[u8],
+        new: &[u8],
+        id: usize,
+    ) -> Result<(), AllocError>
+        requires { length new.now ≤ name_limit }
+        ensures ok { OnOk result ((texts : ℕ → Option Text) → texts id ≡ Some old.now → IsIndexOf texts order.now (ids_in self.old) → IsIndexOf (with_text texts id (Some new.now)) order.now (ids_in self.new)) }
         ensures err { OnErr result (IsKept (ids_in self.old) (ids_in self.new)) }
     {
-        let Some(ids) = self
-            .lists
-            .replace(text, Seq::from_vec(Vec::new(self.alloc)))
-        else {
+        if old.eq_ignore_ascii_case(new) {
+            return Ok(());
+        }
+        self.put_in(order, new, id)?;
+        self.take_out(old, id);
+        Ok(())
+    }
+
+    /// Puts an id of the order among those that have the text, where it is not one of them.
+    fn put_in(&mut self, order: &Order, text: &[u8], id: usize) -> Result<(), AllocError>
+        requires { length text.now ≤ name_limit }
+        ensures ok { OnOk result ((test : ℕ → Bool) → test id ≡ false → ids_in self.old (folded text.now) ≡ holders test order.now → Has (ids_in self.old) (folded text.now) (holders (also id test) order.now) (ids_in self.new)) }
+        ensures err { OnErr result (IsKept (ids_in self.old) (ids_in self.new)) }
+    {
+        // the ids of an order are distinct
+        let _ = order.count();
+        let Some(n) = order.position_of(id) else {
+            return Ok(());
+        };
+        let Some(held) = self.lists.get(text) else {
             return self.start(text, id);
         };
-        let mut ids = ids.into_vec();
-        let put = ids.insert(k.min(ids.len()), id);
-        self.lists.replace(text, Seq::from_vec(ids));
-        put?;
-        Ok(())
+        let k = order.count_before(held.as_slice(), n);
+        self.put(text, k, id)
     }
 
     /// Gives a text that no id has its first.
     fn start(&mut self, text: &[u8], id: usize) -> Result<(), AllocError>
         requires { length text.now ≤ name_limit }
-        ensures ok { OnOk result (Has (ids_in self.old) (folded text.now) (insert [] 0 id) (ids_in self.new)) }
+        ensures ok { OnOk result (Has (ids_in self.old) (folded text.now) (id ∷ []) (ids_in self.new)) }
         ensures err { OnErr result (IsKept (ids_in self.old) (ids_in self.new)) }
     {
-        let mut ids = Vec::new(self.alloc);
-        ids.push(id)?;
-        self.lists.insert(text, Seq::from_vec(ids))
+        let mut held = Holders::new(self.alloc);
+        held.insert(0, id)?;
+        self.lists.insert(text, held)
     }
 
-    /// Takes an id out of those that have the text.
-    fn drop_id(&mut self, text: &[u8], id: usize)
+    /// Puts an id before id `k` of those that have the text, or at the end.
+    fn put(&mut self, text: &[u8], k: usize, id: usize) -> Result<(), AllocError>
+        requires some { IsSome (value_at self.old (folded text.now)) }
+        requires within { k ≤ length (ids_in self.old (folded text.now)) }
+        ensures ok { OnOk result (Has (ids_in self.old) (folded text.now) (insert (ids_in self.old (folded text.now)) k id) (ids_in self.new)) }
+        ensures err { OnErr result (IsKept (ids_in self.old) (ids_in self.new)) }
+    {
+        let Some(mut held) = self.lists.replace(text, Holders::new(self.alloc)) else {
+            return Ok(());
+        };
+        let put = held.insert(k, id);
+        self.lists.replace(text, held);
+        put
+    }
+
+    /// Takes an id out of those that have the text. It asks for no memory.
+    fn take_out(&mut self, text: &[u8], id: usize)
         ensures { Has (ids_in self.old) (folded text.now) (without id (ids_in self.old (folded text.now))) (ids_in self.new) }
     {
-        let Some(ids) = self
-            .lists
-            .replace(text, Seq::from_vec(Vec::new(self.alloc)))
-        else {
+        let Some(mut held) = self.lists.replace(text, Holders::new(self.alloc)) else {
             return;
         };
-        let mut ids = ids.into_vec();
-        take_out(&mut ids, id);
-        if ids.is_empty() {
+        held.take_out(id);
+        if held.as_slice().is_empty() {
             self.lists.remove(text);
             return;
         }
-        self.lists.replace(text, Seq::from_vec(ids));
+        self.lists.replace(text, held);
     }
 }

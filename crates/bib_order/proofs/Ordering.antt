@@ -1,13 +1,14 @@
 -- Distinct ids, and which of them are in use.
-use Rattle.std.proofs.Common.{◌≡◌, ◌≢◌, ℕ, ◌+◌, ◌-◌, ◌≤◌, ◌<◌, ◌^◌, suc, List, [], ◌∷◌, ◌++◌, length, take, drop, get_or, set, insert, remove, Option, Some, None, sym, subst, ◌∙◌, ap, ap₂, ⊎_elim, arith, take-append-drop, length-append}
+use Rattle.std.proofs.Common.{◌≡◌, ◌≢◌, ℕ, ◌+◌, ◌-◌, ◌≤◌, ◌<◌, ◌^◌, suc, List, [], ◌∷◌, ◌++◌, length, take, drop, get_or, set, insert, remove, Option, Some, None, refl, sym, subst, ◌∙◌, ap, ap₂, ⊎_elim, arith, take-append-drop, length-append}
+use Rattle.std.specs.Prelude.{Result, Ok, Err, IfOk, OnErr}
 use Rattle.std.specs.List.{slice_get, AllByRecursion}
 use Rattle.std.proofs.lemmas.Bool.{cases_eq}
 use Rattle.std.proofs.lemmas.List.{drop_more, take_more, length-set, get_or-set_same, get_or-set_other, get_or_append_left}
 use Rattle.std.proofs.lemmas.List.Edits.{length-insert, length-remove}
 use Rattle.std.proofs.lemmas.Option.{none-some, slice_get-get_or, get_or_from_slice_get, slice_get_within}
-use Rattle.bib_order.specs.Pages.{joined, page_at, ArePages, IsPlace}
-use Rattle.bib_order.specs.Orders.{Lacks, IsDistinct, IsKnown, IsSpare, IsTold, IsOrdered}
-use Rattle.bib_order.proofs.Paging.{all_append, all_front, all_back, joined-more, joined-past, length-joined-more, length-joined-split, read_at}
+use Rattle.bib_pages.specs.Pages.{joined, page_at, IsPlace}
+use Rattle.bib_order.specs.Orders.{Lacks, IsDistinct, IsKnown, IsTold, IsOrdered}
+use Rattle.bib_pages.proofs.Paging.{all_append, all_front, all_back, joined-more, joined-past, length-joined-more, length-joined-split, read_at}
 
 -- ---- in use
 
@@ -104,44 +105,54 @@ distinct_out (x ∷ a) b id d =
       lacks = (λ e. back.0 (sym e), rest.lacks);
     }
 
--- ---- an id more, and one less
-
--- nothing is changed in the order
-pub ordered_still : (sheets new : List (List ℕ)) (homes now : List (Option ℕ)) (count : ℕ) → IsOrdered sheets homes count → joined new ≡ joined sheets → ArePages new → IsTold homes now
-    → IsOrdered new now count
-ordered_still sheets new homes now count o same pages told = record {
-  paged = record { pages_are = pages; count_is = o.paged.count_is ∙ ap (length {A = ℕ}) (sym same); fits = o.paged.fits };
-  distinct = subst IsDistinct (sym same) o.distinct;
-  known = subst (AllByRecursion (IsKnown now)) (sym same) (all_told homes now (joined sheets) told o.known);
-}
-
-pub spare_lacks : (sheets : List (List ℕ)) (homes now : List (Option ℕ)) (count id : ℕ) → IsOrdered sheets homes count → IsTold homes now → IsSpare now id → Lacks (joined sheets) id
-spare_lacks sheets homes now count id o told spare = unused_lacks now (joined sheets) id spare.none (all_told homes now (joined sheets) told o.known)
-
-pub ordered_insert : (sheets new : List (List ℕ)) (homes now later : List (Option ℕ)) (count n id name : ℕ) → IsOrdered sheets homes count → IsTold homes now → IsSpare now id → IsTold now later
-    → n ≤ length (joined sheets) → count + 1 < 2 ^ 64 → joined new ≡ insert (joined sheets) n id → ArePages new → IsOrdered new (set later id (Some name)) (count + 1)
-ordered_insert sheets new homes now later count n id name o told spare next h fits is pages =
-    let ids = joined sheets in
-    let counted : count ≡ length ids = o.paged.count_is in
-    let lacks = spare_lacks sheets homes now count id o told spare in
+pub distinct_insert : (ids : List ℕ) (n id : ℕ) → IsDistinct ids → Lacks ids id → IsDistinct (insert ids n id)
+distinct_insert ids n id d l =
     let whole = take-append-drop n ids in
-    let inside : id < length now = spare.within in
-    let room : length now ≤ length later = next.len in
-    let within : id < length later = omega arith in
-    let all = all_told homes (set later id (Some name)) ids (told_on homes now (set later id (Some name)) told (told_on now later (set later id (Some name)) next (told_set later id name within))) o.known in
-    let split = subst (AllByRecursion (IsKnown (set later id (Some name)))) (sym whole) all in
-    record {
-      paged = record { pages_are = pages; count_is = omega (arith, ap (length {A = ℕ}) is, length-insert ids n id h); fits = fits };
-      distinct = subst IsDistinct (sym is) (distinct_put (take n ids) (drop n ids) id (subst IsDistinct (sym whole) o.distinct) (subst (λ (l : List ℕ). Lacks l id) (sym whole) lacks));
-      known = subst (AllByRecursion (IsKnown (set later id (Some name)))) (sym is)
-          (all_append (IsKnown (set later id (Some name))) (take n ids) (id ∷ drop n ids) (all_front (IsKnown (set later id (Some name))) (take n ids) (drop n ids) split)
-          (some_home later id name within, all_back (IsKnown (set later id (Some name))) (take n ids) (drop n ids) split));
-    }
+    distinct_put (take n ids) (drop n ids) id (subst IsDistinct (sym whole) d) (subst (λ (r : List ℕ). Lacks r id) (sym whole) l)
+
+-- where a new id is put in, or nothing changes
+pub put_or_same : {E : Type 0} (r : Result ℕ E) (old new : List ℕ) (n : ℕ) → IsDistinct old → IfOk r (λ id. (new ≡ insert old n id) × Lacks old id) → OnErr r (new ≡ old) → IsDistinct new
+put_or_same (Ok id) old new n d ok err = subst IsDistinct (sym ok.0) (distinct_insert old n id d ok.1)
+put_or_same (Err e) old new n d ok err = subst IsDistinct (sym err) d
 
 pub split_ids : (ids : List ℕ) (n id : ℕ) → n < length ids → id ≡ get_or ids n 0 → ids ≡ take n ids ++ id ∷ drop (suc n) ids
 split_ids ids n id h e =
     let next : n + 1 ≡ suc n = omega arith in
     sym (take-append-drop n ids) ∙ ap (λ (l : List ℕ). take n ids ++ l) (drop_more ids n 0 h ∙ ap₂ (λ (x m : ℕ). x ∷ drop m ids) (sym e) next)
+
+pub distinct_remove : (ids : List ℕ) (n : ℕ) → IsDistinct ids → n < length ids → IsDistinct (remove ids n)
+distinct_remove ids n d h = (distinct_out (take n ids) (drop (suc n) ids) (get_or ids n 0) (subst IsDistinct (split_ids ids n (get_or ids n 0) h refl) d)).distinct
+
+-- ---- an id more, and one less
+
+-- nothing is changed in the order
+pub ordered_still : (sheets new : List (List ℕ)) (homes now : List (Option ℕ)) (count : ℕ) → IsOrdered sheets homes count → joined new ≡ joined sheets → IsTold homes now
+    → IsOrdered new now count
+ordered_still sheets new homes now count o same told = record {
+  count_is = o.count_is ∙ ap (length {A = ℕ}) (sym same);
+  fits = o.fits;
+  distinct = subst IsDistinct (sym same) o.distinct;
+  known = subst (AllByRecursion (IsKnown now)) (sym same) (all_told homes now (joined sheets) told o.known);
+}
+
+pub ordered_insert : (sheets new : List (List ℕ)) (homes now later : List (Option ℕ)) (count n id name : ℕ) → IsOrdered sheets homes count → Lacks (joined sheets) id → IsTold homes now → id < length now → IsTold now later
+    → n ≤ length (joined sheets) → count + 1 < 2 ^ 64 → joined new ≡ insert (joined sheets) n id → IsOrdered new (set later id (Some name)) (count + 1)
+ordered_insert sheets new homes now later count n id name o lacks told inside next h fits is =
+    let ids = joined sheets in
+    let counted : count ≡ length ids = o.count_is in
+    let whole = take-append-drop n ids in
+    let room : length now ≤ length later = next.len in
+    let within : id < length later = omega arith in
+    let all = all_told homes (set later id (Some name)) ids (told_on homes now (set later id (Some name)) told (told_on now later (set later id (Some name)) next (told_set later id name within))) o.known in
+    let split = subst (AllByRecursion (IsKnown (set later id (Some name)))) (sym whole) all in
+    record {
+      count_is = omega (arith, ap (length {A = ℕ}) is, length-insert ids n id h);
+      fits = fits;
+      distinct = subst IsDistinct (sym is) (distinct_insert ids n id o.distinct lacks);
+      known = subst (AllByRecursion (IsKnown (set later id (Some name)))) (sym is)
+          (all_append (IsKnown (set later id (Some name))) (take n ids) (id ∷ drop n ids) (all_front (IsKnown (set later id (Some name))) (take n ids) (drop n ids) split)
+          (some_home later id name within, all_back (IsKnown (set later id (Some name))) (take n ids) (drop n ids) split));
+    }
 
 -- an id of the order is in use
 pub id_known : (sheets : List (List ℕ)) (homes : List (Option ℕ)) (count n id : ℕ) → IsOrdered sheets homes count → n < length (joined sheets) → id ≡ get_or (joined sheets) n 0 → IsKnown homes id
@@ -151,18 +162,19 @@ id_known sheets homes count n id o h e =
     (all_back (IsKnown homes) (take n ids) (id ∷ drop (suc n) ids) split).0
 
 pub ordered_remove : (sheets new : List (List ℕ)) (homes : List (Option ℕ)) (count n id : ℕ) → IsOrdered sheets homes count → n < length (joined sheets) → id ≡ get_or (joined sheets) n 0
-    → joined new ≡ remove (joined sheets) n → ArePages new → IsOrdered new (set homes id None) (count - 1)
-ordered_remove sheets new homes count n id o h e is pages =
+    → joined new ≡ remove (joined sheets) n → IsOrdered new (set homes id None) (count - 1)
+ordered_remove sheets new homes count n id o h e is =
     let ids = joined sheets in
-    let counted : count ≡ length ids = o.paged.count_is in
-    let fits : count < 2 ^ 64 = o.paged.fits in
+    let counted : count ≡ length ids = o.count_is in
+    let fits : count < 2 ^ 64 = o.fits in
     let whole = split_ids ids n id h e in
     let out = distinct_out (take n ids) (drop (suc n) ids) id (subst IsDistinct whole o.distinct) in
     let split = subst (AllByRecursion (IsKnown homes)) whole o.known in
     let rest : AllByRecursion (IsKnown homes) (remove ids n) = all_append (IsKnown homes) (take n ids) (drop (suc n) ids) (all_front (IsKnown homes) (take n ids) (id ∷ drop (suc n) ids) split)
     ((all_back (IsKnown homes) (take n ids) (id ∷ drop (suc n) ids) split).1) in
     record {
-      paged = record { pages_are = pages; count_is = omega (arith, ap (length {A = ℕ}) is, length-remove ids n h); fits = omega arith };
+      count_is = omega (arith, ap (length {A = ℕ}) is, length-remove ids n h);
+      fits = omega arith;
       distinct = subst IsDistinct (sym is) out.distinct;
       known = subst (AllByRecursion (IsKnown (set homes id None))) (sym is) (others_known homes (remove ids n) id out.lacks rest);
     }

@@ -1,3 +1,3 @@
-pub mod Pages
 pub mod Orders
+pub mod Ids
 pub mod Holders

@@ -1,7 +1,7 @@
 -- A list of ids that are distinct, and what is kept of each id.
-use Rattle.std.specs.Prelude.{ℕ, ◌≡◌, ◌≢◌, ◌≤◌, ◌<◌, ◌+◌, ◌-◌, List, [], ◌∷◌, length, Option, None, slice_index_or, slice_index, insert, remove, if◌then◌else◌, nat_lt}
+use Rattle.std.specs.Prelude.{ℕ, Bool, true, false, ◌==◌, ◌≡◌, ◌≢◌, ◌≤◌, ◌<◌, ◌+◌, ◌-◌, ◌^◌, List, [], ◌∷◌, length, Option, None, slice_index_or, slice_index, insert, remove, if◌then◌else◌, nat_lt}
 use Rattle.std.specs.List.{AllByRecursion}
-use Rattle.bib_order.specs.Pages.{joined, IsPaged}
+use Rattle.bib_pages.specs.Pages.{joined}
 
 -- the id is none of these
 abbrev pub Lacks : List ℕ → ℕ → Type 0
@@ -12,24 +12,30 @@ abbrev pub IsDistinct : List ℕ → Type 0
 IsDistinct [] = Unit {0}
 IsDistinct (id ∷ ids) = Lacks ids id × IsDistinct ids
 
+-- the id is one of these
+abbrev pub is_among : List ℕ → ℕ → Bool
+is_among [] id = false
+is_among (other ∷ ids) id = if other == id then true else is_among ids id
+
+-- each id is larger than those before it
+abbrev pub Ascend : List ℕ → Type 0
+Ascend [] = Unit {0}
+Ascend (id ∷ ids) = AllByRecursion (λ other. id < other) ids × Ascend ids
+
 -- the id is in use
 pub record IsKnown (homes : List (Option ℕ)) (id : ℕ) : Type 0 where
   pub within : id < length homes
   pub home : slice_index_or homes id None ≢ None
-
--- the id is in no use
-pub record IsSpare (homes : List (Option ℕ)) (id : ℕ) : Type 0 where
-  pub within : id < length homes
-  pub none : slice_index_or homes id None ≡ None
 
 -- the ids in use are still, and there are no fewer ids
 pub record IsTold (old new : List (Option ℕ)) : Type 0 where
   pub len : length old ≤ length new
   pub known : (id : ℕ) → IsKnown old id → IsKnown new id
 
--- the pages have distinct ids, each of which is in use
+-- the pages have distinct ids, each of which is in use, and the count is that of all, which fits a machine number
 pub record IsOrdered (sheets : List (List ℕ)) (homes : List (Option ℕ)) (count : ℕ) : Type 0 where
-  pub paged : IsPaged sheets count
+  pub count_is : count ≡ length (joined sheets)
+  pub fits : count < 2 ^ 64
   pub distinct : IsDistinct (joined sheets)
   pub known : AllByRecursion (IsKnown homes) (joined sheets)
 

@@ -2,7 +2,9 @@
 //! stand; it does not know what they are the ids of. It promises that an id stays with its member while others come and go.
 #![tactic(auto)]
 
+mod listed;
 mod order;
+mod paged;
 mod sheet;
 mod sheets;
 

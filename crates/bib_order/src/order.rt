@@ -1,40 +1,42 @@
 //! Handles of the members of a list.
 
-ghost use Rattle.std.specs.Prelude.{◌≡◌, ◌≤◌, ◌<◌, ℕ, Bool, true, false, [], length, take, insert, remove, slice_index, slice_get, Some, IfOk, OnErr};
+ghost use Rattle.std.specs.Prelude.{◌≡◌, ◌≤◌, ◌<◌, ℕ, Bool, [], length, take, insert, remove, slice_index, slice_get, Some, IfOk, OnErr};
 ghost use Rattle.std.specs.Option.{IfSome, IfNone};
 ghost use Rattle.bib_order.specs.Holders.{holders, before, FollowOrder};
-ghost use Rattle.bib_order.specs.Orders.{Lacks, IsDistinct, IsSpare, IsTold, KeepsOrder};
+ghost use Rattle.bib_order.specs.Orders.{Lacks, IsDistinct, is_among, KeepsOrder};
 
-use crate::sheet::Sheet;
-use crate::sheets::{id_of, put, seek, take_away};
+use crate::listed::{add_next, position_among};
+use crate::paged::Paged;
 use std::alloc::{AllocError, Global};
 use std::marker::Model;
 
-/// Distinct ids in an order, in pages of 1 to 64: one for each member of a list that is kept elsewhere. An id stays with
-/// its member while others come and go, and is free again once it is taken away. Each call takes a few steps for each
-/// page.
+/// How the ids of an order are kept.
+#[derive(Drop)]
+enum Ids {
+    // they ascend: each new one came after all others
+    Listed(Vec<usize>),
+    Paged(Paged),
+}
+
+/// Distinct ids in an order: one for each member of a list that is kept elsewhere. An id stays with its member while
+/// others come and go, and is free again once it is taken away. As long as each new id came after all others and none but
+/// the last was taken away, an id is its number, and both are found at once. From then on the ids stand in pages, and a
+/// call takes a step for each page and some for the ids of one.
 #[derive(Drop)]
 pub struct Order {
     alloc: Global,
-    sheets: Vec<Sheet>,
-    count: usize,
-    // of each id that is in use, the name of the page to look in first
-    homes: Vec<Option<usize>>,
-    // ids to use again: the last one next
-    free: Vec<usize>,
-    next_name: usize,
+    ids: Ids,
 }
 
 impl Model for Order {
     ghost use Rattle.std.specs.Prelude.{List, ℕ};
-    ghost use Rattle.bib_order.specs.Pages.{joined};
-    ghost use Rattle.bib_order.specs.Orders.{IsOrdered};
+    ghost use Rattle.bib_order.specs.Ids.{ids_of, AreKept};
 
     ghost Value = { List ℕ };
 
-    ghost view = { λ o. joined o.sheets.items };
+    ghost view = { λ o. ids_of o.ids };
 
-    ghost invariant = { λ o. IsOrdered o.sheets.items o.homes.items o.count };
+    ghost invariant = { λ o. AreKept o.ids };
 }
 
 /// Ids keep their order while others come and go. It does nothing.
@@ -47,24 +49,6 @@ pub fn holders_follow()
     ensures { FollowOrder }
 {}
 
-/// The id that is used next: it is in no use, and the last of the free ones.
-fn supply(homes: &mut Vec<Option<usize>>, free: &mut Vec<usize>) -> Result<usize, AllocError>
-    ensures spare { IfOk result (λ id. IsSpare homes.new.items id) }
-    ensures told { IsTold homes.old.items homes.new.items }
-{
-    if let Some(id) = free.last() {
-        if *id < homes.len() && homes[*id].is_none() {
-            return Ok(*id);
-        }
-    }
-    let id = homes.len();
-    // room for all ids, so that none asks for memory when it comes back
-    free.reserve(id.saturating_sub(free.len()).saturating_add(1))?;
-    homes.push(None)?;
-    free.push(id)?;
-    Ok(id)
-}
-
 impl Order {
     /// The order without ids. It asks for no memory.
     pub fn new(alloc: Global) -> Self
@@ -72,11 +56,7 @@ impl Order {
     {
         Order {
             alloc,
-            sheets: Vec::new(alloc),
-            count: 0,
-            homes: Vec::new(alloc),
-            free: Vec::new(alloc),
-            next_name: 0,
+            ids: Ids::Listed(Vec::new(alloc)),
         }
     }
 
@@ -85,7 +65,10 @@ impl Order {
         ensures count { result ≡ length self.now }
         ensures distinct { IsDistinct self.now }
     {
-        self.count
+        match &self.ids {
+            Ids::Listed(ids) => ids.len(),
+            Ids::Paged(paged) => paged.count(),
+        }
     }
 
     /// Id `n`, counted from 0.
@@ -93,7 +76,10 @@ impl Order {
         requires { n < length self.now }
         ensures { result ≡ slice_index self.now n }
     {
-        id_of(&self.sheets, n)
+        match &self.ids {
+            Ids::Listed(ids) => ids[n],
+            Ids::Paged(paged) => paged.id_at(n),
+        }
     }
 
     /// The number that the id has, if it is in use.
@@ -101,39 +87,34 @@ impl Order {
         ensures found { IfSome result (λ n. slice_get self.now n ≡ Some id) }
         ensures none { IfNone result (Lacks self.now id) }
     {
-        if id >= self.homes.len() || self.homes[id].is_none() {
-            return None;
-        }
-        match seek(&self.sheets, self.homes[id], id) {
-            Some(n) => Some(n),
-            None => seek(&self.sheets, None, id),
+        match &self.ids {
+            Ids::Listed(ids) => position_among(ids, id),
+            Ids::Paged(paged) => paged.position_of(id),
         }
     }
 
     /// Whether the id stands before number `n`.
     fn stands_before(&self, id: usize, n: usize) -> bool
-        ensures yes { result ≡ true → ¬ Lacks (take n self.now) id }
-        ensures no { result ≡ false → Lacks (take n self.now) id }
+        ensures { result ≡ is_among (take n self.now) id }
     {
-        let _ = &self.sheets;
+        let _ = &self.ids;
         match self.position_of(id) {
             Some(m) => m < n,
             None => false,
         }
     }
 
-    /// How many of the ids that pass a test stand before number `n`, where `ids` are all that pass, in order. It takes a
-    /// few steps for each of these and each page.
+    /// How many of the ids that pass a test stand before number `n`, where `ids` are all that pass, in order. It looks at
+    /// the last of these first, and then goes on by halves.
     pub fn count_before(&self, ids: &[usize], n: usize) -> usize
-        ensures { (test : ℕ → Bool) → ids.now ≡ holders test self.now → result ≡ before test self.now n }
+        ensures count { (test : ℕ → Bool) → ids.now ≡ holders test self.now → result ≡ before test self.now n }
+        ensures within { result ≤ length ids.now }
     {
-        let _ = &self.sheets;
-        'pass: for k in 0..ids.len() {
-            if !self.stands_before(ids[k], n) {
-                return k;
-            }
+        let _ = &self.ids;
+        match ids.last() {
+            Some(last) if self.stands_before(*last, n) => ids.len(),
+            _ => ids.partition_point(|id| self.stands_before(*id, n)),
         }
-        ids.len()
     }
 
     /// Puts a new id before id `n`, or at the end.
@@ -142,37 +123,50 @@ impl Order {
         ensures ok { IfOk result (λ id. (self.new ≡ insert self.old n id) × Lacks self.old id) }
         ensures err { OnErr result (self.new ≡ self.old) }
     {
-        let Some(count) = self.count.checked_add(1) else {
-            return Err(AllocError);
-        };
-        let id = supply(&mut self.homes, &mut self.free)?;
-        let name = put(
-            self.alloc,
-            &mut self.sheets,
-            &mut self.homes,
-            self.next_name,
-            self.count,
-            n,
-            id,
-        )?;
-        self.homes[id] = Some(name);
-        self.free.pop();
-        self.count = count;
-        self.next_name = self.next_name.wrapping_add(1);
-        Ok(id)
+        match &mut self.ids {
+            Ids::Listed(ids) if n == ids.len() => add_next(ids),
+            Ids::Listed(ids) => {
+                let mut paged = Paged::of(self.alloc, ids)?;
+                let id = paged.insert(n)?;
+                self.ids = Ids::Paged(paged);
+                Ok(id)
+            }
+            Ids::Paged(paged) => paged.insert(n),
+        }
     }
 
-    /// Takes id `n` away. It asks for no memory.
+    /// Takes id `n` away. It needs no memory.
     pub fn remove(&mut self, n: usize)
         requires { n < length self.old }
         ensures { self.new ≡ remove self.old n }
     {
-        let id = id_of(&self.sheets, n);
-        take_away(&mut self.sheets, n);
-        self.count -= 1;
-        self.homes[id] = None;
-        if self.free.len() < self.free.capacity() {
-            let _ = self.free.push(id);
+        if n < self.count() - 1 {
+            self.make_pages();
+        }
+        self.take_out(n);
+    }
+
+    /// Makes pages of a list, where there is memory for them. No id changes.
+    fn make_pages(&mut self)
+        ensures { self.new ≡ self.old }
+    {
+        if let Ids::Listed(ids) = &self.ids {
+            if let Ok(paged) = Paged::of(self.alloc, ids) {
+                self.ids = Ids::Paged(paged);
+            }
+        }
+    }
+
+    /// Takes id `n` away, from the list or its page.
+    fn take_out(&mut self, n: usize)
+        requires { n < length self.old }
+        ensures { self.new ≡ remove self.old n }
+    {
+        match &mut self.ids {
+            Ids::Listed(ids) => {
+                ids.remove(n);
+            }
+            Ids::Paged(paged) => paged.remove(n),
         }
     }
 }

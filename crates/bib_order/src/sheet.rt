@@ -85,7 +85,7 @@ impl Sheet {
 }
 
 /// Where the id stands among these.
-pub(crate) fn place_in(ids: &[usize], id: usize) -> Option<usize>
+pub(crate) fn position_in(ids: &[usize], id: usize) -> Option<usize>
     ensures found { IfSome result (λ k. slice_get ids.now k ≡ Some id) }
     ensures none { IfNone result (Lacks ids.now id) }
 {

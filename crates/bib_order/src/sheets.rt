@@ -2,17 +2,17 @@
 
 ghost use Rattle.std.specs.Prelude.{◌≡◌, ◌+◌, ◌≤◌, ◌<◌, ◌^◌, List, ℕ, [], ◌∷◌, length, take, insert, remove, set, slice_get, slice_index, Some, None, Option, OnOk, OnErr, IfOk, true};
 ghost use Rattle.std.specs.Option.{IfSome, IfNone};
-ghost use Rattle.bib_order.specs.Pages.{joined, page_at, ArePages, IsPaged, IsPlace, IsGap, IsRoom, parted_at};
+ghost use Rattle.bib_pages.specs.Pages.{joined, page_at, IsPlace, IsGap, parted_at};
 ghost use Rattle.bib_order.specs.Orders.{Lacks, IsKnown, IsTold};
 
-use crate::sheet::{Sheet, place_in};
+use crate::sheet::{Sheet, position_in};
 use std::alloc::{AllocError, Global};
 
 /// How many ids a page has at most.
-const SHEET_LIMIT: usize = 64;
+const SHEET_LIMIT: usize = 512;
 
 /// How many ids of a full page stay when it becomes two.
-const HALF: usize = 32;
+const HALF: usize = 256;
 
 /// The page in which id `n` stands, and its number there.
 fn locate(sheets: &[Sheet], n: usize) -> (usize, usize)
@@ -64,8 +64,8 @@ fn part(
     p: usize,
 ) -> Result<(), AllocError>
     requires page { p < length sheets.old.items }
-    requires full { 64 ≤ length (page_at sheets.old.items p) }
-    ensures ok { OnOk result (sheets.new.items ≡ parted_at 32 p sheets.old.items) }
+    requires long { 256 ≤ length (page_at sheets.old.items p) }
+    ensures ok { OnOk result (sheets.new.items ≡ parted_at 256 p sheets.old.items) }
     ensures err { OnErr result (sheets.new.items ≡ sheets.old.items) }
     ensures told { IsTold homes.old.items homes.new.items }
 {
@@ -88,10 +88,8 @@ fn room(
 ) -> Result<(usize, usize), AllocError>
     requires page { p < length sheets.old.items }
     requires within { k ≤ length (page_at sheets.old.items p) }
-    requires pages { ArePages sheets.old.items }
-    ensures room { IfOk result (λ r. (n : ℕ) → IsGap sheets.old.items n p k → IsRoom sheets.new.items n r.0 r.1) }
+    ensures room { IfOk result (λ r. (n : ℕ) → IsGap sheets.old.items n p k → IsGap sheets.new.items n r.0 r.1) }
     ensures same { joined sheets.new.items ≡ joined sheets.old.items }
-    ensures pages { ArePages sheets.new.items }
     ensures told { IsTold homes.old.items homes.new.items }
 {
     if sheets[p].len() < SHEET_LIMIT {
@@ -144,11 +142,10 @@ pub(crate) fn put(
     n: usize,
     id: usize,
 ) -> Result<usize, AllocError>
-    requires paged { IsPaged sheets.old.items count }
+    requires count { count ≡ length (joined sheets.old.items) }
     requires within { n ≤ count }
     ensures ok { OnOk result (joined sheets.new.items ≡ insert (joined sheets.old.items) n id) }
     ensures err { OnErr result (joined sheets.new.items ≡ joined sheets.old.items) }
-    ensures pages { ArePages sheets.new.items }
     ensures told { IsTold homes.old.items homes.new.items }
 {
     if sheets.is_empty() {
@@ -159,20 +156,30 @@ pub(crate) fn put(
     put_in(sheets, p, k, id)
 }
 
-/// Takes id `n` away, and with it a page that has no other.
-pub(crate) fn take_away(sheets: &mut Vec<Sheet>, n: usize)
-    requires within { n < length (joined sheets.old.items) }
-    requires pages { ArePages sheets.old.items }
-    ensures list { joined sheets.new.items ≡ remove (joined sheets.old.items) n }
-    ensures pages { ArePages sheets.new.items }
+/// Takes id `k` of page `p` out, and with it a page that has no other.
+fn take_out(sheets: &mut Vec<Sheet>, p: usize, k: usize)
+    requires page { p < length sheets.old.items }
+    requires within { k < length (page_at sheets.old.items p) }
+    ensures { (n : ℕ) → IsPlace sheets.old.items n p k → joined sheets.new.items ≡ remove (joined sheets.old.items) n }
 {
-    let (p, k) = locate(sheets, n);
     if sheets[p].len() == 1 {
         sheets.remove(p);
     } else {
         let sheet = &mut sheets[p];
         sheet.remove(k);
     }
+}
+
+/// Takes id `n` away, and answers it.
+pub(crate) fn take_away(sheets: &mut Vec<Sheet>, n: usize) -> usize
+    requires within { n < length (joined sheets.old.items) }
+    ensures id { result ≡ slice_index (joined sheets.old.items) n }
+    ensures list { joined sheets.new.items ≡ remove (joined sheets.old.items) n }
+{
+    let (p, k) = locate(sheets, n);
+    let id = sheets[p].ids()[k];
+    take_out(sheets, p, k);
+    id
 }
 
 /// Id `n`.
@@ -203,7 +210,7 @@ pub(crate) fn seek(sheets: &[Sheet], name: Option<usize>, id: usize) -> Option<u
     let mut before = 0;
     'pass: for p in 0..sheets.len() {
         if is_meant(&sheets[p], name) {
-            if let Some(k) = place_in(sheets[p].ids(), id) {
+            if let Some(k) = position_in(sheets[p].ids(), id) {
                 return Some(before + k);
             }
         }

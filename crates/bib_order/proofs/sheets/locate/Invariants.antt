@@ -1,4 +1,4 @@
-use Rattle.bib_order.specs.Pages.{IsOnWay}
+use Rattle.bib_pages.specs.Pages.{IsOnWay}
 use Rattle.bib_order.proofs.sheets.locate.Given as goal
 
 abbrev pub invariant-pass : goal.invariant-pass
