@@ -14,7 +14,8 @@ use Rattle.bib_spec.proofs.Counts.{count-yes, count-no}
 use Rattle.bib_order.specs.Orders.{Lacks, IsDistinct}
 use Rattle.bib_order.specs.Holders.{holders}
 use Rattle.bib_index.specs.KeyIndex.{is_text, has_text, with_text, IsIndexOf, IsKept, ids_in}
-use Rattle.bib_index.proofs.Holding.{lacks_at, parts, texts_follow, with_same, with_other}
+use Rattle.bib_index.proofs.Holding.{parts, texts_follow, with_same, with_other}
+use Rattle.bib_order.proofs.Counting.{lacks_at}
 use Rattle.bib_entries.specs.EntryTable.{Kept, name_of, crossref_of, IsTableOf, IsIndexWith, GivesCrossref, HaveTheSame}
 
 -- ---- lists
