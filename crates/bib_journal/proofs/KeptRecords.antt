@@ -17,7 +17,7 @@ use Rattle.edit_spec.proofs.RenameKey.{rename-key-keeps}
 use Rattle.edit_spec.proofs.Regenerate.{regenerate-keys-keeps, made-keys-differ, regenerating-again}
 use Rattle.edit_spec.proofs.MacroLaws.{rename-macro-keeps, inline-macro-keeps, introduce-macro-keeps}
 use Rattle.bib_data.specs.declared.edit.Edit.{Edit}
-use Rattle.bib_data.specs.declared.edit.Edit.TheVariants.{SetField, DropField, AddEntry, RemoveEntry, MoveEntry, RenameKey, RegenerateKeys, RenameMacro, InlineMacro, IntroduceMacro}
+use Rattle.bib_data.specs.declared.edit.Edit.TheVariants.{SetField, DropField, AddEntry, AddMany, RemoveEntry, MoveEntry, RenameKey, RegenerateKeys, RenameMacro, InlineMacro, IntroduceMacro}
 use Rattle.bib_data.specs.declared.request.Request.{Request}
 use Rattle.bib_data.specs.declared.request.Request.TheVariants as request
 use Rattle.bib_edit.specs.declared.fault.EditFault.{EditFault}
@@ -64,6 +64,7 @@ made-keeps (IntroduceMacro name text) db db' allowed is =
 made-keeps (SetField key field value) db db' allowed is = tt
 made-keeps (DropField key field) db db' allowed is = tt
 made-keeps (AddEntry place entry) db db' allowed is = tt
+made-keeps (AddMany entries) db db' allowed is = tt
 made-keeps (RemoveEntry key) db db' allowed is = tt
 made-keeps (MoveEntry key place) db db' allowed is = tt
 
@@ -127,6 +128,7 @@ renaming-texts (IntroduceMacro name text) is old new keeps = keeps-texts no_new_
 renaming-texts (SetField key field value) is old new keeps = absurd (false≢true is)
 renaming-texts (DropField key field) is old new keeps = absurd (false≢true is)
 renaming-texts (AddEntry place entry) is old new keeps = absurd (false≢true is)
+renaming-texts (AddMany entries) is old new keeps = absurd (false≢true is)
 renaming-texts (RemoveEntry key) is old new keeps = absurd (false≢true is)
 renaming-texts (MoveEntry key place) is old new keeps = absurd (false≢true is)
 
