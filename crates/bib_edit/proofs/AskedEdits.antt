@@ -33,23 +33,23 @@ some_fields (field ∷ asked) =
     let rest = some_fields asked in
     ((field.0, value.0) ∷ rest.0, (refl, value.1, rest.1))
 
-some_entry : (asked : NewEntry) → (new : edits.NewEntry) × SpellsEntry asked new
-some_entry asked =
+pub spelled_entry : (asked : NewEntry) → (new : edits.NewEntry) × SpellsEntry asked new
+spelled_entry asked =
     let fields = some_fields asked.fields in
     (record { kind_name = asked.kind_name; key = asked.key; fields = fields.0 }, record { kind_name = refl; key = refl; fields = fields.1 })
 
-some_entries : (asked : List NewEntry) → (news : List edits.NewEntry) × SpellEntries asked news
-some_entries [] = ([], tt)
-some_entries (entry ∷ asked) =
-    let new = some_entry entry in
-    let rest = some_entries asked in
+pub spelled_entries : (asked : List NewEntry) → (news : List edits.NewEntry) × SpellEntries asked news
+spelled_entries [] = ([], tt)
+spelled_entries (entry ∷ asked) =
+    let new = spelled_entry entry in
+    let rest = spelled_entries asked in
     (new.0 ∷ rest.0, (new.1, rest.1))
 
 pub asked_for : EditsAreAskedFor
 asked_for (SetField key field value) = let v = some_value value in (edits.SetField key field v.0, set_field key field value v.0 v.1)
 asked_for (DropField key field) = (edits.DropField key field, drop_field key field)
-asked_for (AddEntry place entry) = let new = some_entry entry in (edits.AddEntry place new.0, add_entry place entry new.0 new.1)
-asked_for (AddMany entries) = let news = some_entries entries in (edits.AddMany news.0, add_many entries news.0 news.1)
+asked_for (AddEntry place entry) = let new = spelled_entry entry in (edits.AddEntry place new.0, add_entry place entry new.0 new.1)
+asked_for (AddMany entries) = let news = spelled_entries entries in (edits.AddMany news.0, add_many entries news.0 news.1)
 asked_for (RemoveEntry key) = (edits.RemoveEntry key, remove_entry key)
 asked_for (MoveEntry key place) = (edits.MoveEntry key place, move_entry key place)
 asked_for (RenameKey from to) = (edits.RenameKey from to, rename_key from to)
