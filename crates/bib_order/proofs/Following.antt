@@ -12,7 +12,7 @@ use Rattle.bib_order.proofs.Ordering.{split_ids}
 pub holders-split : (test : ℕ → Bool) (ids : List ℕ) (n : ℕ) → holders test ids ≡ holders test (take n ids) ++ holders test (drop n ids)
 holders-split test ids n = ap (filter test) (sym (take-append-drop n ids)) ∙ filter-append test (take n ids) (drop n ids)
 
--- an id behind some, and the list without it
+-- an id after some, and the list without it
 out : (front rest : List ℕ) (x c : ℕ) → length front ≡ c → remove (front ++ x ∷ rest) c ≡ front ++ rest
 out front rest x c e =
     let next : c + 1 ≡ suc c = omega arith in

@@ -1,91 +1,122 @@
-//! Handles of a list that changes.
+//! Ids of a list that changes.
 
 use bib_order::Order;
 use std::alloc::{AllocError, Global};
 use std::test::Fail;
 
-/// An order with so many ids, each put in at the end.
-fn plain(alloc: Global, count: usize) -> Result<Order, AllocError> {
-    let mut order = Order::new(alloc);
-    for _ in 0..count {
-        order.insert(order.count())?;
-    }
-    Ok(order)
+/// What is done to an order.
+#[derive(Drop)]
+enum Step {
+    /// So many ids come, each after all others.
+    Append(usize),
+    /// So many ids come, each into the middle.
+    Mix(usize),
+    /// An id comes before the one with this number.
+    Put(usize),
+    /// The id with this number goes.
+    Take(usize),
 }
 
-/// An order with so many ids, each put in where the middle is.
-fn mixed(alloc: Global, count: usize) -> Result<Order, AllocError> {
-    let mut order = Order::new(alloc);
-    for _ in 0..count {
-        order.insert(order.count() / 2)?;
-    }
-    Ok(order)
-}
-
-/// Whether each id stands where its number says.
-fn is_consistent(order: &Order) -> bool {
-    (0..order.count()).all(|n| order.position_of(order.id_at(n)) == Some(n))
-}
-
-#[test]
-fn the_id_of_a_plain_order_is_its_number(rt: HostRuntime) -> Result<(), Fail> {
-    let mut order = plain(rt.alloc(), 300)?;
-    assert!(rt; (0..order.count()).all(|n| order.id_at(n) == n));
-    assert!(rt; is_consistent(&order));
-    assert_eq!(rt; order.position_of(300), None);
-    if order.count() == 300 {
-        order.remove(7);
-        assert_eq!(rt; order.position_of(7), None);
-        assert_eq!(rt; order.position_of(8), Some(7));
-        assert!(rt; is_consistent(&order));
+/// Puts in an id before the one with this number, if there are so many.
+fn put(order: &mut Order, n: usize) -> Result<(), AllocError> {
+    if n <= order.count() {
+        order.insert(n)?;
     }
     Ok(())
 }
 
+fn perform(order: &mut Order, step: &Step) -> Result<(), AllocError> {
+    match step {
+        Step::Append(count) => {
+            for _ in 0..*count {
+                put(order, order.count())?;
+            }
+        }
+        Step::Mix(count) => {
+            for _ in 0..*count {
+                put(order, order.count() / 2)?;
+            }
+        }
+        Step::Put(n) => put(order, *n)?,
+        Step::Take(n) => {
+            if *n < order.count() {
+                order.remove(*n);
+            }
+        }
+    }
+    Ok(())
+}
+
+/// The ids of the order, if each is found where it stands.
+fn ids_of(alloc: Global, order: &Order) -> Result<Vec<usize>, AllocError> {
+    let mut ids = Vec::new(alloc);
+    for n in 0..order.count() {
+        let id = order.id_at(n);
+        if order.position_of(id) == Some(n) {
+            ids.push(id)?;
+        }
+    }
+    Ok(ids)
+}
+
+/// The ids once these steps are done.
+fn ids_after(alloc: Global, steps: &[Step]) -> Result<Vec<usize>, AllocError> {
+    let mut order = Order::new(alloc);
+    for step in steps {
+        perform(&mut order, step)?;
+    }
+    ids_of(alloc, &order)
+}
+
 #[test]
 fn an_id_stays_with_its_member(rt: HostRuntime) -> Result<(), Fail> {
-    let mut order = plain(rt.alloc(), 500)?;
-    if order.count() == 500 {
-        order.remove(3);
-        let id = order.id_at(321);
-        order.insert(0)?;
-        order.insert(400)?;
-        if order.count() > 5 {
-            order.remove(5);
-        }
-        assert_eq!(rt; order.position_of(id), Some(321));
-        assert!(rt; is_consistent(&order));
-    }
+    let alloc = rt.alloc();
+    let plain = ids_after(alloc, &[Step::Append(3)])?;
+    assert!(rt; plain.as_slice() == [0, 1, 2].as_slice());
+    let without = ids_after(alloc, &[Step::Append(4), Step::Take(1)])?;
+    assert!(rt; without.as_slice() == [0, 2, 3].as_slice());
+    let with = ids_after(alloc, &[Step::Append(3), Step::Put(1)])?;
+    assert!(rt; with.as_slice() == [0, 3, 1, 2].as_slice());
     Ok(())
 }
 
 #[test]
 fn an_id_is_free_again_once_it_goes(rt: HostRuntime) -> Result<(), Fail> {
-    let mut order = mixed(rt.alloc(), 200)?;
-    assert!(rt; is_consistent(&order));
-    if order.count() == 200 {
-        let id = order.id_at(7);
-        order.remove(7);
-        assert_eq!(rt; order.position_of(id), None);
-        assert_eq!(rt; order.insert(100)?, id);
-        assert_eq!(rt; order.position_of(id), Some(100));
-        assert_eq!(rt; order.insert(0)?, 200);
-    }
+    let alloc = rt.alloc();
+    let last = ids_after(alloc, &[Step::Append(3), Step::Take(2), Step::Append(1)])?;
+    assert!(rt; last.as_slice() == [0, 1, 2].as_slice());
+    let steps = [Step::Append(3), Step::Put(1), Step::Take(2), Step::Put(0)];
+    let other = ids_after(alloc, &steps)?;
+    assert!(rt; other.as_slice() == [1, 0, 3, 2].as_slice());
     Ok(())
 }
 
 #[test]
-fn holders_are_counted_before_a_number(rt: HostRuntime) -> Result<(), Fail> {
-    let order = mixed(rt.alloc(), 300)?;
-    let mut held = Vec::new(rt.alloc());
-    for n in 0..order.count() {
+fn ids_are_found_in_all_pages(rt: HostRuntime) -> Result<(), Fail> {
+    let steps = [Step::Append(600), Step::Mix(1400), Step::Take(1000)];
+    let ids = ids_after(rt.alloc(), &steps)?;
+    assert_eq!(rt; ids.len(), 1999);
+    Ok(())
+}
+
+/// How many of each third id of a mixed order stand before a number.
+fn thirds_before(alloc: Global, n: usize) -> Result<usize, AllocError> {
+    let mut order = Order::new(alloc);
+    perform(&mut order, &Step::Mix(300))?;
+    let mut thirds = Vec::new(alloc);
+    for (n, id) in ids_of(alloc, &order)?.iter().enumerate() {
         if n % 3 == 0 {
-            held.push(order.id_at(n))?;
+            thirds.push(*id)?;
         }
     }
-    assert_eq!(rt; order.count_before(&held, 0), 0);
-    assert_eq!(rt; order.count_before(&held, 1), 1);
-    assert_eq!(rt; order.count_before(&held, 150), 50);
-    assert_eq!(rt; order.count_before(&held, 1000), 100);
+    Ok(order.count_before(&thirds, n))
+}
+
+#[test]
+fn holders_are_counted_before_a_number(rt: HostRuntime) -> Result<(), Fail> {
+    assert_eq!(rt; thirds_before(rt.alloc(), 0)?, 0);
+    assert_eq!(rt; thirds_before(rt.alloc(), 1)?, 1);
+    assert_eq!(rt; thirds_before(rt.alloc(), 150)?, 50);
+    assert_eq!(rt; thirds_before(rt.alloc(), 1000)?, 100);
     Ok(())
 }
