@@ -21,6 +21,10 @@ use crate::tables::Tables;
 use bib_items::{ItemList, StoreFault};
 use std::alloc::Global;
 
+/// Tables follow so many items that come, and so many that go. Each takes a step for every entry after it, so that for
+/// more of them it costs less to make the tables again.
+const FOLLOWED_LIMIT: usize = 64;
+
 /// Puts the items of a change in place of those in its window, and lets the tables say what holds of all items then. It
 /// is refused where memory runs out, or where a raw text is too long; nothing has changed then.
 pub(crate) fn exchange<L: ItemList>(
@@ -106,7 +110,8 @@ fn renew<L: ItemList>(
     Ok(())
 }
 
-/// Whether no macro is defined in the window or after it, before and after the change.
+/// Whether the tables may follow: few items come and go, and no macro is defined in the window or after it, before and
+/// after the change.
 fn can_follow<L: ItemList>(items: &L, tables: &Tables, change: &Change, count: usize) -> bool
     requires ordered { change.now.window.from ≤ change.now.window.to }
     requires within { change.now.window.to + count ≤ length (L.items items.now) }
@@ -116,7 +121,8 @@ fn can_follow<L: ItemList>(items: &L, tables: &Tables, change: &Change, count: u
     let window = change.window;
     // so many items fit
     let _ = items.count();
-    if window.from < tables.definitions.end() {
+    let most = count.max(window.to - window.from);
+    if most > FOLLOWED_LIMIT || window.from < tables.definitions.end() {
         return false;
     }
     are_others(items, window.from, window.to + count)
