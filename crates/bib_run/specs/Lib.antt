@@ -18,5 +18,7 @@ pub mod Sessions
 pub mod EditAnswer
 pub mod Turns
 pub mod Log
+pub mod Cited
 pub mod Labels
+pub mod Ris
 pub mod Names

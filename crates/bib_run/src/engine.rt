@@ -17,6 +17,7 @@ use crate::commands::edit::answer_edit;
 use crate::commands::labels::answer_labels;
 use crate::commands::log::{answer_forget, answer_log};
 use crate::commands::names::answer_names;
+use crate::commands::ris::answer_ris;
 use crate::commands::show::answer_show;
 use crate::commands::turning::{answer_redo, answer_undo};
 use crate::messages::{READ_FAULT, WRITE_FAULT};
@@ -213,6 +214,9 @@ fn answer_of(
     }
     if command.is_named(b"labels") {
         return answer_labels(alloc, file, &words[1..]);
+    }
+    if command.is_named(b"ris") {
+        return answer_ris(alloc, file, &words[1..]);
     }
     if command.is_named(b"names") {
         return answer_names(alloc, file, words[1].as_slice(), words[2].as_slice());

@@ -49,6 +49,7 @@ impl Command {
             b"redo" => words == 1 && self.n >= 1 && self.n <= NUMBER_LIMIT,
             b"log" => words == 1 && self.n == 0,
             b"forget" => words == 1 && self.n == 0,
+            b"ris" => words >= 2 && self.n == 0,
             _ => false,
         }
     }
