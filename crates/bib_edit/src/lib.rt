@@ -3,6 +3,7 @@
 #![tactic(auto)]
 
 mod add_entry;
+mod add_many;
 mod address;
 mod dangling;
 mod defining;
@@ -15,6 +16,7 @@ mod limits;
 mod made_keys;
 mod move_entry;
 mod moving;
+mod new_entries;
 mod new_entry;
 mod new_fields;
 mod new_keys;
