@@ -84,7 +84,7 @@ bibkeep_journals = adds (adds (adds (adds bibkeep_edits (steps_line (codes "undo
 
 -- `bibkeep COMMAND`
 abbrev pub bibkeep : App
-bibkeep = adds bibkeep_journals (keys_line (codes "ris"))
+bibkeep = adds (adds bibkeep_journals (keys_line (codes "ris"))) (over_file (codes "import"))
 
 -- ---- what matches name
 

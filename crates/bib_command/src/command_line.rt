@@ -13,7 +13,9 @@ use std::alloc::{AllocError, Global};
 pub fn command_line<'a>(alloc: Global) -> Result<Command<'a>, AllocError>
     ensures { IfOk result (Reads bibkeep) }
 {
-    journals(alloc)?.subcommand(ris(alloc)?)
+    journals(alloc)?
+        .subcommand(ris(alloc)?)?
+        .subcommand(import(alloc)?)
 }
 
 /// With the commands over what was done to a file.
@@ -277,6 +279,23 @@ Each entry is written with what it inherits, its macros put in. Fields that RIS 
 Examples:
   bibkeep ris refs.bib knuth86 lamport86
   bibkeep ris refs.bib '*' > refs.ris   # every entry",
+    )
+}
+
+fn import<'a>(alloc: Global) -> Result<Command<'a>, AllocError>
+    ensures { IfOk result (Reads (over_file (codes "import"))) }
+{
+    over_file(
+        alloc,
+        "import",
+        "Adds the records of RIS on standard input as entries at the end of a file",
+        "\
+A record's ID is the key of its entry where it can be one; else a key is made of names and year. All entries are one
+change, which `bibkeep undo F` takes back. Where one of them is refused, none is added.
+
+Examples:
+  bibkeep import refs.bib < references.ris
+  printf 'TY  - BOOK\\nTI  - Type\\nER  - \\n' | bibkeep import refs.bib",
     )
 }
 

@@ -18,6 +18,7 @@ use Rattle.bib_run.specs.Ris.{ris_answer}
 use Rattle.bib_run.specs.Names.{Spells, names_answer}
 use Rattle.bib_data.specs.declared.request.Request.TheVariants.{Undo, Redo}
 use Rattle.bib_run.specs.EditAnswer.{IsEditAnswer}
+use Rattle.bib_run.specs.ImportAnswer.{IsImportAnswer}
 use Rattle.bib_run.specs.Turns.{IsTurnAnswer}
 use Rattle.bib_run.specs.Log.{IsLogAnswer, IsForgetAnswer}
 
@@ -55,4 +56,5 @@ pub data IsAnswer (command : Command) (file : Text) (journal : Option Text) (inp
   undo : command.name ≡ codes "undo" → IsTurnAnswer (codes "undone") Undo command.n file journal answer → IsAnswer command file journal input answer
   redo : command.name ≡ codes "redo" → IsTurnAnswer (codes "redone") Redo command.n file journal answer → IsAnswer command file journal input answer
   log : command.name ≡ codes "log" → IsLogAnswer file journal answer → IsAnswer command file journal input answer
+  import : command.name ≡ codes "import" → IsImportAnswer file journal input answer → IsAnswer command file journal input answer
   forget : command.name ≡ codes "forget" → IsForgetAnswer file answer → IsAnswer command file journal input answer

@@ -15,7 +15,9 @@ pub mod Runs
 pub mod Lent
 pub mod SessionNames
 pub mod Sessions
+pub mod Inputs
 pub mod EditAnswer
+pub mod ImportAnswer
 pub mod Turns
 pub mod Log
 pub mod Cited

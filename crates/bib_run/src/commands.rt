@@ -5,6 +5,7 @@ pub mod check;
 pub mod cite;
 mod citing;
 pub mod edit;
+pub mod import;
 mod kinds;
 pub mod labels;
 pub mod log;

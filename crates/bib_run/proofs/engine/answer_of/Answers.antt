@@ -9,7 +9,7 @@ use Rattle.bib_run.specs.Cite.{cite_answer}
 use Rattle.bib_run.specs.Labels.{labels_answer}
 use Rattle.bib_run.specs.Ris.{ris_answer}
 use Rattle.bib_run.specs.Names.{Spells, names_answer}
-use Rattle.bib_run.specs.Answers.{of_reading, check, show, cite, labels, ris, names, edit, undo, redo, log, forget, key_word, template_word}
+use Rattle.bib_run.specs.Answers.{of_reading, check, show, cite, labels, ris, names, edit, import, undo, redo, log, forget, key_word, template_word}
 use Rattle.bib_run.proofs.engine.answer_of.Goals as goal
 
 pub returns-then-is_named-2 : goal.returns-then-is_named-2
@@ -88,3 +88,8 @@ pub returns-then-is_named-12 : goal.returns-then-is_named-12
 returns-then-is_named-12 c =
     let named : c.args.command.now.name ≡ codes "forget" = search rules in
     IfOk-weaker c.answer_forget.result _ _ (λ answer h. forget named h) c.answer_forget.ensures
+
+pub returns-then-is_named-13 : goal.returns-then-is_named-13
+returns-then-is_named-13 c =
+    let named : c.args.command.now.name ≡ codes "import" = search rules in
+    IfOk-weaker c.answer_import.result _ _ (λ answer h. import named h) c.answer_import.ensures
