@@ -39,7 +39,7 @@ fn line_before_close(fields: &[(Text, Text)]) -> &'static [u8]
     b"\n"
 }
 
-/// Puts the entry as it is written, with the line's end behind it. (dialect)
+/// Puts the entry as it is written, with the line's end after it. (dialect)
 fn push_entry(text: &mut Vec<u8>, entry: &NewEntry) -> Result<(), AllocError>
     ensures { OnOk result (text.new.items ≡ text.old.items ++ entry_text entry.now) }
 {
