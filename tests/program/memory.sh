@@ -62,6 +62,7 @@ if cc -shared -fPIC -o refuse_memory.so "$root/tests/program/refuse_memory.c" -l
     refusing_each_request cite parents.bib c1 zz c2
     refusing_each_request labels parents.bib c1 c2
     refusing_each_request names books.bib Lam86 '{f. }{vv~}{ll}'
+    refusing_each_request ris king.bib k1
     refusing_each_request_of_edit '@misc{a}@misc{b, t = {x}}\n' 'set\tb\tt\t{y} # z\nadd\t0\tbook\tc\tt\t1\ndrop\tb\tt\nmove\ta\t1\nremove\tc' '\n@misc{a}\n@misc{b}\n'
     refusing_each_request_of_edit '@string{m={x}}@misc{a, t = m # {y}}@misc{b, crossref = {a}}\n' 'rename-key\ta\tc\nrename-macro\tm\tn\nintroduce\ty\ty\ninline\tn\nregenerate' '@string{y = {y}}\n@misc{anon, t = {x} # y}@misc{anona, crossref = {anon}}\n'
     refusing_each_request --help

@@ -40,5 +40,5 @@ mod values;
 pub use bib_data::{Edit, NewEntry};
 pub use fault::EditFault;
 pub use laws::edits_are_asked_for;
-pub use made_keys::free_key;
+pub use made_keys::{free_key, free_keys};
 pub use planning::plan;

@@ -1,6 +1,6 @@
 use Rattle.std.proofs.lemmas.Result.{IfOk-weaker}
 use Rattle.bib_command.proofs.LineSteps.{reads_subcommand}
-use Rattle.bib_command.proofs.command_line.command_line.Goals as goal
+use Rattle.bib_command.proofs.command_line.journals.Goals as goal
 
 pub returns : goal.returns
 returns c =
