@@ -19,12 +19,7 @@ pub const JOURNAL_MISMATCH: &[u8] = b"bibkeep: 54 JournalMismatch\n";
 pub const NO_SUCH_ENTRY: &[u8] = b"bibkeep: 11 NoSuchEntry\n";
 
 /// `bibkeep: N Name at P`, a line.
-pub fn placed_line(
-    alloc: Global,
-    number: u8,
-    name: &str,
-    place: usize,
-) -> Result<Text, AllocError>
+pub fn placed_line(alloc: Global, number: u8, name: &str, place: usize) -> Result<Text, AllocError>
     ensures { IfOk result (λ line. line ≡ placed_line number name.now place) }
 {
     let line = format!(in alloc; "bibkeep: {} {} at {}\n", number, name, place)?;

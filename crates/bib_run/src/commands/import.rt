@@ -76,10 +76,7 @@ fn add(
 }
 
 /// Adds the entries by one edit. They are let go before more is made of the file.
-fn add_entries(
-    session: &mut Session<Paged>,
-    entries: Seq<NewEntry>,
-) -> Result<(), SessionFault>
+fn add_entries(session: &mut Session<Paged>, entries: Seq<NewEntry>) -> Result<(), SessionFault>
     ensures made { OnOk result (MakesEdit (AddMany entries) session.old session.new) }
     ensures refused { IfErr result (λ fault. RefusesEdit fault (AddMany entries) session.old) }
 {
