@@ -24,26 +24,26 @@ refusing_each_request() {
     expect "only $refusals requests were refused" test "$refusals" -gt 20
 }
 
-# The same of an edit, which leaves the file as it was where memory is wanting.
-refusing_each_request_of_edit() {
-    begin "edit $2 of $1, with each request for memory refused in turn"
-    given script "$2"
+# The same of a command that reads standard input: it leaves the file as it was where memory is wanting.
+refusing_each_request_over() {
+    begin "$1 $3 over $2, with each request for memory refused in turn"
+    given script "$3"
     refusals=0
     for request in $(seq 300); do
-        given_edit "$1" "$2"
-        REFUSED=$request LD_PRELOAD=$work/refuse_memory.so "$program" edit edited.bib <script >seen/out 2>seen/errors
+        given_edit "$2" "$3"
+        REFUSED=$request LD_PRELOAD=$work/refuse_memory.so "$program" "$1" edited.bib <script >seen/out 2>seen/errors
         status=$?
         if test "$status" -eq 4; then
             writes_nothing
             says 'bibkeep: 10 Memory'
-            leaves "$1"
+            leaves "$2"
             refusals=$((refusals + 1))
         elif test "$status" -eq 3; then
             says 'bibkeep: write fault'
-            leaves "$1"
+            leaves "$2"
         else
             ends_with 0
-            leaves "$3"
+            leaves "$4"
         fi
     done
     expect "only $refusals requests were refused" test "$refusals" -gt 20
@@ -63,8 +63,9 @@ if cc -shared -fPIC -o refuse_memory.so "$root/tests/program/refuse_memory.c" -l
     refusing_each_request labels parents.bib c1 c2
     refusing_each_request names books.bib Lam86 '{f. }{vv~}{ll}'
     refusing_each_request ris king.bib k1
-    refusing_each_request_of_edit '@misc{a}@misc{b, t = {x}}\n' 'set\tb\tt\t{y} # z\nadd\t0\tbook\tc\tt\t1\ndrop\tb\tt\nmove\ta\t1\nremove\tc' '\n@misc{a}\n@misc{b}\n'
-    refusing_each_request_of_edit '@string{m={x}}@misc{a, t = m # {y}}@misc{b, crossref = {a}}\n' 'rename-key\ta\tc\nrename-macro\tm\tn\nintroduce\ty\ty\ninline\tn\nregenerate' '@string{y = {y}}\n@misc{anon, t = {x} # y}@misc{anona, crossref = {anon}}\n'
+    refusing_each_request_over edit '@misc{a}@misc{b, t = {x}}\n' 'set\tb\tt\t{y} # z\nadd\t0\tbook\tc\tt\t1\ndrop\tb\tt\nmove\ta\t1\nremove\tc' '\n@misc{a}\n@misc{b}\n'
+    refusing_each_request_over edit '@string{m={x}}@misc{a, t = m # {y}}@misc{b, crossref = {a}}\n' 'rename-key\ta\tc\nrename-macro\tm\tn\nintroduce\ty\ty\ninline\tn\nregenerate' '@string{y = {y}}\n@misc{anon, t = {x} # y}@misc{anona, crossref = {anon}}\n'
+    refusing_each_request_over import '@misc{anon}@misc{c, crossref = {p}}\n' "$king${long_one}TY  - GEN\nID  - p\nER  - \n" '@misc{anon}@misc{c, crossref = {p}}\n@article{k1,\n  author = {King, Jr, Martin Luther and de la Fontaine, Jean},\n  title = {On Things},\n  journal = {J},\n  year = {1984},\n  month = {May},\n  pages = {10--20}\n}\n@article{anona,\n  title = {A long one}\n}\n@misc{p}\n'
     refusing_each_request --help
     refusing_each_request --version
 else

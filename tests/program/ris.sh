@@ -34,10 +34,10 @@ import() {
 }
 
 # Lines of another program: a mark, CR LF, a tag that is not known, a value in two lines.
-long_one='\357\273\277TY  - JOUR\r\nXX  - q\r\nTI  - A\r\n  long one\r\n\r\nER  -\r\n'
+long_one='TY  - JOUR\r\nXX  - q\r\nTI  - A\r\n  long one\r\n\r\nER  -\r\n'
 first='@article{anon,\n  title = {A long one}\n}\n'
 second='@article{anona,\n  title = {A long one}\n}\n'
-given_import '' "$long_one"
+given_import '' "\357\273\277$long_one"
 import; ends_with 0; prints 'added 1 skipped 1\n'; says_nothing; leaves "$first"
 import; ends_with 0; prints 'added 1 skipped 1\n'; says_nothing; leaves "$first$second"
 

@@ -294,7 +294,7 @@ A record's ID is the key of its entry where it can be one; else a key is made of
 change, which `bibkeep undo F` takes back. Where one of them is refused, none is added.
 
 Examples:
-  bibkeep import refs.bib < references.ris
+  bibkeep import refs.bib < citation.ris
   printf 'TY  - BOOK\\nTI  - Type\\nER  - \\n' | bibkeep import refs.bib",
     )
 }
