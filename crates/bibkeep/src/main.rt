@@ -14,6 +14,7 @@ use endings::{end, end_run, end_unknown, end_unopened, end_usage, end_without_wo
 use std::alloc::Global;
 use std::fs::File;
 use std::io::{ErrorKind, Read};
+use std::os::fd::AsRawFd;
 use std::process::ExitCode;
 use std::{env, io, str};
 use storing::{journal_path, store};
@@ -69,6 +70,10 @@ fn open(
     path: &str,
 ) -> io::Result<(File, Option<File>)> {
     let file = File::open(rt, path)?;
+    // Where standard input is closed, the file takes its number, and would be read as the input too.
+    if reads_input(command) && file.as_raw_fd() == rt.stdin().as_raw_fd() {
+        return Err(ErrorKind::InvalidInput.into());
+    }
     if !command.reads_journal() {
         return Ok((file, None));
     }
@@ -78,6 +83,11 @@ fn open(
         Err(error) if error.kind() == ErrorKind::NotFound => Ok((file, None)),
         Err(error) => Err(error),
     }
+}
+
+/// Whether the command reads standard input beside its file.
+fn reads_input(command: &Command) -> bool {
+    command.is_named(b"edit") || command.is_named(b"import")
 }
 
 /// Says how the run over this file ended, and puts the new file and the new journal in their places, if there are such.

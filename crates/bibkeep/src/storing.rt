@@ -93,7 +93,8 @@ fn write_journal(
     let journal = journal_path(rt, alloc, path)?;
     let journal = match fs::canonicalize(rt, journal.as_str()) {
         Ok(target) => target.into_string(),
-        Err(_) => journal,
+        Err(error) if error.kind() == ErrorKind::NotFound => journal,
+        Err(error) => return Err(error),
     };
     New::write(rt, alloc, journal, permissions, bytes)
 }
