@@ -98,8 +98,11 @@ limit_script() {
 limit_script 'set\ta\tt\t1\n' '41 JournalFull'
 limit_script 'set\ta\tt\t{x\n' '33 BadValue'
 
-# What cannot be opened or written is a fault.
+# What cannot be opened, read or written is a fault.
 when edit nothing.bib; ends_with 3; writes_nothing; says 'bibkeep: read fault'
+given_edit '@misc{a}' ''
+when_shell_runs '"$program" edit edited.bib <&-'; ends_with 3; writes_nothing; says 'bibkeep: read fault'; leaves '@misc{a}'
+expect 'a journal was left' test ! -e edited.bib.bibkeep
 when_shell_runs 'mkfifo pipe.bib; printf "@misc{a}" >pipe.bib & printf "set\ta\tt\t1\n" | "$program" edit pipe.bib; status=$?; test -p pipe.bib && exit $status'
 ends_with 3; says 'bibkeep: write fault'
 

@@ -2,6 +2,8 @@
 //! decided here: `bib_command` reads the words, and `bib_run` knows what a command does.
 #![tactic(auto)]
 
+ghost use Rattle.std.specs.Prelude.{◌≡◌, ◌≢◌, ◌↔◌, ◌⊎◌, IfOk, IsTrue, codes, pos};
+ghost use Rattle.std.specs.Fd.{file_raw_fd};
 ghost use Rattle.bib_words.specs.Command.{IsCommand};
 
 mod endings;
@@ -62,15 +64,17 @@ fn perform(rt: &HostRuntime, alloc: Global, command: &Command) -> u8
     }
 }
 
-/// Opens the file, and its journal where there is one and the command reads it.
+/// Opens the file, and its journal where there is one and the command reads it. Where standard input is closed, the file
+/// takes its number: then it would be read as the input too.
 fn open(
     rt: &HostRuntime,
     alloc: Global,
     command: &Command,
     path: &str,
-) -> io::Result<(File, Option<File>)> {
+) -> io::Result<(File, Option<File>)>
+    ensures apart { (command.now.name ≡ codes "edit") ⊎ (command.now.name ≡ codes "import") → IfOk result (λ opened. file_raw_fd opened.0 ≢ pos 0) }
+{
     let file = File::open(rt, path)?;
-    // Where standard input is closed, the file takes its number, and would be read as the input too.
     if reads_input(command) && file.as_raw_fd() == rt.stdin().as_raw_fd() {
         return Err(ErrorKind::InvalidInput.into());
     }
@@ -86,7 +90,9 @@ fn open(
 }
 
 /// Whether the command reads standard input beside its file.
-fn reads_input(command: &Command) -> bool {
+fn reads_input(command: &Command) -> bool
+    ensures { IsTrue result ↔ ((command.now.name ≡ codes "edit") ⊎ (command.now.name ≡ codes "import")) }
+{
     command.is_named(b"edit") || command.is_named(b"import")
 }
 
