@@ -10,7 +10,7 @@ ghost use Rattle.bib_ris.specs.Export.{entries_ris};
 
 use bib_scan::{Seq, Text};
 use bib_store::{Database, ItemList};
-use ris_format::{MappingFault, given_records_fit, to_ris};
+use ris_format::{MappingFault, given_records_fit, ris_of};
 use ris_text::write_ris;
 use std::alloc::Global;
 
@@ -25,7 +25,7 @@ fn entry_ris<L: ItemList>(alloc: Global, db: &Database<L>, n: usize) -> Result<T
     let Ok(expanded) = db.expanded(n) else {
         return Err(MappingFault::Memory);
     };
-    let (record, _dropped) = to_ris(alloc, &expanded.rec)?;
+    let record = ris_of(alloc, &expanded.rec)?;
     match write_ris(alloc, &[record]) {
         Ok(text) => Ok(text),
         Err(_) => Err(MappingFault::Memory),
