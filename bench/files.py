@@ -70,6 +70,20 @@ def database(size):
         n += 1
 
 
+def library(size):
+    """A database of at most `size` bytes whose macros are defined at its top, as most are."""
+    count = size // 250
+    macros = [macro(n).encode() for n in range(0, count, 97)]
+    others, length, n = [], sum(map(len, macros)), 0
+    while True:
+        text = b"" if n % 97 == 0 else item(n).encode()
+        if length + len(text) > size:
+            return b"".join(macros + others)
+        others.append(text)
+        length += len(text)
+        n += 1
+
+
 def one_macro(count):
     """One macro, and so many entries that use it."""
     return b"@string{m = {text}}\n" + b"".join(b"@misc{k%d, t = m}\n" % n for n in range(count))
@@ -79,6 +93,32 @@ def chained_macros(count):
     """So many macros, each defined by the one before, and an entry that uses the last."""
     links = b"".join(b"@string{m%d = m%d}\n" % (n, n - 1) for n in range(1, count))
     return b"@string{m0 = {text}}\n" + links + b"@misc{k, t = m%d}\n" % (count - 1)
+
+
+def articles(count):
+    """The numbers of so many articles of a database, from its beginning on and then again."""
+    numbers = [n for n in range(3 * count) if n % 97 and n % 50 and n % 31 and n % 11 and n % 3]
+    return numbers[:count] if len(numbers) >= count else articles(2 * count)[:count]
+
+
+def adds(count):
+    """A script of so many edits: each adds an entry, at places all over the file."""
+    return b"".join(b"add\t%d\tmisc\tnew%d\ttitle\t{Added %d}\n" % (n * 37 % 5000, n, n) for n in range(count))
+
+
+def moves(count):
+    """A script of so many edits: each moves an article to a place among the first 5,000 items."""
+    return b"".join(b"move\tkey%d\t%d\n" % (n, n * 53 % 5000) for n in articles(count))
+
+
+def removes(count):
+    """A script of so many edits: each removes an article."""
+    return b"".join(b"remove\tkey%d\n" % n for n in articles(count))
+
+
+def renames(count):
+    """A script of so many edits: each gives an article another key."""
+    return b"".join(b"rename-key\tkey%d\tother%d\n" % (n, n) for n in articles(count))
 
 
 def sets(count):

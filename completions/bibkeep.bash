@@ -1,7 +1,7 @@
 # Completion of bibkeep for bash. Source it, or put it where bash-completion looks for it.
 
 _bibkeep() {
-    local commands='cat check show cite labels names edit undo redo log forget help'
+    local commands='cat check show cite labels names edit undo redo log forget ris import help'
     local current=${COMP_WORDS[COMP_CWORD]} command='' file='' count=0 position
 
     # The command, and how many words of its own stand before this one; the first of them is the file.
@@ -40,7 +40,7 @@ _bibkeep() {
             compopt -o filenames 2>/dev/null
             mapfile -t COMPREPLY < <(compgen -f -X '!*.bib' -- "$current"; compgen -d -- "$current")
             ;;
-        show:1 | names:1 | cite:* | labels:*)
+        show:1 | names:1 | cite:* | labels:* | ris:*)
             mapfile -t COMPREPLY < <(compgen -W "$(_bibkeep_keys "$file")" -- "$current")
             ;;
     esac

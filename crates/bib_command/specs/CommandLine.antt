@@ -50,9 +50,9 @@ show_line = with_rule (over_file (codes "show")) (needed (codes "KEY"))
 abbrev pub cite_line : App
 cite_line = with_rule (with_rule (over_file (codes "cite")) keys) (count (codes "min-crossrefs") (codes "2"))
 
--- `labels F KEY..`
-abbrev pub labels_line : App
-labels_line = with_rule (over_file (codes "labels")) keys
+-- `labels F KEY..`, and so `ris`
+abbrev pub keys_line : Text → App
+keys_line name = with_rule (over_file name) keys
 
 -- `names F KEY TEMPLATE`
 abbrev pub names_line : App
@@ -76,11 +76,15 @@ bibkeep_shows = adds (adds (adds (adds bibkeep_top cat_line) (over_file (codes "
 
 -- with those that change a file
 abbrev pub bibkeep_edits : App
-bibkeep_edits = adds (adds (adds bibkeep_shows labels_line) names_line) (over_file (codes "edit"))
+bibkeep_edits = adds (adds (adds bibkeep_shows (keys_line (codes "labels"))) names_line) (over_file (codes "edit"))
+
+-- with those over what was done to it
+abbrev pub bibkeep_journals : App
+bibkeep_journals = adds (adds (adds (adds bibkeep_edits (steps_line (codes "undo"))) (steps_line (codes "redo"))) (over_file (codes "log"))) (over_file (codes "forget"))
 
 -- `bibkeep COMMAND`
 abbrev pub bibkeep : App
-bibkeep = adds (adds (adds (adds bibkeep_edits (steps_line (codes "undo"))) (steps_line (codes "redo"))) (over_file (codes "log"))) (over_file (codes "forget"))
+bibkeep = adds (adds bibkeep_journals (keys_line (codes "ris"))) (over_file (codes "import"))
 
 -- ---- what matches name
 

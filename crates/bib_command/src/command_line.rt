@@ -3,7 +3,7 @@
 ghost use Rattle.std.specs.Prelude.{◌≡◌, IfOk, codes};
 ghost use Rattle.clap.specs.Words.{new_app};
 ghost use Rattle.bib_command.specs.Lines.{Reads};
-ghost use Rattle.bib_command.specs.CommandLine.{over_file, cat_line, show_line, cite_line, labels_line, names_line, steps_line, bibkeep_top, bibkeep_shows, bibkeep_edits, bibkeep};
+ghost use Rattle.bib_command.specs.CommandLine.{over_file, cat_line, show_line, cite_line, keys_line, names_line, steps_line, bibkeep_top, bibkeep_shows, bibkeep_edits, bibkeep_journals, bibkeep};
 
 use crate::arguments::{any_file, count, keys, needed};
 use clap::Command;
@@ -12,6 +12,15 @@ use std::alloc::{AllocError, Global};
 /// The whole command line.
 pub fn command_line<'a>(alloc: Global) -> Result<Command<'a>, AllocError>
     ensures { IfOk result (Reads bibkeep) }
+{
+    journals(alloc)?
+        .subcommand(ris(alloc)?)?
+        .subcommand(import(alloc)?)
+}
+
+/// With the commands over what was done to a file.
+fn journals<'a>(alloc: Global) -> Result<Command<'a>, AllocError>
+    ensures { IfOk result (Reads bibkeep_journals) }
 {
     edits(alloc)?
         .subcommand(undo(alloc)?)?
@@ -134,9 +143,9 @@ Examples:
 }
 
 fn labels<'a>(alloc: Global) -> Result<Command<'a>, AllocError>
-    ensures { IfOk result (Reads labels_line) }
+    ensures { IfOk result (Reads (keys_line (codes "labels"))) }
 {
-    over_file(
+    over_keys(
         alloc,
         "labels",
         "Makes a short label for each entry that these keys cite",
@@ -146,8 +155,7 @@ A line has a label, a tab and the entry's key. A label is made of the names and 
 Examples:
   bibkeep labels refs.bib knuth86 lamport86
   bibkeep labels refs.bib '*'   # every entry",
-    )?
-    .arg(keys(alloc))
+    )
 }
 
 fn names<'a>(alloc: Global) -> Result<Command<'a>, AllocError>
@@ -256,6 +264,51 @@ changed by hand and the other commands say 54 JournalMismatch.
 Example:
   bibkeep forget refs.bib",
     )
+}
+
+fn ris<'a>(alloc: Global) -> Result<Command<'a>, AllocError>
+    ensures { IfOk result (Reads (keys_line (codes "ris"))) }
+{
+    over_keys(
+        alloc,
+        "ris",
+        "Writes the entries that these keys cite as RIS, for other programs",
+        "\
+Each entry is written with what it inherits, its macros put in. Fields that RIS has no place for are left out.
+
+Examples:
+  bibkeep ris refs.bib knuth86 lamport86
+  bibkeep ris refs.bib '*' > refs.ris   # every entry",
+    )
+}
+
+fn import<'a>(alloc: Global) -> Result<Command<'a>, AllocError>
+    ensures { IfOk result (Reads (over_file (codes "import"))) }
+{
+    over_file(
+        alloc,
+        "import",
+        "Adds the records of RIS on standard input as entries at the end of a file",
+        "\
+A record's ID is the key of its entry where it can be one; else a key is made of names and year. All entries are one
+change, which `bibkeep undo F` takes back. Where one of them is refused, none is added.
+
+Examples:
+  bibkeep import refs.bib < citation.ris
+  printf 'TY  - BOOK\\nTI  - Type\\nER  - \\n' | bibkeep import refs.bib",
+    )
+}
+
+/// A command over a file that takes keys.
+fn over_keys<'a>(
+    alloc: Global,
+    name: &'a str,
+    about: &'a str,
+    more: &'a str,
+) -> Result<Command<'a>, AllocError>
+    ensures { IfOk result (Reads (keys_line name.entry.now)) }
+{
+    over_file(alloc, name, about, more)?.arg(keys(alloc))
 }
 
 /// A command over a file that takes a number of changes.

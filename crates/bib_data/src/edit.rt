@@ -20,6 +20,8 @@ pub enum Edit {
     DropField { key: Text, field: Text },
     /// The entry stands before item `place`.
     AddEntry { place: usize, entry: NewEntry },
+    /// The entries stand after the last item, in order.
+    AddMany { entries: Seq<NewEntry> },
     /// The entry goes; the text behind it stays.
     RemoveEntry { key: Text },
     /// The entry goes, and then stands before item `place` of what remains.

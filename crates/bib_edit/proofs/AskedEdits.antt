@@ -8,9 +8,9 @@ use Rattle.bib_spec.specs.Tree.{Value}
 use Rattle.bib_spec.specs.Records.{default_depth}
 use Rattle.edit_spec.specs.Edits as edits
 use Rattle.edit_spec.specs.Edits.{Spells}
-use Rattle.bib_data.specs.declared.edit.Edit.TheVariants.{SetField, DropField, AddEntry, RemoveEntry, MoveEntry, RenameKey, RegenerateKeys, RenameMacro, InlineMacro, IntroduceMacro}
+use Rattle.bib_data.specs.declared.edit.Edit.TheVariants.{SetField, DropField, AddEntry, AddMany, RemoveEntry, MoveEntry, RenameKey, RegenerateKeys, RenameMacro, InlineMacro, IntroduceMacro}
 use Rattle.bib_data.specs.declared.edit.NewEntry.{NewEntry}
-use Rattle.bib_edit.specs.Asking.{SpellFields, SpellsEntry, OfEdit, set_field, drop_field, add_entry, remove_entry, move_entry, rename_key, regenerate_keys, rename_macro, inline_macro, introduce_macro}
+use Rattle.bib_edit.specs.Asking.{SpellFields, SpellsEntry, SpellEntries, OfEdit, set_field, drop_field, add_entry, add_many, remove_entry, move_entry, rename_key, regenerate_keys, rename_macro, inline_macro, introduce_macro}
 
 pub of-set_field : (key field value : Text) (P : edits.Edit → Type 0) → ((v : Value) → Spells value v → P (edits.SetField key field v)) → OfEdit (SetField key field value) P
 of-set_field key field value P h e (set_field k f t v s) = h v s
@@ -33,15 +33,23 @@ some_fields (field ∷ asked) =
     let rest = some_fields asked in
     ((field.0, value.0) ∷ rest.0, (refl, value.1, rest.1))
 
-some_entry : (asked : NewEntry) → (new : edits.NewEntry) × SpellsEntry asked new
-some_entry asked =
+pub spelled_entry : (asked : NewEntry) → (new : edits.NewEntry) × SpellsEntry asked new
+spelled_entry asked =
     let fields = some_fields asked.fields in
     (record { kind_name = asked.kind_name; key = asked.key; fields = fields.0 }, record { kind_name = refl; key = refl; fields = fields.1 })
+
+pub spelled_entries : (asked : List NewEntry) → (news : List edits.NewEntry) × SpellEntries asked news
+spelled_entries [] = ([], tt)
+spelled_entries (entry ∷ asked) =
+    let new = spelled_entry entry in
+    let rest = spelled_entries asked in
+    (new.0 ∷ rest.0, (new.1, rest.1))
 
 pub asked_for : EditsAreAskedFor
 asked_for (SetField key field value) = let v = some_value value in (edits.SetField key field v.0, set_field key field value v.0 v.1)
 asked_for (DropField key field) = (edits.DropField key field, drop_field key field)
-asked_for (AddEntry place entry) = let new = some_entry entry in (edits.AddEntry place new.0, add_entry place entry new.0 new.1)
+asked_for (AddEntry place entry) = let new = spelled_entry entry in (edits.AddEntry place new.0, add_entry place entry new.0 new.1)
+asked_for (AddMany entries) = let news = spelled_entries entries in (edits.AddMany news.0, add_many entries news.0 news.1)
 asked_for (RemoveEntry key) = (edits.RemoveEntry key, remove_entry key)
 asked_for (MoveEntry key place) = (edits.MoveEntry key place, move_entry key place)
 asked_for (RenameKey from to) = (edits.RenameKey from to, rename_key from to)
@@ -52,6 +60,9 @@ asked_for (IntroduceMacro name text) = (edits.IntroduceMacro name text, introduc
 
 pub of-add_entry : (place : ℕ) (asked : NewEntry) (P : edits.Edit → Type 0) → ((new : edits.NewEntry) → SpellsEntry asked new → P (edits.AddEntry place new)) → OfEdit (AddEntry place asked) P
 of-add_entry place asked P h e (add_entry n a new spells) = h new spells
+
+pub of-add_many : (asked : List NewEntry) (P : edits.Edit → Type 0) → ((news : List edits.NewEntry) → SpellEntries asked news → P (edits.AddMany news)) → OfEdit (AddMany asked) P
+of-add_many asked P h e (add_many a news spells) = h news spells
 
 pub of-remove_entry : (key : Text) (P : edits.Edit → Type 0) → P (edits.RemoveEntry key) → OfEdit (RemoveEntry key) P
 of-remove_entry key P h e (remove_entry k) = h

@@ -1,5 +1,5 @@
 -- Why the inlining of a macro is refused, and that it is not.
-use Rattle.std.proofs.Common.{◌≡◌, ℕ, suc, ◌+◌, ◌*◌, ◌<◌, ◌≤◌, ◌&&◌, Bool, true, false, List, ◌∷◌, length, map, drop, refl, sym, ◌∙◌, ap, arith}
+use Rattle.std.proofs.Common.{◌≡◌, ℕ, suc, ◌+◌, ◌*◌, ◌<◌, ◌≤◌, true, false, List, ◌∷◌, length, map, drop, refl, sym, ◌∙◌, ap, arith}
 use Rattle.std.proofs.lemmas.Bool.{true≢false, both_ways}
 use Rattle.std.proofs.lemmas.List.Elements.{All-nil}
 use Rattle.bib_spec.specs.Bytes.{name_limit, file_limit}

@@ -30,8 +30,14 @@ pub mod PlacedTexts
 pub mod OpenFiles
 pub mod Results
 pub mod Removed
+pub mod SeenNames
 pub mod NewFields
+pub mod ManyEntries
+pub mod SpelledEntries
+pub mod SpelledLists
+pub mod HeldKeys
 pub mod Added
+pub mod ManyAdded
 pub mod MovedPieces
 pub mod MovedTexts
 pub mod Moved

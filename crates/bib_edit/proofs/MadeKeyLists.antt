@@ -2,13 +2,13 @@
 use Rattle.std.proofs.Common.{◌≡◌, ℕ, zero, suc, ◌+◌, ◌<◌, ◌≤◌, List, [], ◌∷◌, ◌++◌, Some, option_map, slice_get, drop, map, length, refl, sym, ◌∙◌, ap, subst, arith, append_assoc, append-nil, zero-add, add-zero}
 use Rattle.std.specs.List.{enumerate_from, AllByRecursion}
 use Rattle.std.proofs.Math.ListN.{drop_of_length-le}
-use Rattle.std.proofs.lemmas.Option.{none-some, same_Some}
+use Rattle.std.proofs.lemmas.Option.{none-some, same_Some, slice_get_within}
 use Rattle.std.proofs.lemmas.List.{length-map}
 use Rattle.std.proofs.lemmas.List.FromFn.{length-enumerate_from}
 use Rattle.bib_spec.specs.Bytes.{name_limit}
 use Rattle.bib_spec.specs.Text.{Text}
-use Rattle.bib_spec.specs.Records.{EntryTexts, Record, record_of, default_depth, expanded, dangling_texts}
-use Rattle.bib_spec.specs.MadeKeys.{free_key, made_keys, bases, new_keys}
+use Rattle.bib_spec.specs.Records.{EntryTexts, Record, record_of, default_depth, expanded}
+use Rattle.bib_spec.specs.MadeKeys.{free_key, made_keys, bases}
 use Rattle.bib_edit.specs.Asking.{made_base}
 use Rattle.bib_edit.specs.TakenKeys.{AreTaken}
 use Rattle.bib_edit.specs.declared.taken_keys.TakenKeys.{TakenKeys}
@@ -28,45 +28,49 @@ numbered f m (x ∷ xs) (suc n) = numbered f (m + 1) xs n ∙ ap (λ (k : ℕ). 
 abbrev pub bases_of : List EntryTexts → List Text
 bases_of entries = bases made_base default_depth entries
 
-length-bases : (entries : List EntryTexts) → length (bases_of entries) ≡ length entries
+pub length-bases : (entries : List EntryTexts) → length (bases_of entries) ≡ length entries
 length-bases entries = length-map (enumerate_from 0 entries) (λ p. made_base (record_of default_depth entries p.0 p.1)) ∙ length-enumerate_from 0 entries
 
 -- the base of the record that an entry has
 pub base-of : (entries : List EntryTexts) (n : ℕ) (r : Record) → expanded default_depth entries n ≡ Some r → (entry : EntryTexts) → slice_get entries n ≡ Some entry → made_base r ≡ made_base (record_of default_depth entries n entry)
 base-of entries n r is entry at = ap made_base (same_Some r (record_of default_depth entries n entry) (sym is ∙ ap (option_map (record_of default_depth entries n)) at))
 
--- ---- the walk over the entries
+-- the base of entry n is that of its record
+pub base-at : (entries : List EntryTexts) (n : ℕ) (base : Text) → n < length entries →
+    ((entry : EntryTexts) → slice_get entries n ≡ Some entry → base ≡ made_base (record_of default_depth entries n entry)) →
+    slice_get (bases_of entries) n ≡ Some base
+base-at entries n base lt is_base =
+    let entry = next-of entries n lt in
+    numbered (λ p. made_base (record_of default_depth entries p.0 p.1)) 0 entries n
+    ∙ ap (λ o. option_map (λ e. made_base (record_of default_depth entries (0 + n) e)) o) entry.1
+    ∙ ap (λ (k : ℕ). Some (made_base (record_of default_depth entries k entry.0))) (zero-add n)
+    ∙ ap Some (sym (is_base entry.0 entry.1))
 
--- these keys are made, and those of the entries from number n on are made of what is taken
-pub record AreMadeTo (entries : List EntryTexts) (n : ℕ) (t : TakenKeys) (keys : List Text) : Type 0 where
+-- ---- the walk over the bases
+
+-- these keys are made, and those of the bases from number n on are made of what is taken; before all of them these first keys were
+pub record AreMadeTo (first bases : List Text) (n : ℕ) (t : TakenKeys) (keys : List Text) : Type 0 where
   pub taken : List Text
   pub are : AreTaken taken t
-  pub made : keys ++ made_keys taken (drop n (bases_of entries)) ≡ new_keys made_base default_depth entries
+  pub made : keys ++ made_keys taken (drop n bases) ≡ made_keys first bases
 
-pub made-none : (entries : List EntryTexts) (t : TakenKeys) (keys : List Text) → AreTaken (dangling_texts entries ++ []) t → keys ≡ [] → AreMadeTo entries 0 t keys
-made-none entries t keys are none = record {
-  taken = dangling_texts entries;
-  are = subst (λ (l : List Text). AreTaken l t) (append-nil (dangling_texts entries)) are;
-  made = ap (λ (l : List Text). l ++ made_keys (dangling_texts entries) (bases_of entries)) none;
+pub made-none : (first bases : List Text) (t : TakenKeys) (keys : List Text) → AreTaken first t → keys ≡ [] → AreMadeTo first bases 0 t keys
+made-none first bases t keys are none = record {
+  taken = first;
+  are = are;
+  made = ap (λ (l : List Text). l ++ made_keys first bases) none;
 }
 
-pub made-more : (entries : List EntryTexts) (n : ℕ) (t tried s : TakenKeys) (keys more : List Text) (base key : Text) → AreMadeTo entries n t keys → n < length entries →
-    ((entry : EntryTexts) → slice_get entries n ≡ Some entry → base ≡ made_base (record_of default_depth entries n entry)) →
+pub made-more : (first bases : List Text) (n : ℕ) (t tried s : TakenKeys) (keys more : List Text) (base key : Text) → AreMadeTo first bases n t keys → slice_get bases n ≡ Some base →
     ((taken : List Text) → AreTaken taken t → key ≡ free_key taken base) →
     ((taken : List Text) → AreTaken taken t → AreTaken taken tried) →
     ((taken : List Text) → AreTaken taken tried → AreTaken (key ∷ taken) s) →
-    more ≡ keys ++ key ∷ [] → AreMadeTo entries (n + 1) s more
-made-more entries n t tried s keys more base key to lt is_base is_key stays adds is =
-    let count = length-bases entries in
-    let next = next-of (bases_of entries) n (omega (arith, lt, count)) in
-    let entry = next-of entries n lt in
-    let here : slice_get (bases_of entries) n ≡ Some (made_base (record_of default_depth entries n entry.0)) =
-    numbered (λ p. made_base (record_of default_depth entries p.0 p.1)) 0 entries n
-    ∙ ap (λ o. option_map (λ e. made_base (record_of default_depth entries (0 + n) e)) o) entry.1
-    ∙ ap (λ (k : ℕ). Some (made_base (record_of default_depth entries k entry.0))) (zero-add n) in
-    let base_is : next.0 ≡ base = same_Some next.0 (made_base (record_of default_depth entries n entry.0)) (sym next.1 ∙ here) ∙ sym (is_base entry.0 entry.1) in
+    more ≡ keys ++ key ∷ [] → AreMadeTo first bases (n + 1) s more
+made-more first bases n t tried s keys more base key to at is_key stays adds is =
+    let next = next-of bases n (slice_get_within bases n base at) in
+    let base_is : next.0 ≡ base = same_Some next.0 base (sym next.1 ∙ at) in
     let key_is : free_key to.taken base ≡ key = sym (is_key to.taken to.are) in
-    let rest : List Text = drop (n + 1) (bases_of entries) in
+    let rest : List Text = drop (n + 1) bases in
     record {
       taken = key ∷ to.taken;
       are = adds to.taken (stays to.taken to.are);
@@ -79,11 +83,10 @@ made-more entries n t tried s keys more base key to lt is_base is_key stays adds
           ∙ to.made;
     }
 
-pub made-all : (entries : List EntryTexts) (n : ℕ) (t : TakenKeys) (keys : List Text) → AreMadeTo entries n t keys → length entries ≤ n → keys ≡ new_keys made_base default_depth entries
-made-all entries n t keys to le =
-    let count = length-bases entries in
+pub made-all : (first bases : List Text) (n : ℕ) (t : TakenKeys) (keys : List Text) → AreMadeTo first bases n t keys → length bases ≤ n → keys ≡ made_keys first bases
+made-all first bases n t keys to le =
     sym (append-nil keys)
-    ∙ sym (ap (λ (l : List Text). keys ++ made_keys to.taken l) (drop_of_length-le (bases_of entries) (omega (arith, le, count))))
+    ∙ sym (ap (λ (l : List Text). keys ++ made_keys to.taken l) (drop_of_length-le bases le))
     ∙ to.made
 
 -- ---- short keys

@@ -1,6 +1,8 @@
 -- The pieces of chunks that mostly are kept, with their places; and the length of what pieces make.
-use Rattle.std.proofs.Common.{◌≡◌, ℕ, zero, suc, ◌+◌, Bool, List, [], ◌∷◌, ◌++◌, length, take, drop, sym, ◌∙◌, ap, zero-add}
+use Rattle.std.proofs.Common.{◌≡◌, ℕ, zero, suc, ◌+◌, Bool, List, [], ◌∷◌, ◌++◌, length, take, drop, sym, ◌∙◌, ap, ap₂, zero-add, append-nil, le_refl}
 use Rattle.std.specs.List.{flat_map}
+use Rattle.std.proofs.Math.ListN.{drop_of_length-le}
+use Rattle.std.proofs.lemmas.List.{take_all}
 use Rattle.std.proofs.lemmas.Bool.{cond-true, cond-false}
 use Rattle.bib_spec.specs.Text.{Text}
 use Rattle.bib_spec.specs.Tree.{Tree}
@@ -45,6 +47,18 @@ insertion-pieces new db n =
     ap (λ k. pieces_from k (kept_items (take n db.items) ++ rest)) (zero-add (length db.front))
     ∙ pieces-behind_items (length db.front) (take n db.items) rest
     ∙ ap (λ l. record { place = start_of db n; old = []; new = new } ∷ l) (pieces-kept_items (start_of db n + 0) (drop n db.items))
+
+-- at the end
+pub appending-pieces : (new : Text) (db : Reading) →
+    pieces_of_chunks (Kept db.front ∷ (kept_items db.items ++ Replaced [] new ∷ [])) ≡ record { place = start_of db (length db.items); old = []; new = new } ∷ []
+appending-pieces new db =
+    let n = length db.items in
+    ap₂ (λ (before after : List Item). pieces_of_chunks (Kept db.front ∷ (kept_items before ++ ((Replaced [] new ∷ []) ++ kept_items after))))
+    (sym (take_all n db.items (le_refl n))) (sym (drop_of_length-le db.items (le_refl n)))
+    ∙ insertion-pieces new db n
+
+pub no-pieces : (db : Reading) → pieces_of_chunks (Kept db.front ∷ (kept_items db.items ++ [])) ≡ []
+no-pieces db = ap (pieces_from (0 + length db.front)) (append-nil (kept_items db.items)) ∙ pieces-kept_items (0 + length db.front) db.items
 
 -- ---- lengths
 

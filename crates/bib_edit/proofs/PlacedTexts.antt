@@ -1,12 +1,12 @@
--- What a removal and an insertion make of the raw texts that are too long.
-use Rattle.std.proofs.Common.{◌≡◌, ℕ, zero, suc, Bool, true, false, ◌||◌, List, [], ◌∷◌, ◌++◌, insert, ⊎_elim, refl, sym, ◌∙◌, ap}
+-- What a removal, an insertion and new entries at the end make of the raw texts that are too long.
+use Rattle.std.proofs.Common.{◌≡◌, ℕ, zero, suc, Bool, true, false, ◌||◌, List, [], ◌∷◌, ◌++◌, insert, length, map, ⊎_elim, refl, sym, ◌∙◌, ap}
 use Rattle.std.specs.List.{list_any}
 use Rattle.std.proofs.lemmas.Bool.{cases_Bool, cond-true, cond-false, or_parts, or_from}
 use Rattle.bib_spec.specs.Text.{Text}
 use Rattle.bib_spec.specs.Tree.{Entry, Tree, CommentTree, DefinitionTree, PreambleTree, EntryTree}
 use Rattle.bib_spec.specs.Reading.{Item, Reading}
 use Rattle.bib_spec.specs.Texts.{Macros, macros_after, macros_at, raw_texts_in}
-use Rattle.edit_spec.specs.Edits.{is_entry, without_first}
+use Rattle.edit_spec.specs.Edits.{NewEntry, is_entry, without_first, entry_of, item_of}
 use Rattle.bib_edit.proofs.LongTexts.{is_long, any_long}
 
 -- some raw text of the item is too long, where these macros stand before it
@@ -78,3 +78,15 @@ inserted-long m (first ∷ items) (suc n) item e is none =
     let both = or_parts (is_long_in m first.tree) (any_long (macros_after m first.tree) items) none in
     ap (λ b. b || any_long (macros_after m first.tree) (insert items n item)) both.0
     ∙ inserted-long (macros_after m first.tree) items n item e is both.1
+
+-- ---- entries at the end
+
+-- new entries after the last item
+pub appended-long : (m : Macros) (items : List Item) (news : List NewEntry) → any_long m items ≡ false →
+    any_long m (items ++ map item_of news) ≡ list_any (λ new. is_long_in (macros_at m items (length items)) (EntryTree (entry_of new))) news
+appended-long m [] [] none = refl
+appended-long m [] (new ∷ news) none = ap (λ b. is_long_in m (EntryTree (entry_of new)) || b) (appended-long m [] news none)
+appended-long m (first ∷ items) news none =
+    let both = or_parts (is_long_in m first.tree) (any_long (macros_after m first.tree) items) none in
+    ap (λ b. b || any_long (macros_after m first.tree) (items ++ map item_of news)) both.0
+    ∙ appended-long (macros_after m first.tree) items news both.1

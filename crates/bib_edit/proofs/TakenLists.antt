@@ -1,5 +1,5 @@
 -- Keys that are taken, one after another.
-use Rattle.std.proofs.Common.{◌≡◌, ℕ, suc, ◌+◌, ◌≤◌, ◌<◌, Bool, true, false, ◌||◌, List, [], ◌∷◌, ◌++◌, Option, Some, None, is_some, length, get_or, drop, reverse, map, ⊎_elim, refl, sym, ◌∙◌, ap, ap₂, subst, arith, length-append, add-zero}
+use Rattle.std.proofs.Common.{◌≡◌, ℕ, suc, ◌+◌, ◌≤◌, ◌<◌, Bool, true, false, ◌||◌, List, [], ◌∷◌, ◌++◌, Option, Some, None, is_some, length, drop, reverse, map, ⊎_elim, refl, sym, ◌∙◌, ap, ap₂, subst, arith, length-append, add-zero}
 use Rattle.std.specs.List.{cons_option}
 use Rattle.std.specs.Borrow.{Bor}
 use Rattle.std.specs.Option.{option_copied}
@@ -7,7 +7,7 @@ use Rattle.std.proofs.Math.ListN.{drop_of_length-le}
 use Rattle.std.specs.Char.{to_ascii_lowercase}
 use Rattle.std.proofs.Math.Bool.{or_comm, or-true}
 use Rattle.std.proofs.lemmas.Bool.{cases_Bool, cond-true, cond-false}
-use Rattle.std.proofs.lemmas.Option.{same_Some, slice_get_read}
+use Rattle.std.proofs.lemmas.Option.{same_Some}
 use Rattle.std.proofs.lemmas.List.{length-map, map-append}
 use Rattle.std.proofs.lemmas.List.Folds.{list_any-append}
 use Rattle.bib_spec.specs.Bytes.{name_limit}
@@ -15,8 +15,7 @@ use Rattle.bib_spec.specs.Text.{Text, folded, same}
 use Rattle.bib_spec.specs.MadeKeys.{letters, candidate, is_taken}
 use Rattle.bib_spec.proofs.Names.{same-true, same_of}
 use Rattle.bib_value.specs.FoldedMap.{value_at, IsWith}
-use Rattle.bib_edit.proofs.Walks.{next-of}
-use Rattle.bib_edit.proofs.NewFields.{copied-some}
+use Rattle.bib_edit.proofs.SeenNames.{copied-some}
 use Rattle.bib_edit.specs.TakenKeys.{AreTaken, AreTried}
 use Rattle.bib_edit.specs.declared.taken_keys.TakenKeys.{TakenKeys}
 
@@ -136,12 +135,6 @@ but-none keys t but = same-taken but.done keys t but.are
     or_false : (b : Bool) → (b || false) ≡ b
     or_false true = refl
     or_false false = refl
-
--- the next of these keys
-pub next-key : (keys : List Text) (i : ℕ) (key : Text) → i < length keys → key ≡ get_or keys i key → drop i keys ≡ key ∷ drop (i + 1) keys
-next-key keys i key lt is =
-    let next = next-of keys i lt in
-    next.2 ∙ ap (λ (k : Text). k ∷ drop (i + 1) keys) (same_Some next.0 key (sym next.1 ∙ slice_get_read keys (length keys) i key refl lt is))
 
 pub but-past : (keys all : List Text) (i : ℕ) (t : TakenKeys) → length keys ≤ i → AreTakenBut (drop i keys) all t → AreTaken all t
 but-past keys all i t le but = but-none all t (subst (λ (rest : List Text). AreTakenBut rest all t) (drop_of_length-le keys le) but)

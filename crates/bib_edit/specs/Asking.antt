@@ -7,7 +7,7 @@ use Rattle.edit_spec.specs.Edits as edits
 use Rattle.edit_spec.specs.Edits.{Spells}
 use Rattle.bib_names.specs.Label.{key_base}
 use Rattle.bib_data.specs.declared.edit.Edit.{Edit}
-use Rattle.bib_data.specs.declared.edit.Edit.TheVariants.{SetField, DropField, AddEntry, RemoveEntry, MoveEntry, RenameKey, RegenerateKeys, RenameMacro, InlineMacro, IntroduceMacro}
+use Rattle.bib_data.specs.declared.edit.Edit.TheVariants.{SetField, DropField, AddEntry, AddMany, RemoveEntry, MoveEntry, RenameKey, RegenerateKeys, RenameMacro, InlineMacro, IntroduceMacro}
 use Rattle.bib_data.specs.declared.edit.NewEntry.{NewEntry}
 
 -- the base of a made key, which is that of the record's label
@@ -27,11 +27,19 @@ pub record SpellsEntry (asked : NewEntry) (new : edits.NewEntry) : Type 0 where
   pub key : new.key ≡ asked.key
   pub fields : SpellFields asked.fields new.fields
 
+-- the entries are what the bytes say, each in its turn
+abbrev pub SpellEntries : List NewEntry → List edits.NewEntry → Type 0
+SpellEntries [] [] = Unit {0}
+SpellEntries [] (new ∷ news) = ⊥
+SpellEntries (asked ∷ others) [] = ⊥
+SpellEntries (asked ∷ others) (new ∷ news) = SpellsEntry asked new × SpellEntries others news
+
 -- the edit is what is asked for
 pub data AsksFor : Edit → edits.Edit → Type 0 where
   set_field : (key field value : Text) (v : Value) → Spells value v → AsksFor (SetField key field value) (edits.SetField key field v)
   drop_field : (key field : Text) → AsksFor (DropField key field) (edits.DropField key field)
   add_entry : (place : ℕ) (asked : NewEntry) (new : edits.NewEntry) → SpellsEntry asked new → AsksFor (AddEntry place asked) (edits.AddEntry place new)
+  add_many : (asked : List NewEntry) (news : List edits.NewEntry) → SpellEntries asked news → AsksFor (AddMany asked) (edits.AddMany news)
   remove_entry : (key : Text) → AsksFor (RemoveEntry key) (edits.RemoveEntry key)
   move_entry : (key : Text) (place : ℕ) → AsksFor (MoveEntry key place) (edits.MoveEntry key place)
   rename_key : (from to : Text) → AsksFor (RenameKey from to) (edits.RenameKey from to)

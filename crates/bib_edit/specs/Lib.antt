@@ -5,6 +5,7 @@ pub mod Addressing
 pub mod Judging
 pub mod Removal
 pub mod NewEntries
+pub mod ManyEntries
 pub mod Moving
 pub mod FieldPieces
 pub mod Limits

@@ -27,7 +27,7 @@ pub enum EditFault {
     /// The key, the field or the definition is there twice, or a new entry has a field twice.
     #[error("36 Ambiguous")]
     Ambiguous,
-    /// A new key is another entry's.
+    /// A new key is another entry's, or another new entry's.
     #[error("37 KeyInUse")]
     KeyInUse,
     /// A new name of a macro is in use.

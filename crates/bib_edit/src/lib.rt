@@ -3,6 +3,7 @@
 #![tactic(auto)]
 
 mod add_entry;
+mod add_many;
 mod address;
 mod dangling;
 mod defining;
@@ -15,6 +16,7 @@ mod limits;
 mod made_keys;
 mod move_entry;
 mod moving;
+mod new_entries;
 mod new_entry;
 mod new_fields;
 mod new_keys;
@@ -38,5 +40,5 @@ mod values;
 pub use bib_data::{Edit, NewEntry};
 pub use fault::EditFault;
 pub use laws::edits_are_asked_for;
-pub use made_keys::free_key;
+pub use made_keys::{free_key, free_keys};
 pub use planning::plan;

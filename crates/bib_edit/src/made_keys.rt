@@ -1,13 +1,13 @@
 //! Keys that are made for entries.
 
-ghost use Rattle.std.specs.Prelude.{◌≡◌, ◌≤◌, length, slice_get, Some, IfOk, IfErr};
+ghost use Rattle.std.specs.Prelude.{◌≡◌, ◌≤◌, ◌+◌, ◌*◌, length, slice_get, Some, IfOk, IfErr};
 ghost use Rattle.std.specs.List.{AllByRecursion};
 ghost use Rattle.bib_spec.specs.Bytes.{name_limit, file_limit};
 ghost use Rattle.bib_spec.specs.Records.{EntryTexts, entries_of, record_of, default_depth};
-ghost use Rattle.bib_spec.specs.MadeKeys.{free_key, new_keys, base_limit};
+ghost use Rattle.bib_spec.specs.MadeKeys.{free_key, made_keys, new_keys, base_limit};
 ghost use Rattle.bib_store.specs.Meaning.{OfReading, IsEntryNumber};
 ghost use Rattle.bib_edit.specs.Asking.{made_base};
-ghost use Rattle.bib_edit.specs.TakenKeys.{taken_in};
+ghost use Rattle.bib_edit.specs.TakenKeys.{AreTaken, taken_in};
 ghost use Rattle.bib_edit.specs.declared.fault.EditFault.TheVariants.{Memory};
 
 use crate::fault::EditFault;
@@ -15,7 +15,7 @@ use crate::taken_keys::TakenKeys;
 use bib_names::key_base;
 use bib_scan::{Seq, Text};
 use bib_store::{Database, ItemList};
-use std::alloc::Global;
+use std::alloc::{AllocError, Global};
 
 /// The base of the key that is made for entry `n`: that of its record.
 fn base_of<L: ItemList>(alloc: Global, db: &Database<L>, n: usize) -> Result<Text, EditFault>
@@ -57,24 +57,59 @@ pub(crate) fn made_keys<L: ItemList>(
     Ok(Seq::from_vec(keys))
 }
 
+/// What no free key is: the keys of the file, these others, and the texts of dangling crossrefs.
+fn taken_in<L: ItemList>(
+    alloc: Global,
+    db: &Database<L>,
+    others: &[Text],
+) -> Result<TakenKeys, AllocError>
+    ensures taken { IfOk result (λ taken. OfReading db.now (λ r. AreTaken (taken_in r others.now) taken)) }
+    ensures count { IfOk result (λ taken. taken.count ≤ 2 * file_limit + length others.now) }
+{
+    db.opens();
+    let mut taken = TakenKeys::none(alloc);
+    taken.add_dangling(db)?;
+    taken.add_all(others)?;
+    taken.add_entries(db)?;
+    Ok(taken)
+}
+
 /// The first of a base, the base with `a`, .. with `z`, with `aa` and so on that is, without regard to ASCII case, no key
-/// of the file, no text of a dangling crossref, and none of these, which are no more than a file has bytes. It takes time in
-/// the number of entries and of the taken keys, and memory for them. The one refusal is want of memory.
+/// of the file, no text of a dangling crossref, and none of these. It takes time in the number of entries and of the
+/// taken keys, and memory for them. The one refusal is want of memory.
 pub fn free_key<L: ItemList>(
     alloc: Global,
     db: &Database<L>,
     base: &[u8],
     taken: &[Text],
 ) -> Result<Text, EditFault>
-    requires short { length base.now ≤ base_limit }
-    requires count { length taken.now ≤ file_limit }
+    requires { length base.now ≤ base_limit }
     ensures key { IfOk result (λ key. OfReading db.now (λ r. key ≡ free_key (taken_in r taken.now) base.now)) }
     ensures only { IfErr result (λ fault. fault ≡ Memory) }
 {
-    db.opens();
-    let mut keys = TakenKeys::none(alloc);
-    keys.add_dangling(db)?;
-    keys.add_all(taken)?;
-    keys.add_entries(db)?;
-    Ok(keys.free_key(base)?)
+    let mut known = taken_in(alloc, db, taken)?;
+    Ok(known.free_key(base)?)
+}
+
+/// A free key for each of these bases in turn, as `free_key` finds one, which then is taken too. It takes time in the
+/// number of entries, of taken keys and of bases, also where all bases are the same, and memory for the keys. The one
+/// refusal is want of memory.
+pub fn free_keys<L: ItemList>(
+    alloc: Global,
+    db: &Database<L>,
+    bases: &[Text],
+    taken: &[Text],
+) -> Result<Seq<Text>, EditFault>
+    requires { AllByRecursion (λ base. length base ≤ base_limit) bases.now }
+    ensures keys { IfOk result (λ keys. OfReading db.now (λ r. keys ≡ made_keys (taken_in r taken.now) bases.now)) }
+    ensures only { IfErr result (λ fault. fault ≡ Memory) }
+{
+    let mut known = taken_in(alloc, db, taken)?;
+    let mut keys = Vec::new(alloc);
+    'bases: for base in bases {
+        let key = known.free_key(base.as_slice())?;
+        known.add(key.as_slice())?;
+        keys.push(key)?;
+    }
+    Ok(Seq::from_vec(keys))
 }

@@ -1,7 +1,8 @@
-//! The text of an entry to be added.
+//! The text of entries to be added.
 
 ghost use Rattle.std.specs.Prelude.{◌≡◌, ◌++◌, IfOk, OnOk};
 ghost use Rattle.bib_edit.specs.NewEntries.{field_line, lines_of, line_before_close, entry_text};
+ghost use Rattle.bib_edit.specs.ManyEntries.{entries_text};
 
 use bib_data::NewEntry;
 use bib_scan::{Seq, Text};
@@ -38,17 +39,36 @@ fn line_before_close(fields: &[(Text, Text)]) -> &'static [u8]
     b"\n"
 }
 
-/// The entry as it is written, with the line's end behind it. (dialect)
-pub(crate) fn entry_text(alloc: Global, entry: &NewEntry) -> Result<Text, AllocError>
-    ensures { IfOk result (λ text. text ≡ entry_text entry.now) }
+/// Puts the entry as it is written, with the line's end after it. (dialect)
+fn push_entry(text: &mut Vec<u8>, entry: &NewEntry) -> Result<(), AllocError>
+    ensures { OnOk result (text.new.items ≡ text.old.items ++ entry_text entry.now) }
 {
-    let mut text = Vec::new(alloc);
     text.extend_from_slice(b"@")?;
     text.extend_from_slice(entry.kind_name.as_slice())?;
     text.extend_from_slice(b"{")?;
     text.extend_from_slice(entry.key.as_slice())?;
-    push_lines(&mut text, entry.fields.as_slice())?;
+    push_lines(text, entry.fields.as_slice())?;
     text.extend_from_slice(line_before_close(entry.fields.as_slice()))?;
     text.extend_from_slice(b"}\n")?;
+    Ok(())
+}
+
+/// The entry as it is written.
+pub(crate) fn entry_text(alloc: Global, entry: &NewEntry) -> Result<Text, AllocError>
+    ensures { IfOk result (λ text. text ≡ entry_text entry.now) }
+{
+    let mut text = Vec::new(alloc);
+    push_entry(&mut text, entry)?;
+    Ok(Seq::from_vec(text))
+}
+
+/// The entries as they are written, one after another.
+pub(crate) fn entries_text(alloc: Global, entries: &[NewEntry]) -> Result<Text, AllocError>
+    ensures { IfOk result (λ text. text ≡ entries_text entries.now) }
+{
+    let mut text = Vec::new(alloc);
+    'entries: for entry in entries {
+        push_entry(&mut text, entry)?;
+    }
     Ok(Seq::from_vec(text))
 }

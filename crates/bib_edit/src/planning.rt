@@ -4,6 +4,7 @@ ghost use Rattle.std.specs.Prelude.{OnOk, IfOk, IfErr};
 ghost use Rattle.bib_edit.specs.Planning.{IsAllowedEdit, ArePiecesOf, IsRefusal};
 
 use crate::add_entry::add_entry;
+use crate::add_many::add_many;
 use crate::drop_field::drop_field;
 use crate::fault::EditFault;
 use crate::inline_macro::inline_macro;
@@ -44,6 +45,7 @@ pub fn plan<L: ItemList>(
             drop_field(alloc, db, key.as_slice(), field.as_slice())
         }
         Edit::AddEntry { place, entry } => add_entry(alloc, db, *place, entry),
+        Edit::AddMany { entries } => add_many(alloc, db, entries.as_slice()),
         Edit::RemoveEntry { key } => remove_entry(alloc, db, key.as_slice()),
         Edit::MoveEntry { key, place } => move_entry(alloc, db, key.as_slice(), *place),
         Edit::RenameKey { from, to } => rename_key(alloc, db, from.as_slice(), to.as_slice()),

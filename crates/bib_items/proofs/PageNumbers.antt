@@ -4,8 +4,9 @@ use Rattle.std.specs.Prelude.{slice_index_or}
 use Rattle.std.proofs.Math.Seq.{get_or-append_seam}
 use Rattle.std.proofs.lemmas.Bool.{cases_lt}
 use Rattle.std.proofs.lemmas.List.{get_or_append_left}
-use Rattle.bib_items.specs.Pages.{joined, page_at, AreFirsts, IsOnWay}
-use Rattle.bib_items.proofs.Paging.{length-joined-more, length-joined-take}
+use Rattle.bib_pages.specs.Pages.{joined, page_at, IsOnWay}
+use Rattle.bib_items.specs.Pages.{AreFirsts}
+use Rattle.bib_pages.proofs.Paging.{length-joined-more, length-joined-take}
 
 pub way_start : {X : Type 0} (pages : List (List X)) (n : ℕ) → IsOnWay pages 0 n n
 way_start [] n = record { at = omega arith }

@@ -2,7 +2,8 @@
 
 ghost use Rattle.std.specs.Prelude.{◌<◌, ◌^◌, List, length};
 ghost use Rattle.bib_items.specs.declared.list.Item.{Item};
-ghost use Rattle.bib_items.specs.Pages.{joined, AreFirsts, IsOnWay};
+ghost use Rattle.bib_pages.specs.Pages.{joined, IsOnWay};
+ghost use Rattle.bib_items.specs.Pages.{AreFirsts};
 
 use crate::page::Page;
 

@@ -1,5 +1,5 @@
 -- What renamings keep, of the files of a session.
-use Rattle.std.proofs.Common.{◌≡◌, ◌≢◌, ℕ, zero, suc, ◌&&◌, Bool, true, false, List, [], ◌∷◌, Option, Some, None, option_map, slice_get, take, refl, sym, ◌∙◌, ap, subst}
+use Rattle.std.proofs.Common.{◌≡◌, ◌≢◌, ℕ, zero, suc, ◌&&◌, Bool, true, List, [], ◌∷◌, Option, Some, None, option_map, slice_get, take, refl, sym, ◌∙◌, ap, subst}
 use Rattle.std.specs.List.{list_all}
 use Rattle.std.proofs.lemmas.Bool.{false≢true, and_parts}
 use Rattle.bib_spec.specs.Bytes.{name_limit}
@@ -11,13 +11,12 @@ use Rattle.bib_scan.proofs.OneReading.{one_reading}
 use Rattle.edit_spec.specs.Edits as edits
 use Rattle.edit_spec.specs.Edits.{edited, IsAccepted, key_for}
 use Rattle.edit_spec.specs.Laws.{KeepsEntries, record_with_key, no_new_key}
-use Rattle.edit_spec.specs.Steps.{KeptSteps, IsSound}
-use Rattle.edit_spec.proofs.EditedReads.{edited-reads}
+use Rattle.edit_spec.specs.Steps.{KeptSteps}
 use Rattle.edit_spec.proofs.RenameKey.{rename-key-keeps}
 use Rattle.edit_spec.proofs.Regenerate.{regenerate-keys-keeps, made-keys-differ, regenerating-again}
 use Rattle.edit_spec.proofs.MacroLaws.{rename-macro-keeps, inline-macro-keeps, introduce-macro-keeps}
 use Rattle.bib_data.specs.declared.edit.Edit.{Edit}
-use Rattle.bib_data.specs.declared.edit.Edit.TheVariants.{SetField, DropField, AddEntry, RemoveEntry, MoveEntry, RenameKey, RegenerateKeys, RenameMacro, InlineMacro, IntroduceMacro}
+use Rattle.bib_data.specs.declared.edit.Edit.TheVariants.{SetField, DropField, AddEntry, AddMany, RemoveEntry, MoveEntry, RenameKey, RegenerateKeys, RenameMacro, InlineMacro, IntroduceMacro}
 use Rattle.bib_data.specs.declared.request.Request.{Request}
 use Rattle.bib_data.specs.declared.request.Request.TheVariants as request
 use Rattle.bib_edit.specs.declared.fault.EditFault.{EditFault}
@@ -26,22 +25,12 @@ use Rattle.bib_edit.specs.Asking.{AsksFor, OfEdit, made_base, rename_key, regene
 use Rattle.bib_edit.specs.Planning.{IsRefusal}
 use Rattle.bib_edit.proofs.AskedEdits.{asked_for}
 use Rattle.bib_edit.proofs.KeyBases.{has_key_base}
-use Rattle.bib_journal.specs.declared.fault.SessionFault.{SessionFault}
-use Rattle.bib_journal.specs.declared.fault.SessionFault.TheVariants.{Refused}
-use Rattle.bib_journal.specs.Session.{MakesEdit, RefusesEdit, Does, DoesAll, Performs}
-use Rattle.bib_journal.specs.Renaming.{Keeps, OfReadings, edit_keeps, MakesNothingAgain, keys_are_made_once, is_renaming, without_key, KeepsTexts, requests_keep}
+use Rattle.bib_journal.specs.Session.{DoesAll}
+use Rattle.bib_journal.proofs.MadeFiles.{made-reads, of-made}
+use Rattle.bib_journal.specs.Renaming.{Keeps, OfReadings, edit_keeps, keys_are_made_once, is_renaming, without_key, KeepsTexts, requests_keep}
 
 is_base : IsKeyBase made_base
 is_base = has_key_base (edits.RegenerateKeys default_depth)
-
--- ---- the file that an edit makes
-
--- The file after an edit says what the edit makes of what it said before.
-made-reads : (edit : Edit) (old new : KeptSteps) → MakesEdit edit old new → (db : Reading) → Reads old.present db → (e : edits.Edit) → AsksFor edit e
-    → Reads new.present (edited made_base db e)
-made-reads edit old new made db reads e asks =
-    let is : Reads (bytes_of (edited made_base db e)) (edited made_base db e) = edited-reads made_base old.present db e (has_key_base e) reads (made.allowed db reads e asks) in
-    subst (λ (file : Text). Reads file (edited made_base db e)) (sym (made.file db reads e asks).present) is
 
 -- ---- one renaming
 
@@ -64,13 +53,12 @@ made-keeps (IntroduceMacro name text) db db' allowed is =
 made-keeps (SetField key field value) db db' allowed is = tt
 made-keeps (DropField key field) db db' allowed is = tt
 made-keeps (AddEntry place entry) db db' allowed is = tt
+made-keeps (AddMany entries) db db' allowed is = tt
 made-keeps (RemoveEntry key) db db' allowed is = tt
 made-keeps (MoveEntry key place) db db' allowed is = tt
 
 pub edit-keeps : edit_keeps
-edit-keeps edit old new made db reads db' reads' =
-    made-keeps edit db db' (made.allowed db reads)
-    (λ e asks. one_reading name_limit new.present db' (edited made_base db e) reads' (made-reads edit old new made db reads e asks))
+edit-keeps = of-made Keeps made-keeps
 
 -- ---- making keys again
 
@@ -127,6 +115,7 @@ renaming-texts (IntroduceMacro name text) is old new keeps = keeps-texts no_new_
 renaming-texts (SetField key field value) is old new keeps = absurd (false≢true is)
 renaming-texts (DropField key field) is old new keeps = absurd (false≢true is)
 renaming-texts (AddEntry place entry) is old new keeps = absurd (false≢true is)
+renaming-texts (AddMany entries) is old new keeps = absurd (false≢true is)
 renaming-texts (RemoveEntry key) is old new keeps = absurd (false≢true is)
 renaming-texts (MoveEntry key place) is old new keeps = absurd (false≢true is)
 

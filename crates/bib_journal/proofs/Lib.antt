@@ -5,4 +5,6 @@ pub mod ReplayLemmas
 pub mod TurnableSteps
 pub mod LoadLemmas
 pub mod SeveralRuns
+pub mod MadeFiles
 pub mod KeptRecords
+pub mod OtherEntries

@@ -1,9 +1,9 @@
 -- Contents, held against a file.
-use Rattle.std.proofs.Common.{◌≡◌, ℕ, List, [], ◌∷◌, length, reverse, refl, sym, subst, ◌∙◌, ap, sum_by, min, ◌^◌, ◌-◌, ◌≤◌, ◌+◌, arith}
+use Rattle.std.proofs.Common.{◌≡◌, ℕ, List, reverse, refl, sym, subst, ◌∙◌, ap, sum_by, min, ◌^◌, ◌-◌, arith}
 use Rattle.std.proofs.lemmas.List.{reverse-reverse}
 use Rattle.bib_spec.specs.Text.{Text}
 use Rattle.bib_spec.specs.Texts.{IsOpenable}
-use Rattle.edit_spec.specs.Steps.{Step, KeptSteps, IsSound, BelongTo, AreSteps, step_text_len, step_texts_limit}
+use Rattle.edit_spec.specs.Steps.{Step, IsSound, AreSteps, step_text_len}
 use Rattle.journal_format.specs.Contents.{Contents, digest_of}
 use Rattle.journal_format.specs.Faults.{IsJournalOf, Refuses}
 use Rattle.journal_format.specs.declared.fault.JournalFault.{JournalFault}
@@ -11,7 +11,7 @@ use Rattle.journal_format.specs.declared.fault.JournalFault.TheVariants as journ
 use Rattle.bib_journal.specs.Faults.{unread}
 use Rattle.bib_journal.specs.Session.{RefusesLoad}
 use Rattle.bib_journal.specs.Kept.{kept, IsKept}
-use Rattle.bib_journal.specs.Loading.{contents_of, FitFile, Loads, SaysOf, IsMismatch}
+use Rattle.bib_journal.specs.Loading.{FitFile, Loads, SaysOf, IsMismatch}
 
 pub its_mismatch : (file text : Text) (c : Contents) → IsOpenable file → IsJournalOf c text → (FitFile c file → ⊥) → IsMismatch file text
 its_mismatch file text c opens journal misfit = record { opens = opens; contents = c; journal = journal; misfit = misfit }

@@ -1,17 +1,16 @@
 -- Several runs, and the one session that does what they do.
-use Rattle.std.proofs.Common.{◌≡◌, ℕ, zero, suc, ◌≤◌, ◌+◌, List, [], ◌∷◌, ◌++◌, length, sum_by, Option, Some, None, refl, sym, ◌∙◌, ap, subst, arith, replicate}
+use Rattle.std.proofs.Common.{◌≡◌, ℕ, zero, suc, List, [], ◌∷◌, ◌++◌, length, Option, Some, None, refl, sym, ◌∙◌, ap, subst, arith, replicate}
 use Rattle.std.proofs.lemmas.List.{same_from_push}
 use Rattle.bib_spec.specs.Text.{Text}
 use Rattle.bib_spec.specs.Reading.{Reading, Reads}
 use Rattle.bib_spec.specs.Texts.{IsOpenable}
-use Rattle.edit_spec.specs.History.{History, Edits, Undoes, Redoes, Times, LeadsAlone, IsAtFirst, files_of}
-use Rattle.edit_spec.specs.Steps.{Step, KeptSteps, IsSound, IsFull, Adds, BelongTo, history_of, files_before}
+use Rattle.edit_spec.specs.History.{History, Undoes, Times, LeadsAlone, IsAtFirst, files_of}
+use Rattle.edit_spec.specs.Steps.{Step, KeptSteps, IsSound, Adds, BelongTo, history_of, files_before}
 use Rattle.edit_spec.specs.Edits as edits
 use Rattle.edit_spec.specs.EditChunks.{pieces_of}
 use Rattle.edit_spec.proofs.HistoryLemmas.{undoing-all}
 use Rattle.edit_spec.proofs.StepLemmas.{adding-edits, going-back-undoes, going-on-redoes}
 use Rattle.journal_format.specs.Contents.{Contents, digest_of}
-use Rattle.journal_format.specs.Faults.{IsJournalOf}
 use Rattle.journal_format.proofs.JournalLaws.{one-contents}
 use Rattle.bib_data.specs.declared.edit.Edit.{Edit}
 use Rattle.bib_data.specs.declared.request.Request.{Request}
@@ -22,7 +21,7 @@ use Rattle.bib_edit.proofs.AskedEdits.{asked_for}
 use Rattle.bib_journal.specs.declared.saving.Saved.{Saved}
 use Rattle.bib_journal.specs.Loading.{contents_of, Loads, Saves}
 use Rattle.bib_journal.specs.Session.{started, Opens, MakesEdit, Does, DoesAll}
-use Rattle.bib_journal.specs.Runs.{OnDisk, fresh, left, IsRun, AreRuns, requests_of, Moves, MovesAll, IsOneSession, one_opening, runs_are_one_session, undoing_all_leads_to_the_first_file}
+use Rattle.bib_journal.specs.Runs.{OnDisk, fresh, left, IsRun, requests_of, Moves, MovesAll, IsOneSession, one_opening, runs_are_one_session, undoing_all_leads_to_the_first_file}
 use Rattle.bib_journal.proofs.Moves.{planned_leads}
 
 -- ---- one history

@@ -1,12 +1,11 @@
 -- Steps that a journal may hold can be turned.
-use Rattle.std.proofs.Common.{◌≡◌, ℕ, ◌+◌, ◌≤◌, ◌<◌, List, [], ◌∷◌, ◌++◌, length, decimal, sum_by, All, ap, sym, ◌∙◌, arith, length-append}
+use Rattle.std.proofs.Common.{◌≡◌, ◌+◌, ◌≤◌, List, [], ◌∷◌, length, decimal, sum_by, arith, length-append}
 use Rattle.std.specs.List.{AllByRecursion, flat_map}
 use Rattle.std.proofs.lemmas.List.Elements.{All-from_recursion}
 use Rattle.std.proofs.lemmas.List.Sums.{sum_by-cons}
-use Rattle.bib_spec.specs.Bytes.{file_limit, line_feed, space}
-use Rattle.bib_spec.specs.Text.{Text}
+use Rattle.bib_spec.specs.Bytes.{file_limit, line_feed}
 use Rattle.bib_spec.specs.Pieces.{Piece}
-use Rattle.edit_spec.specs.Steps.{Step, IsStep, AreSteps, HasSmallNumbers, piece_text, step_text, step_text_len, step_texts_limit, number_limit}
+use Rattle.edit_spec.specs.Steps.{Step, IsStep, AreSteps, HasSmallNumbers, piece_text, step_text, step_text_len, step_texts_limit}
 use Rattle.bib_journal.specs.Loading.{IsTurnable}
 
 new_in_text : (p : Piece) → length p.new ≤ length (piece_text p)

@@ -4,3 +4,4 @@ pub mod Kept
 pub mod Loading
 pub mod Runs
 pub mod Renaming
+pub mod OtherEntries

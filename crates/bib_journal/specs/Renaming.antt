@@ -1,5 +1,5 @@
 -- What a session keeps of what its file says, when keys and macros change. (dialect)
-use Rattle.std.specs.Prelude.{ℕ, ◌≡◌, Bool, true, false, List, [], ◌∷◌, Option, option_map, length, slice_get}
+use Rattle.std.specs.Prelude.{ℕ, ◌≡◌, Bool, true, false, List, [], Option, option_map, length, slice_get}
 use Rattle.std.specs.List.{list_all}
 use Rattle.bib_spec.specs.Text.{Text}
 use Rattle.bib_spec.specs.Reading.{Reading}

@@ -1,5 +1,5 @@
 -- Several runs: each opens the file and the journal that the one before left, does its requests, and leaves both again. (dialect)
-use Rattle.std.specs.Prelude.{ℕ, ◌≡◌, List, [], ◌∷◌, ◌++◌, length, replicate, Option, Some, None}
+use Rattle.std.specs.Prelude.{◌≡◌, List, [], ◌∷◌, ◌++◌, length, replicate, Option, Some, None}
 use Rattle.bib_spec.specs.Text.{Text}
 use Rattle.bib_spec.specs.Reading.{bytes_of}
 use Rattle.bib_spec.specs.Texts.{IsOpenable}

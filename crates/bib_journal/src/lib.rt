@@ -6,6 +6,7 @@
 mod fault;
 mod laws;
 mod loading;
+mod other_entries;
 mod performing;
 mod renaming;
 mod replay;
@@ -17,6 +18,7 @@ pub use bib_data::Request;
 pub use fault::SessionFault;
 pub use journal_format::{CHANGE_LIMIT, STEP_TEXTS_LIMIT};
 pub use laws::{a_journal_keeps_one_history, several_runs_are_one_session};
+pub use other_entries::other_entries_keep_their_records;
 pub use performing::{Performed, perform, repeat};
 pub use renaming::{
     a_script_of_renamings_keeps_every_record, keys_are_made_once, renaming_keeps_every_record,

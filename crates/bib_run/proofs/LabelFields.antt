@@ -1,5 +1,5 @@
 -- Labels are made of some fields alone.
-use Rattle.std.proofs.Common.{◌≡◌, ◌∙◌, ℕ, ◌==◌, length, filter_map, option_map, Bool, true, false, cond, List, [], ◌∷◌, ◌++◌, filter, map, zip, Option, None, Some, codes, refl, sym, ap, ap₂}
+use Rattle.std.proofs.Common.{◌≡◌, ◌∙◌, ℕ, ◌==◌, length, filter_map, option_map, Bool, true, false, cond, List, [], ◌∷◌, ◌++◌, filter, map, zip, Option, None, Some, codes, refl, ap, ap₂}
 use Rattle.std.specs.List.{find, flat_map, cons_option}
 use Rattle.std.specs.Option.{option_map_or}
 use Rattle.std.specs.Char.{is_ascii_digit}

@@ -18,9 +18,12 @@ use Rattle.bib_journal.specs.Session.{Opens}
 use Rattle.bib_store.specs.Meaning.{IsOpenFault}
 use Rattle.bib_run.specs.Opened as opening
 use Rattle.bib_run.specs.Opened.{AnswersFile, opened}
-use Rattle.bib_run.specs.Answers.{IsAnswer, IsCatAnswer, cat, of_reading, edit, undo, redo, log, forget, copied, refused}
-use Rattle.bib_run.specs.EditAnswer as editing
-use Rattle.bib_run.specs.EditAnswer.{IsEditAnswer, edited, too_long as too_long_input}
+use Rattle.bib_run.specs.Answers.{IsAnswer, IsCatAnswer, cat, of_reading, edit, import, undo, redo, log, forget, copied, refused}
+use Rattle.bib_script.specs.Script.{said_of}
+use Rattle.bib_run.specs.Inputs as inputs
+use Rattle.bib_run.specs.Inputs.{AnswersInput, answered}
+use Rattle.bib_run.specs.EditAnswer.{HasEdited}
+use Rattle.bib_run.specs.ImportAnswer.{HasImported}
 use Rattle.bib_run.specs.Sessions as why
 use Rattle.bib_run.specs.Sessions.{IsUnopened, IsUnopenedAnswer}
 use Rattle.bib_run.specs.Turns as turning
@@ -107,11 +110,11 @@ IsUnopenedAnswer-long : (bytes : Text) (journal : Option Text) (answer : Answer)
     → IsUnopenedAnswer (take (file_limit + 1) bytes) journal answer → IsUnopenedAnswer bytes journal answer
 IsUnopenedAnswer-long bytes journal answer long w = record { message = w.message; why = IsUnopened-long bytes journal w.message long w.why; answered = w.answered }
 
-IsEditAnswer-long : (bytes : Text) (journal : Option Text) (input : Text) (answer : Answer) → file_limit < length bytes
-    → IsEditAnswer (take (file_limit + 1) bytes) journal input answer → IsEditAnswer bytes journal input answer
-IsEditAnswer-long bytes journal input answer long (edited kept opens short has) = absurd (not_opened bytes journal kept long opens)
-IsEditAnswer-long bytes journal input answer long (too_long_input kept opens over made) = absurd (not_opened bytes journal kept long opens)
-IsEditAnswer-long bytes journal input answer long (editing.unopened w) = editing.unopened (IsUnopenedAnswer-long bytes journal answer long w)
+AnswersInput-long : (answers : Text → KeptSteps → Answer → Type 0) (bytes : Text) (journal : Option Text) (input : Text) (answer : Answer) → file_limit < length bytes
+    → AnswersInput answers (take (file_limit + 1) bytes) journal input answer → AnswersInput answers bytes journal input answer
+AnswersInput-long answers bytes journal input answer long (answered kept opens short has) = absurd (not_opened bytes journal kept long opens)
+AnswersInput-long answers bytes journal input answer long (inputs.too_long kept opens over made) = absurd (not_opened bytes journal kept long opens)
+AnswersInput-long answers bytes journal input answer long (inputs.unopened w) = inputs.unopened (IsUnopenedAnswer-long bytes journal answer long w)
 
 IsTurnAnswer-long : (word : Text) (request : Request) (n : ℕ) (bytes : Text) (journal : Option Text) (answer : Answer) → file_limit < length bytes
     → IsTurnAnswer word request n (take (file_limit + 1) bytes) journal answer → IsTurnAnswer word request n bytes journal answer
@@ -131,7 +134,8 @@ IsAnswer-long : (command : Command) (bytes : Text) (journal : Option Text) (inpu
     → IsAnswer command (take (file_limit + 1) bytes) journal input answer → IsAnswer command bytes journal input answer
 IsAnswer-long command bytes journal input answer long (cat named answers) = cat named (IsCatAnswer-long bytes answer long answers)
 IsAnswer-long command bytes journal input answer long (of_reading answers is given) = of_reading answers is (AnswersFile-long answers bytes answer long given)
-IsAnswer-long command bytes journal input answer long (edit named answers) = edit named (IsEditAnswer-long bytes journal input answer long answers)
+IsAnswer-long command bytes journal input answer long (edit named answers) = edit named (AnswersInput-long (λ text. HasEdited (said_of text)) bytes journal input answer long answers)
+IsAnswer-long command bytes journal input answer long (import named answers) = import named (AnswersInput-long HasImported bytes journal input answer long answers)
 IsAnswer-long command bytes journal input answer long (undo named answers) = undo named (IsTurnAnswer-long (codes "undone") Undo command.n bytes journal answer long answers)
 IsAnswer-long command bytes journal input answer long (redo named answers) = redo named (IsTurnAnswer-long (codes "redone") Redo command.n bytes journal answer long answers)
 IsAnswer-long command bytes journal input answer long (log named answers) = log named (IsLogAnswer-long bytes journal answer long answers)
@@ -146,17 +150,18 @@ IsAnswer-front command bytes journal input answer answers = elim (cases_lt file_
 ]
 
 -- an input that is too long is refused as its front is
-IsEditAnswer-input : (file : Text) (journal : Option Text) (input : Text) (answer : Answer) → file_limit < length input
-    → IsEditAnswer file journal (take (file_limit + 1) input) answer → IsEditAnswer file journal input answer
-IsEditAnswer-input file journal input answer long (edited kept opens short has) = absurd (front_is_long input long short)
-IsEditAnswer-input file journal input answer long (too_long_input kept opens over made) = too_long_input kept opens long made
-IsEditAnswer-input file journal input answer long (editing.unopened w) = editing.unopened w
+AnswersInput-input : (answers : Text → KeptSteps → Answer → Type 0) (file : Text) (journal : Option Text) (input : Text) (answer : Answer) → file_limit < length input
+    → AnswersInput answers file journal (take (file_limit + 1) input) answer → AnswersInput answers file journal input answer
+AnswersInput-input answers file journal input answer long (answered kept opens short has) = absurd (front_is_long input long short)
+AnswersInput-input answers file journal input answer long (inputs.too_long kept opens over made) = inputs.too_long kept opens long made
+AnswersInput-input answers file journal input answer long (inputs.unopened w) = inputs.unopened w
 
 IsAnswer-input : (command : Command) (file : Text) (journal : Option Text) (input : Text) (answer : Answer) → file_limit < length input
     → IsAnswer command file journal (take (file_limit + 1) input) answer → IsAnswer command file journal input answer
 IsAnswer-input command file journal input answer long (cat named answers) = cat named answers
 IsAnswer-input command file journal input answer long (of_reading answers is given) = of_reading answers is given
-IsAnswer-input command file journal input answer long (edit named answers) = edit named (IsEditAnswer-input file journal input answer long answers)
+IsAnswer-input command file journal input answer long (edit named answers) = edit named (AnswersInput-input (λ text. HasEdited (said_of text)) file journal input answer long answers)
+IsAnswer-input command file journal input answer long (import named answers) = import named (AnswersInput-input HasImported file journal input answer long answers)
 IsAnswer-input command file journal input answer long (undo named answers) = undo named answers
 IsAnswer-input command file journal input answer long (redo named answers) = redo named answers
 IsAnswer-input command file journal input answer long (log named answers) = log named answers

@@ -14,9 +14,11 @@ use Rattle.bib_run.specs.Check.{check_answer}
 use Rattle.bib_run.specs.Show.{show_answer}
 use Rattle.bib_run.specs.Cite.{cite_answer}
 use Rattle.bib_run.specs.Labels.{labels_answer}
+use Rattle.bib_run.specs.Ris.{ris_answer}
 use Rattle.bib_run.specs.Names.{Spells, names_answer}
 use Rattle.bib_data.specs.declared.request.Request.TheVariants.{Undo, Redo}
 use Rattle.bib_run.specs.EditAnswer.{IsEditAnswer}
+use Rattle.bib_run.specs.ImportAnswer.{IsImportAnswer}
 use Rattle.bib_run.specs.Turns.{IsTurnAnswer}
 use Rattle.bib_run.specs.Log.{IsLogAnswer, IsForgetAnswer}
 
@@ -43,6 +45,7 @@ pub data IsAnswerTo (command : Command) : (Reading → Answer) → Type 0 where
   show : command.name ≡ codes "show" → IsAnswerTo command (show_answer (key_word command))
   cite : command.name ≡ codes "cite" → IsAnswerTo command (cite_answer (key_words command) command.n)
   labels : command.name ≡ codes "labels" → IsAnswerTo command (labels_answer (key_words command))
+  ris : command.name ≡ codes "ris" → IsAnswerTo command (ris_answer (key_words command))
   names : command.name ≡ codes "names" → (pattern : Option Pattern) → Spells (template_word command) pattern → IsAnswerTo command (names_answer (key_word command) pattern)
 
 -- the answer of a command to a file, and to its journal and its input where it reads them
@@ -53,4 +56,5 @@ pub data IsAnswer (command : Command) (file : Text) (journal : Option Text) (inp
   undo : command.name ≡ codes "undo" → IsTurnAnswer (codes "undone") Undo command.n file journal answer → IsAnswer command file journal input answer
   redo : command.name ≡ codes "redo" → IsTurnAnswer (codes "redone") Redo command.n file journal answer → IsAnswer command file journal input answer
   log : command.name ≡ codes "log" → IsLogAnswer file journal answer → IsAnswer command file journal input answer
+  import : command.name ≡ codes "import" → IsImportAnswer file journal input answer → IsAnswer command file journal input answer
   forget : command.name ≡ codes "forget" → IsForgetAnswer file answer → IsAnswer command file journal input answer

@@ -1,7 +1,6 @@
 -- `edit`: what a script makes of a file. (dialect)
-use Rattle.std.specs.Prelude.{ℕ, ◌≡◌, ◌≢◌, ◌<◌, ◌≤◌, [], ◌++◌, length, slice_index_or, Option, Some, None, option_map, codes}
+use Rattle.std.specs.Prelude.{ℕ, ◌≡◌, ◌≢◌, ◌++◌, slice_index_or, Option, Some, None, option_map, codes}
 use Rattle.std.specs.Fmt.{decimal}
-use Rattle.bib_spec.specs.Bytes.{file_limit}
 use Rattle.bib_spec.specs.Text.{Text}
 use Rattle.edit_spec.specs.Steps.{KeptSteps}
 use Rattle.bib_journal.specs.declared.fault.SessionFault.{SessionFault}
@@ -9,13 +8,12 @@ use Rattle.bib_journal.specs.declared.fault.SessionFault.TheVariants.{Memory}
 use Rattle.bib_journal.specs.declared.saving.Saved.{Saved}
 use Rattle.bib_journal.specs.Faults.{fault_number}
 use Rattle.bib_journal.specs.Loading.{Saves}
-use Rattle.bib_journal.specs.Session.{Opens, Performs}
+use Rattle.bib_journal.specs.Session.{Performs}
 use Rattle.bib_script.specs.Script.{Said, said_of}
 use Rattle.bib_run.specs.declared.answers.Answer.{Answer}
-use Rattle.bib_run.specs.Messages.{refusal_line}
 use Rattle.bib_run.specs.SessionNames.{session_fault_name}
-use Rattle.bib_run.specs.Sessions.{IsUnopenedAnswer, outcome_left}
-use Rattle.bib_run.specs.Outcome.{answer_of}
+use Rattle.bib_run.specs.Sessions.{outcome_left}
+use Rattle.bib_run.specs.Inputs.{AnswersInput}
 
 -- `bibkeep: line L: N Name`, a line
 abbrev pub script_line : ℕ → ℕ → Text → Text
@@ -43,7 +41,7 @@ applied_line done = codes "applied " ++ (decimal done ++ codes "\n")
 abbrev pub edited_answer : Said → ℕ → Option SessionFault → Saved → Answer
 edited_answer said done fault saved = record { output = applied_line done; outcome = outcome_left done (stop_line said done fault) saved }
 
--- the answer of a session that was opened with these steps
+-- the answer to a script of a session that was opened with these steps
 pub record HasEdited (said : Said) (opened : KeptSteps) (answer : Answer) : Type 0 where
   pub done : ℕ
   pub fault : Option SessionFault
@@ -54,11 +52,6 @@ pub record HasEdited (said : Said) (opened : KeptSteps) (answer : Answer) : Type
   pub saves : Saves closed saved
   pub answered : answer ≡ edited_answer said done fault saved
 
--- `edit F`: the edits of the script in order, up to the first line that is refused or says none; or, with nothing done,
--- why the file and its journal cannot be opened, or that the script is too long
-pub data IsEditAnswer (file : Text) (journal : Option Text) (input : Text) (answer : Answer) : Type 0 where
-  edited : (opened : KeptSteps) → Opens file journal opened → length input ≤ file_limit → HasEdited (said_of input) opened answer
-      → IsEditAnswer file journal input answer
-  too_long : (opened : KeptSteps) → Opens file journal opened → file_limit < length input → answer ≡ answer_of [] (refusal_line 9 file_limit) 1
-      → IsEditAnswer file journal input answer
-  unopened : IsUnopenedAnswer file journal answer → IsEditAnswer file journal input answer
+-- `edit F`: the edits of the script in order, up to the first line that is refused or says none
+abbrev pub IsEditAnswer : Text → Option Text → Text → Answer → Type 0
+IsEditAnswer = AnswersInput (λ input. HasEdited (said_of input))

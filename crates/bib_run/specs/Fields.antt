@@ -2,7 +2,6 @@
 use Rattle.std.specs.Prelude.{ℕ, ◌≡◌, ◌≤◌, List, Some, length, slice_get}
 use Rattle.std.specs.List.{AllByRecursion, AllZip}
 use Rattle.bib_spec.specs.Bytes.{name_limit}
-use Rattle.bib_spec.specs.Text.{Text}
 use Rattle.bib_spec.specs.Tree.{IsValue, value_bytes}
 use Rattle.bib_spec.specs.Reading.{IsValueWithin}
 use Rattle.bib_spec.specs.Reading.{Item, Reading}

@@ -15,8 +15,12 @@ pub mod Runs
 pub mod Lent
 pub mod SessionNames
 pub mod Sessions
+pub mod Inputs
 pub mod EditAnswer
+pub mod ImportAnswer
 pub mod Turns
 pub mod Log
+pub mod Cited
 pub mod Labels
+pub mod Ris
 pub mod Names

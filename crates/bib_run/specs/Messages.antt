@@ -18,8 +18,12 @@ fault_name kind =
     else codes "Memory"
 
 -- `bibkeep: N Name at P`, a line (dialect)
+abbrev pub placed_line : ℕ → Text → ℕ → Text
+placed_line number name place = codes "bibkeep: " ++ (decimal number ++ (codes " " ++ (name ++ (codes " at " ++ (decimal place ++ codes "\n")))))
+
+-- why a file is not read, a line
 abbrev pub refusal_line : ℕ → ℕ → Text
-refusal_line kind place = codes "bibkeep: " ++ (decimal kind ++ (codes " " ++ (fault_name kind ++ (codes " at " ++ (decimal place ++ codes "\n")))))
+refusal_line kind place = placed_line kind (fault_name kind) place
 
 -- a reader failed (dialect)
 abbrev pub read_fault_line : Text

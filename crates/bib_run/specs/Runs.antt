@@ -1,5 +1,5 @@
 -- How a run ends.
-use Rattle.std.specs.Prelude.{◌≡◌, ◌≢◌, ◌+◌, ◌⊎◌, Bool, true, false, [], Option, Some, None, codes}
+use Rattle.std.specs.Prelude.{◌≡◌, ◌+◌, ◌⊎◌, Bool, true, false, [], Option, Some, None}
 use Rattle.std.specs.Io.KnownBytes.{Appends}
 use Rattle.bib_spec.specs.Bytes.{file_limit}
 use Rattle.bib_spec.specs.Text.{Text}
@@ -12,7 +12,7 @@ use Rattle.bib_run.specs.Transfers.{ReadsUpTo, HasBytes, WritesPrefix}
 use Rattle.bib_run.specs.Messages.{read_fault_line, write_fault_line}
 use Rattle.bib_run.specs.Outcome.{outcome_of}
 use Rattle.journal_format.specs.JournalText.{journal_limit}
-use Rattle.bib_words.specs.Command.{ReadsJournal}
+use Rattle.bib_words.specs.Command.{ReadsJournal, TakesInput}
 use Rattle.bib_run.specs.Answers.{IsAnswer}
 
 -- A tap at one moment: the bytes that its reader has left or that its writer holds, where they are told,
@@ -44,10 +44,10 @@ pub record WasRead (old new : TapView) (bytes : Text) : Type 0 where
   pub read : HasBytes (file_limit + 1) old.bytes new.bytes bytes
   pub sound : new.failed ≡ old.failed
 
--- of all commands, `edit` alone reads its input; nothing is read of it for another one
+-- the input was read, by a command that takes it; nothing is read of it for another one
 pub data HasInput (command : Command) (old new : TapView) (input : Text) : Type 0 where
-  read : command.name ≡ codes "edit" → WasRead old new input → HasInput command old new input
-  unread : command.name ≢ codes "edit" → new ≡ old → input ≡ [] → HasInput command old new input
+  read : TakesInput command → WasRead old new input → HasInput command old new input
+  unread : ¬ TakesInput command → new ≡ old → input ≡ [] → HasInput command old new input
 
 -- So much of its journal was read by a command: up to its end or one byte past the longest that a journal can be. Nothing is
 -- read of it where there is none, and nothing by a command that does not read it.
@@ -57,10 +57,10 @@ pub data HasJournal (command : Command) : Option TapView → Option TapView → 
   none : HasJournal command None None None
   unread : (old : TapView) → ¬ ReadsJournal command → HasJournal command (Some old) (Some old) None
 
--- so much of its input was read by a command: by `edit` up to its end or one byte past the limit, and nothing by another one
+-- so much of its input was read by a command: by one that takes it up to its end or one byte past the limit, and nothing by another one
 pub data ReadsInput (command : Command) (old new : TapView) (input : Text) : Type 0 where
-  front : command.name ≡ codes "edit" → ReadsUpTo (file_limit + 1) old.bytes new.bytes input → new.failed ≡ old.failed → ReadsInput command old new input
-  nothing : command.name ≢ codes "edit" → new ≡ old → input ≡ [] → ReadsInput command old new input
+  front : TakesInput command → ReadsUpTo (file_limit + 1) old.bytes new.bytes input → new.failed ≡ old.failed → ReadsInput command old new input
+  nothing : ¬ TakesInput command → new ≡ old → input ≡ [] → ReadsInput command old new input
 
 -- the file was read, and the input where the command reads it, and the command has this answer to them
 pub record HasAnswer (command : Command) (old new : TapsView) (answer : Answer) : Type 0 where

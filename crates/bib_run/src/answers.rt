@@ -1,11 +1,12 @@
 //! What a command answers.
 
 ghost use Rattle.std.specs.Prelude.{◌≡◌, ◌≢◌, [], IfOk};
-ghost use Rattle.bib_run.specs.Messages.{refusal_line};
+ghost use Rattle.bib_spec.specs.Bytes.{file_limit};
+ghost use Rattle.bib_run.specs.Messages.{no_such_entry_line, refusal_line};
 ghost use Rattle.bib_run.specs.Outcome.{outcome_of, answer_of};
 
-use crate::messages::refusal_line;
-use bib_scan::{ReadFault, Text};
+use crate::messages::{NO_SUCH_ENTRY, refusal_line};
+use bib_scan::{FILE_LIMIT, ReadFault, Text};
 use bib_words::status;
 use std::alloc::{AllocError, Global};
 
@@ -58,6 +59,25 @@ pub fn refused(alloc: Global, message: Text) -> Answer
         output: Text::from_vec(Vec::new(alloc)),
         outcome: outcome_of(message, status::REFUSED),
     }
+}
+
+/// Nothing is output, and the message says that no entry has the key.
+pub fn no_such_entry(alloc: Global) -> Result<Answer, AllocError>
+    ensures { IfOk result (λ answer. answer ≡ answer_of [] no_such_entry_line 1) }
+{
+    let message = Text::from_vec(Vec::from_slice(alloc, NO_SUCH_ENTRY)?);
+    Ok(refused(alloc, message))
+}
+
+/// Nothing is output, and the message says that the input is too long.
+pub fn too_long(alloc: Global) -> Result<Answer, AllocError>
+    ensures { IfOk result (λ answer. answer ≡ answer_of [] (refusal_line 9 file_limit) 1) }
+{
+    let fault = ReadFault {
+        kind: 9,
+        place: FILE_LIMIT,
+    };
+    Ok(refused(alloc, refusal_line(alloc, fault)?))
 }
 
 /// Nothing is output, and the message says why the file is not read; want of memory is no answer.

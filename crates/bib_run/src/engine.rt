@@ -1,7 +1,7 @@
 //! One run of a command: all sources are read, then the answer is made, then it is written.
 
-ghost use Rattle.std.specs.Prelude.{◌≡◌, ◌≢◌, true, codes, IfOk, OnErr, Err, option_map};
-ghost use Rattle.bib_words.specs.Command.{IsCommand, ReadsJournal};
+ghost use Rattle.std.specs.Prelude.{◌≡◌, ◌≢◌, true, IfOk, OnErr, Err, option_map};
+ghost use Rattle.bib_words.specs.Command.{IsCommand, ReadsJournal, TakesInput};
 ghost use Rattle.bib_run.specs.Answers.{IsAnswer};
 ghost use Rattle.bib_run.specs.Outcome.{outcome_of};
 ghost use Rattle.bib_run.specs.Lent.{held_before, held_after};
@@ -14,9 +14,11 @@ use crate::commands::cat::answer_cat;
 use crate::commands::check::answer_check;
 use crate::commands::cite::answer_cite;
 use crate::commands::edit::answer_edit;
+use crate::commands::import::answer_import;
 use crate::commands::labels::answer_labels;
 use crate::commands::log::{answer_forget, answer_log};
 use crate::commands::names::answer_names;
+use crate::commands::ris::answer_ris;
 use crate::commands::show::answer_show;
 use crate::commands::turning::{answer_redo, answer_undo};
 use crate::messages::{READ_FAULT, WRITE_FAULT};
@@ -46,9 +48,9 @@ pub fn run<F: Read, J: Read, I: Read, W: Write>(
         (taps (view_of F.remaining file.old) (option_map (view_of J.remaining) (held_before journal.entry)) (view_of I.remaining input.old) (view_of W.contents out.old))
         (taps (view_of F.remaining file.new) (option_map (view_of J.remaining) (held_after journal.exit)) (view_of I.remaining input.new) (view_of W.contents out.new)) result }
 
-    // But for those that read their journal a command leaves it alone, and but for `edit` its input.
+    // But for those that read their journal a command leaves it alone, and but for those that take input that.
     ensures journal { ¬ ReadsJournal command.now → held_after journal.exit ≡ held_before journal.entry }
-    ensures input { command.now.name ≢ codes "edit" → input.new ≡ input.old }
+    ensures input { ¬ TakesInput command.now → input.new ≡ input.old }
 {
     match journal {
         Some(journal) => perform(alloc, command, file, true, journal, input, out),
@@ -79,7 +81,7 @@ fn perform<F: Read, J: Read, I: Read, W: Write>(
         (taps (view_of F.remaining file.old) (held has_journal (view_of J.remaining journal.old)) (view_of I.remaining input.old) (view_of W.contents out.old))
         (taps (view_of F.remaining file.new) (held has_journal (view_of J.remaining journal.new)) (view_of I.remaining input.new) (view_of W.contents out.new)) result }
     ensures unread { ¬ ReadsJournal command.now → journal.new ≡ journal.old }
-    ensures input { command.now.name ≢ codes "edit" → input.new ≡ input.old }
+    ensures input { ¬ TakesInput command.now → input.new ≡ input.old }
 {
     match try_perform(alloc, command, file, has_journal, journal, input, out) {
         Ok(outcome) => outcome,
@@ -106,7 +108,7 @@ fn try_perform<F: Read, J: Read, I: Read, W: Write>(
     ensures failed { OnErr result (has_failed input.new ≡ has_failed input.old) }
     ensures silent { OnErr result (out.new ≡ out.old) }
     ensures unread { ¬ ReadsJournal command.now → journal.new ≡ journal.old }
-    ensures input { command.now.name ≢ codes "edit" → input.new ≡ input.old }
+    ensures input { ¬ TakesInput command.now → input.new ≡ input.old }
 {
     let read_fault = fault(alloc, READ_FAULT)?;
     let write_fault = fault(alloc, WRITE_FAULT)?;
@@ -169,9 +171,9 @@ fn read_input<I: Read>(
     ensures ok { IfOk result (λ bytes. ReadsInput command.now (view_of I.remaining input.old) (view_of I.remaining input.new) bytes.items) }
     ensures failed { result ≡ Err Failed → has_failed input.new ≡ true }
     ensures memory { result ≡ Err OutOfMemory → has_failed input.new ≡ has_failed input.old }
-    ensures unread { command.now.name ≢ codes "edit" → input.new ≡ input.old }
+    ensures unread { ¬ TakesInput command.now → input.new ≡ input.old }
 {
-    if command.is_named(b"edit") {
+    if command.takes_input() {
         return read_up_to(alloc, input, FILE_LIMIT + 1);
     }
     Ok(Vec::new(alloc))
@@ -214,6 +216,9 @@ fn answer_of(
     if command.is_named(b"labels") {
         return answer_labels(alloc, file, &words[1..]);
     }
+    if command.is_named(b"ris") {
+        return answer_ris(alloc, file, &words[1..]);
+    }
     if command.is_named(b"names") {
         return answer_names(alloc, file, words[1].as_slice(), words[2].as_slice());
     }
@@ -228,6 +233,9 @@ fn answer_of(
     }
     if command.is_named(b"forget") {
         return answer_forget(alloc, file);
+    }
+    if command.is_named(b"import") {
+        return answer_import(alloc, file, journal, input);
     }
     unreachable!()
 }

@@ -1,7 +1,7 @@
 //! What a run says besides its output, a line each.
 
 ghost use Rattle.std.specs.Prelude.{◌≡◌, IfOk, codes};
-ghost use Rattle.bib_run.specs.Messages.{fault_name, refusal_line};
+ghost use Rattle.bib_run.specs.Messages.{fault_name, placed_line, refusal_line};
 
 use bib_scan::{ReadFault, Text};
 use std::alloc::{AllocError, Global};
@@ -18,13 +18,19 @@ pub const JOURNAL_MISMATCH: &[u8] = b"bibkeep: 54 JournalMismatch\n";
 /// The message of a key that no entry has.
 pub const NO_SUCH_ENTRY: &[u8] = b"bibkeep: 11 NoSuchEntry\n";
 
-/// Why a file is not read: `bibkeep: N Name at P`, a line.
+/// `bibkeep: N Name at P`, a line.
+pub fn placed_line(alloc: Global, number: u8, name: &str, place: usize) -> Result<Text, AllocError>
+    ensures { IfOk result (λ line. line ≡ placed_line number name.now place) }
+{
+    let line = format!(in alloc; "bibkeep: {} {} at {}\n", number, name, place)?;
+    Ok(Text::from_vec(line.into_bytes()))
+}
+
+/// Why a file is not read, a line.
 pub fn refusal_line(alloc: Global, fault: ReadFault) -> Result<Text, AllocError>
     ensures { IfOk result (λ line. line ≡ refusal_line fault.kind fault.place) }
 {
-    let name = fault_name(fault.kind);
-    let line = format!(in alloc; "bibkeep: {} {} at {}\n", fault.kind, name, fault.place)?;
-    Ok(Text::from_vec(line.into_bytes()))
+    placed_line(alloc, fault.kind, fault_name(fault.kind), fault.place)
 }
 
 /// The name of a fault of reading, by its number.

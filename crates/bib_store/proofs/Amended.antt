@@ -1,5 +1,5 @@
 -- An entry gives way to another with the same key: what is said of the items stays, but for its crossref and its texts.
-use Rattle.std.proofs.Common.{◌≡◌, ℕ, zero, suc, ◌+◌, ◌<◌, ◌≤◌, cond, Bool, true, false, List, [], ◌∷◌, ◌++◌, length, map, set, slice_get, Option, Some, None, option_map, refl, sym, ◌∙◌, ap, ap₂, subst, arith}
+use Rattle.std.proofs.Common.{◌≡◌, length-append, ℕ, zero, suc, ◌+◌, ◌<◌, ◌≤◌, cond, Bool, true, false, List, [], ◌∷◌, ◌++◌, length, map, set, slice_get, Option, Some, None, option_map, refl, sym, ◌∙◌, ap, ap₂, subst, arith}
 use Rattle.std.proofs.Math.Seq.{set-append_seam}
 use Rattle.std.specs.List.{zip, flat_map}
 use Rattle.std.specs.Option.{option_or}
@@ -12,8 +12,8 @@ use Rattle.bib_spec.specs.Texts.{Macros, months, macros_after, macros_at, gather
 use Rattle.bib_spec.specs.Records.{EntryTexts, texts_of, entry_in, keys_of, crossref_text}
 use Rattle.bib_store.specs.declared.tables.Tables.{Tables}
 use Rattle.bib_store.specs.Meaning.{is_entry_tree, entry_numbers}
-use Rattle.bib_store.specs.Tables.{is_preamble_tree, IsIndexOf, AreDefinitionsOf}
-use Rattle.bib_store.specs.KeyIndex.{holding_in}
+use Rattle.bib_store.specs.Tables.{is_preamble_tree, AreDefinitionsOf}
+use Rattle.bib_entries.specs.EntryTable.{Kept, IsTableOf}
 use Rattle.bib_store.specs.Defined.{texts_at}
 use Rattle.bib_store.specs.ItemTexts.{first_too_long, placed_texts}
 use Rattle.bib_store.specs.Beside.{AreTablesOf}
@@ -136,26 +136,31 @@ module _ (before behind : List Item) (x y : Item) (e f : Entry) (x_is : x.tree �
   crossrefs_told i g is = ap (map crossref_text) (told i g is) ∙ map-append crossref_text first (texts_of here g ∷ others)
 
   -- only the crossref of the one changes
-  pub amended_tables : (t new : Tables) (m n : ℕ) (text : Option Text) → e.key ≡ f.key → AreTablesOf (before ++ x ∷ behind) t → n ≡ length before → slice_get t.entries.items m ≡ Some n
-      → new.entries ≡ t.entries → new.preambles ≡ t.preambles → new.keys ≡ t.keys → new.definitions ≡ t.definitions → new.crossrefs.items ≡ set t.crossrefs.items m text
+  pub amended_tables : (t new : Tables) (m n : ℕ) (text : Option Text) → e.key ≡ f.key → AreTablesOf (before ++ x ∷ behind) t → n ≡ length before → slice_get t.entries m ≡ Some n
+      → new.entries ≡ t.entries → new.preambles ≡ t.preambles → new.definitions ≡ t.definitions
+      → ((keys : List Text) (crossrefs : List (Option Text)) → m < length keys → IsTableOf keys crossrefs t.named → IsTableOf keys (set crossrefs m text) new.named)
       → text ≡ crossref_text (texts_of here f) → AreTablesOf (before ++ y ∷ behind) new
-  amended_tables t new m n text key are count listed entries preambles keys definitions crossrefs says =
+  amended_tables t new m n text key are count listed entries preambles definitions named says =
       let kind : is_entry_tree x.tree ≡ is_entry_tree y.tree = ap is_entry_tree x_is ∙ sym (ap is_entry_tree y_is) in
       let other : is_preamble_tree x.tree ≡ is_preamble_tree y.tree = ap is_preamble_tree x_is ∙ sym (ap is_preamble_tree y_is) in
       let at : slice_get (entry_numbers (before ++ x ∷ behind)) m ≡ Some n = ap (λ (ns : List ℕ). slice_get ns m) (sym are.entries) ∙ listed in
       let place : m ≡ length first = listed_behind is_entry_tree 0 before behind x n m (ap is_entry_tree x_is) (omega (arith, count)) at ∙ entries_counted 0 months before in
       let same_keys : keys_of (gathered entry_in months (before ++ x ∷ behind)) ≡ keys_of (gathered entry_in months (before ++ y ∷ behind))
       = keys_told x e x_is ∙ ap (λ (k : Text). keys_of first ++ k ∷ keys_of others) key ∙ sym (keys_told y f y_is) in
+      let set_crossref : set (map crossref_text (gathered entry_in months (before ++ x ∷ behind))) m text ≡ map crossref_text (gathered entry_in months (before ++ y ∷ behind))
+      = ap₂ (λ (texts : List (Option Text)) (k : ℕ). set texts k text) (crossrefs_told x e x_is) (place ∙ sym (length-map first crossref_text))
+      ∙ set-append_seam (map crossref_text first) (crossref_text (texts_of here e)) (map crossref_text others) text
+      ∙ ap (λ (o : Option Text). map crossref_text first ++ o ∷ map crossref_text others) says
+      ∙ sym (crossrefs_told y f y_is) in
+      let within : m < length (keys_of (gathered entry_in months (before ++ y ∷ behind)))
+      = omega (arith, place, ap (length {A = Text}) (keys_told y f y_is), length-append (keys_of first) (f.key ∷ keys_of others), length-map first (λ (entry : EntryTexts). entry.key)) in
       record {
-        entries = ap (λ v. v.items) entries ∙ are.entries ∙ numbers_same is_entry_tree 0 before behind x y kind;
-        preambles = ap (λ v. v.items) preambles ∙ are.preambles ∙ numbers_same is_preamble_tree 0 before behind x y other;
-        keys = subst (λ k. IsIndexOf (keys_of (gathered entry_in months (before ++ y ∷ behind))) (holding_in k)) (sym keys) (subst (λ (ks : List Text). IsIndexOf ks (holding_in t.keys)) same_keys are.keys);
+        entries = entries ∙ are.entries ∙ numbers_same is_entry_tree 0 before behind x y kind;
+        preambles = preambles ∙ are.preambles ∙ numbers_same is_preamble_tree 0 before behind x y other;
         definitions = subst (λ d. AreDefinitionsOf (before ++ y ∷ behind) (texts_at d)) (sym definitions) (λ k. are.definitions k ∙ macros_same months before behind x y after_same k);
-        crossrefs = crossrefs
-            ∙ ap₂ (λ (texts : List (Option Text)) (k : ℕ). set texts k text) (are.crossrefs ∙ crossrefs_told x e x_is) (place ∙ sym (length-map first crossref_text))
-            ∙ set-append_seam (map crossref_text first) (crossref_text (texts_of here e)) (map crossref_text others) text
-            ∙ ap (λ (o : Option Text). map crossref_text first ++ o ∷ map crossref_text others) says
-            ∙ sym (crossrefs_told y f y_is);
+        named = subst (λ (cs : List (Option Text)). IsTableOf (keys_of (gathered entry_in months (before ++ y ∷ behind))) cs new.named) set_crossref
+            (named (keys_of (gathered entry_in months (before ++ y ∷ behind))) (map crossref_text (gathered entry_in months (before ++ x ∷ behind))) within
+            (subst (λ (ks : List Text). IsTableOf ks (map crossref_text (gathered entry_in months (before ++ x ∷ behind))) t.named) same_keys are.named));
       }
 
   -- the others are no longer than before

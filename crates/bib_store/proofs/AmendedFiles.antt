@@ -23,6 +23,7 @@ use Rattle.bib_scan.proofs.OneReading.{one_reading}
 use Rattle.bib_scan.proofs.LayoutLaws.{length-places}
 use Rattle.bib_items.specs.declared.list.Item.{Item}
 use Rattle.bib_store.specs.declared.change.Change.{Change}
+use Rattle.bib_entries.specs.EntryTable.{IsTableOf}
 use Rattle.bib_store.specs.declared.tables.Tables.{Tables}
 use Rattle.bib_store.specs.declared.item_fault.ItemFault.{ItemFault}
 use Rattle.bib_store.specs.declared.item_fault.ItemFault.TheVariants.{TooLong}
@@ -118,13 +119,6 @@ pub at_number : {E : Type 0} (r : Result (Unit {0}) E) (P : ℕ → Type 0) (n :
 at_number (Ok u) P n h = h n
 at_number (Err e) P n h = tt
 
--- there are as many crossrefs as entries
-pub crossrefs_counted : (front : Text) (items : List Item) (t : Tables) → IsKept front items t → length t.crossrefs.items ≡ length t.entries.items
-crossrefs_counted front items t k =
-    ap (λ (l : List (Option Text)). length l) k.is.tables.crossrefs
-    ∙ length-map (gathered entry_in months k.db.items) crossref_text
-    ∙ sym (ap (λ (l : List ℕ). length l) k.is.tables.entries ∙ entries_counted 0 months k.db.items)
-
 -- ---- the one that comes
 
 pub coming_tree : (c : Change) (inner : Reading) (i : reading.Item) → Reads c.text inner → slice_get inner.items 0 ≡ Some i → IsTree name_limit i.tree
@@ -181,7 +175,7 @@ record IsSwap (items : List Item) (t : Tables) (c : Change) (db inner : Reading)
   count : c.window.from ≡ length (take c.window.from db.items)
   sees : texts_at t.definitions c.window.from ≡ macros_at months (take c.window.from db.items) (length (take c.window.from db.items))
 
-swap : (items : List Item) (t : Tables) (c : Change) (m : ℕ) (front : Text) (db inner : Reading) → IsWindow items c.window → IsLayoutOf c.text c.layout → IsAmendment items t.entries.items c m
+swap : (items : List Item) (t : Tables) (c : Change) (m : ℕ) (front : Text) (db inner : Reading) → IsWindow items c.window → IsLayoutOf c.text c.layout → IsAmendment items t.entries c m
     → IsKeptAs db front items t → Reads c.text inner → IsSwap items t c db inner
 swap items t c m front db inner is layout a k reads =
     let n : ℕ = c.window.from in
@@ -214,14 +208,15 @@ swap items t c m front db inner is layout a k reads =
       sees = k.tables.definitions n ∙ sym (macros_taken months db.items n n (omega arith)) ∙ ap (macros_at months (take n db.items)) count;
     }
 
-module _ (items : List Item) (t : Tables) (c : Change) (m : ℕ) (is : IsWindow items c.window) (layout : IsLayoutOf c.text c.layout) (a : IsAmendment items t.entries.items c m) where
+module _ (items : List Item) (t : Tables) (c : Change) (m : ℕ) (is : IsWindow items c.window) (layout : IsLayoutOf c.text c.layout) (a : IsAmendment items t.entries c m) where
   abbrev seen : Macros
   seen = texts_at t.definitions c.window.from
 
   pub amended_file : (new : Tables) (text : Option Text) → OfComing c (λ tree. map crossref_text (entry_in seen tree) ≡ text ∷ []) → OfComing c (λ tree. first_too_long (placed_texts seen tree) ≡ None)
-      → new.entries ≡ t.entries → new.preambles ≡ t.preambles → new.keys ≡ t.keys → new.definitions ≡ t.definitions → new.crossrefs.items ≡ set t.crossrefs.items m text
+      → new.entries ≡ t.entries → new.preambles ≡ t.preambles → new.definitions ≡ t.definitions
+      → ((keys : List Text) (crossrefs : List (Option Text)) → m < length keys → IsTableOf keys crossrefs t.named → IsTableOf keys (set crossrefs m text) new.named)
       → (front_len : ℕ) → OfJoined c front_len items t (λ db. AreTables db new × (too_long_at db ≡ None))
-  amended_file new text says fits entries preambles keys definitions crossrefs front_len front db inner k reads has =
+  amended_file new text says fits entries preambles definitions named front_len front db inner k reads has =
       let s : IsSwap items t c db inner = swap items t c m front db inner is layout a k reads in
       let n : ℕ = c.window.from in
       let before : List reading.Item = take n db.items in
@@ -231,7 +226,7 @@ module _ (items : List Item) (t : Tables) (c : Change) (m : ℕ) (is : IsWindow 
       = (cons_parts (crossref_text (texts_of seen s.new_entry)) text [] [] (ap (λ (x : Tree). map crossref_text (entry_in seen x)) (sym s.new_is) ∙ told)).0 in
       let text_is : text ≡ crossref_text (texts_of (macros_at months before (length before)) s.new_entry) = sym said ∙ ap (λ (mm : Macros). crossref_text (texts_of mm s.new_entry)) s.sees in
       let tables = amended_tables before behind s.old s.new s.old_entry s.new_entry s.old_is s.new_is t new m n text s.one_key
-      (subst (λ (l : List reading.Item). AreTablesOf l t) s.before k.tables) s.count a.number entries preambles keys definitions crossrefs text_is in
+      (subst (λ (l : List reading.Item). AreTablesOf l t) s.before k.tables) s.count a.number entries preambles definitions named text_is in
       let short = amended_fits before behind s.old s.new s.old_entry s.new_entry s.old_is s.new_is (length db.front) (length (joined c.window db inner).front)
       (subst (λ (l : List reading.Item). first_too_long (raw_texts_from (length db.front) months l) ≡ None) s.before k.opens.texts)
       (ap (λ (mm : Macros). first_too_long (placed_texts mm s.new.tree)) (sym s.sees) ∙ fits inner s.new reads s.comes s.new_such) in (

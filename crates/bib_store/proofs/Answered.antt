@@ -1,5 +1,5 @@
 -- What holds of a result follows from what else holds of it.
-use Rattle.std.specs.Prelude.{Result, Ok, Err, OnOk, IfErr}
+use Rattle.std.specs.Prelude.{Result, Ok, Err, OnOk, OnErr, IfErr}
 
 pub ok_from : {T E : Type 0} (r : Result T E) (P Q : Type 0) → (P → Q) → OnOk r P → OnOk r Q
 ok_from (Ok x) P Q f h = f h
@@ -12,3 +12,7 @@ ok_both (Err e) P Q p q = tt
 pub err_from : {T E : Type 0} (r : Result T E) (P Q : E → Type 0) → ((e : E) → P e → Q e) → IfErr r P → IfErr r Q
 err_from (Ok x) P Q f h = tt
 err_from (Err e) P Q f h = f e h
+
+pub err_always : {T E P : Type 0} (r : Result T E) → P → OnErr r P
+err_always (Ok x) p = tt
+err_always (Err e) p = p

@@ -13,8 +13,8 @@ use Rattle.bib_spec.specs.Records.{EntryTexts, entry_in, keys_of, crossref_text}
 use Rattle.bib_scan.proofs.OneReading.{tree_unique}
 use Rattle.bib_store.specs.declared.tables.Tables.{Tables}
 use Rattle.bib_store.specs.Meaning.{is_entry_tree}
-use Rattle.bib_store.specs.Tables.{is_preamble_tree, IsIndexOf}
-use Rattle.bib_store.specs.KeyIndex.{holding_in}
+use Rattle.bib_store.specs.Tables.{is_preamble_tree}
+use Rattle.bib_entries.specs.EntryTable.{IsTableOf}
 use Rattle.bib_store.specs.ItemTexts.{first_too_long, placed_texts}
 use Rattle.bib_store.specs.Beside.{AreTablesOf}
 use Rattle.bib_store.proofs.Numbered.{numbered, numbers}
@@ -74,13 +74,12 @@ pub tables_alike : (xs ys : List Item) (t : Tables) → trees xs ≡ trees ys �
 tables_alike xs ys t e are = record {
   entries = are.entries ∙ numbers_alike is_entry_tree 0 xs ys e;
   preambles = are.preambles ∙ numbers_alike is_preamble_tree 0 xs ys e;
-  keys = subst (λ (es : List EntryTexts). IsIndexOf (keys_of es) (holding_in t.keys)) (gathered_alike entry_in months xs ys e) are.keys;
+  named = subst (λ (es : List EntryTexts). IsTableOf (keys_of es) (map crossref_text es) t.named) (gathered_alike entry_in months xs ys e) are.named;
   definitions = λ n. are.definitions n ∙ macros_alike months xs ys n e;
-  crossrefs = are.crossrefs ∙ ap (map crossref_text) (gathered_alike entry_in months xs ys e);
 }
 
 -- nor do the limits of raw texts
-fit_alike : (at there : ℕ) (m : Macros) (xs ys : List Item) → trees xs ≡ trees ys → first_too_long (raw_texts_from at m xs) ≡ None → first_too_long (raw_texts_from there m ys) ≡ None
+pub fit_alike : (at there : ℕ) (m : Macros) (xs ys : List Item) → trees xs ≡ trees ys → first_too_long (raw_texts_from at m xs) ≡ None → first_too_long (raw_texts_from there m ys) ≡ None
 fit_alike at there m [] [] e fits = refl
 fit_alike at there m [] (y ∷ ys) e fits = absurd (omega (arith, ap (length {A = Tree}) e))
 fit_alike at there m (x ∷ xs) [] e fits = absurd (omega (arith, ap (length {A = Tree}) e))

@@ -1,14 +1,15 @@
 -- A list whose items are exchanged, one by one.
 use Rattle.std.proofs.Common.{◌≡◌, ℕ, ◌+◌, ◌-◌, ◌≤◌, List, ◌++◌, length, take, drop, sym, subst, ◌∙◌, ap, arith, append_assoc, length-append, length-drop, Some, None, ◌⊎◌, inl, inr}
-use Rattle.std.proofs.lemmas.List.{take_at, drop_at, drop-drop, length-take-le}
+use Rattle.std.proofs.lemmas.List.{take_at, drop_at, drop-drop, length-take-le, length-map}
 use Rattle.bib_spec.specs.Text.{Text}
 use Rattle.bib_spec.specs.Reading.{Reading, Reads}
 use Rattle.bib_spec.specs.Texts.{too_long_at}
 use Rattle.bib_items.specs.declared.list.Item.{Item}
 use Rattle.bib_store.specs.declared.window.Window.{Window}
-use Rattle.bib_items.specs.Items.{all_stored, without_range}
+use Rattle.bib_items.specs.Items.{stored, all_stored, without_range}
 use Rattle.bib_items.proofs.Filled.{without-put}
-use Rattle.bib_store.specs.Windows.{IsWindow}
+use Rattle.bib_store.specs.declared.change.Change.{Change}
+use Rattle.bib_store.specs.Windows.{IsWindow, ArePut, exchanged}
 
 -- ---- the exchange
 
@@ -63,6 +64,23 @@ pub put_of : (old now : List Item) (text seen : Text) (w : Window) (old_count ne
     → (inner : Reading) → Reads text inner → IsPut old (all_stored inner.items) now w.from w.to (new_count - old_count)
 put_of old now text seen w old_count new_count is same put o n inner reads =
     is_put old (all_stored inner.items) now w.from w.to old_count new_count is.ordered is.within (put inner (subst (λ (t : Text). Reads t inner) (sym same) reads)) o n
+
+-- what is left once the old ones are gone
+pub put_without : (c : Change) (old now : List Item) (count : ℕ) → ArePut c old now count → (inner : Reading) → Reads c.text inner
+    → without_range (c.window.from + count) (c.window.to + count) now ≡ exchanged c.window inner.items old
+put_without c old now count p inner reads =
+    without-old old (all_stored inner.items) now c.window.from c.window.to count
+    (record { ordered = p.window.ordered; within = p.window.within; count_is = p.counted inner reads ∙ sym (length-map inner.items stored); now_is = p.put inner reads })
+
+-- an insertion puts the items of a text before those of its window
+pub are_put : (c : Change) (old now : List Item) (seen : Text) (old_count new_count : ℕ) → IsWindow old c.window → seen ≡ c.text
+    → ((db : Reading) → Reads seen db → now ≡ take c.window.from old ++ (all_stored db.items ++ drop c.window.from old)) → old_count ≡ length old → new_count ≡ length now
+    → ArePut c old now (new_count - old_count)
+are_put c old now seen old_count new_count is same put o n = record {
+  window = is;
+  counted = λ inner reads. (put_of old now c.text seen c.window old_count new_count is same put o n inner reads).count_is ∙ length-map inner.items stored;
+  put = λ inner reads. (put_of old now c.text seen c.window old_count new_count is same put o n inner reads).now_is;
+}
 
 pub room-put : (old new now : List Item) (from to count : ℕ) → IsPut old new now from to count → to + count ≤ length now
 room-put old new now from to count p =

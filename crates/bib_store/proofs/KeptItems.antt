@@ -17,11 +17,8 @@ use Rattle.bib_store.specs.declared.tables.Tables.{Tables}
 use Rattle.bib_items.specs.Items.{item, item_at, stored, all_stored, kept_bytes}
 use Rattle.bib_spec.specs.Texts.{Opens, months, gathered}
 use Rattle.bib_spec.specs.Records.{entry_in, keys_of}
-use Rattle.bib_store.specs.Tables.{IsIndexOf, AreDefinitionsOf}
-use Rattle.bib_store.specs.KeyIndex.{holding_in}
 use Rattle.bib_store.specs.Defined.{texts_at}
-use Rattle.bib_store.specs.Beside.{AreSame, AreTablesOf}
-use Rattle.bib_store.specs.Stored.{file_of, IsKeptAs, IsKept}
+use Rattle.bib_store.specs.Stored.{file_of, IsKeptAs, IsKept, SayTheSameOf}
 
 -- what is kept is of the file's one reading
 pub kept_as : (front : Text) (items : List Item) (t : Tables) (file : Text) → IsKept front items t → file_of front items ≡ file → (db : Reading) → Reads file db → IsKeptAs db front items t
@@ -34,32 +31,20 @@ pub kept_reading : (front : Text) (items : List Item) (t : Tables) (file : Text)
 kept_reading front items t file k same = (k.db, subst (λ (f : Text). Reads f k.db) same k.is.opens.reads, k.is)
 
 -- tables that say the same are kept as well
-same_tables : (items : List reading.Item) (t u : Tables) → AreSame t u → AreTablesOf items t → AreTablesOf items u
-same_tables items t u s are = record {
-  entries = s.entries ∙ are.entries;
-  preambles = s.preambles ∙ are.preambles;
-  keys = subst (λ k. IsIndexOf (keys_of (gathered entry_in months items)) (holding_in k)) (sym s.keys) are.keys;
-  definitions = subst (λ d. AreDefinitionsOf items (texts_at d)) (sym s.definitions) are.definitions;
-  crossrefs = s.crossrefs ∙ are.crossrefs;
-}
-
-pub kept_same : (front : Text) (items new : List Item) (t u : Tables) → IsKept front items t → new ≡ items → AreSame t u → IsKept front new u
+pub kept_same : (front : Text) (items new : List Item) (t u : Tables) → IsKept front items t → new ≡ items → SayTheSameOf items t u → IsKept front new u
 kept_same front items new t u k e s = record {
   db = k.db;
   is = record {
     opens = subst (λ (l : List Item). Opens (file_of front l) k.db) (sym e) k.is.opens;
     front = k.is.front;
     items = e ∙ k.is.items;
-    tables = same_tables k.db.items t u s k.is.tables;
+    tables = s.tables k.db front k.is;
     len = s.len ∙ k.is.len ∙ ap (λ (l : List Item). length (file_of front l)) (sym e);
   };
 }
 
-pub same_self : (t : Tables) → AreSame t t
-same_self t = record { len = refl; entries = refl; preambles = refl; keys = refl; definitions = refl; crossrefs = refl }
-
-pub same_of : (t u : Tables) → u ≡ t → AreSame t u
-same_of t u e = subst (λ (x : Tables). AreSame t x) (sym e) (same_self t)
+pub same_self : (items : List Item) (t : Tables) → SayTheSameOf items t t
+same_self items t = record { len = refl; tables = λ db front k. k.tables }
 
 -- ---- items
 

@@ -18,6 +18,9 @@ pub mod Walks
 pub mod TableSteps
 pub mod ItemsMore
 pub mod Holdings
+pub mod Insertions
+pub mod Followed
+pub mod FollowedFiles
 pub mod Numbered
 pub mod EntryItems
 pub mod CrossrefTexts
@@ -32,4 +35,3 @@ pub mod NumberedLists
 pub mod Amended
 pub mod AmendedFiles
 pub mod Appended
-pub mod AppendedFiles

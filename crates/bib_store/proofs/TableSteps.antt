@@ -1,27 +1,30 @@
--- What one item more does to the tables.
-use Rattle.std.proofs.Common.{◌≡◌, ℕ, suc, ◌+◌, ◌<◌, ◌≤◌, false, cond, List, [], ◌∷◌, ◌++◌, length, map, filter, Option, Some, None, refl, sym, ◌∙◌, ap, ap₂, subst, arith, append-nil, append_assoc, length-append}
+-- What an item that comes or goes does to the tables.
+use Rattle.std.proofs.Common.{◌≡◌, ℕ, suc, ◌+◌, ◌<◌, ◌≤◌, ◌^◌, cond, List, [], ◌∷◌, ◌++◌, length, map, filter, Option, Some, None, insert, remove, slice_get, ◌⊎◌, ⊎_elim, refl, sym, ◌∙◌, ap, ap₂, subst, arith, append-nil, append_assoc, length-append}
 use Rattle.std.specs.List.{enumerate_from}
-use Rattle.std.proofs.lemmas.List.{map-append, length-map}
+use Rattle.std.proofs.lemmas.List.{length-map}
 use Rattle.bib_spec.specs.Bytes.{equals_sign}
 use Rattle.bib_spec.specs.Text.{Text}
 use Rattle.bib_spec.specs.Tree.{Tree, CommentTree, DefinitionTree, PreambleTree, EntryTree, Definition, opening_bytes, value_bytes}
 use Rattle.bib_spec.specs.Reading.{Item}
-use Rattle.bib_spec.specs.Texts.{Macros, months, updated, raw_text, raw_limit, macros_at, gathered, bytes_before_value}
+use Rattle.bib_spec.specs.Texts.{Macros, months, updated, raw_text, raw_limit, macros_after, macros_at, gathered, bytes_before_value}
 use Rattle.bib_spec.specs.Records.{EntryTexts, entry_in, keys_of, crossref_text, texts_of}
 use Rattle.bib_scan.specs.View.{Field, View, field_behind, fields_of}
 use Rattle.bib_scan.specs.declared.view.Kind.{Kind}
 use Rattle.bib_scan.specs.declared.view.Kind.TheVariants as kind
 use Rattle.bib_value.specs.Raw.{OfValue}
+use Rattle.bib_entries.specs.Numbers.{PartAt, HaveNext}
+use Rattle.bib_entries.specs.EntryTable.{Kept, IsTableOf}
+use Rattle.bib_entries.proofs.MovedNumbers.{part_with}
 use Rattle.bib_store.specs.declared.tables.Tables.{Tables}
 use Rattle.bib_store.specs.Meaning.{is_entry_tree}
-use Rattle.bib_store.specs.Tables.{is_preamble_tree, preamble_numbers, IsIndexOf, AreDefinitionsOf}
-use Rattle.bib_store.specs.KeyIndex.{holding_in}
-use Rattle.bib_store.specs.Defined.{texts_at, Defines}
+use Rattle.bib_store.specs.Tables.{is_preamble_tree, AreDefinitionsOf}
+use Rattle.bib_store.specs.Defined.{texts_at, EndsBy, Defines}
 use Rattle.bib_store.specs.ItemTexts.{first_too_long, placed_texts, row_texts, crossref_in, own_text, OfRows}
-use Rattle.bib_store.specs.Beside.{AreTablesOf, IsStep, IsTooLongAt, OfView, item_with}
-use Rattle.bib_store.proofs.MacrosBehind.{definitions-same}
+use Rattle.bib_store.specs.Beside.{AreTablesOf, IsStep, IsInsertion, IsRemoval, IsTooLongAt, SayTheSame, OfView, item_with}
 use Rattle.bib_store.proofs.RowTexts.{cons_parts, first_fits, first_over}
-use Rattle.bib_store.proofs.ItemsMore.{gathered-more, number_more, number_same}
+use Rattle.bib_store.proofs.Numbered.{numbers}
+use Rattle.bib_store.proofs.ItemsMore.{gathered-append, gathered-more, number_same}
+use Rattle.bib_store.proofs.Insertions.{map-put, map-taken, map-stands, numbers-parts, numbers-with, parts_at, put_numbers, moved_numbers, taken_numbers, closed_numbers, macros_in_front, definitions_put, definitions_taken, gathered-with}
 
 -- ---- kinds
 
@@ -33,6 +36,12 @@ kind_number kind.Comment = 3
 
 pub other_kind : {X : Type 0} (a b : Kind) → a ≡ b → (kind_number a < kind_number b) → X
 other_kind a b same apart = absurd (omega (arith, ap kind_number same, apart))
+
+pub no_macro : (k : Kind) → (k ≡ kind.Entry) ⊎ ((k ≡ kind.Preamble) ⊎ (k ≡ kind.Comment)) → k ≡ kind.Macro → ⊥
+no_macro k one is = ⊎_elim
+    (λ e. other_kind kind.Entry kind.Macro (sym e ∙ is) (omega arith))
+    (λ rest. ⊎_elim (λ e. other_kind kind.Macro kind.Preamble (sym is ∙ e) (omega arith)) (λ e. other_kind kind.Macro kind.Comment (sym is ∙ e) (omega arith)) rest)
+    one
 
 -- ---- entries are counted by their numbers
 
@@ -50,46 +59,125 @@ entries_counted k m (item ∷ items) =
     counted_step item.tree k item (filter (λ (p : ℕ × Item). is_entry_tree p.1.tree) (enumerate_from (k + 1) items)) m (gathered entry_in (macros_at m (item ∷ items) 1) items)
     (entries_counted (k + 1) (macros_at m (item ∷ items) 1) items)
 
+-- ---- an item that is no definition
+
+module _ (old new : Tables) (n : ℕ) (ends : EndsBy n old.definitions) (kept : new.definitions ≡ old.definitions) (before after : List Item) (x : Item) (count : length before ≡ n)
+    (same : macros_after (macros_at months before (length before)) x.tree ≡ macros_at months before (length before)) where
+  put_definitions : AreDefinitionsOf (before ++ after) (texts_at old.definitions) → AreDefinitionsOf (before ++ x ∷ after) (texts_at new.definitions)
+  put_definitions are = subst (λ d. AreDefinitionsOf (before ++ x ∷ after) (texts_at d)) (sym kept) (definitions_put before after x old.definitions n count ends same are)
+
+  taken_definitions : AreDefinitionsOf (before ++ x ∷ after) (texts_at old.definitions) → AreDefinitionsOf (before ++ after) (texts_at new.definitions)
+  taken_definitions are = subst (λ d. AreDefinitionsOf (before ++ after) (texts_at d)) (sym kept) (definitions_taken before after x old.definitions n count ends same are)
+
+-- what is said of the entries
+abbrev IsTableOfEntries : List EntryTexts → Kept → Type 0
+IsTableOfEntries entries named = IsTableOf (keys_of entries) (map crossref_text entries) named
+
+put_named : (old new : Kept) (a b : List EntryTexts) (entry : EntryTexts) (k : ℕ) (key : Text) (found : Option Text) → key ≡ entry.key → found ≡ crossref_text entry → k ≡ length a
+    → ((keys : List Text) (crossrefs : List (Option Text)) → k ≤ length keys → IsTableOf keys crossrefs old → IsTableOf (insert keys k key) (insert crossrefs k found) new)
+    → IsTableOfEntries (a ++ b) old → IsTableOfEntries (a ++ entry ∷ b) new
+put_named old new a b entry k key found key_is found_is at put is =
+    let long : k ≤ length (keys_of (a ++ b)) = omega (arith, at, length-map (a ++ b) (λ (entry : EntryTexts). entry.key), length-append a b) in
+    subst (λ (ks : List Text). IsTableOf ks (map crossref_text (a ++ entry ∷ b)) new) (map-put (λ (entry : EntryTexts). entry.key) a b entry key k key_is at)
+    (subst (λ (cs : List (Option Text)). IsTableOf (insert (keys_of (a ++ b)) k key) cs new) (map-put crossref_text a b entry found k found_is at)
+    (put (keys_of (a ++ b)) (map crossref_text (a ++ b)) long is))
+
+taken_named : (old new : Kept) (a b : List EntryTexts) (entry : EntryTexts) (k : ℕ) (key : Text) → key ≡ entry.key → k ≡ length a
+    → ((keys : List Text) (crossrefs : List (Option Text)) → slice_get keys k ≡ Some key → IsTableOf keys crossrefs old → IsTableOf (remove keys k) (remove crossrefs k) new)
+    → IsTableOfEntries (a ++ entry ∷ b) old → IsTableOfEntries (a ++ b) new
+taken_named old new a b entry k key key_is at take is =
+    subst (λ (ks : List Text). IsTableOf ks (map crossref_text (a ++ b)) new) (map-taken (λ (entry : EntryTexts). entry.key) a b entry k at)
+    (subst (λ (cs : List (Option Text)). IsTableOf (remove (keys_of (a ++ entry ∷ b)) k) cs new) (map-taken crossref_text a b entry k at)
+    (take (keys_of (a ++ entry ∷ b)) (map crossref_text (a ++ entry ∷ b)) (map-stands (λ (entry : EntryTexts). entry.key) a b entry key k key_is at) is))
+
+-- an item that is no entry leaves what is said of entries
+unlisted : (before after : List Item) (x : Item) → entry_in (macros_at months before (length before)) x.tree ≡ [] → macros_after (macros_at months before (length before)) x.tree ≡ macros_at months before (length before)
+    → gathered entry_in months (before ++ x ∷ after) ≡ gathered entry_in months (before ++ after)
+unlisted before after x none same = gathered-with entry_in before after x [] same none ∙ sym (gathered-append entry_in months before after)
+
+-- tables whose entries have the same numbers, and whose keys and crossrefs say the same of as many entries
+pub named_kept : (old new : Tables) → new.file_len ≡ old.file_len → new.entries ≡ old.entries → new.preambles ≡ old.preambles → new.definitions ≡ old.definitions
+    → ((keys : List Text) (crossrefs : List (Option Text)) → length keys ≡ length old.entries → IsTableOf keys crossrefs old.named → IsTableOf keys crossrefs new.named)
+    → SayTheSame old new
+named_kept old new len entries preambles kept named = record {
+  len = len;
+  tables = λ items t. record {
+    entries = entries ∙ t.entries;
+    preambles = preambles ∙ t.preambles;
+    named =
+        let all = gathered entry_in months items in
+        named (keys_of all) (map crossref_text all)
+        (length-map all (λ (entry : EntryTexts). entry.key) ∙ sym (entries_counted 0 months items) ∙ sym (ap (λ (ns : List ℕ). length ns) t.entries)) t.named;
+    definitions = subst (λ d. AreDefinitionsOf items (texts_at d)) (sym kept) t.definitions;
+  };
+}
+
 -- ---- an entry
 
 module _ (old new : Tables) (n : ℕ) (view : View) where
-  pub entry_step : (m : Macros) (found : Option Text)
-      → m ≡ texts_at old.definitions n
-      → new.entries.items ≡ old.entries.items ++ n ∷ []
-      → new.preambles ≡ old.preambles
-      → ((keys : List Text) → length keys ≡ length old.entries.items → IsIndexOf keys (holding_in old.keys) → IsIndexOf (keys ++ view.key ∷ []) (holding_in new.keys))
+  pub entry_insertion : (m : Macros) (found : Option Text) → m ≡ texts_at old.definitions n → EndsBy n old.definitions
+      → ((front rest : List ℕ) → PartAt n front rest old.entries → HaveNext rest → new.entries ≡ front ++ n ∷ map suc rest)
+      → ((front rest : List ℕ) → PartAt n front rest old.preambles → HaveNext rest → new.preambles ≡ front ++ map suc rest)
+      → ((front rest : List ℕ) (keys : List Text) (crossrefs : List (Option Text)) → PartAt n front rest old.entries → length front ≤ length keys → IsTableOf keys crossrefs old.named
+      → IsTableOf (insert keys (length front) view.key) (insert crossrefs (length front) found) new.named)
       → new.definitions ≡ old.definitions
-      → new.crossrefs.items ≡ old.crossrefs.items ++ found ∷ []
       → OfRows view.fields (λ before rows. found ≡ crossref_in m rows)
       → OfRows view.fields (λ before rows. first_too_long (row_texts (length before) m rows) ≡ None)
-      → OfView kind.Entry view (λ tree. IsStep n tree old new)
-  entry_step m found sees entries preambles keys definitions crossrefs says short (CommentTree h) is at seen = other_kind kind.Entry kind.Comment (sym at) (omega arith)
-  entry_step m found sees entries preambles keys definitions crossrefs says short (DefinitionTree d) is at seen = other_kind kind.Entry kind.Macro (sym at) (omega arith)
-  entry_step m found sees entries preambles keys definitions crossrefs says short (PreambleTree p) is at seen = other_kind kind.Entry kind.Preamble (sym at) (omega arith)
-  entry_step m found sees entries preambles keys definitions crossrefs says short (EntryTree e) is at seen =
-      let before = opening_bytes e.opening ++ e.key ++ e.space_behind_key in
+      → OfView kind.Entry view (λ tree. IsInsertion n tree old new)
+  entry_insertion m found sees ends entries preambles named kept says short (CommentTree h) is at seen = other_kind kind.Entry kind.Comment (sym at) (omega arith)
+  entry_insertion m found sees ends entries preambles named kept says short (DefinitionTree d) is at seen = other_kind kind.Entry kind.Macro (sym at) (omega arith)
+  entry_insertion m found sees ends entries preambles named kept says short (PreambleTree p) is at seen = other_kind kind.Entry kind.Preamble (sym at) (omega arith)
+  entry_insertion m found sees ends entries preambles named kept says short (EntryTree e) is at seen =
+      let start = opening_bytes e.opening ++ e.key ++ e.space_behind_key in
       let fields : view.fields ≡ fields_of (EntryTree e) = ap (λ (v : View). v.fields) seen in
-      let start = ap (λ (t : Text). length t) (sym (append_assoc (opening_bytes e.opening) e.key e.space_behind_key)) in
+      let long = ap (λ (t : Text). length t) (sym (append_assoc (opening_bytes e.opening) e.key e.space_behind_key)) in
       record {
-        tables = λ items trail count t.
-            let i = item_with (EntryTree e) trail in
-            let all = gathered entry_in months items in
-            let here = texts_of (macros_at months items (length items)) e in
-            let more = gathered-more entry_in months items i in
-            let macros : m ≡ macros_at months items (length items) = sees ∙ t.definitions n ∙ ap (macros_at months items) (sym count) in
-            let len : length (keys_of all) ≡ length old.entries.items = length-map all (λ (entry : EntryTexts). entry.key) ∙ sym (entries_counted 0 months items) ∙ sym (ap (λ (ns : List ℕ). length ns) t.entries) in
-            let all_keys : keys_of all ++ view.key ∷ [] ≡ keys_of (gathered entry_in months (items ++ i ∷ [])) =
-            ap (λ (key : Text). keys_of all ++ key ∷ []) (ap (λ (v : View). v.key) seen) ∙ sym (ap keys_of more ∙ map-append (λ (entry : EntryTexts). entry.key) all (here ∷ [])) in
+        tables = λ before after trail count fits t.
+            let x = item_with (EntryTree e) trail in
+            let here = macros_at months before (length before) in
+            let macros : m ≡ here = sees ∙ t.definitions n ∙ macros_in_front months before after n (omega (arith, count)) ∙ ap (macros_at months before) (sym count) in
+            let said = texts_of here e in
+            let front = numbers is_entry_tree 0 before in
+            let parts = parts_at is_entry_tree n before after old.entries count (t.entries ∙ numbers-parts is_entry_tree before after) in
             record {
-              entries = entries ∙ ap₂ (λ (ns : List ℕ) (k : ℕ). ns ++ k ∷ []) t.entries (sym count) ∙ sym (number_more (λ (item : Item). is_entry_tree item.tree) items i refl);
-              preambles = ap (λ v. v.items) preambles ∙ t.preambles ∙ sym (number_same (λ (item : Item). is_preamble_tree item.tree) items i refl);
-              keys = subst (λ (ks : List Text). IsIndexOf ks (holding_in new.keys)) all_keys (keys (keys_of all) len t.keys);
-              definitions = subst (λ d. AreDefinitionsOf (items ++ i ∷ []) (texts_at d)) (sym definitions) (definitions-same items i (texts_at old.definitions) refl t.definitions);
-              crossrefs = crossrefs
-                  ∙ ap₂ (λ (texts : List (Option Text)) (o : Option Text). texts ++ o ∷ []) t.crossrefs (says before e.rows is.rows fields ∙ ap (λ (mm : Macros). crossref_in mm e.rows) macros)
-                  ∙ sym (ap (map crossref_text) more ∙ map-append crossref_text all (here ∷ []));
+              entries = put_numbers is_entry_tree before after x n count fits old.entries new.entries refl entries t.entries;
+              preambles = moved_numbers is_preamble_tree before after x n count fits old.preambles new.preambles refl preambles t.preambles;
+              named = subst (λ (es : List EntryTexts). IsTableOfEntries es new.named) (sym (gathered-with entry_in before after x (said ∷ []) refl refl))
+                  (put_named old.named new.named (gathered entry_in months before) (gathered entry_in here after) said (length front) view.key found
+                  (ap (λ (v : View). v.key) seen) (says start e.rows is.rows fields ∙ ap (λ (mm : Macros). crossref_in mm e.rows) macros) (entries_counted 0 months before)
+                  (λ keys crossrefs. named front (numbers is_entry_tree (length before) after) keys crossrefs parts)
+                  (subst (λ (es : List EntryTexts). IsTableOfEntries es old.named) (gathered-append entry_in months before after) t.named));
+              definitions = put_definitions old new n ends kept before after x count refl t.definitions;
             };
-        texts = ap₂ (λ (k : ℕ) (mm : Macros). first_too_long (row_texts k mm e.rows)) start (sym sees) ∙ short before e.rows is.rows fields;
+        texts = ap₂ (λ (k : ℕ) (mm : Macros). first_too_long (row_texts k mm e.rows)) long (sym sees) ∙ short start e.rows is.rows fields;
+      }
+
+  pub entry_removal : EndsBy n old.definitions
+      → ((front rest : List ℕ) → PartAt n front rest (front ++ rest) → HaveNext rest → old.entries ≡ front ++ n ∷ map suc rest → new.entries ≡ front ++ rest)
+      → ((front rest : List ℕ) → PartAt n front rest (front ++ rest) → HaveNext rest → old.preambles ≡ front ++ map suc rest → new.preambles ≡ front ++ rest)
+      → (k : ℕ) → ((front rest : List ℕ) → PartAt n front rest old.entries → k ≡ length front)
+      → ((keys : List Text) (crossrefs : List (Option Text)) → slice_get keys k ≡ Some view.key → IsTableOf keys crossrefs old.named → IsTableOf (remove keys k) (remove crossrefs k) new.named)
+      → new.definitions ≡ old.definitions
+      → OfView kind.Entry view (λ tree. IsRemoval n tree old new)
+  entry_removal ends entries preambles k rank named kept (CommentTree h) is at seen before after trail count fits t = other_kind kind.Entry kind.Comment (sym at) (omega arith)
+  entry_removal ends entries preambles k rank named kept (DefinitionTree d) is at seen before after trail count fits t = other_kind kind.Entry kind.Macro (sym at) (omega arith)
+  entry_removal ends entries preambles k rank named kept (PreambleTree p) is at seen before after trail count fits t = other_kind kind.Entry kind.Preamble (sym at) (omega arith)
+  entry_removal ends entries preambles k rank named kept (EntryTree e) is at seen before after trail count fits t =
+      let x = item_with (EntryTree e) trail in
+      let here = macros_at months before (length before) in
+      let said = texts_of here e in
+      let front = numbers is_entry_tree 0 before in
+      let rest = numbers is_entry_tree (length before) after in
+      let all = t.entries ∙ numbers-with is_entry_tree before after x refl ∙ ap (λ (j : ℕ). front ++ j ∷ map suc rest) count in
+      let parts = part_with n front rest old.entries (parts_at is_entry_tree n before after (front ++ rest) count refl) all in
+      record {
+        entries = taken_numbers is_entry_tree before after x n count fits old.entries new.entries refl entries t.entries;
+        preambles = closed_numbers is_preamble_tree before after x n count fits old.preambles new.preambles refl preambles t.preambles;
+        named = subst (λ (es : List EntryTexts). IsTableOfEntries es new.named) (sym (gathered-append entry_in months before after))
+            (taken_named old.named new.named (gathered entry_in months before) (gathered entry_in here after) said k view.key (ap (λ (v : View). v.key) seen)
+            (rank front (n ∷ map suc rest) parts ∙ entries_counted 0 months before) named
+            (subst (λ (es : List EntryTexts). IsTableOfEntries es old.named) (gathered-with entry_in before after x (said ∷ []) refl refl) t.named));
+        definitions = taken_definitions old new n ends kept before after x count refl t.definitions;
       }
 
   pub entry_over : (m : Macros) (place : ℕ) → m ≡ texts_at old.definitions n
@@ -101,26 +189,6 @@ module _ (old new : Tables) (n : ℕ) (view : View) where
   entry_over m place sees over (EntryTree e) is at seen =
       ap₂ (λ (k : ℕ) (mm : Macros). first_too_long (row_texts k mm e.rows)) (ap (λ (t : Text). length t) (sym (append_assoc (opening_bytes e.opening) e.key e.space_behind_key))) (sym sees)
       ∙ over (opening_bytes e.opening ++ e.key ++ e.space_behind_key) e.rows is.rows (ap (λ (v : View). v.fields) seen)
-
-  -- ---- other items
-
-  other_tables : (items : List Item) (tree : Tree) (trail : Text) → ((m : Macros) → entry_in m tree ≡ []) → is_entry_tree tree ≡ false
-      → new.entries ≡ old.entries → new.keys ≡ old.keys → new.crossrefs ≡ old.crossrefs
-      → new.preambles.items ≡ preamble_numbers (items ++ item_with tree trail ∷ [])
-      → AreDefinitionsOf (items ++ item_with tree trail ∷ []) (texts_at new.definitions)
-      → AreTablesOf items old → AreTablesOf (items ++ item_with tree trail ∷ []) new
-  other_tables items tree trail none not_entry entries keys crossrefs preambles definitions t =
-      let i = item_with tree trail in
-      let all = gathered entry_in months items in
-      let unlisted : all ≡ gathered entry_in months (items ++ i ∷ []) =
-      sym (gathered-more entry_in months items i ∙ ap (λ more. all ++ more) (none (macros_at months items (length items))) ∙ append-nil all) in
-      record {
-        entries = ap (λ v. v.items) entries ∙ t.entries ∙ sym (number_same (λ (item : Item). is_entry_tree item.tree) items i not_entry);
-        preambles = preambles;
-        keys = subst (λ k. IsIndexOf (keys_of (gathered entry_in months (items ++ i ∷ []))) (holding_in k)) (sym keys) (subst (λ (es : List EntryTexts). IsIndexOf (keys_of es) (holding_in old.keys)) unlisted t.keys);
-        definitions = definitions;
-        crossrefs = ap (λ v. v.items) crossrefs ∙ t.crossrefs ∙ ap (map crossref_text) unlisted;
-      }
 
   -- ---- a definition
 
@@ -142,13 +210,13 @@ module _ (old new : Tables) (n : ℕ) (view : View) where
   pub definition_step : (field : Field) (rest : List Field) → view.fields ≡ field ∷ rest
       → OfValue field.value (λ v. (items : List Item) (item : Item) → length items ≡ n → AreDefinitionsOf items (texts_at old.definitions)
       → Defines (macros_at months items n) item.tree field.name (raw_text (own_text (texts_at old.definitions n) field.name) v) → AreDefinitionsOf (items ++ item ∷ []) (texts_at new.definitions))
-      → new.entries ≡ old.entries → new.preambles ≡ old.preambles → new.keys ≡ old.keys → new.crossrefs ≡ old.crossrefs
+      → new.entries ≡ old.entries → new.preambles ≡ old.preambles → new.named ≡ old.named
       → OfValue field.value (λ v. length (raw_text (own_text (texts_at old.definitions n) field.name) v) ≤ raw_limit)
       → OfView kind.Macro view (λ tree. IsStep n tree old new)
-  definition_step field rest first table entries preambles keys crossrefs short (CommentTree h) is at seen = other_kind kind.Macro kind.Comment (sym at) (omega arith)
-  definition_step field rest first table entries preambles keys crossrefs short (EntryTree e) is at seen = other_kind kind.Entry kind.Macro at (omega arith)
-  definition_step field rest first table entries preambles keys crossrefs short (PreambleTree p) is at seen = other_kind kind.Macro kind.Preamble (sym at) (omega arith)
-  definition_step field rest first table entries preambles keys crossrefs short (DefinitionTree d) is at seen =
+  definition_step field rest first table entries preambles named short (CommentTree h) is at seen = other_kind kind.Macro kind.Comment (sym at) (omega arith)
+  definition_step field rest first table entries preambles named short (EntryTree e) is at seen = other_kind kind.Entry kind.Macro at (omega arith)
+  definition_step field rest first table entries preambles named short (PreambleTree p) is at seen = other_kind kind.Macro kind.Preamble (sym at) (omega arith)
+  definition_step field rest first table entries preambles named short (DefinitionTree d) is at seen =
       let a = d.assignment in
       let own = field_behind (length (opening_bytes d.opening)) (opening_bytes d.opening) a in
       let same = (cons_parts field own rest [] (sym first ∙ ap (λ (v : View). v.fields) seen)).0 in
@@ -162,9 +230,13 @@ module _ (old new : Tables) (n : ℕ) (view : View) where
             let defined : Defines here (DefinitionTree d) field.name (raw_text (own_text (texts_at old.definitions n) field.name) a.value) =
             ap (λ (x : Text). updated here x (Some (raw_text (own_text here x) a.value))) (sym name)
             ∙ ap (λ (mm : Macros). updated here field.name (Some (raw_text (own_text mm field.name) a.value))) (sym macros) in
-            other_tables items (DefinitionTree d) trail (λ m. refl) refl entries keys crossrefs
-            (ap (λ v. v.items) preambles ∙ t.preambles ∙ sym (number_same (λ (item : Item). is_preamble_tree item.tree) items i refl))
-            (table a.value is.assignment.value value items i count t.definitions defined) t;
+            let gone : gathered entry_in months items ≡ gathered entry_in months (items ++ i ∷ []) = sym (gathered-more entry_in months items i ∙ append-nil (gathered entry_in months items)) in
+            record {
+              entries = entries ∙ t.entries ∙ sym (number_same (λ (item : Item). is_entry_tree item.tree) items i refl);
+              preambles = preambles ∙ t.preambles ∙ sym (number_same (λ (item : Item). is_preamble_tree item.tree) items i refl);
+              named = subst (λ (k : Kept). IsTableOfEntries (gathered entry_in months (items ++ i ∷ [])) k) (sym named) (subst (λ (es : List EntryTexts). IsTableOfEntries es old.named) gone t.named);
+              definitions = table a.value is.assignment.value value items i count t.definitions defined;
+            };
         texts = first_fits (length (opening_bytes d.opening ++ bytes_before_value a)) (raw_text (own_text (texts_at old.definitions n) a.name) a.value) []
             (subst (λ (x : Text). length (raw_text (own_text (texts_at old.definitions n) x) a.value) ≤ raw_limit) name (short a.value is.assignment.value value));
       }
@@ -187,20 +259,45 @@ module _ (old new : Tables) (n : ℕ) (view : View) where
 
   -- ---- a preamble
 
-  pub preamble_step : new.entries ≡ old.entries → new.preambles.items ≡ old.preambles.items ++ n ∷ [] → new.keys ≡ old.keys → new.definitions ≡ old.definitions → new.crossrefs ≡ old.crossrefs
+  pub preamble_insertion : EndsBy n old.definitions
+      → ((front rest : List ℕ) → PartAt n front rest old.preambles → HaveNext rest → new.preambles ≡ front ++ n ∷ map suc rest)
+      → ((front rest : List ℕ) → PartAt n front rest old.entries → HaveNext rest → new.entries ≡ front ++ map suc rest)
+      → new.named ≡ old.named → new.definitions ≡ old.definitions
       → OfView kind.Preamble view (λ tree. first_too_long (placed_texts (texts_at old.definitions n) tree) ≡ None)
-      → OfView kind.Preamble view (λ tree. IsStep n tree old new)
-  preamble_step entries preambles keys definitions crossrefs short (CommentTree h) is at seen = other_kind kind.Preamble kind.Comment (sym at) (omega arith)
-  preamble_step entries preambles keys definitions crossrefs short (EntryTree e) is at seen = other_kind kind.Entry kind.Preamble at (omega arith)
-  preamble_step entries preambles keys definitions crossrefs short (DefinitionTree d) is at seen = other_kind kind.Macro kind.Preamble at (omega arith)
-  preamble_step entries preambles keys definitions crossrefs short (PreambleTree p) is at seen = record {
-    tables = λ items trail count t.
-        let i = item_with (PreambleTree p) trail in
-        other_tables items (PreambleTree p) trail (λ m. refl) refl entries keys crossrefs
-        (preambles ∙ ap₂ (λ (ns : List ℕ) (k : ℕ). ns ++ k ∷ []) t.preambles (sym count) ∙ sym (number_more (λ (item : Item). is_preamble_tree item.tree) items i refl))
-        (subst (λ d. AreDefinitionsOf (items ++ i ∷ []) (texts_at d)) (sym definitions) (definitions-same items i (texts_at old.definitions) refl t.definitions)) t;
+      → OfView kind.Preamble view (λ tree. IsInsertion n tree old new)
+  preamble_insertion ends preambles entries named kept short (CommentTree h) is at seen = other_kind kind.Preamble kind.Comment (sym at) (omega arith)
+  preamble_insertion ends preambles entries named kept short (EntryTree e) is at seen = other_kind kind.Entry kind.Preamble at (omega arith)
+  preamble_insertion ends preambles entries named kept short (DefinitionTree d) is at seen = other_kind kind.Macro kind.Preamble at (omega arith)
+  preamble_insertion ends preambles entries named kept short (PreambleTree p) is at seen = record {
+    tables = λ before after trail count fits t.
+        let x = item_with (PreambleTree p) trail in
+        record {
+          entries = moved_numbers is_entry_tree before after x n count fits old.entries new.entries refl entries t.entries;
+          preambles = put_numbers is_preamble_tree before after x n count fits old.preambles new.preambles refl preambles t.preambles;
+          named = subst (λ (es : List EntryTexts). IsTableOfEntries es new.named) (sym (unlisted before after x refl refl))
+              (subst (λ (k : Kept). IsTableOfEntries (gathered entry_in months (before ++ after)) k) (sym named) t.named);
+          definitions = put_definitions old new n ends kept before after x count refl t.definitions;
+        };
     texts = short (PreambleTree p) is at seen;
   }
+
+  pub preamble_removal : EndsBy n old.definitions
+      → ((front rest : List ℕ) → PartAt n front rest (front ++ rest) → HaveNext rest → old.preambles ≡ front ++ n ∷ map suc rest → new.preambles ≡ front ++ rest)
+      → ((front rest : List ℕ) → PartAt n front rest (front ++ rest) → HaveNext rest → old.entries ≡ front ++ map suc rest → new.entries ≡ front ++ rest)
+      → new.named ≡ old.named → new.definitions ≡ old.definitions
+      → OfView kind.Preamble view (λ tree. IsRemoval n tree old new)
+  preamble_removal ends preambles entries named kept (CommentTree h) is at seen before after trail count fits t = other_kind kind.Preamble kind.Comment (sym at) (omega arith)
+  preamble_removal ends preambles entries named kept (EntryTree e) is at seen before after trail count fits t = other_kind kind.Entry kind.Preamble at (omega arith)
+  preamble_removal ends preambles entries named kept (DefinitionTree d) is at seen before after trail count fits t = other_kind kind.Macro kind.Preamble at (omega arith)
+  preamble_removal ends preambles entries named kept (PreambleTree p) is at seen before after trail count fits t =
+      let x = item_with (PreambleTree p) trail in
+      record {
+        entries = closed_numbers is_entry_tree before after x n count fits old.entries new.entries refl entries t.entries;
+        preambles = taken_numbers is_preamble_tree before after x n count fits old.preambles new.preambles refl preambles t.preambles;
+        named = subst (λ (es : List EntryTexts). IsTableOfEntries es new.named) (unlisted before after x refl refl)
+            (subst (λ (k : Kept). IsTableOfEntries (gathered entry_in months (before ++ x ∷ after)) k) (sym named) t.named);
+        definitions = taken_definitions old new n ends kept before after x count refl t.definitions;
+      }
 
   pub preamble_fits : (field : Field) (rest : List Field) → view.fields ≡ field ∷ rest
       → OfValue field.value (λ v. length (raw_text (texts_at old.definitions n) v) ≤ raw_limit)
@@ -238,15 +335,49 @@ module _ (old new : Tables) (n : ℕ) (view : View) where
 
   -- ---- a comment
 
-  pub comment_step : new ≡ old → OfView kind.Comment view (λ tree. IsStep n tree old new)
-  comment_step same (EntryTree e) is at seen = other_kind kind.Entry kind.Comment at (omega arith)
-  comment_step same (DefinitionTree d) is at seen = other_kind kind.Macro kind.Comment at (omega arith)
-  comment_step same (PreambleTree p) is at seen = other_kind kind.Preamble kind.Comment at (omega arith)
-  comment_step same (CommentTree h) is at seen = record {
-    tables = λ items trail count t.
-        let i = item_with (CommentTree h) trail in
-        other_tables items (CommentTree h) trail (λ m. refl) refl (ap (λ (x : Tables). x.entries) same) (ap (λ (x : Tables). x.keys) same) (ap (λ (x : Tables). x.crossrefs) same)
-        (ap (λ (x : Tables). x.preambles.items) same ∙ t.preambles ∙ sym (number_same (λ (item : Item). is_preamble_tree item.tree) items i refl))
-        (subst (λ (x : Tables). AreDefinitionsOf (items ++ i ∷ []) (texts_at x.definitions)) (sym same) (definitions-same items i (texts_at old.definitions) refl t.definitions)) t;
+  pub comment_insertion : EndsBy n old.definitions
+      → ((front rest : List ℕ) → PartAt n front rest old.entries → HaveNext rest → new.entries ≡ front ++ map suc rest)
+      → ((front rest : List ℕ) → PartAt n front rest old.preambles → HaveNext rest → new.preambles ≡ front ++ map suc rest)
+      → new.named ≡ old.named → new.definitions ≡ old.definitions
+      → OfView kind.Comment view (λ tree. IsInsertion n tree old new)
+  comment_insertion ends entries preambles named kept (EntryTree e) is at seen = other_kind kind.Entry kind.Comment at (omega arith)
+  comment_insertion ends entries preambles named kept (DefinitionTree d) is at seen = other_kind kind.Macro kind.Comment at (omega arith)
+  comment_insertion ends entries preambles named kept (PreambleTree p) is at seen = other_kind kind.Preamble kind.Comment at (omega arith)
+  comment_insertion ends entries preambles named kept (CommentTree h) is at seen = record {
+    tables = λ before after trail count fits t.
+        let x = item_with (CommentTree h) trail in
+        record {
+          entries = moved_numbers is_entry_tree before after x n count fits old.entries new.entries refl entries t.entries;
+          preambles = moved_numbers is_preamble_tree before after x n count fits old.preambles new.preambles refl preambles t.preambles;
+          named = subst (λ (es : List EntryTexts). IsTableOfEntries es new.named) (sym (unlisted before after x refl refl))
+              (subst (λ (k : Kept). IsTableOfEntries (gathered entry_in months (before ++ after)) k) (sym named) t.named);
+          definitions = put_definitions old new n ends kept before after x count refl t.definitions;
+        };
     texts = refl;
   }
+
+  pub comment_removal : EndsBy n old.definitions
+      → ((front rest : List ℕ) → PartAt n front rest (front ++ rest) → HaveNext rest → old.entries ≡ front ++ map suc rest → new.entries ≡ front ++ rest)
+      → ((front rest : List ℕ) → PartAt n front rest (front ++ rest) → HaveNext rest → old.preambles ≡ front ++ map suc rest → new.preambles ≡ front ++ rest)
+      → new.named ≡ old.named → new.definitions ≡ old.definitions
+      → OfView kind.Comment view (λ tree. IsRemoval n tree old new)
+  comment_removal ends entries preambles named kept (EntryTree e) is at seen before after trail count fits t = other_kind kind.Entry kind.Comment at (omega arith)
+  comment_removal ends entries preambles named kept (DefinitionTree d) is at seen before after trail count fits t = other_kind kind.Macro kind.Comment at (omega arith)
+  comment_removal ends entries preambles named kept (PreambleTree p) is at seen before after trail count fits t = other_kind kind.Preamble kind.Comment at (omega arith)
+  comment_removal ends entries preambles named kept (CommentTree h) is at seen before after trail count fits t =
+      let x = item_with (CommentTree h) trail in
+      record {
+        entries = closed_numbers is_entry_tree before after x n count fits old.entries new.entries refl entries t.entries;
+        preambles = closed_numbers is_preamble_tree before after x n count fits old.preambles new.preambles refl preambles t.preambles;
+        named = subst (λ (es : List EntryTexts). IsTableOfEntries es new.named) (unlisted before after x refl refl)
+            (subst (λ (k : Kept). IsTableOfEntries (gathered entry_in months (before ++ x ∷ after)) k) (sym named) t.named);
+        definitions = taken_definitions old new n ends kept before after x count refl t.definitions;
+      }
+
+-- ---- at the end
+
+pub step_at_end : (n : ℕ) (tree : Tree) (old new : Tables) → n < 2 ^ 64 → IsInsertion n tree old new → IsStep n tree old new
+step_at_end n tree old new fits i = record {
+  tables = λ items trail count t. i.tables items [] trail count (omega (arith, fits)) (subst (λ (l : List Item). AreTablesOf l old) (sym (append-nil items)) t);
+  texts = i.texts;
+}

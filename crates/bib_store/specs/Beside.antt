@@ -1,5 +1,5 @@
 -- The tables that are kept beside the items of a file.
-use Rattle.std.specs.Prelude.{ℕ, ◌≡◌, ◌≤◌, ◌++◌, List, [], ◌∷◌, length, map, Some, None, All}
+use Rattle.std.specs.Prelude.{ℕ, ◌≡◌, ◌≢◌, ◌≤◌, ◌<◌, ◌+◌, ◌^◌, ◌++◌, List, [], ◌∷◌, length, map, Some, None, All}
 use Rattle.bib_spec.specs.Bytes.{name_limit, file_limit}
 use Rattle.bib_spec.specs.Text.{Text}
 use Rattle.bib_spec.specs.Tree.{Tree, IsTree}
@@ -9,23 +9,23 @@ use Rattle.bib_spec.specs.Texts.{months, gathered}
 use Rattle.bib_spec.specs.Records.{entry_in, keys_of, crossref_text}
 use Rattle.bib_scan.specs.View.{View, view_of, kind_of}
 use Rattle.bib_scan.specs.declared.view.Kind.{Kind}
+use Rattle.bib_scan.specs.declared.view.Kind.TheVariants as kind
 use Rattle.bib_items.specs.declared.list.Item.{Item}
 use Rattle.bib_store.specs.declared.tables.Tables.{Tables}
 use Rattle.bib_store.specs.Meaning.{entry_numbers}
 use Rattle.bib_items.specs.Items.{all_stored}
-use Rattle.bib_store.specs.Tables.{preamble_numbers, IsIndexOf, AreDefinitionsOf}
-use Rattle.bib_store.specs.KeyIndex.{holding_in}
+use Rattle.bib_entries.specs.EntryTable.{IsTableOf}
+use Rattle.bib_store.specs.Tables.{preamble_numbers, AreDefinitionsOf}
 use Rattle.bib_store.specs.Defined.{texts_at}
 use Rattle.bib_store.specs.ItemTexts.{first_too_long, placed_texts}
 
 -- the tables say of these items which are entries and preambles, which keys the entries have, what macros stand for
 -- where each item stands, and what the crossref of each entry says
 pub record AreTablesOf (items : List reading.Item) (t : Tables) : Type 0 where
-  pub entries : t.entries.items ≡ entry_numbers items
-  pub preambles : t.preambles.items ≡ preamble_numbers items
-  pub keys : IsIndexOf (keys_of (gathered entry_in months items)) (holding_in t.keys)
+  pub entries : t.entries ≡ entry_numbers items
+  pub preambles : t.preambles ≡ preamble_numbers items
+  pub named : IsTableOf (keys_of (gathered entry_in months items)) (map crossref_text (gathered entry_in months items)) t.named
   pub definitions : AreDefinitionsOf items (texts_at t.definitions)
-  pub crossrefs : t.crossrefs.items ≡ map crossref_text (gathered entry_in months items)
 
 -- the tables are those of this file
 abbrev pub AreTables : Reading → Tables → Type 0
@@ -39,18 +39,23 @@ pub record HasItems (front_len : ℕ) (kept : List Item) (db : Reading) : Type 0
   pub same : all_stored db.items ≡ kept
 
 -- the tables say what they said
-pub record AreSame (old new : Tables) : Type 0 where
+pub record SayTheSame (old new : Tables) : Type 0 where
   pub len : new.file_len ≡ old.file_len
-  pub entries : new.entries.items ≡ old.entries.items
-  pub preambles : new.preambles.items ≡ old.preambles.items
-  pub keys : new.keys ≡ old.keys
-  pub definitions : new.definitions ≡ old.definitions
-  pub crossrefs : new.crossrefs.items ≡ old.crossrefs.items
+  pub tables : (items : List reading.Item) → AreTablesOf items old → AreTablesOf items new
 
 -- ---- one item more
 
 abbrev pub item_with : Tree → Text → reading.Item
 item_with tree trail = record { tree = tree; trail = trail }
+
+-- item n comes, before those that had its number and the greater ones; no raw text in it is too long
+pub record IsInsertion (n : ℕ) (tree : Tree) (old new : Tables) : Type 0 where
+  pub tables : (before after : List reading.Item) (trail : Text) → length before ≡ n → n + length after < 2 ^ 64 → AreTablesOf (before ++ after) old → AreTablesOf (before ++ item_with tree trail ∷ after) new
+  pub texts : first_too_long (placed_texts (texts_at old.definitions n) tree) ≡ None
+
+-- item n goes
+abbrev pub IsRemoval : ℕ → Tree → Tables → Tables → Type 0
+IsRemoval n tree old new = (before after : List reading.Item) (trail : Text) → length before ≡ n → n + length after < 2 ^ 64 → AreTablesOf (before ++ item_with tree trail ∷ after) old → AreTablesOf (before ++ after) new
 
 -- item n stands behind those whose tables these were, and no raw text in it is too long
 pub record IsStep (n : ℕ) (tree : Tree) (old new : Tables) : Type 0 where
@@ -60,6 +65,10 @@ pub record IsStep (n : ℕ) (tree : Tree) (old new : Tables) : Type 0 where
 -- the first raw text that is too long in item n stands at this place of its body
 abbrev pub IsTooLongAt : ℕ → Tree → Tables → ℕ → Type 0
 IsTooLongAt n tree t place = first_too_long (placed_texts (texts_at t.definitions n) tree) ≡ Some place
+
+-- it holds of the tree that is seen, unless that is a definition
+abbrev pub OfOther : View → (Tree → Type 0) → Type 0
+OfOther view P = (tree : Tree) → IsTree name_limit tree → kind_of tree ≢ kind.Macro → view ≡ view_of (item_with tree []) → P tree
 
 -- it holds of the tree of this kind that is seen
 abbrev pub OfView : Kind → View → (Tree → Type 0) → Type 0

@@ -9,8 +9,7 @@ pub mod Choosing
 pub mod Shifting
 pub mod Windows
 pub mod ItemTexts
-pub mod KeyIndex
 pub mod Beside
 pub mod Stored
 pub mod Amending
-pub mod Appending
+pub mod Following

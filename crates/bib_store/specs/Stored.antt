@@ -25,6 +25,11 @@ pub record IsKeptAs (db : Reading) (kept_front : Text) (kept_items : List Item) 
   pub tables : AreTables db kept_tables
   pub len : kept_tables.file_len ≡ length (file_of kept_front kept_items)
 
+-- other tables say of the file what these say
+pub record SayTheSameOf (items : List Item) (old new : Tables) : Type 0 where
+  pub len : new.file_len ≡ old.file_len
+  pub tables : (db : Reading) (front : Text) → IsKeptAs db front items old → AreTables db new
+
 -- the front, the items and the tables are those of a file that can be opened
 pub record IsKept (front : Text) (items : List Item) (tables : Tables) : Type 0 where
   pub db : Reading

@@ -36,21 +36,6 @@ is_preamble_tree (EntryTree e) = false
 abbrev pub preamble_numbers : List reading.Item → List ℕ
 preamble_numbers items = map (λ p. p.0) (filter (λ p. is_preamble_tree p.1.tree) (enumerate_from 0 items))
 
--- ---- keys
-
--- the first entry that has a key, and how many have it
-pub record Holding : Type 0 where
-  pub first : ℕ
-  pub count : ℕ
-
--- which entries have the key that the text names, if one does
-abbrev pub holding : List Text → Text → Option Holding
-holding keys text = option_map (λ first. record { first = first; count = count_by (is_named text) keys }) (first_named text keys)
-
--- the table says of each text which of these keys it names
-abbrev pub IsIndexOf : List Text → (Text → Option Holding) → Type 0
-IsIndexOf keys table = (text : Text) → table (folded text) ≡ holding keys text
-
 -- ---- macros
 
 -- the table says what macros stand for where each item stands, and behind the last

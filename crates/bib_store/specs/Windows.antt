@@ -87,3 +87,9 @@ joined w db inner = record {
 abbrev pub OfJoined : Change → ℕ → List Item → Tables → (Reading → Type 0) → Type 0
 OfJoined c front_len items t P = (front : Text) (db inner : Reading) → IsKeptAs db front items t → Reads c.text inner
     → HasItems front_len (exchanged c.window inner.items items) (joined c.window db inner) → P (joined c.window db inner)
+
+-- the items of the change, of this count, stand before those that they replace
+pub record ArePut (c : Change) (old now : List Item) (count : ℕ) : Type 0 where
+  pub window : IsWindow old c.window
+  pub counted : (inner : Reading) → Reads c.text inner → count ≡ length inner.items
+  pub put : (inner : Reading) → Reads c.text inner → now ≡ take c.window.from old ++ (all_stored inner.items ++ drop c.window.from old)

@@ -16,7 +16,7 @@ ghost use Rattle.bib_items.specs.declared.fault.StoreFault.TheVariants.{Memory, 
 
 use crate::change::Change;
 use crate::crossrefs::entry_crossref;
-use crate::definitions::Definitions;
+use crate::defining::FileDefinitions;
 use crate::item_fault::ItemFault;
 use crate::tables::Tables;
 use bib_items::{ItemList, StoreFault};
@@ -52,7 +52,7 @@ pub(crate) fn amended<L: ItemList>(items: &L, entries: &[usize], change: &Change
 fn coming_crossref(
     alloc: Global,
     change: &Change,
-    definitions: &Definitions,
+    definitions: &FileDefinitions,
 ) -> Result<Option<Text>, StoreFault>
     requires layout { IsLayoutOf change.now.text change.now.layout }
     requires one { length change.now.layout.items ≡ 1 }
@@ -80,8 +80,7 @@ pub(crate) fn amend<L: ItemList>(
 ) -> Result<(), StoreFault>
     requires window { IsWindow (L.items items.old) change.now.window }
     requires layout { IsLayoutOf change.now.text change.now.layout }
-    requires amendment { IsAmendment (L.items items.old) tables.old.entries.items change.now m }
-    requires within { m < length tables.old.crossrefs.items }
+    requires amendment { IsAmendment (L.items items.old) tables.old.entries change.now m }
     ensures items { OnOk result ((inner : Reading) → Reads change.now.text inner → L.items items.new ≡ exchanged change.now.window inner.items (L.items items.old)) }
     ensures tables { OnOk result ((front_len : ℕ) → OfJoined change.now front_len (L.items items.old) tables.old (λ db. AreTables db tables.new × (too_long_at db ≡ None))) }
     ensures len { OnOk result (tables.new.file_len ≡ change.now.file_len) }
@@ -92,7 +91,7 @@ pub(crate) fn amend<L: ItemList>(
     let crossref = coming_crossref(alloc, change, &tables.definitions)?;
     let item = change.layout.item(change.text.as_slice(), 0);
     items.replace(change.window.from, item.body(), item.trail())?;
-    tables.crossrefs[m] = crossref;
+    tables.named.set_crossref(m, crossref);
     tables.file_len = change.file_len;
     Ok(())
 }

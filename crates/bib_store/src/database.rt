@@ -102,14 +102,14 @@ impl<L: ItemList> Database<L> {
     pub fn entry_count(&self) -> usize
         ensures { OfReading self.now (λ db. result ≡ length (entries_of db)) }
     {
-        self.tables.entries.len()
+        self.tables.entries.count()
     }
 
     /// How many preambles there are.
     pub fn preamble_count(&self) -> usize
         ensures { OfReading self.now (λ db. result ≡ length (preambles_of db)) }
     {
-        self.tables.preambles.len()
+        self.tables.preambles.count()
     }
 
     /// The text before the first item.
@@ -148,7 +148,7 @@ impl<L: ItemList> Database<L> {
         requires { IsEntryNumber self.now n }
         ensures { OfReading self.now (λ db. slice_get (entry_numbers db.items) n ≡ Some result) }
     {
-        self.tables.entries[n]
+        self.tables.entries.get(n)
     }
 
     /// The number of the first entry that has this key, folded. It takes time in the key's length.
@@ -156,7 +156,7 @@ impl<L: ItemList> Database<L> {
         ensures found { IfOk result (λ n. OfReading self.now (λ db. entry_named (entries_of db) key.now ≡ Some n)) }
         ensures none { IfErr result (λ fault. (fault ≡ NoSuchEntry) × OfReading self.now (λ db. entry_named (entries_of db) key.now ≡ None)) }
     {
-        match self.tables.keys.first(key) {
+        match self.tables.named.first(key) {
             Some(n) => Ok(n),
             None => Err(StoreFault::NoSuchEntry),
         }
@@ -166,7 +166,7 @@ impl<L: ItemList> Database<L> {
     pub fn holders(&self, key: &[u8]) -> usize
         ensures { OfReading self.now (λ db. result ≡ count_by (is_named key.now) (keys_of (entries_of db))) }
     {
-        self.tables.keys.count(key)
+        self.tables.named.holders(key)
     }
 
     /// Whether an earlier entry has the key of entry `n`, folded.
@@ -185,10 +185,7 @@ impl<L: ItemList> Database<L> {
         requires { IsEntryNumber self.now n }
         ensures { OfReading self.now (λ db. option_copied result ≡ option_and_then crossref_text (slice_get (entries_of db) n)) }
     {
-        match &self.tables.crossrefs[n] {
-            Some(text) => Some(text.as_slice()),
-            None => None,
-        }
+        self.tables.named.crossref(n)
     }
 
     /// The entry that the crossref of entry `n` names.
@@ -209,7 +206,7 @@ impl<L: ItemList> Database<L> {
         ensures short { IfOk result (λ text. length text ≤ raw_limit) }
         ensures only { IfErr result (λ fault. fault ≡ Memory) }
     {
-        let m = self.tables.preambles[n];
+        let m = self.tables.preambles.get(n);
         let value = preamble_value(&self.item(m));
         short_text(self.alloc, value, &self.macros_at(m))
     }

@@ -1,19 +1,29 @@
 //! Exchanging items for others.
 
-ghost use Rattle.std.specs.Prelude.{◌≡◌, ◌⊎◌, None, length, IfOk, IfErr, OnOk, OnErr};
+ghost use Rattle.std.specs.Prelude.{◌≡◌, ◌+◌, ◌≤◌, ◌⊎◌, ℕ, List, None, length, IsTrue, IfOk, IfErr, OnOk, OnErr};
+ghost use Rattle.bib_spec.specs.Reading as reading;
 ghost use Rattle.bib_spec.specs.Reading.{Reading, Reads};
 ghost use Rattle.bib_spec.specs.Texts.{too_long_at};
 ghost use Rattle.bib_scan.specs.Layout.{IsLayoutOf};
-ghost use Rattle.bib_store.specs.Beside.{AreSame, HasItems, AreTables};
-ghost use Rattle.bib_store.specs.Windows.{IsWindow, OfJoined, exchanged};
+ghost use Rattle.bib_store.specs.Beside.{AreTables, HasItems};
+ghost use Rattle.bib_store.specs.Defined.{EndsBy};
+ghost use Rattle.bib_store.specs.Following.{bodies_between, AreItemsOf, DefineNothing};
+ghost use Rattle.bib_items.specs.Items.{without_range};
+ghost use Rattle.bib_store.specs.Stored.{SayTheSameOf};
+ghost use Rattle.bib_items.specs.declared.list.Item.{Item};
+ghost use Rattle.bib_store.specs.Windows.{IsWindow, ArePut, OfJoined, exchanged};
 ghost use Rattle.bib_items.specs.declared.fault.StoreFault.TheVariants.{Memory, BadSplice};
 
 use crate::amending::{amend, amended};
-use crate::appending::{append, appends};
 use crate::change::Change;
+use crate::following::{are_others, forget, learn};
 use crate::tables::Tables;
 use bib_items::{ItemList, StoreFault};
 use std::alloc::Global;
+
+/// Tables follow so many items that come, and so many that go. Each takes a step for every entry after it, so that for
+/// more of them it costs less to make the tables again.
+const FOLLOWED_LIMIT: usize = 64;
 
 /// Puts the items of a change in place of those in its window, and lets the tables say what holds of all items then. It
 /// is refused where memory runs out, or where a raw text is too long; nothing has changed then.
@@ -26,61 +36,159 @@ pub(crate) fn exchange<L: ItemList>(
 ) -> Result<(), StoreFault>
     requires window { IsWindow (L.items items.old) change.now.window }
     requires layout { IsLayoutOf change.now.text change.now.layout }
-    requires counted { length tables.old.crossrefs.items ≡ length tables.old.entries.items }
     ensures items { OnOk result ((inner : Reading) → Reads change.now.text inner → L.items items.new ≡ exchanged change.now.window inner.items (L.items items.old)) }
     ensures tables { OnOk result (OfJoined change.now front_len (L.items items.old) tables.old (λ db. AreTables db tables.new × (too_long_at db ≡ None))) }
     ensures len { OnOk result (tables.new.file_len ≡ change.now.file_len) }
     ensures refused { IfErr result (λ fault. fault ≡ BadSplice → OfJoined change.now front_len (L.items items.old) tables.old (λ db. too_long_at db ≡ None → ⊥)) }
     ensures only { IfErr result (λ fault. (fault ≡ BadSplice) ⊎ (fault ≡ Memory)) }
-    ensures err { OnErr result ((L.items items.new ≡ L.items items.old) × AreSame tables.old tables.new) }
+    ensures err { OnErr result ((L.items items.new ≡ L.items items.old) × SayTheSameOf (L.items items.old) tables.old tables.new) }
 {
     if let Some(m) = amended(&*items, tables.entries.as_slice(), change) {
         return amend(alloc, items, tables, change, m);
     }
-    if appends(&*items, change) {
-        return append(alloc, items, tables, change);
-    }
-    *tables = exchange_all(alloc, front_len, items, change)?;
-    Ok(())
+    exchange_all(alloc, front_len, items, tables, change)
 }
 
-/// Puts the items of a change in place of those in its window, and makes the tables of all items. It is refused where
-/// memory runs out, or where a raw text is too long; the list is then as it was.
+/// Puts the items of a change in place of those in its window, and lets the tables say what holds of all items then. It
+/// is refused where memory runs out, or where a raw text is too long; the list is then as it was, and the tables say what
+/// they said.
 fn exchange_all<L: ItemList>(
     alloc: Global,
     front_len: usize,
     items: &mut L,
+    tables: &mut Tables,
     change: &Change,
-) -> Result<Tables, StoreFault>
+) -> Result<(), StoreFault>
     requires window { IsWindow (L.items items.old) change.now.window }
     requires layout { IsLayoutOf change.now.text change.now.layout }
     ensures items { OnOk result ((inner : Reading) → Reads change.now.text inner → L.items items.new ≡ exchanged change.now.window inner.items (L.items items.old)) }
-    ensures tables { IfOk result (λ tables. (inner db : Reading) → Reads change.now.text inner → HasItems front_len (exchanged change.now.window inner.items (L.items items.old)) db
-        → AreTables db tables × (too_long_at db ≡ None)) }
-    ensures len { IfOk result (λ tables. tables.file_len ≡ change.now.file_len) }
-    ensures refused { IfErr result (λ fault. fault ≡ BadSplice → (inner db : Reading) → Reads change.now.text inner
-        → HasItems front_len (exchanged change.now.window inner.items (L.items items.old)) db → too_long_at db ≡ None → ⊥) }
+    ensures tables { OnOk result (OfJoined change.now front_len (L.items items.old) tables.old (λ db. AreTables db tables.new × (too_long_at db ≡ None))) }
+    ensures len { OnOk result (tables.new.file_len ≡ change.now.file_len) }
+    ensures refused { IfErr result (λ fault. fault ≡ BadSplice → OfJoined change.now front_len (L.items items.old) tables.old (λ db. too_long_at db ≡ None → ⊥)) }
     ensures only { IfErr result (λ fault. (fault ≡ BadSplice) ⊎ (fault ≡ Memory)) }
-    ensures err { OnErr result (L.items items.new ≡ L.items items.old) }
+    ensures err { OnErr result ((L.items items.new ≡ L.items items.old) × SayTheSameOf (L.items items.old) tables.old tables.new) }
 {
     let window = change.window;
     let old_count = items.count();
     items.insert_all(window.from, change.text.as_slice(), &change.layout)?;
     let count = items.count() - old_count;
+    match renew(alloc, front_len, &*items, tables, change, count) {
+        Ok(()) => {
+            items.remove_range(window.from + count, window.to + count);
+            Ok(())
+        }
+        Err(fault) => {
+            items.remove_range(window.from, window.from + count);
+            Err(fault)
+        }
+    }
+}
+
+/// Lets the tables say what holds once the items of a change, of this count, have replaced those of its window, which
+/// stand after them still. Where no macro is defined in the window or after it, the tables follow the items that come
+/// and go; else they are made again. Where it is refused, the tables say what they said.
+fn renew<L: ItemList>(
+    alloc: Global,
+    front_len: usize,
+    items: &L,
+    tables: &mut Tables,
+    change: &Change,
+    count: usize,
+) -> Result<(), StoreFault>
+    requires ordered { change.now.window.from ≤ change.now.window.to }
+    requires within { change.now.window.to + count ≤ length (L.items items.now) }
+    ensures tables { OnOk result ((old : List Item) → ArePut change.now old (L.items items.now) count → OfJoined change.now front_len old tables.old (λ db. AreTables db tables.new × (too_long_at db ≡ None))) }
+    ensures len { OnOk result (tables.new.file_len ≡ change.now.file_len) }
+    ensures refused { IfErr result (λ fault. fault ≡ BadSplice → (old : List Item) → ArePut change.now old (L.items items.now) count → OfJoined change.now front_len old tables.old (λ db. too_long_at db ≡ None → ⊥)) }
+    ensures only { IfErr result (λ fault. (fault ≡ BadSplice) ⊎ (fault ≡ Memory)) }
+    ensures err { OnErr result ((old : List Item) → (inner : Reading) → Reads change.now.text inner → ArePut change.now old (L.items items.now) count → SayTheSameOf old tables.old tables.new) }
+{
+    if can_follow(items, tables, change, count) {
+        return follow(alloc, items, tables, change, count);
+    }
+    *tables = remake(alloc, front_len, items, change, count)?;
+    Ok(())
+}
+
+/// Whether the tables may follow: few items come and go, and no macro is defined in the window or after it, before and
+/// after the change.
+fn can_follow<L: ItemList>(items: &L, tables: &Tables, change: &Change, count: usize) -> bool
+    requires ordered { change.now.window.from ≤ change.now.window.to }
+    requires within { change.now.window.to + count ≤ length (L.items items.now) }
+    ensures ends { IsTrue result → EndsBy change.now.window.from tables.now.definitions }
+    ensures others { IsTrue result → (all : List reading.Item) → AreItemsOf (bodies_between change.now.window.from (change.now.window.to + count) (L.items items.now)) all → DefineNothing all }
+{
+    let window = change.window;
+    // so many items fit
+    let _ = items.count();
+    let most = count.max(window.to - window.from);
+    if most > FOLLOWED_LIMIT || window.from < tables.definitions.end() {
+        return false;
+    }
+    are_others(items, window.from, window.to + count)
+}
+
+/// Lets the tables follow the items of a change that come, of this count, and those of its window that go.
+fn follow<L: ItemList>(
+    alloc: Global,
+    items: &L,
+    tables: &mut Tables,
+    change: &Change,
+    count: usize,
+) -> Result<(), StoreFault>
+    requires ordered { change.now.window.from ≤ change.now.window.to }
+    requires within { change.now.window.to + count ≤ length (L.items items.now) }
+    requires ends { EndsBy change.now.window.from tables.old.definitions }
+    requires others { (all : List reading.Item) → AreItemsOf (bodies_between change.now.window.from (change.now.window.to + count) (L.items items.now)) all → DefineNothing all }
+    ensures tables { OnOk result ((old : List Item) → (front_len : ℕ) → ArePut change.now old (L.items items.now) count → OfJoined change.now front_len old tables.old (λ db. AreTables db tables.new × (too_long_at db ≡ None))) }
+    ensures len { OnOk result (tables.new.file_len ≡ change.now.file_len) }
+    ensures refused { IfErr result (λ fault. fault ≡ BadSplice → (old : List Item) → (front_len : ℕ) → ArePut change.now old (L.items items.now) count → OfJoined change.now front_len old tables.old (λ db. too_long_at db ≡ None → ⊥)) }
+    ensures only { IfErr result (λ fault. (fault ≡ BadSplice) ⊎ (fault ≡ Memory)) }
+    ensures err { OnErr result ((old : List Item) → (inner : Reading) → Reads change.now.text inner → ArePut change.now old (L.items items.now) count → SayTheSameOf old tables.old tables.new) }
+{
+    let window = change.window;
+    // so many items fit
+    let _ = items.count();
+    let first_old = window.from + count;
+    match learn(alloc, tables, items, window.from, window.from, first_old) {
+        Ok(()) => {
+            forget(tables, items, first_old, first_old, window.to + count);
+            tables.file_len = change.file_len;
+            Ok(())
+        }
+        Err(fault) => Err(fault),
+    }
+}
+
+/// The tables of all items but those of the window of a change, before which its own stand, of this count.
+fn remake<L: ItemList>(
+    alloc: Global,
+    front_len: usize,
+    items: &L,
+    change: &Change,
+    count: usize,
+) -> Result<Tables, StoreFault>
+    requires ordered { change.now.window.from ≤ change.now.window.to }
+    requires within { change.now.window.to + count ≤ length (L.items items.now) }
+    ensures tables { IfOk result (λ tables. (db : Reading) → HasItems front_len (without_range (change.now.window.from + count) (change.now.window.to + count) (L.items items.now)) db → AreTables db tables × (too_long_at db ≡ None)) }
+    ensures len { IfOk result (λ tables. tables.file_len ≡ change.now.file_len) }
+    ensures refused { IfErr result (λ fault. fault ≡ BadSplice → (db : Reading) → HasItems front_len (without_range (change.now.window.from + count) (change.now.window.to + count) (L.items items.now)) db → too_long_at db ≡ None → ⊥) }
+    ensures only { IfErr result (λ fault. (fault ≡ BadSplice) ⊎ (fault ≡ Memory)) }
+{
+    let window = change.window;
+    // so many items fit
+    let _ = items.count();
+    let first_old = window.from + count;
     match Tables::of(
         alloc,
         change.file_len,
         front_len,
-        &*items,
-        window.from + count,
+        items,
+        first_old,
         window.to + count,
     ) {
-        Ok(tables) => {
-            items.remove_range(window.from + count, window.to + count);
-            Ok(tables)
-        }
+        Ok(tables) => Ok(tables),
         Err(fault) => {
-            items.remove_range(window.from, window.from + count);
             if fault.kind == 8 {
                 return Err(StoreFault::BadSplice);
             }

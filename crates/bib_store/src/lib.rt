@@ -4,19 +4,19 @@
 #![tactic(auto)]
 
 mod amending;
-mod appending;
 mod applying;
 mod change;
 mod choosing;
 mod citing;
 mod crossrefs;
 mod database;
+mod defining;
 mod definitions;
 mod exchanging;
 mod expanding;
 mod fitting;
+mod following;
 mod gathering;
-mod index;
 mod item_fault;
 mod joining;
 mod keeping;

@@ -13,9 +13,10 @@ impl<L: ItemList> Database<L> {
     ghost use Rattle.bib_items.specs.declared.fault.StoreFault.TheVariants.{Memory, BadSplice};
 
     /// Replaces pieces of the file, all at once. The items that the pieces touch are read again, and those between
-    /// them; where that shows no file, the whole file is. Where one entry gives way to another with the same key, or
-    /// comes behind all items, it takes time in their length and the number of items, and memory in their length alone;
-    /// else the tables of all items are made again, and it takes time in the file's length, and memory as opening it.
+    /// them; where that shows no file, the whole file is. It takes time in their length, a few steps for each page of
+    /// items, and a step for each entry and preamble after them; and memory in their length. Where a macro is defined
+    /// among them or after them, the tables of all items are made again: it takes time in the file's length, and memory
+    /// as opening it.
     pub fn splice(&mut self, pieces: &[Piece]) -> Result<(), StoreFault>
         ensures fit { OnOk result (Fit pieces.now self.old) }
         ensures spliced { OnOk result (self.new ≡ applied pieces.now self.old) }

@@ -1,18 +1,21 @@
 //! What is kept beside the items of a file.
 
-ghost use Rattle.std.specs.Prelude.{◌≡◌, ◌+◌, ◌-◌, ◌^◌, ◌≤◌, ◌<◌, ◌⊎◌, ℕ, [], length, nat_lt, if◌then◌else◌, IfOk, IfErr, OnOk, OnErr};
+ghost use Rattle.std.specs.Prelude.{◌≡◌, ◌+◌, ◌-◌, ◌^◌, ◌≤◌, ◌<◌, ◌⊎◌, ℕ, suc, List, [], ◌∷◌, ◌++◌, Option, None, length, map, insert, nat_lt, if◌then◌else◌, IfOk, IfErr, OnOk, OnErr};
 ghost use Rattle.std.specs.Option.{option_copied};
 ghost use Rattle.bib_spec.specs.Reading.{Reading};
 ghost use Rattle.bib_spec.specs.Texts.{too_long_at};
 ghost use Rattle.bib_scan.specs.View.{kind_of};
 ghost use Rattle.bib_scan.specs.declared.view.Kind.TheVariants as kind;
-ghost use Rattle.bib_store.specs.declared.item_fault.ItemFault.TheVariants.{TooLong as ItemTooLong};
+ghost use Rattle.bib_store.specs.declared.item_fault.ItemFault.TheVariants.{TooLong as ItemTooLong, Memory as ItemMemory};
+ghost use Rattle.bib_spec.specs.Text.{Text as Bytes};
+ghost use Rattle.bib_entries.specs.Numbers.{PartAt, HaveNext};
+ghost use Rattle.bib_entries.specs.EntryTable.{IsTableOf};
 
 use crate::crossrefs::crossref_of;
-use crate::definitions::Definitions;
-use crate::index::KeyIndex;
+use crate::defining::FileDefinitions;
 use crate::item_fault::ItemFault;
 use crate::measuring::{measure, value_text};
+use bib_entries::{EntryTable, Numbers};
 use bib_items::ItemList;
 use bib_scan::{FILE_LIMIT, FieldView, ItemView, Kind, NAME_LIMIT, ReadFault, Text};
 use std::alloc::Global;
@@ -23,30 +26,25 @@ pub(crate) struct Tables {
     /// How many bytes the file has.
     pub file_len: usize,
     /// The numbers that the entries have among the items.
-    pub entries: Vec<usize>,
+    pub entries: Numbers,
     /// The numbers that the preambles have among the items.
-    pub preambles: Vec<usize>,
-    /// Which entries have which key.
-    pub keys: KeyIndex,
+    pub preambles: Numbers,
+    /// The key of each entry, and what its crossref says.
+    pub named: EntryTable,
     /// What macros stand for where each item stands.
-    pub definitions: Definitions,
-    /// What the crossref of each entry says.
-    pub crossrefs: Vec<Option<Text>>,
+    pub definitions: FileDefinitions,
 }
 
 impl Tables {
-    ghost use Rattle.std.specs.Prelude.{◌++◌, ◌∷◌, List, Some, None};
-    ghost use Rattle.bib_spec.specs.Text.{Text as Bytes};
+    ghost use Rattle.std.specs.Prelude.{Some};
     ghost use Rattle.bib_spec.specs.Reading.{Item};
     ghost use Rattle.bib_spec.specs.Texts.{months, macros_at, raw_text, raw_limit};
     ghost use Rattle.bib_value.specs.Raw.{OfValue};
-    ghost use Rattle.bib_store.specs.declared.item_fault.ItemFault.TheVariants.{Memory as ItemMemory};
     ghost use Rattle.bib_items.specs.Items.{without_range};
-    ghost use Rattle.bib_store.specs.Tables.{IsIndexOf, AreDefinitionsOf};
-    ghost use Rattle.bib_store.specs.KeyIndex.{holding_in};
+    ghost use Rattle.bib_store.specs.Tables.{AreDefinitionsOf};
     ghost use Rattle.bib_store.specs.Defined.{EndsBy, Defines, texts_at};
     ghost use Rattle.bib_store.specs.ItemTexts.{OfTree, own_text, first_too_long, placed_texts};
-    ghost use Rattle.bib_store.specs.Beside.{AreTablesOf, AreTables, AreSame, HasItems, IsStep, IsTooLongAt, OfView};
+    ghost use Rattle.bib_store.specs.Beside.{AreTablesOf, AreTables, SayTheSame, HasItems, IsStep, IsInsertion, IsRemoval, IsTooLongAt, OfView, OfOther};
 
     /// The tables of a file of `file_len` bytes whose front has `front_len`, and whose items are these, but for those from
     /// number `from` up to `to`. They take memory for the keys, the texts of macros and the texts of crossrefs. The file is refused if
@@ -88,11 +86,10 @@ impl Tables {
     {
         Tables {
             file_len: 0,
-            entries: Vec::new(alloc),
-            preambles: Vec::new(alloc),
-            keys: KeyIndex::new(alloc),
-            definitions: Definitions::new(alloc),
-            crossrefs: Vec::new(alloc),
+            entries: Numbers::new(alloc),
+            preambles: Numbers::new(alloc),
+            named: EntryTable::new(alloc),
+            definitions: FileDefinitions::new(alloc),
         }
     }
 
@@ -105,64 +102,92 @@ impl Tables {
     {
         let view = ItemView::of(body, b"");
         match view.kind() {
-            Kind::Entry => self.add_entry(alloc, n, &view),
             Kind::Macro => self.add_definition(alloc, n, &view),
-            Kind::Preamble => self.add_preamble(alloc, n, &view),
-            Kind::Comment => Ok(()),
+            _ => self.add_other(alloc, n, &view),
+        }
+    }
+
+    /// Puts in item `n`, which is no definition, behind all others.
+    fn add_other(&mut self, alloc: Global, n: usize, view: &ItemView<'_>) -> Result<(), ItemFault>
+        requires { EndsBy n self.old.definitions }
+        ensures step { OnOk result (OfOther view.now (λ tree. IsStep n tree self.old self.new)) }
+        ensures ends { OnOk result (EndsBy (n + 1) self.new.definitions) }
+        ensures too_long { IfErr result (λ fault. (place : ℕ) → fault ≡ ItemTooLong place → OfOther view.now (λ tree. IsTooLongAt n tree self.old place)) }
+    {
+        self.insert(alloc, n, view)
+    }
+
+    /// Puts in item `n`, which is no definition, before the items that had its number and the greater ones. All
+    /// definitions stand before it. It takes time in the item's length, and a step for each entry and preamble after it.
+    /// Where it is refused, the tables say what they said.
+    pub(crate) fn insert(
+        &mut self,
+        alloc: Global,
+        n: usize,
+        view: &ItemView<'_>,
+    ) -> Result<(), ItemFault>
+        requires { EndsBy n self.old.definitions }
+        ensures step { OnOk result (OfOther view.now (λ tree. IsInsertion n tree self.old self.new)) }
+        ensures definitions { self.new.definitions ≡ self.old.definitions }
+        ensures len { self.new.file_len ≡ self.old.file_len }
+        ensures too_long { IfErr result (λ fault. (place : ℕ) → fault ≡ ItemTooLong place → OfOther view.now (λ tree. IsTooLongAt n tree self.old place)) }
+        ensures err { OnErr result (SayTheSame self.old self.new) }
+    {
+        match view.kind() {
+            Kind::Entry => self.insert_entry(alloc, n, view),
+            Kind::Preamble => self.insert_preamble(alloc, n, view),
+            Kind::Comment => {
+                self.entries.make_way(n);
+                self.preambles.make_way(n);
+                Ok(())
+            }
+            Kind::Macro => Ok(()),
         }
     }
 
     /// Puts in the entry that is item `n`.
-    fn add_entry(&mut self, alloc: Global, n: usize, view: &ItemView<'_>) -> Result<(), ItemFault>
+    fn insert_entry(
+        &mut self,
+        alloc: Global,
+        n: usize,
+        view: &ItemView<'_>,
+    ) -> Result<(), ItemFault>
         requires { EndsBy n self.old.definitions }
-        ensures step { OnOk result (OfView kind.Entry view.now (λ tree. IsStep n tree self.old self.new)) }
-        ensures ends { OnOk result (EndsBy (n + 1) self.new.definitions) }
-        ensures too_long { IfErr result (λ fault. (place : ℕ) → fault ≡ ItemTooLong place → OfView kind.Entry view.now (λ tree. IsTooLongAt n tree self.old place)) }
-    {
-        self.put_entry(alloc, n, view)
-    }
-
-    /// Puts in the entry whose body this is, as item `n`, behind all others. Where it is refused, the tables say what
-    /// they said.
-    pub(crate) fn append(&mut self, alloc: Global, n: usize, body: &[u8]) -> Result<(), ItemFault>
-        requires { OfTree body.now (λ tree. kind_of tree ≡ kind.Entry) }
-        ensures step { OnOk result (OfTree body.now (λ tree. IsStep n tree self.old self.new)) }
-        ensures too_long { IfErr result (λ fault. (place : ℕ) → fault ≡ ItemTooLong place → OfTree body.now (λ tree. IsTooLongAt n tree self.old place)) }
-        ensures err { OnErr result (AreSame self.old self.new) }
-    {
-        self.put_entry(alloc, n, &ItemView::of(body, b""))
-    }
-
-    /// Puts in the entry that is item `n`, behind all others. Where it is refused, the tables say what they said.
-    fn put_entry(&mut self, alloc: Global, n: usize, view: &ItemView<'_>) -> Result<(), ItemFault>
-        ensures step { OnOk result (OfView kind.Entry view.now (λ tree. IsStep n tree self.old self.new)) }
+        ensures step { OnOk result (OfView kind.Entry view.now (λ tree. IsInsertion n tree self.old self.new)) }
         ensures definitions { self.new.definitions ≡ self.old.definitions }
+        ensures len { self.new.file_len ≡ self.old.file_len }
         ensures too_long { IfErr result (λ fault. (place : ℕ) → fault ≡ ItemTooLong place → OfView kind.Entry view.now (λ tree. IsTooLongAt n tree self.old place)) }
-        ensures err { OnErr result (AreSame self.old self.new) }
+        ensures err { OnErr result (SayTheSame self.old self.new) }
     {
         let crossref = crossref_of(alloc, view.fields(), &self.definitions.at(n))?;
-        self.entries.reserve(1)?;
-        self.crossrefs.reserve(1)?;
-        self.add_key(view.key())?;
-        self.entries.push(n)?;
-        self.crossrefs.push(crossref)?;
+        insert_named(&mut self.entries, &mut self.named, n, view.key(), crossref)?;
+        self.preambles.make_way(n);
         Ok(())
     }
 
-    /// Puts in the key of one more entry.
-    fn add_key(&mut self, key: &[u8]) -> Result<(), ItemFault>
-        ensures keys { OnOk result ((keys : List Bytes) → length keys ≡ length self.old.entries.items → IsIndexOf keys (holding_in self.old.keys) → IsIndexOf (keys ++ key.now ∷ []) (holding_in self.new.keys)) }
-        ensures rest { (self.new.entries ≡ self.old.entries) × (self.new.preambles ≡ self.old.preambles) × (self.new.definitions ≡ self.old.definitions) × (self.new.crossrefs ≡ self.old.crossrefs) }
+    /// Takes out item `n`, which is no definition. All definitions stand before it. It asks for no memory.
+    pub(crate) fn remove(&mut self, n: usize, view: &ItemView<'_>)
+        requires { EndsBy n self.old.definitions }
+        ensures step { OfOther view.now (λ tree. IsRemoval n tree self.old self.new) }
+        ensures definitions { self.new.definitions ≡ self.old.definitions }
         ensures len { self.new.file_len ≡ self.old.file_len }
-        ensures only { IfErr result (λ fault. fault ≡ ItemMemory) }
-        ensures err { OnErr result (self.new.keys ≡ self.old.keys) }
     {
-        // No item has a longer key, and no file has more items.
-        if key.len() > NAME_LIMIT || self.entries.len() >= FILE_LIMIT {
-            return Err(ItemFault::Memory);
+        match view.kind() {
+            Kind::Entry => {
+                self.named.remove(self.entries.rank(n), view.key());
+                self.entries.remove(n);
+                self.preambles.close(n);
+            }
+            Kind::Preamble => {
+                self.entries.close(n);
+                self.preambles.remove(n);
+            }
+            Kind::Comment => {
+                self.entries.close(n);
+                self.preambles.close(n);
+            }
+            Kind::Macro => {}
         }
-        self.keys.add(self.entries.len(), key)?;
-        Ok(())
     }
 
     /// Puts in the definition that is item `n`.
@@ -188,7 +213,7 @@ impl Tables {
         requires { EndsBy n self.old.definitions }
         ensures table { OnOk result (OfValue field.entry.value.now (λ v. (items : List Item) (item : Item) → length items ≡ n → AreDefinitionsOf items (texts_at self.old.definitions)
             → Defines (macros_at months items n) item.tree field.entry.name.now (raw_text (own_text (texts_at self.old.definitions n) field.entry.name.now) v) → AreDefinitionsOf (items ++ item ∷ []) (texts_at self.new.definitions))) }
-        ensures rest { OnOk result ((self.new.entries ≡ self.old.entries) × (self.new.preambles ≡ self.old.preambles) × (self.new.keys ≡ self.old.keys) × (self.new.crossrefs ≡ self.old.crossrefs)) }
+        ensures rest { OnOk result ((self.new.entries ≡ self.old.entries) × (self.new.preambles ≡ self.old.preambles) × (self.new.named ≡ self.old.named)) }
         ensures ends { OnOk result (EndsBy (n + 1) self.new.definitions) }
         ensures short { OnOk result (OfValue field.entry.value.now (λ v. length (raw_text (own_text (texts_at self.old.definitions n) field.entry.name.now) v) ≤ raw_limit)) }
         ensures too_long { IfErr result (λ fault. (place : ℕ) → fault ≡ ItemTooLong place
@@ -227,19 +252,22 @@ impl Tables {
     }
 
     /// Puts in the preamble that is item `n`.
-    fn add_preamble(
+    fn insert_preamble(
         &mut self,
         alloc: Global,
         n: usize,
         view: &ItemView<'_>,
     ) -> Result<(), ItemFault>
         requires { EndsBy n self.old.definitions }
-        ensures step { OnOk result (OfView kind.Preamble view.now (λ tree. IsStep n tree self.old self.new)) }
-        ensures ends { OnOk result (EndsBy (n + 1) self.new.definitions) }
+        ensures step { OnOk result (OfView kind.Preamble view.now (λ tree. IsInsertion n tree self.old self.new)) }
+        ensures definitions { self.new.definitions ≡ self.old.definitions }
+        ensures len { self.new.file_len ≡ self.old.file_len }
         ensures too_long { IfErr result (λ fault. (place : ℕ) → fault ≡ ItemTooLong place → OfView kind.Preamble view.now (λ tree. IsTooLongAt n tree self.old place)) }
+        ensures err { OnErr result (SayTheSame self.old self.new) }
     {
         self.measure_preamble(alloc, n, view)?;
-        self.preambles.push(n)?;
+        self.preambles.insert(n)?;
+        self.entries.make_way(n);
         Ok(())
     }
 
@@ -268,6 +296,35 @@ impl Tables {
         match measure(alloc, field.value, &self.definitions.at(n)) {
             Ok(()) => Ok(()),
             Err(fault) => Err(ItemFault::of_value(fault, field.value_at)),
+        }
+    }
+}
+
+/// Puts in an entry, as item `n`, with its key and what its crossref says. Where memory is refused, nothing is said anew.
+fn insert_named(
+    entries: &mut Numbers,
+    named: &mut EntryTable,
+    n: usize,
+    key: &[u8],
+    crossref: Option<Text>,
+) -> Result<(), ItemFault>
+    ensures entries { OnOk result ((front rest : List ℕ) → PartAt n front rest entries.old → HaveNext rest → entries.new ≡ front ++ n ∷ map suc rest) }
+    ensures named { OnOk result ((front rest : List ℕ) (keys : List Bytes) (crossrefs : List (Option Bytes)) → PartAt n front rest entries.old → length front ≤ length keys → IsTableOf keys crossrefs named.old
+        → IsTableOf (insert keys (length front) key.now) (insert crossrefs (length front) crossref) named.new) }
+    ensures only { IfErr result (λ fault. fault ≡ ItemMemory) }
+    ensures err { OnErr result ((entries.new ≡ entries.old) × ((keys : List Bytes) (crossrefs : List (Option Bytes)) → length keys ≡ length entries.old → IsTableOf keys crossrefs named.old → IsTableOf keys crossrefs named.new)) }
+{
+    // No item has a longer key.
+    if key.len() > NAME_LIMIT {
+        return Err(ItemFault::Memory);
+    }
+    let k = entries.rank(n);
+    named.insert(k, key, crossref)?;
+    match entries.insert(n) {
+        Ok(()) => Ok(()),
+        Err(_) => {
+            named.remove(k, key);
+            Err(ItemFault::Memory)
         }
     }
 }

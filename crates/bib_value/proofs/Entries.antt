@@ -5,13 +5,14 @@ use Rattle.std.proofs.lemmas.Slice.Eq.{bytes_eq-Decides}
 use Rattle.std.specs.declared.vec.Vec.{Vec}
 use Rattle.std.specs.Str.{bytes_eq}
 use Rattle.std.specs.HashMap.{HashMap}
-use Rattle.indexmap.specs.IndexMap.{insert_entry, get_by}
+use Rattle.std.specs.Map.{KeepsOthers}
+use Rattle.indexmap.specs.IndexMap.{insert_entry, get_by, UpdatesBy}
 use Rattle.bib_spec.specs.Bytes.{name_limit}
 use Rattle.bib_spec.specs.Text.{Text, folded, is_name, is_name_within, does_not_begin_with}
 use Rattle.std.specs.Prelude.{◌&&◌, nat_lt, nat_le, IsTrue}
 use Rattle.std.specs.Char.{to_ascii_lowercase, is_ascii_digit}
 use Rattle.std.proofs.lemmas.List.{length-map}
-use Rattle.bib_value.specs.FoldedMap.{value_at, by_name, NamesAreShort}
+use Rattle.bib_value.specs.FoldedMap.{value_at, by_name}
 
 -- how the code compares two names
 abbrev pub same_name : {Z : Type 0} → Vec ℕ Z → Vec ℕ Z → Bool
@@ -30,22 +31,6 @@ same_text a b h = (bytes_eq-Decides a b).0 h
 
 not_longer : (a b : Text) → length b < length a → bytes_eq a b ≡ false
 not_longer a b longer = false_from_ne_true (bytes_eq a b) (λ h. let e = ap (length {A = ℕ}) (same_text a b h) in absurd (omega (arith, e, longer)))
-
--- a name that is too long has no value
-pub value_at-long : {V Z : Type 0} (es : List (Vec ℕ Z × V)) (name : Text) → NamesAreShort es → name_limit < length name → value_at (by_name es) name ≡ None
-value_at-long [] name short longer = refl
-value_at-long (e ∷ es) name short longer =
-    cond-false (bytes_eq name e.0.items) _ _ (not_longer name e.0.items (omega (arith, short.0, longer)))
-    ∙ value_at-long es name short.1 longer
-
--- names stay short where a short one is put in
-pub names_are_short-insert : {V Z : Type 0} (es : List (Vec ℕ Z × V)) (k : Vec ℕ Z) (v : V) → length k.items ≤ name_limit → NamesAreShort es → NamesAreShort (insert_entry same_name es k v)
-names_are_short-insert [] k v is short = (is, tt)
-names_are_short-insert {V} {Z} (e ∷ es) k v is short =
-    ⊎_elim
-    (λ same. subst NamesAreShort (sym (cond-true (same_name k e.0) ((e.0, v) ∷ es) (e ∷ insert_entry same_name es k v) same)) (short.0, short.1))
-    (λ other. subst NamesAreShort (sym (cond-false (same_name k e.0) ((e.0, v) ∷ es) (e ∷ insert_entry same_name es k v) other)) (short.0, names_are_short-insert es k v is short.1))
-    (cases_Bool (same_name k e.0))
 
 -- what is put in is found, and the rest is found as before
 pub value_at-insert : {V Z : Type 0} (es : List (Vec ℕ Z × V)) (k : Vec ℕ Z) (v : V) (x : Text) → value_at (by_name (insert_entry same_name es k v)) x ≡ (if bytes_eq x k.items then Some v else value_at (by_name es) x)
@@ -72,6 +57,44 @@ value_at-insert {V} {Z} (e ∷ es) k v x = ⊎_elim same (other (value_at-insert
         swapped true false p q r never = refl
         swapped false true p q r never = refl
         swapped false false p q r never = refl
+
+-- names stay short where only a short one has another value
+pub names_stay_short : {V : Type 0} (old new : List (Text × V)) (name : Text) (r : Option V) → length name ≤ name_limit
+    → ((x : Text) → value_at new x ≡ (if bytes_eq x name then r else value_at old x))
+    → ((x : Text) → name_limit < length x → value_at old x ≡ None)
+    → (x : Text) → name_limit < length x → value_at new x ≡ None
+names_stay_short old new name r is told short x longer =
+    told x ∙ cond-false (bytes_eq x name) r (value_at old x) (not_longer x name (omega (arith, is, longer))) ∙ short x longer
+
+-- what is changed by a name is found, and the rest is found as before
+pub value_at-updates : {V Z S : Type 0} (old new : HashMap (Vec ℕ Z) V S) (t : Text) (w : Option V) → UpdatesBy same_name (λ k. bytes_eq t k.items) old new w
+    → (x : Text) → value_at (by_name new.entries) x ≡ (if bytes_eq x t then w else value_at (by_name old.entries) x)
+unfolding KeepsOthers
+value_at-updates {V} {Z} {S} old new t w u x = ⊎_elim here there (cases_Bool (bytes_eq x t))
+  where
+    here : bytes_eq x t ≡ true → value_at (by_name new.entries) x ≡ (if bytes_eq x t then w else value_at (by_name old.entries) x)
+    here e =
+        sym (value_at-by_name new x)
+        ∙ ap (λ (y : Text). get_by (λ k. bytes_eq y k.items) new) (same_text x t e)
+        ∙ u.1
+        ∙ sym (cond-true (bytes_eq x t) w (value_at (by_name old.entries) x) e)
+
+    there : bytes_eq x t ≡ false → value_at (by_name new.entries) x ≡ (if bytes_eq x t then w else value_at (by_name old.entries) x)
+    there e =
+        sym (value_at-by_name new x)
+        ∙ u.3 (λ k. bytes_eq x k.items) (λ a b h. ap (λ (y : Text). bytes_eq y b.items) (same_text x a.items h)) apart
+        ∙ value_at-by_name old x
+        ∙ sym (cond-false (bytes_eq x t) w (value_at (by_name old.entries) x) e)
+      where
+        apart : (k : Vec ℕ Z) → bytes_eq t k.items ≡ true → bytes_eq x k.items ≡ false
+        apart k p = false_from_ne_true (bytes_eq x k.items) (λ h. both_ways (bytes_eq x t) e ((bytes_eq-Decides x t).1 (same_text x k.items h ∙ sym (same_text t k.items p))))
+
+-- where a name has no value, it is as if it were taken away
+pub value_at-absent : {V : Type 0} (es : List (Text × V)) (t : Text) → value_at es t ≡ None → (x : Text) → value_at es x ≡ (if bytes_eq x t then None else value_at es x)
+value_at-absent es t none x = ⊎_elim
+    (λ e. ap (value_at es) (same_text x t e) ∙ none ∙ sym (cond-true (bytes_eq x t) None (value_at es x) e))
+    (λ e. sym (cond-false (bytes_eq x t) None (value_at es x) e))
+    (cases_Bool (bytes_eq x t))
 
 -- folding keeps the length
 pub folded_long : (name : Text) → name_limit < length name → name_limit < length (folded name)

@@ -1,16 +1,17 @@
 //! Values by names, without regard to ASCII case.
 
 ghost use Rattle.std.specs.Prelude.{◌≡◌, ◌≤◌, None, length, OnOk, OnErr};
-ghost use Rattle.std.specs.Option.{option_copied};
+ghost use Rattle.std.specs.Option.{option_copied, IfSome, IfNone};
 ghost use Rattle.bib_spec.specs.Bytes.{name_limit};
 ghost use Rattle.bib_spec.specs.Text.{Text, folded};
-ghost use Rattle.bib_value.specs.FoldedMap.{value_at, IsWith};
+ghost use Rattle.bib_value.specs.FoldedMap.{value_at, IsWith, IsWithout};
 
 use crate::folding::FoldedName;
 use bib_scan::NAME_LIMIT;
 use indexmap::IndexMap;
 use std::alloc::{AllocError, AllocFailed, Global};
 use std::marker::Model;
+use std::mem;
 
 /// A value for each of some names of at most 255 bytes. Names are compared without regard to ASCII case.
 /// A contract sees the list of the names, folded, with their values.
@@ -70,5 +71,34 @@ impl<V> FoldedMap<V> {
         let folded = Vec::from_slice(self.alloc, FoldedName::of(name).as_slice())?;
         self.entries.insert(folded, value)?;
         Ok(())
+    }
+
+    /// Gives the name this value in the place of the one that it has, which is returned. A name without a value is left
+    /// so. It asks for no memory.
+    pub fn replace(&mut self, name: &[u8], value: V) -> Option<V>
+    where
+        V: Drop,
+        ensures value { result ≡ value_at self.old (folded name.now) }
+        ensures some { IfSome result (λ old. IsWith self.old name.now value self.new) }
+        ensures none { IfNone result (self.new ≡ self.old) }
+    {
+        let _ = &self.entries;
+        if name.len() > NAME_LIMIT {
+            return None;
+        }
+        let kept = self.entries.get_mut(FoldedName::of(name).as_slice())?;
+        Some(mem::replace(kept, value))
+    }
+
+    /// Takes the name away with its value, which is returned. It asks for no memory.
+    pub fn remove(&mut self, name: &[u8]) -> Option<V>
+        ensures value { result ≡ value_at self.old (folded name.now) }
+        ensures rest { IsWithout self.old name.now self.new }
+    {
+        let _ = &self.entries;
+        if name.len() > NAME_LIMIT {
+            return None;
+        }
+        self.entries.swap_remove(FoldedName::of(name).as_slice())
     }
 }

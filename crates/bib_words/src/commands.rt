@@ -16,7 +16,7 @@ pub struct Command {
 
 impl Command {
     ghost use Rattle.std.specs.Prelude.{◌≡◌, ◌↔◌, IsTrue};
-    ghost use Rattle.bib_words.specs.Command.{IsCommand, ReadsJournal};
+    ghost use Rattle.bib_words.specs.Command.{IsCommand, ReadsJournal, TakesInput};
 
     /// Whether this is the command's name. It takes no memory.
     pub fn is_named(&self, name: &[u8]) -> bool
@@ -29,7 +29,17 @@ impl Command {
     pub fn reads_journal(&self) -> bool
         ensures { IsTrue result ↔ ReadsJournal self.now }
     {
-        matches!(self.name.as_slice(), b"edit" | b"undo" | b"redo" | b"log")
+        matches!(
+            self.name.as_slice(),
+            b"edit" | b"undo" | b"redo" | b"log" | b"import"
+        )
+    }
+
+    /// Whether the command reads standard input beside its file. It takes no memory.
+    pub fn takes_input(&self) -> bool
+        ensures { IsTrue result ↔ TakesInput self.now }
+    {
+        matches!(self.name.as_slice(), b"edit" | b"import")
     }
 
     /// Whether the program has such a command, with as many words and such a number. It takes no memory.
@@ -49,6 +59,8 @@ impl Command {
             b"redo" => words == 1 && self.n >= 1 && self.n <= NUMBER_LIMIT,
             b"log" => words == 1 && self.n == 0,
             b"forget" => words == 1 && self.n == 0,
+            b"ris" => words >= 2 && self.n == 0,
+            b"import" => words == 1 && self.n == 0,
             _ => false,
         }
     }

@@ -2,7 +2,7 @@
 //! decided here: `bib_command` reads the words, and `bib_run` knows what a command does.
 #![tactic(auto)]
 
-ghost use Rattle.std.specs.Prelude.{◌≡◌, ◌≢◌, ◌↔◌, IfOk, IsTrue, codes, pos};
+ghost use Rattle.std.specs.Prelude.{◌≡◌, ◌≢◌, ◌↔◌, ◌⊎◌, IfOk, IsTrue, codes, pos};
 ghost use Rattle.std.specs.Fd.{file_raw_fd};
 ghost use Rattle.bib_words.specs.Command.{IsCommand};
 
@@ -72,7 +72,7 @@ fn open(
     command: &Command,
     path: &str,
 ) -> io::Result<(File, Option<File>)>
-    ensures apart { command.now.name ≡ codes "edit" → IfOk result (λ opened. file_raw_fd opened.0 ≢ pos 0) }
+    ensures apart { (command.now.name ≡ codes "edit") ⊎ (command.now.name ≡ codes "import") → IfOk result (λ opened. file_raw_fd opened.0 ≢ pos 0) }
 {
     let file = File::open(rt, path)?;
     if reads_input(command) && file.as_raw_fd() == rt.stdin().as_raw_fd() {
@@ -91,9 +91,9 @@ fn open(
 
 /// Whether the command reads standard input beside its file.
 fn reads_input(command: &Command) -> bool
-    ensures { IsTrue result ↔ (command.now.name ≡ codes "edit") }
+    ensures { IsTrue result ↔ ((command.now.name ≡ codes "edit") ⊎ (command.now.name ≡ codes "import")) }
 {
-    command.is_named(b"edit")
+    command.is_named(b"edit") || command.is_named(b"import")
 }
 
 /// Says how the run over this file ended, and puts the new file and the new journal in their places, if there are such.

@@ -45,7 +45,8 @@ new_entry new key kind names values =
       last_comma = tt;
     }
 
-all_split : {X : Type 0} (P : X → Type 0) (xs ys : List X) → All P (xs ++ ys) → All P xs × All P ys
+-- what holds of all of two lists that are joined holds of all of each
+pub all_split : {X : Type 0} (P : X → Type 0) (xs ys : List X) → All P (xs ++ ys) → All P xs × All P ys
 all_split P [] ys h = (All-nil P, h)
 all_split P (x ∷ xs) ys h =
     let rest = all_split P xs ys (All-tail P x (xs ++ ys) h) in

@@ -21,7 +21,7 @@ const MADE: &[u8] =
 const YEARS: &[u8] = b"@misc{,year=1999}@misc{x,year=1999}@misc{c,year=2000,crossref={anon99A}}";
 
 /// The parent of entry `n` of the file.
-fn parent_of(alloc: Global, file: &[u8], n: usize) -> Result<Option<usize>, Fail> {
+pub fn parent_of(alloc: Global, file: &[u8], n: usize) -> Result<Option<usize>, Fail> {
     let db = opened(alloc, file)?;
     if n >= db.entry_count() {
         return Ok(None);

@@ -6,7 +6,7 @@ use std::alloc::Global;
 
 /// Whether the script makes the new file of the old one, with no line refused.
 pub fn makes(alloc: Global, old: &[u8], script: &[u8], new: &[u8]) -> Result<bool, SessionFault> {
-    ends(alloc, old, script, 0, new)
+    ends(alloc, old, Turn::Script(script), 0, new)
 }
 
 /// Whether the script's first line is refused with this number, and the file left as it was.
@@ -16,16 +16,17 @@ pub fn refuses(
     file: &[u8],
     script: &[u8],
 ) -> Result<bool, SessionFault> {
-    ends(alloc, file, script, number, file)
+    ends(alloc, file, Turn::Script(script), number, file)
 }
 
-fn ends(
+/// Whether a turn ends with this number, or with 0 where nothing is refused, and leaves the new file of the old one.
+pub fn ends(
     alloc: Global,
     old: &[u8],
-    script: &[u8],
+    turn: Turn<'_>,
     number: u16,
     new: &[u8],
 ) -> Result<bool, SessionFault> {
-    let left = after(alloc, old, [Turn::Script(script)].as_slice())?;
+    let left = after(alloc, old, [turn].as_slice())?;
     Ok(refusal(&left, 0) == Some(number) && is_file(&left, 0, new))
 }

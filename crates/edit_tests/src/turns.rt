@@ -7,10 +7,11 @@ use bib_script::read_script;
 use bib_store::Flat;
 use std::alloc::{AllocError, Global};
 
-/// The edits of a script; or one request, so many times.
+/// The edits of a script; the entries that a script adds, at once; or one request, so many times.
 #[derive(Clone, Copy)]
 pub enum Turn<'a> {
     Script(&'a [u8]),
+    AddMany(&'a [u8]),
     Set(usize, &'a [u8]),
     Regenerate(usize),
     Undo(usize),
@@ -32,6 +33,21 @@ pub fn set(alloc: Global, value: &[u8]) -> Result<Edit, AllocError> {
         key: Seq::from_vec(b"a".to_vec(alloc)?),
         field: Seq::from_vec(b"t".to_vec(alloc)?),
         value: Seq::from_vec(value.to_vec(alloc)?),
+    })
+}
+
+/// The edit that adds at once the entries that a script adds.
+pub fn add_many(alloc: Global, lines: &[u8]) -> Result<Edit, AllocError> {
+    let script = read_script(alloc, lines)?;
+    let mut entries = Vec::new(alloc);
+    for request in script.requests.into_vec() {
+        match request {
+            Request::Edit(Edit::AddEntry { place: _, entry }) => entries.push(entry)?,
+            _other => {}
+        }
+    }
+    Ok(Edit::AddMany {
+        entries: Seq::from_vec(entries),
     })
 }
 
@@ -75,6 +91,10 @@ fn taken(alloc: Global, session: &mut Session<Flat>, turn: &Turn<'_>) -> Result<
         Turn::Script(lines) => {
             let script = read_script(alloc, lines)?;
             Ok(performed(session, script.requests.as_slice()).1)
+        }
+        Turn::AddMany(lines) => {
+            let request = Request::Edit(add_many(alloc, lines)?);
+            Ok(asked(session, &request))
         }
         Turn::Set(times, value) => {
             let request = Request::Edit(set(alloc, value)?);

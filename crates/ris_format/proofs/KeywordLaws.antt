@@ -6,10 +6,9 @@ use Rattle.std.proofs.lemmas.Bool.{cases_Bool, cond-true, cond-false}
 use Rattle.bib_spec.specs.Text.{Text, is_space}
 use Rattle.bib_spec.proofs.Names.{eq-true}
 use Rattle.bib_trim.specs.Trimming.{trimmed}
-use Rattle.ris_format.specs.Lines.{has_bytes}
+use Rattle.ris_format.specs.Lines.{has_bytes, neat}
 use Rattle.ris_format.specs.Pieces.{with_front}
 use Rattle.ris_format.specs.Keywords.{is_comma_byte, written_keywords, read_keywords, are_plain_keywords}
-use Rattle.ris_format.proofs.Neat.{neat}
 use Rattle.ris_format.proofs.Trims.{neat-cut}
 use Rattle.ris_format.proofs.Values.{are_neat, filled-neat}
 

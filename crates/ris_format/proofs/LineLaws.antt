@@ -8,19 +8,16 @@ use Rattle.std.proofs.lemmas.List.{map-append}
 use Rattle.std.proofs.lemmas.List.Elements.{filter-append}
 use Rattle.bib_spec.specs.Text.{Text}
 use Rattle.ris_text.specs.declared.records.RisLine.{RisLine}
-use Rattle.ris_format.specs.Lines.{has_bytes, line, Tagged, tagged_lines, lines_of, spaced, read_lines, has_tag, values_at}
-use Rattle.ris_format.proofs.Neat.{neat, field_text-neat, neat-has_bytes}
+use Rattle.ris_format.specs.Lines.{has_bytes, line, Tagged, tagged_lines, lines_of, spaced, read_lines, has_tag, values_at, neat, are_neat_lines}
+use Rattle.ris_format.proofs.Neat.{field_text-neat, neat-has_bytes}
 use Rattle.ris_format.proofs.Values.{are_neat}
 
 -- ---- neat values are read as they stand
 
-abbrev are_neat_lines : List RisLine → Bool
-are_neat_lines lines = list_all (λ (l : RisLine). neat true l.value) lines
-
 abbrev is_filled_line : RisLine → Bool
 is_filled_line l = has_bytes l.value
 
-read-neat : (lines : List RisLine) → are_neat_lines lines ≡ true → read_lines lines ≡ lines
+pub read-neat : (lines : List RisLine) → are_neat_lines lines ≡ true → read_lines lines ≡ lines
 read-neat [] n = refl
 read-neat (l ∷ lines) n =
     let p = and_parts (neat true l.value) (are_neat_lines lines) n in

@@ -1,17 +1,11 @@
 -- Texts that are their own field texts.
-use Rattle.std.proofs.Common.{◌≡◌, ℕ, Bool, true, false, cond, not, ◌&&◌, eqb, [], ◌∷◌, ◌++◌, refl, sym, ap, ◌∙◌, ◌==◌, if◌then◌else◌}
+use Rattle.std.proofs.Common.{◌≡◌, ℕ, Bool, true, false, cond, not, ◌&&◌, eqb, [], ◌∷◌, ◌++◌, refl, sym, ap, ◌∙◌}
 use Rattle.std.proofs.lemmas.Bool.{cases_Bool, cond-true, cond-false, eqb-true, and_parts}
 use Rattle.std.proofs.Common.{⊎_elim}
-use Rattle.bib_spec.specs.Bytes.{space}
 use Rattle.bib_spec.specs.Text.{Text, is_space}
 use Rattle.bib_spec.specs.Texts.{field_text}
 use Rattle.bib_value.proofs.FieldTextLemmas.{more_text, more_text-all}
-use Rattle.ris_format.specs.Lines.{has_bytes}
-
--- Words with one space between each two, and none at the end; a word has to begin here where the text stands apart.
-abbrev pub neat : Bool → Text → Bool
-neat apart [] = not apart
-neat apart (b ∷ t) = if is_space b then b == space && (not apart && neat true t) else neat false t
+use Rattle.ris_format.specs.Lines.{has_bytes, neat}
 
 pub space_is : is_space 32 ≡ true
 unfolding is_space

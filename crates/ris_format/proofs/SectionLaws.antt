@@ -1,16 +1,13 @@
 -- Lines and fields that are put after others, one after another.
 use Rattle.std.proofs.Common.{◌≡◌, List, [], ◌∷◌, ◌++◌, sym, ap, ◌∙◌, append_assoc, append-nil, map}
-use Rattle.std.specs.Prelude.{filter, codes}
+use Rattle.std.specs.Prelude.{filter}
 use Rattle.std.proofs.lemmas.Grind.{flat_map-append}
 use Rattle.std.proofs.lemmas.List.Elements.{filter-append}
 use Rattle.bib_spec.specs.Text.{Text}
 use Rattle.bib_spec.specs.Records.{RecordField}
 use Rattle.ris_text.specs.declared.records.RisLine.{RisLine}
-use Rattle.ris_format.specs.declared.kinds.Kind.{Kind}
-use Rattle.ris_format.specs.Kinds.{entry_type}
-use Rattle.ris_format.specs.Lines.{line, Tagged, tagged, tagged_lines, lines_of, value_at}
-use Rattle.ris_format.specs.Mapping.{Fields, field, has_text, read_fields, record_in}
-use Rattle.ris_format.proofs.MappingLaw.{made}
+use Rattle.ris_format.specs.Lines.{line, Tagged, tagged, tagged_lines, lines_of}
+use Rattle.ris_format.specs.Mapping.{Fields, field, has_text}
 
 -- one group of lines more
 pub group_more : (before : List RisLine) (g : Tagged) (gs : List Tagged) → (before ++ tagged_lines g) ++ lines_of gs ≡ before ++ lines_of (g ∷ gs)
@@ -78,9 +75,3 @@ pub six_lists : (a b c d e f l1 l2 l3 l4 l5 l6 : Fields)
 six_lists a b c d e f l1 l2 l3 l4 l5 l6 p1 p2 p3 p4 p5 p6 =
     more_sections [] l1 l6 a (b ++ (c ++ (d ++ (e ++ f)))) p1 (more_sections l1 l2 l6 b (c ++ (d ++ (e ++ f))) p2 (more_sections l2 l3 l6 c (d ++ (e ++ f)) p3
     (more_sections l3 l4 l6 d (e ++ f) p4 (more_sections l4 l5 l6 e f p5 p6))))
-
--- a record by its parts
-pub record-same : (kind : Kind) (lines : List RisLine) (kind_name key : Text) (fields : Fields) → kind_name ≡ entry_type kind → key ≡ value_at (codes "ID" ∷ []) lines → fields ≡ filter has_text (read_fields kind lines)
-    → made kind_name key fields ≡ record_in kind lines
-record-same kind lines kind_name key fields p q r =
-    ap (λ (t : Text). made t key fields) p ∙ ap (λ (k : Text). made (entry_type kind) k fields) q ∙ ap (made (entry_type kind) (value_at (codes "ID" ∷ []) lines)) r

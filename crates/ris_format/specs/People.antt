@@ -88,6 +88,10 @@ written_person p = if is_somebody p then ris_name p ∷ [] else []
 abbrev pub written_name : Text → List Text
 written_name name = option_map_or (λ parts. written_person (person name parts)) (taken_apart name) []
 
+-- the names that have a word, nothing where one of them is refused
+abbrev pub written_names : List Text → List Text
+written_names names = if list_any is_broken names then [] else flat_map written_name names
+
 -- the names of a list that have a word, nothing where the list is refused
 abbrev pub written_people : Text → List Text
 written_people list = if is_refused list then [] else flat_map written_name (names_of list)

@@ -3,6 +3,7 @@
 ghost use Rattle.std.specs.Prelude.{◌≡◌, ◌++◌, ◌∷◌, [], IfOk, IfErr, OnOk, map, filter};
 ghost use Rattle.std.specs.List.{list_any};
 ghost use Rattle.std.specs.Str.{bytes_eq};
+ghost use Rattle.ris_format.specs.Kinds.{ris_type};
 ghost use Rattle.ris_format.specs.Lines.{lines_of};
 ghost use Rattle.ris_format.specs.Mapping.{booktitle_text, field_names, written_names, written_titles, written_numbers, written_publishers, written_notes, written, ris, is_carried, is_dropped, dropped};
 ghost use Rattle.ris_format.specs.declared.fault.MappingFault.TheVariants.{Memory};
@@ -186,6 +187,25 @@ fn dropped_names(
     Ok(names)
 }
 
+/// The RIS record of a record of this kind.
+fn record_of(alloc: Global, kind: Kind, entry: &Record) -> Result<RisRecord, AllocError>
+    ensures { IfOk result (λ r. r ≡ record { kind_name = ris_type kind; lines = lines_of (written kind entry.now) }) }
+{
+    Ok(RisRecord {
+        kind_name: copy(alloc, kind.ris_type())?,
+        lines: Seq::from_vec(record_lines(alloc, kind, entry)?),
+    })
+}
+
+/// The RIS record of a record, as `to_ris` makes it, for those who don't ask what is dropped.
+pub fn ris_of(alloc: Global, entry: &Record) -> Result<RisRecord, MappingFault>
+    ensures record { IfOk result (λ r. r ≡ ris entry.now) }
+    ensures memory { IfErr result (λ fault. fault ≡ Memory) }
+{
+    let kind = Kind::of_entry(entry.kind_name.as_slice());
+    Ok(record_of(alloc, kind, entry)?)
+}
+
 /// The RIS record of a record, and the names of the fields that are dropped: those that the table of its type does not
 /// have, lists of names that cannot be taken apart, years with a slash and texts that name no month. Fields with an
 /// empty text are left out and not named; of two fields of one name the first that is not empty is written. It takes
@@ -196,10 +216,7 @@ pub fn to_ris(alloc: Global, entry: &Record) -> Result<(RisRecord, Seq<Text>), M
     ensures memory { IfErr result (λ fault. fault ≡ Memory) }
 {
     let kind = Kind::of_entry(entry.kind_name.as_slice());
-    let record = RisRecord {
-        kind_name: copy(alloc, kind.ris_type())?,
-        lines: Seq::from_vec(record_lines(alloc, kind, entry)?),
-    };
+    let record = record_of(alloc, kind, entry)?;
     let names = dropped_names(alloc, kind, entry.fields.as_slice())?;
     Ok((record, Seq::from_vec(names)))
 }

@@ -3,7 +3,7 @@
 ghost use Rattle.std.specs.Prelude.{◌≡◌, ◌++◌, ◌==◌, ◌&&◌, OnOk, IfOk, map, length, true};
 ghost use Rattle.std.specs.List.{slice_range, list_any, list_all};
 ghost use Rattle.ris_format.specs.Lines.{line};
-ghost use Rattle.ris_format.specs.People.{word_end, to_last_end, part_text, family, person, ris_name, bib_name, is_somebody, taken_apart, is_broken, is_refused, written_name, written_people, name_pieces, person_of, is_opaque, read_balanced, read_name, read_people, is_plain_name, are_plain_names};
+ghost use Rattle.ris_format.specs.People.{word_end, to_last_end, part_text, family, person, ris_name, bib_name, is_somebody, taken_apart, is_broken, is_refused, written_person, written_names, written_people, name_pieces, person_of, is_opaque, read_balanced, read_name, read_people, is_plain_name, are_plain_names};
 ghost use Rattle.bib_names.specs.Label.{balances, listed_names};
 
 use crate::braces::Braces;
@@ -178,21 +178,37 @@ pub(crate) fn is_refused(alloc: Global, list: &[u8]) -> Result<bool, AllocError>
 // ---- writing
 
 /// Puts a line for the name after the others, where it has a word.
-fn push_name(
+fn push_person(
     alloc: Global,
     lines: &mut Vec<RisLine>,
     tag: [u8; 2],
-    name: &[u8],
+    person: &Person<'_>,
 ) -> Result<(), AllocError>
-    ensures { OnOk result (lines.new.items ≡ lines.old.items ++ map (line tag) (written_name name.now)) }
+    ensures { OnOk result (lines.new.items ≡ lines.old.items ++ map (line tag) (written_person person.now)) }
 {
-    let Some(parts) = taken_apart(alloc, name)? else {
-        return Ok(());
-    };
-    let person = Person::of(name, &parts);
     if person.is_somebody() {
         let value = person.ris_name(alloc)?;
         push_line(lines, tag, value)?;
+    }
+    Ok(())
+}
+
+/// Puts a line for each of these names after the others, none where one of them cannot be taken apart.
+fn push_names(
+    alloc: Global,
+    lines: &mut Vec<RisLine>,
+    tag: [u8; 2],
+    names: &[&[u8]],
+) -> Result<(), AllocError>
+    ensures { OnOk result (lines.new.items ≡ lines.old.items ++ map (line tag) (written_names (map (λ n. n.now) names.now))) }
+{
+    let before = lines.len();
+    'names: for name in names {
+        let Some(parts) = taken_apart(alloc, name)? else {
+            lines.truncate(before);
+            return Ok(());
+        };
+        push_person(alloc, lines, tag, &Person::of(name, &parts))?;
     }
     Ok(())
 }
@@ -206,14 +222,10 @@ pub(crate) fn push_people(
 ) -> Result<(), AllocError>
     ensures { OnOk result (lines.new.items ≡ lines.old.items ++ map (line tag) (written_people list.now)) }
 {
-    if is_refused(alloc, list)? {
+    if !balances(list) {
         return Ok(());
     }
-    let names = listed_names(alloc, list)?;
-    for name in names.as_slice() {
-        push_name(alloc, lines, tag, name)?;
-    }
-    Ok(())
+    push_names(alloc, lines, tag, listed_names(alloc, list)?.as_slice())
 }
 
 // ---- reading

@@ -58,7 +58,7 @@ pub(crate) fn with_comma(alloc: Global, text: &[u8], more: &[u8]) -> Result<Text
 pub(crate) fn in_braces(alloc: Global, text: &[u8]) -> Result<Text, AllocError>
     ensures { IfOk result (λ t. t ≡ in_braces text.now) }
 {
-    let mut out = Vec::with_capacity(alloc, 2)?;
+    let mut out = Vec::with_capacity(alloc, text.len() + 2)?;
     out.push(b'{')?;
     out.extend_from_slice(text)?;
     out.push(b'}')?;

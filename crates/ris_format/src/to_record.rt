@@ -8,7 +8,7 @@ use crate::dates::{read_month, read_year};
 use crate::fault::MappingFault;
 use crate::fields::push_field;
 use crate::kinds::Kind;
-use crate::lines::{or_else, read_lines, value_at, values_at};
+use crate::lines::{are_neat_lines, or_else, read_lines, value_at, values_at};
 use crate::pages::read_pages;
 use crate::people::read_people;
 use crate::text::{copy, join};
@@ -159,6 +159,18 @@ fn read_fields(
     Ok(fields)
 }
 
+/// The record of a kind that lines say whose values are field texts.
+fn record_in(alloc: Global, kind: Kind, lines: &[RisLine]) -> Result<Record, AllocError>
+    ensures { IfOk result (λ entry. entry ≡ record_in kind lines.now) }
+{
+    let fields = read_fields(alloc, kind, lines)?;
+    Ok(Record {
+        kind_name: copy(alloc, kind.entry_type())?,
+        key: copy(alloc, value_at(&[*b"ID"], lines))?,
+        fields: Seq::from_vec(fields),
+    })
+}
+
 /// The record of a RIS record. Its values are read as field texts, and its key is the text after ID, empty without
 /// one. It takes time in the record's size. The one refusal is want of memory.
 pub fn from_ris(alloc: Global, ris: &RisRecord) -> Result<Record, MappingFault>
@@ -166,11 +178,11 @@ pub fn from_ris(alloc: Global, ris: &RisRecord) -> Result<Record, MappingFault>
     ensures memory { IfErr result (λ fault. fault ≡ Memory) }
 {
     let kind = Kind::of_ris(ris.kind_name.as_slice());
-    let lines = read_lines(alloc, ris.lines.as_slice())?;
-    let fields = read_fields(alloc, kind, lines.as_slice())?;
-    Ok(Record {
-        kind_name: copy(alloc, kind.entry_type())?,
-        key: copy(alloc, value_at(&[*b"ID"], lines.as_slice()))?,
-        fields: Seq::from_vec(fields),
-    })
+    let lines = ris.lines.as_slice();
+    // Most values are field texts as they stand.
+    if are_neat_lines(lines) {
+        return Ok(record_in(alloc, kind, lines)?);
+    }
+    let lines = read_lines(alloc, lines)?;
+    Ok(record_in(alloc, kind, lines.as_slice())?)
 }

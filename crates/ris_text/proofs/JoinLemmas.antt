@@ -7,7 +7,7 @@ use Rattle.bib_spec.specs.Text.{Text}
 use Rattle.bib_spec.specs.Texts.{is_empty}
 use Rattle.ris_text.specs.Lines.{Line, is_untagged}
 use Rattle.ris_text.specs.Trees.{joined}
-use Rattle.ris_text.specs.Code.{continuation, after_continuation}
+use Rattle.ris_text.specs.Code.{continues, continuation, after_continuation}
 
 -- what a call gives that succeeds
 pub if_ok : {U F : Type 0} (r : Result U F) (new ok err given : Text) → new ≡ (if is_ok r then ok else err) → ok ≡ given → IfOk r (λ u. new ≡ given)
@@ -69,15 +69,21 @@ GoesOn-more value whole whole' all rest after line so_far first untagged longer 
     }
 
 -- no line more, since none is left
-pub GoesOn-none : (value whole : Text) (all rest : List Line) → GoesOn value whole all rest → rest ≡ []
+GoesOn-none : (value whole : Text) (all rest : List Line) → GoesOn value whole all rest → rest ≡ []
     → (whole ≡ joined value (continuation all)) × (rest ≡ after_continuation all)
 GoesOn-none value whole all rest so_far none =
     (sym (joined-none whole) ∙ ap (λ (ls : List Line). joined whole (continuation ls)) (sym none) ∙ so_far.joined, none ∙ ap after_continuation (sym none) ∙ so_far.after)
 
 -- no line more, since the next has a tag
-pub GoesOn-all : (value whole : Text) (all rest after : List Line) (line : Line) → GoesOn value whole all rest → rest ≡ line ∷ after
+GoesOn-all : (value whole : Text) (all rest after : List Line) (line : Line) → GoesOn value whole all rest → rest ≡ line ∷ after
     → is_untagged line.class ≡ false → (whole ≡ joined value (continuation all)) × (rest ≡ after_continuation all)
 GoesOn-all value whole all rest after line so_far first tagged =
     let texts : continuation rest ≡ [] = ap continuation first ∙ rw tagged refl in
     let lines : after_continuation rest ≡ rest = ap after_continuation first ∙ rw tagged (sym first) in
     (sym (joined-none whole) ∙ ap (joined whole) (sym texts) ∙ so_far.joined, sym lines ∙ so_far.after)
+
+-- no line more, since none is left or the next has a tag
+pub GoesOn-stops : (value whole : Text) (all rest : List Line) → GoesOn value whole all rest → continues rest ≡ false
+    → (whole ≡ joined value (continuation all)) × (rest ≡ after_continuation all)
+GoesOn-stops value whole all [] so_far stops = GoesOn-none value whole all [] so_far refl
+GoesOn-stops value whole all (line ∷ after) so_far stops = GoesOn-all value whole all (line ∷ after) after line so_far refl stops

@@ -7,3 +7,4 @@ pub mod ToldLemmas
 pub mod JoinLemmas
 pub mod LineLemmas
 pub mod TagLemmas
+pub mod LineEnds

@@ -1,5 +1,5 @@
 -- What the private functions read, line by line from the end. The lemmas lead from it to what a file says.
-use Rattle.std.specs.Prelude.{ℕ, suc, ◌+◌, if◌then◌else◌, List, [], ◌∷◌, ◌++◌, Result, Ok, Err}
+use Rattle.std.specs.Prelude.{ℕ, suc, ◌+◌, Bool, false, if◌then◌else◌, List, [], ◌∷◌, ◌++◌, Result, Ok, Err}
 use Rattle.bib_spec.specs.Text.{Text}
 use Rattle.bib_spec.specs.Texts.{is_empty}
 use Rattle.ris_text.specs.declared.lines.Class.{Class}
@@ -16,6 +16,11 @@ use Rattle.ris_text.specs.Trees.{joined}
 -- the line that the code has taken
 abbrev pub seen : LineView → Line
 seen l = record { place = l.place; class = l.class; text = l.text.now }
+
+-- there is a first line, and it has no tag
+abbrev pub continues : List Line → Bool
+continues [] = false
+continues (line ∷ lines) = is_untagged line.class
 
 -- the texts of the lines without a tag at the front
 abbrev pub continuation : List Line → List Text

@@ -30,14 +30,12 @@ pub(crate) fn continued<'a>(
 {
     let mut whole = value.to_vec(alloc)?;
     let mut rest = lines;
-    'line: loop {
+    'line: while rest.continues() {
         let Some((line, after)) = rest.first() else {
-            return Ok((Seq::from_vec(whole), rest));
+            unreachable!()
         };
-        if !line.is_untagged() {
-            return Ok((Seq::from_vec(whole), rest));
-        }
         join(&mut whole, line.text)?;
         rest = after;
     }
+    Ok((Seq::from_vec(whole), rest))
 }

@@ -4,10 +4,11 @@ ghost use Rattle.std.specs.Prelude.{◌≡◌, ◌≤◌, ◌<◌, ◌^◌, ◌=
 ghost use Rattle.std.specs.List.{prefix_len};
 ghost use Rattle.bib_spec.specs.Bytes.{line_feed};
 ghost use Rattle.ris_text.specs.Lines.{line_at, tag_line, plain_line, lines_of, mark_len, is_untagged};
-ghost use Rattle.ris_text.specs.Code.{seen};
+ghost use Rattle.ris_text.specs.Code.{seen, continues};
 
 use crate::tags::{has_tag, tag_class};
 use bib_trim::trimmed;
+use memchr::memchr;
 use std::marker::Model;
 
 /// What a line does: it begins or ends a record, has a known or another tag, or has no tag; then it is blank or has a
@@ -77,7 +78,10 @@ fn line_len(text: &[u8]) -> usize
     ensures len { result ≡ prefix_len (λ b. not (b == line_feed)) text.now }
     ensures within { result ≤ length text.now }
 {
-    text.iter().take_while(|b| **b != b'\n').count()
+    match memchr(b'\n', text) {
+        Some(len) => len,
+        None => text.len(),
+    }
 }
 
 /// How many bytes of the file the mark of UTF-8 takes.
@@ -120,6 +124,14 @@ impl<'a> Lines<'a> {
             file,
             place: mark_len(file),
         }
+    }
+
+    /// Whether there is a first of them, and it has no tag.
+    pub fn continues(&self) -> bool
+        ensures { result ≡ continues self.now }
+    {
+        let rest = self.file.split_at(self.place).1;
+        !rest.is_empty() && !has_tag(rest)
     }
 
     /// The first of them, and those after it.

@@ -4,11 +4,10 @@ ghost use Rattle.std.specs.Prelude.{◌≡◌, IfOk, option_map};
 ghost use Rattle.bib_script.specs.Script.{said_of};
 ghost use Rattle.bib_run.specs.EditAnswer.{script_line, refused_line, bad_line, stop_line, applied_line, edited_answer, HasEdited, IsEditAnswer};
 
-use crate::answers::{Answer, refused};
-use crate::messages::refusal_line;
+use crate::answers::{Answer, too_long};
 use crate::sessions::{outcome_left, session_fault_name, unopened};
 use bib_journal::{Saved, Session, SessionFault, perform};
-use bib_scan::{FILE_LIMIT, ReadFault, Text};
+use bib_scan::{FILE_LIMIT, Text};
 use bib_script::{Script, read_script};
 use bib_store::Paged;
 use std::alloc::{AllocError, Global};
@@ -30,11 +29,7 @@ pub fn answer_edit(
         Err(fault) => return unopened(alloc, fault),
     };
     if input.len() > FILE_LIMIT {
-        let too_long = ReadFault {
-            kind: 9,
-            place: FILE_LIMIT,
-        };
-        return Ok(refused(alloc, refusal_line(alloc, too_long)?));
+        return too_long(alloc);
     }
     edit(alloc, &mut session, input)
 }

@@ -5,19 +5,16 @@ ghost use Rattle.std.specs.List.{flat_map};
 ghost use Rattle.bib_spec.specs.Records.{entries_of};
 ghost use Rattle.bib_store.specs.Meaning.{OfReading};
 ghost use Rattle.bib_run.specs.Opened.{AnswersFile};
-ghost use Rattle.bib_run.specs.Labels.{label_line, labelled, records_at, chosen_at, labels_answer};
+ghost use Rattle.bib_run.specs.Labels.{label_line, label_lines, labelled, chosen_at, labels_answer};
 ghost use Rattle.bib_run.specs.Marks.{AreEntryNumbers};
 
-use crate::answers::{Answer, done, refused, unread};
-use crate::messages::NO_SUCH_ENTRY;
+use crate::answers::{Answer, done, no_such_entry, unread};
+use crate::commands::citing::all_cited;
 use crate::opening::open;
 use bib_names::{label_names, labels};
 use bib_scan::Text;
 use bib_store::{Database, Paged, Record};
 use std::alloc::{AllocError, Global};
-
-/// How many children list a parent. (btxdoc 2.1)
-const MIN_CROSSREFS: u32 = 2;
 
 /// The labels of the entries that the keys cite, or that a key finds none.
 pub fn answer_labels(alloc: Global, file: Vec<u8>, keys: &[Text]) -> Result<Answer, AllocError>
@@ -32,22 +29,16 @@ pub fn answer_labels(alloc: Global, file: Vec<u8>, keys: &[Text]) -> Result<Answ
 fn label(alloc: Global, db: &Database<Paged>, keys: &[Text]) -> Result<Answer, AllocError>
     ensures { IfOk result (λ answer. OfReading db.now (λ r. answer ≡ labels_answer keys.now r)) }
 {
-    let Ok(cited) = db.cited(keys, MIN_CROSSREFS) else {
-        return Err(AllocError);
-    };
-    if !cited.unknown.as_slice().is_empty() {
-        return Ok(refused(
-            alloc,
-            Text::from_vec(Vec::from_slice(alloc, NO_SUCH_ENTRY)?),
-        ));
+    match all_cited(db, keys)? {
+        Some(list) => Ok(done(alloc, lines_of(alloc, db, list.as_slice())?)),
+        None => no_such_entry(alloc),
     }
-    Ok(done(alloc, lines_of(alloc, db, cited.listed.as_slice())?))
 }
 
 /// A line for each of these entries, with its label.
 fn lines_of(alloc: Global, db: &Database<Paged>, list: &[usize]) -> Result<Text, AllocError>
     requires { AreEntryNumbers db.now list.now }
-    ensures { IfOk result (λ text. OfReading db.now (λ r. text ≡ flat_map label_line (labelled (records_at (entries_of r) list.now)))) }
+    ensures { IfOk result (λ text. OfReading db.now (λ r. text ≡ label_lines (entries_of r) list.now)) }
 {
     let records = records_at(alloc, db, list)?;
     label_lines(alloc, records.as_slice())

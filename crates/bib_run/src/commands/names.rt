@@ -9,8 +9,7 @@ ghost use Rattle.bib_run.specs.Messages.{no_such_entry_line};
 ghost use Rattle.bib_run.specs.Outcome.{answer_of};
 ghost use Rattle.bib_run.specs.Names.{name_fault_name, name_fault_line, listed_in, persons, parts_in, name_line, name_lines, lines_of, lines_answer, record_answer, names_answer, Spells, IsNamesAnswer};
 
-use crate::answers::{Answer, done, refused, unread};
-use crate::messages::NO_SUCH_ENTRY;
+use crate::answers::{Answer, done, no_such_entry, refused, unread};
 use crate::opening::open;
 use bib_names::{Name, NameFault, Template, split_name, split_names, text_in};
 use bib_scan::{Seq, Text};
@@ -54,10 +53,7 @@ fn names(
 {
     match db.find(key) {
         Ok(n) => entry_answer(alloc, db, n, template),
-        Err(_) => Ok(refused(
-            alloc,
-            Text::from_vec(Vec::from_slice(alloc, NO_SUCH_ENTRY)?),
-        )),
+        Err(_) => no_such_entry(alloc),
     }
 }
 

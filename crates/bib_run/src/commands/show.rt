@@ -7,8 +7,7 @@ ghost use Rattle.bib_store.specs.Meaning.{OfReading, IsEntryNumber};
 ghost use Rattle.bib_run.specs.Opened.{AnswersFile};
 ghost use Rattle.bib_run.specs.Show.{head_line, field_line, record_lines, shown, show_answer};
 
-use crate::answers::{Answer, done, refused, unread};
-use crate::messages::NO_SUCH_ENTRY;
+use crate::answers::{Answer, done, no_such_entry, unread};
 use crate::opening::open;
 use bib_scan::Text;
 use bib_store::{Database, Paged, Record};
@@ -29,10 +28,7 @@ fn show(alloc: Global, db: &Database<Paged>, key: &[u8]) -> Result<Answer, Alloc
 {
     match db.find(key) {
         Ok(n) => Ok(done(alloc, Text::from_vec(entry_text(alloc, db, n)?))),
-        Err(_) => Ok(refused(
-            alloc,
-            Text::from_vec(Vec::from_slice(alloc, NO_SUCH_ENTRY)?),
-        )),
+        Err(_) => no_such_entry(alloc),
     }
 }
 

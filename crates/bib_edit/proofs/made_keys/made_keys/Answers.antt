@@ -1,13 +1,13 @@
-use Rattle.std.proofs.Common.{◌≤◌, ◌<◌, [], ◌∷◌, length, sym, ◌∙◌, ap, subst, arith}
+use Rattle.std.proofs.Common.{◌≤◌, ◌<◌, List, [], ◌∷◌, length, sym, ◌∙◌, ap, subst, arith, append-nil}
 use Rattle.std.specs.List.{AllByRecursion}
 use Rattle.bib_spec.specs.Bytes.{name_limit}
 use Rattle.bib_spec.specs.Text.{Text}
 use Rattle.bib_spec.specs.Reading.{Reading, Reads}
-use Rattle.bib_spec.specs.Records.{entries_of}
+use Rattle.bib_spec.specs.Records.{entries_of, dangling_texts}
 use Rattle.bib_spec.specs.MadeKeys.{free_key}
 use Rattle.bib_edit.specs.TakenKeys.{AreTaken}
 use Rattle.bib_edit.proofs.EntryCounts.{few-entries}
-use Rattle.bib_edit.proofs.MadeKeyLists.{made-none, made-more, made-all, short-more}
+use Rattle.bib_edit.proofs.MadeKeyLists.{bases_of, length-bases, base-at, made-none, made-more, made-all, short-more}
 use Rattle.bib_edit.proofs.made_keys.made_keys.Goals as goal
 
 pub add_dangling-requires : goal.add_dangling-requires
@@ -20,7 +20,8 @@ add_dangling-requires g c db reads =
 
 pub entries-init : goal.entries-init
 entries-init g c = (
-  λ db reads. made-none (entries_of db) c.add_dangling.new.self c.new-keys.result.items (c.in_ok-add_dangling.ensures.taken db reads [] c.none-taken.ensures) c.new-keys.ensures.items,
+  λ db reads. made-none (dangling_texts (entries_of db)) (bases_of (entries_of db)) c.add_dangling.new.self c.new-keys.result.items
+      (subst (λ (l : List Text). AreTaken l c.add_dangling.new.self) (append-nil (dangling_texts (entries_of db))) (c.in_ok-add_dangling.ensures.taken db reads [] c.none-taken.ensures)) c.new-keys.ensures.items,
   subst (AllByRecursion (λ key. length key ≤ name_limit)) (sym c.new-keys.ensures.items) tt,
   λ db reads. let none = c.none-taken.ensures.count in let dangling = c.in_ok-add_dangling.ensures.count db reads in omega (arith, none, dangling),
 )
@@ -56,8 +57,8 @@ entries-preserved g c = (
       let count = c.entry_count-n-end.ensures db reads in
       let test = c.entries-test.true in
       let lt : c.entries.n < length (entries_of db) = omega (arith, count, test) in
-      made-more (entries_of db) c.entries.n c.entries.taken c.free_key.new.self c.add.new.self c.entries.keys.items c.push.new.self.items c.in_ok-base.base c.in_ok-key.key
-      (c.entries.invariant.0 db reads) lt (c.in_ok-base.ensures.base db reads)
+      made-more (dangling_texts (entries_of db)) (bases_of (entries_of db)) c.entries.n c.entries.taken c.free_key.new.self c.add.new.self c.entries.keys.items c.push.new.self.items c.in_ok-base.base c.in_ok-key.key
+      (c.entries.invariant.0 db reads) (base-at (entries_of db) c.entries.n c.in_ok-base.base lt (c.in_ok-base.ensures.base db reads))
       (λ taken are. c.in_ok-key.ensures.key taken are ∙ ap (free_key taken) c.as_slice.ensures)
       c.in_ok-key.ensures.taken
       (λ taken are. subst (λ (key : Text). AreTaken (key ∷ taken) c.add.new.self) c.as_slice-in-entries.ensures (c.in_ok-add.ensures.taken taken are))
@@ -74,7 +75,8 @@ pub returns-clause-keys : goal.returns-clause-keys
 returns-clause-keys g c db reads =
     let count = c.entry_count-n-end.ensures db reads in
     let test = c.entries-test.false in
-    c.from_vec.ensures ∙ made-all (entries_of db) c.entries.n c.entries.taken c.entries.keys.items (c.entries.invariant.0 db reads) (omega (arith, count, test))
+    let bases = length-bases (entries_of db) in
+    c.from_vec.ensures ∙ made-all (dangling_texts (entries_of db)) (bases_of (entries_of db)) c.entries.n c.entries.taken c.entries.keys.items (c.entries.invariant.0 db reads) (omega (arith, count, test, bases))
 
 pub returns-clause-short : goal.returns-clause-short
 returns-clause-short g c = subst (AllByRecursion (λ key. length key ≤ name_limit)) (sym c.from_vec.ensures) c.entries.invariant.1

@@ -1,7 +1,7 @@
 use Rattle.std.proofs.Common.{◌≡◌, ◌<◌, ◌∙◌, [], length, ap, arith}
 use Rattle.std.proofs.lemmas.List.{get_or_read}
 use Rattle.bib_items.specs.declared.list.Item.{Item}
-use Rattle.bib_items.specs.Pages.{page_at}
+use Rattle.bib_pages.specs.Pages.{page_at}
 use Rattle.bib_items.proofs.PageNumbers.{taken_start, first_fits}
 use Rattle.bib_items.proofs.firsts.take_down.Goals as goal
 

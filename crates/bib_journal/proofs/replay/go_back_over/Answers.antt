@@ -1,6 +1,6 @@
-use Rattle.std.proofs.Common.{◌≡◌, List, [], ◌∷◌, ◌++◌, ◌∙◌, sym, subst, true, refl}
+use Rattle.std.proofs.Common.{◌≡◌, List, [], ◌∷◌, ◌++◌, subst, true}
 use Rattle.std.specs.List.{AllByRecursion}
-use Rattle.edit_spec.specs.Steps.{Step, Leads, LeadTo, before}
+use Rattle.edit_spec.specs.Steps.{Step, Leads, before}
 use Rattle.bib_journal.specs.Loading.{IsTurnable}
 use Rattle.bib_journal.proofs.ReplayLemmas.{none_gone_back, one_gone_back, stuck_back}
 use Rattle.edit_spec.proofs.StepLemmas.{all_pop}

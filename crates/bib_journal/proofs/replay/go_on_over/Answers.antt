@@ -1,6 +1,4 @@
-use Rattle.std.proofs.Common.{◌≡◌, true}
-use Rattle.edit_spec.specs.Steps.{IsAllowed}
-use Rattle.bib_journal.proofs.ReplayLemmas.{none_gone_on, one_gone_on, stuck_on, all_gone_on}
+use Rattle.bib_journal.proofs.ReplayLemmas.{none_gone_on}
 use Rattle.bib_journal.proofs.replay.go_on_over.Goals as goal
 
 pub step-init : goal.step-init

@@ -1,4 +1,4 @@
-use Rattle.std.proofs.Common.{◌≡◌, true, List, ℕ, sym, ◌∙◌, ap, subst}
+use Rattle.std.proofs.Common.{◌≡◌, true, sym, ◌∙◌, ap, subst}
 use Rattle.bib_spec.specs.Text.{Text}
 use Rattle.edit_spec.specs.Steps.{LeadTo, LeadOn, first_of}
 use Rattle.bib_journal.specs.Loading.{last_of}

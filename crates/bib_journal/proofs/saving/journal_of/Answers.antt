@@ -1,4 +1,4 @@
-use Rattle.std.proofs.Common.{◌≡◌, ◌∙◌, ap, subst, reverse}
+use Rattle.std.proofs.Common.{◌∙◌, ap, subst, reverse}
 use Rattle.std.proofs.lemmas.Result.{IfOk-weaker}
 use Rattle.bib_spec.specs.Text.{Text}
 use Rattle.journal_format.specs.Contents.{IsDigest}

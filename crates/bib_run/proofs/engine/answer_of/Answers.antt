@@ -7,8 +7,9 @@ use Rattle.bib_run.specs.Opened.{AnswersFile}
 use Rattle.bib_run.specs.Show.{show_answer}
 use Rattle.bib_run.specs.Cite.{cite_answer}
 use Rattle.bib_run.specs.Labels.{labels_answer}
+use Rattle.bib_run.specs.Ris.{ris_answer}
 use Rattle.bib_run.specs.Names.{Spells, names_answer}
-use Rattle.bib_run.specs.Answers.{of_reading, check, show, cite, labels, names, edit, undo, redo, log, forget, key_word, template_word}
+use Rattle.bib_run.specs.Answers.{of_reading, check, show, cite, labels, ris, names, edit, import, undo, redo, log, forget, key_word, template_word}
 use Rattle.bib_run.proofs.engine.answer_of.Goals as goal
 
 pub returns-then-is_named-2 : goal.returns-then-is_named-2
@@ -47,36 +48,48 @@ returns-then-is_named-6 c =
 
 pub returns-then-is_named-7 : goal.returns-then-is_named-7
 returns-then-is_named-7 c =
+    let named : c.args.command.now.name ≡ codes "ris" = search rules in
+    IfOk-weaker c.answer_ris.result _ _ (λ answer h. of_reading _ (ris named) (subst (λ keys. AnswersFile (ris_answer keys) c.args.file.items answer)
+    (take_all (length c.as_slice-words.result.now - 1) (drop 1 c.as_slice-words.result.now) (omega (arith, length-drop 1 c.as_slice-words.result.now))
+    ∙ ap (λ (words : List Text). drop 1 words) c.as_slice-words.ensures) h)) c.answer_ris.ensures
+
+pub returns-then-is_named-8 : goal.returns-then-is_named-8
+returns-then-is_named-8 c =
     let named : c.args.command.now.name ≡ codes "names" = search rules in
-    let key : c.as_slice-then-is_named-7.result.now ≡ key_word c.args.command.now =
+    let key : c.as_slice-then-is_named-8.result.now ≡ key_word c.args.command.now =
     let within : 1 < length c.as_slice-words.result.now = search rules in
-    c.as_slice-then-is_named-7.ensures
-    ∙ sym (get_or_from_slice_get c.as_slice-words.result.now 1 c.index-words-1-then-is_named-7.result [] (slice_get_read c.as_slice-words.result.now (length c.as_slice-words.result.now) 1 c.index-words-1-then-is_named-7.result refl within c.index-words-1-then-is_named-7.is))
+    c.as_slice-then-is_named-8.ensures
+    ∙ sym (get_or_from_slice_get c.as_slice-words.result.now 1 c.index-words-1-then-is_named-8.result [] (slice_get_read c.as_slice-words.result.now (length c.as_slice-words.result.now) 1 c.index-words-1-then-is_named-8.result refl within c.index-words-1-then-is_named-8.is))
     ∙ ap (λ (words : List Text). get_or words 1 []) c.as_slice-words.ensures in
-    let template : c.as_slice-then-is_named-7-2.result.now ≡ template_word c.args.command.now =
+    let template : c.as_slice-then-is_named-8-2.result.now ≡ template_word c.args.command.now =
     let within : 2 < length c.as_slice-words.result.now = search rules in
-    c.as_slice-then-is_named-7-2.ensures
+    c.as_slice-then-is_named-8-2.ensures
     ∙ sym (get_or_from_slice_get c.as_slice-words.result.now 2 c.index-words-2.result [] (slice_get_read c.as_slice-words.result.now (length c.as_slice-words.result.now) 2 c.index-words-2.result refl within c.index-words-2.is))
     ∙ ap (λ (words : List Text). get_or words 2 []) c.as_slice-words.ensures in
     IfOk-weaker c.answer_names.result _ _ (λ answer h. of_reading _ (names named h.pattern (subst (λ t. Spells t h.pattern) template h.spells))
     (subst (λ k. AnswersFile (names_answer k h.pattern) c.args.file.items answer) key h.answers)) c.answer_names.ensures
 
-pub returns-then-is_named-8 : goal.returns-then-is_named-8
-returns-then-is_named-8 c =
+pub returns-then-is_named-9 : goal.returns-then-is_named-9
+returns-then-is_named-9 c =
     let named : c.args.command.now.name ≡ codes "undo" = search rules in
     IfOk-weaker c.answer_undo.result _ _ (λ answer h. undo named h) c.answer_undo.ensures
 
-pub returns-then-is_named-9 : goal.returns-then-is_named-9
-returns-then-is_named-9 c =
+pub returns-then-is_named-10 : goal.returns-then-is_named-10
+returns-then-is_named-10 c =
     let named : c.args.command.now.name ≡ codes "redo" = search rules in
     IfOk-weaker c.answer_redo.result _ _ (λ answer h. redo named h) c.answer_redo.ensures
 
-pub returns-then-is_named-10 : goal.returns-then-is_named-10
-returns-then-is_named-10 c =
+pub returns-then-is_named-11 : goal.returns-then-is_named-11
+returns-then-is_named-11 c =
     let named : c.args.command.now.name ≡ codes "log" = search rules in
     IfOk-weaker c.answer_log.result _ _ (λ answer h. log named h) c.answer_log.ensures
 
-pub returns-then-is_named-11 : goal.returns-then-is_named-11
-returns-then-is_named-11 c =
+pub returns-then-is_named-12 : goal.returns-then-is_named-12
+returns-then-is_named-12 c =
     let named : c.args.command.now.name ≡ codes "forget" = search rules in
     IfOk-weaker c.answer_forget.result _ _ (λ answer h. forget named h) c.answer_forget.ensures
+
+pub returns-then-is_named-13 : goal.returns-then-is_named-13
+returns-then-is_named-13 c =
+    let named : c.args.command.now.name ≡ codes "import" = search rules in
+    IfOk-weaker c.answer_import.result _ _ (λ answer h. import named h) c.answer_import.ensures

@@ -12,10 +12,10 @@ returns-in_err-crossref-clause-refused g c =
 
 pub returns-clause-items : goal.returns-clause-items
 returns-clause-items g c =
-    replaced (g.L.ItemList.items c.args.items.now) (g.L.ItemList.items c.replace.new.self) c.args.tables.now.entries.items c.args.change.now c.args.m c.item-item.result c.body.result.now c.trail.result.now
+    replaced (g.L.ItemList.items c.args.items.now) (g.L.ItemList.items c.replace.new.self) c.args.tables.now.entries c.args.change.now c.args.m c.item-item.result c.body.result.now c.trail.result.now
     c.requires.window c.requires.layout c.requires.amendment (λ db i reads at. c.item-item.ensures db i (subst (λ (t : Text). Reads t db) (sym c.as_slice.ensures) reads) at) c.body.ensures c.trail.ensures c.in_ok-replace.ensures.ok
 
 pub returns-clause-tables : goal.returns-clause-tables
 returns-clause-tables g c =
     amended_file (g.L.ItemList.items c.args.items.now) c.args.tables.now c.args.change.now c.args.m c.requires.window c.requires.layout c.requires.amendment _ c.in_ok-crossref.crossref c.in_ok-crossref.ensures.text c.in_ok-crossref.ensures.short
-    refl refl refl refl refl
+    refl refl refl c.set_crossref.ensures

@@ -1,7 +1,8 @@
 use Rattle.std.proofs.Common.{◌+◌, ◌++◌, List, ◌∷◌, drop, subst, arith}
 use Rattle.bib_spec.specs.Text.{Text}
 use Rattle.bib_edit.specs.TakenKeys.{AreTaken}
-use Rattle.bib_edit.proofs.TakenLists.{AreTakenBut, but-all, but-one_less, but-past, next-key}
+use Rattle.bib_edit.proofs.TakenLists.{AreTakenBut, but-all, but-one_less, but-past}
+use Rattle.bib_edit.proofs.Walks.{next-read}
 use Rattle.bib_edit.proofs.taken_keys.TakenKeys.add_all.Goals as goal
 
 pub loop-key-init : goal.loop-key-init
@@ -13,7 +14,7 @@ loop-key-preserved c =
     let more = c.in_ok-add.ensures.count in (
       λ others are.
           but-one_less c.key-item.result (drop (c.loop-key.key-index + 1) c.args.keys.now) (c.args.keys.now ++ others) c.loop-key.self c.add.new.self
-          (subst (λ (rest : List Text). AreTakenBut rest (c.args.keys.now ++ others) c.loop-key.self) (next-key c.args.keys.now c.loop-key.key-index c.key-item.result c.loop-key-test.true c.key-item.is)
+          (subst (λ (rest : List Text). AreTakenBut rest (c.args.keys.now ++ others) c.loop-key.self) (next-read c.args.keys.now c.loop-key.key-index c.key-item.result c.loop-key-test.true c.key-item.is)
           (c.loop-key.invariant.0 others are))
           (λ some them. subst (λ (key : Text). AreTaken (key ∷ some) c.add.new.self) c.as_slice.ensures (c.in_ok-add.ensures.taken some them)),
       omega (arith, count, more),

@@ -1,5 +1,5 @@
 use Rattle.std.proofs.Common.{◌≤◌, length, remove, ◌∙◌, ap, arith}
-use Rattle.bib_items.specs.Pages.{joined}
+use Rattle.bib_pages.specs.Pages.{joined}
 use Rattle.bib_items.proofs.Filled.{remove-behind, length-gone}
 use Rattle.bib_items.proofs.paged.Paged.take_all_out.Goals as goal
 

@@ -1,5 +1,5 @@
 use Rattle.std.proofs.Common.{◌≡◌, ◌++◌, take, drop}
-use Rattle.bib_items.specs.Pages.{joined}
+use Rattle.bib_pages.specs.Pages.{joined}
 use Rattle.bib_items.proofs.paged.Paged.take_all_out.Given as goal
 
 abbrev pub invariant-out : goal.invariant-out

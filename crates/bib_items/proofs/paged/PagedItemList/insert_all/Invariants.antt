@@ -1,4 +1,4 @@
-use Rattle.bib_items.specs.Pages.{joined}
+use Rattle.bib_pages.specs.Pages.{joined}
 use Rattle.bib_items.proofs.Filled.{IsBegun}
 use Rattle.bib_items.proofs.paged.PagedItemList.insert_all.Given as goal
 

@@ -6,4 +6,4 @@ use Rattle.bib_store.proofs.database.Database.entry_count.Goals as goal
 pub returns : goal.returns
 returns g c = λ db r.
     let k = kept_as c.self.inside.front (g.L.ItemList.items c.self.inside.items) c.self.inside.tables c.args.self.now c.self.invariant c.self.view_is db r in
-    c.len.ensures ∙ c.self.inside.tables.entries.ok.0 ∙ ap (length {A = ℕ}) k.tables.entries ∙ length-entry_numbers db
+    c.count.ensures ∙ ap (length {A = ℕ}) k.tables.entries ∙ length-entry_numbers db

@@ -3,11 +3,7 @@ use Rattle.std.proofs.lemmas.Result.{err_from_is_err_and}
 use Rattle.std.specs.Option.{unwrap_or}
 use Rattle.bib_spec.specs.Text.{Text}
 use Rattle.bib_store.proofs.SplicedFiles.{after_splice, after_refusal}
-use Rattle.bib_store.proofs.AmendedFiles.{crossrefs_counted}
 use Rattle.bib_store.proofs.database.Database.splice.Goals as goal
-
-pub exchange-requires-clause-counted : goal.exchange-requires-clause-counted
-exchange-requires-clause-counted g c = crossrefs_counted c.self.inside.front (g.L.ItemList.items c.self.inside.items) c.self.inside.tables c.self.invariant
 
 pub returns-in_err-exchange-clause-refused : goal.returns-in_err-exchange-clause-refused
 returns-in_err-exchange-clause-refused g c =

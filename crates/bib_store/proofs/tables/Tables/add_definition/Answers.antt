@@ -9,7 +9,7 @@ returns-in-Some-clause-step c =
     let first = sym c.fields.ensures.fields ∙ c.in-Some.ensures.steps in
     let known = ok_both c.define.result _ _ c.define.ensures.table (ok_both c.define.result _ _ c.define.ensures.rest c.define.ensures.short) in
     ok_from c.define.result _ _
-    (λ h. definition_step c.args.self.now c.define.new.self c.args.n c.args.view.now (field_seen c.in-Some.field) c.next.new.self first h.0 h.1.0.0 h.1.0.1 h.1.0.2 h.1.0.3 h.1.1)
+    (λ h. definition_step c.args.self.now c.define.new.self c.args.n c.args.view.now (field_seen c.in-Some.field) c.next.new.self first h.0 h.1.0.0 h.1.0.1 h.1.0.2 h.1.1)
     known
 
 pub returns-in-Some-clause-too_long : goal.returns-in-Some-clause-too_long

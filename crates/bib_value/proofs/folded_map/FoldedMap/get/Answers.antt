@@ -1,12 +1,12 @@
 use Rattle.std.proofs.Common.{◌∙◌, ap, sym}
 use Rattle.bib_spec.specs.Text.{folded}
 use Rattle.bib_value.specs.FoldedMap.{value_at}
-use Rattle.bib_value.proofs.Entries.{value_at-by_name, value_at-long, folded_long}
+use Rattle.bib_value.proofs.Entries.{value_at-by_name, folded_long}
 use Rattle.bib_value.proofs.folded_map.FoldedMap.get.Goals as goal
 
 pub returns-then-name-gt-NAME_LIMIT : goal.returns-then-name-gt-NAME_LIMIT
 returns-then-name-gt-NAME_LIMIT g c =
-    sym (value_at-long c.self.inside.entries.entries (folded c.args.name.now) c.self.invariant (folded_long c.args.name.now c.if-name-gt-NAME_LIMIT.true))
+    sym (c.self.invariant (folded c.args.name.now) (folded_long c.args.name.now c.if-name-gt-NAME_LIMIT.true))
     ∙ ap (λ l. value_at l (folded c.args.name.now)) c.self.view_is
 
 pub returns : goal.returns

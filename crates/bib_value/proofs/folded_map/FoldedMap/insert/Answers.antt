@@ -1,8 +1,8 @@
 use Rattle.std.proofs.Common.{◌≡◌, ◌≤◌, ◌∙◌, ap, sym, subst, length, Some, if◌then◌else◌}
 use Rattle.std.specs.Str.{bytes_eq}
 use Rattle.bib_spec.specs.Text.{Text, folded}
-use Rattle.bib_value.specs.FoldedMap.{value_at, by_name, NamesAreShort}
-use Rattle.bib_value.proofs.Entries.{value_at-insert, names_are_short-insert, folded_short}
+use Rattle.bib_value.specs.FoldedMap.{value_at, by_name}
+use Rattle.bib_value.proofs.Entries.{value_at-insert, names_stay_short, folded_short}
 use Rattle.bib_value.proofs.folded_map.FoldedMap.insert.Goals as goal
 
 key : (g : _) (c : goal.Joined-branch-3 g) → c.in_ok-folded.folded.items ≡ folded c.args.name.now
@@ -11,7 +11,9 @@ key g c = c.in_ok-folded.ensures.items ∙ c.as_slice.ensures ∙ c.of.ensures
 pub invariant_of-self-2 : goal.invariant_of-self-2
 invariant_of-self-2 g c =
     let short : length c.in_ok-folded.folded.items ≤ 255 = subst (λ (t : Text). length t ≤ 255) (sym (key g c)) (folded_short c.args.name.now c.requires) in
-    subst NamesAreShort (sym c.in_ok-insert.ensures.entries) (names_are_short-insert c.self.inside.entries.entries c.in_ok-folded.folded c.args.value short c.self.invariant)
+    let told : (x : Text) → value_at (by_name c.insert.new.self.entries) x ≡ (if bytes_eq x c.in_ok-folded.folded.items then Some c.args.value else value_at (by_name c.self.inside.entries.entries) x)
+    = λ x. ap (λ l. value_at (by_name l) x) c.in_ok-insert.ensures.entries ∙ value_at-insert c.self.inside.entries.entries c.in_ok-folded.folded c.args.value x in
+    names_stay_short (by_name c.self.inside.entries.entries) (by_name c.insert.new.self.entries) c.in_ok-folded.folded.items (Some c.args.value) short told c.self.invariant
 
 pub returns-clause-ok : goal.returns-clause-ok
 returns-clause-ok g c x =

@@ -1,0 +1,13 @@
+use Rattle.std.proofs.Common.{rules, tests, nat_lt, ◌∙◌}
+use Rattle.std.proofs.lemmas.Iterator.{YieldsList-from_slice}
+use Rattle.std.proofs.lemmas.Iterator.Search.{any_from_yields_List}
+use Rattle.bib_spec.specs.Text.{Text}
+use Rattle.edit_spec.specs.Edits.{holders}
+use Rattle.bib_data.specs.declared.edit.NewEntry.{NewEntry}
+use Rattle.bib_store.proofs.ChosenFields.{any_mapped}
+use Rattle.bib_edit.proofs.new_entries.is_any_held.Goals as goal
+
+pub returns : goal.returns
+returns g c db reads =
+    any_from_yields_List (λ (new : NewEntry). nat_lt 0 (holders new.key db)) _ _ _ c.any.ensures.ran (YieldsList-from_slice c.args.entries.now cc) (λ x b q k. search (rules, tests))
+    ∙ any_mapped (λ (key : Text). nat_lt 0 (holders key db)) (λ (new : NewEntry). new.key) c.args.entries.now

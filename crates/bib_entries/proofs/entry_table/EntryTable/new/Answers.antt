@@ -1,0 +1,6 @@
+use Rattle.std.proofs.Common.{[]}
+use Rattle.bib_entries.proofs.Tables.{no_table}
+use Rattle.bib_entries.proofs.entry_table.EntryTable.new.Goals as goal
+
+pub returns : goal.returns
+returns c = no_table (record { ids = c.new.result; keys = c.new-2.result; crossrefs = c.new-3.result.items }) c.new.ensures (c.new-2.ensures.index [])

@@ -1,0 +1,18 @@
+use Rattle.std.proofs.Common.{ℕ, ◌∷◌, ◌∙◌, suc, length, length-append, map, sym, ap, subst, arith}
+use Rattle.bib_entries.specs.Numbers.{PartAt}
+use Rattle.bib_entries.proofs.MovedNumbers.{part_with, taken_number}
+use Rattle.bib_entries.proofs.numbers.Numbers.remove.Goals as goal
+
+pub returns-then-k-len : goal.returns-then-k-len
+returns-then-k-len c front rest p fit is =
+    let whole = c.self.view_is ∙ is in
+    let inside = part_with c.args.n front rest c.self.inside.list.items p whole in
+    let k = c.count_below-k.ensures.below front (c.args.n ∷ map suc rest) (subst (PartAt c.args.n front (c.args.n ∷ map suc rest)) (sym c.as_slice.ensures.value) inside) in
+    c.close.ensures front rest p fit (c.remove.ensures.items ∙ taken_number c.args.n c.count_below-k.result front (map suc rest) c.self.inside.list.items whole k)
+
+pub returns-else-k-len : goal.returns-else-k-len
+returns-else-k-len c front rest p fit is =
+    let whole = c.self.view_is ∙ is in
+    let inside = part_with c.args.n front rest c.self.inside.list.items p whole in
+    let k = c.count_below-k.ensures.below front (c.args.n ∷ map suc rest) (subst (PartAt c.args.n front (c.args.n ∷ map suc rest)) (sym c.as_slice.ensures.value) inside) in
+    absurd (omega (arith, k, c.if-k-len.false, c.len.ensures, c.self.inside.list.ok.0, ap (length {A = ℕ}) whole, length-append front (c.args.n ∷ map suc rest)))

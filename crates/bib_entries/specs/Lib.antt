@@ -1,0 +1,2 @@
+pub mod EntryTable
+pub mod Numbers

@@ -1,0 +1,126 @@
+//! Numbers in ascending order.
+
+ghost use Rattle.std.specs.Prelude.{◌≡◌, ◌≤◌, ◌<◌, ◌+◌, ◌^◌, ℕ, List, length};
+ghost use Rattle.bib_entries.specs.Numbers.{PartAt, HaveNext, moved_from};
+
+use std::alloc::{AllocError, Global};
+use std::marker::Model;
+
+/// The numbers that the items of a kind have among all items, in order. When an item comes or goes, the numbers of those
+/// after it change, which takes one step each.
+#[derive(Drop)]
+pub struct Numbers {
+    list: Vec<usize>,
+}
+
+impl Model for Numbers {
+    ghost use Rattle.std.specs.Prelude.{List, ℕ};
+
+    ghost Value = { List ℕ };
+
+    ghost view = { λ numbers. numbers.list.items };
+}
+
+/// Adds to the numbers from place `from` on.
+fn add(numbers: &mut [usize], from: usize, by: usize)
+    requires { from ≤ length numbers.old }
+    ensures { numbers.new ≡ moved_from from by numbers.old }
+{
+    'pass: for i in from..numbers.len() {
+        numbers[i] = numbers[i].wrapping_add(by);
+    }
+}
+
+/// How many of the numbers are below `n`.
+fn count_below(numbers: &[usize], n: usize) -> usize
+    ensures within { result ≤ length numbers.now }
+    ensures below { (front rest : List ℕ) → PartAt n front rest numbers.now → result ≡ length front }
+{
+    // most numbers come last
+    if numbers.last().is_none_or(|last| *last < n) {
+        return numbers.len();
+    }
+    numbers.partition_point(|m| *m < n)
+}
+
+impl Numbers {
+    ghost use Rattle.std.specs.Prelude.{[], ◌++◌, ◌∷◌, suc, map, Some, slice_get, OnOk, OnErr};
+
+    /// No numbers. It asks for no memory.
+    pub fn new(alloc: Global) -> Self
+        ensures { result ≡ [] }
+    {
+        Numbers {
+            list: Vec::new(alloc),
+        }
+    }
+
+    /// The numbers.
+    pub fn as_slice(&self) -> &[usize]
+        ensures { result.now ≡ self.now }
+    {
+        self.list.as_slice()
+    }
+
+    /// How many numbers there are.
+    pub fn count(&self) -> usize
+        ensures { result ≡ length self.now }
+    {
+        self.list.len()
+    }
+
+    /// Number `n` in order, counted from 0.
+    pub fn get(&self, n: usize) -> usize
+        requires { n < length self.now }
+        ensures { slice_get self.now n ≡ Some result }
+    {
+        self.list[n]
+    }
+
+    /// How many numbers are below `n`. It takes time in the logarithm of their count.
+    pub fn rank(&self, n: usize) -> usize
+        ensures within { result ≤ length self.now }
+        ensures below { (front rest : List ℕ) → PartAt n front rest self.now → result ≡ length front }
+    {
+        count_below(self.list.as_slice(), n)
+    }
+
+    /// Puts in number `n`, of an item that comes: those from `n` on are one greater then. Where memory is refused,
+    /// nothing changes.
+    pub fn insert(&mut self, n: usize) -> Result<(), AllocError>
+        ensures ok { OnOk result ((front rest : List ℕ) → PartAt n front rest self.old → HaveNext rest → self.new ≡ front ++ n ∷ map suc rest) }
+        ensures err { OnErr result (self.new ≡ self.old) }
+    {
+        let k = count_below(self.list.as_slice(), n);
+        self.list.insert(k, n)?;
+        add(self.list.as_mut_slice(), k + 1, 1);
+        Ok(())
+    }
+
+    /// Takes number `n` out, of an item that goes: those after it are one less then. It asks for no memory.
+    pub fn remove(&mut self, n: usize)
+        ensures { (front rest : List ℕ) → PartAt n front rest (front ++ rest) → HaveNext rest → self.old ≡ front ++ n ∷ map suc rest → self.new ≡ front ++ rest }
+    {
+        let k = count_below(self.list.as_slice(), n);
+        if k < self.list.len() {
+            self.list.remove(k);
+            self.close(n);
+        }
+    }
+
+    /// Makes way for an item that comes, of another kind: numbers from `n` on are one greater then.
+    pub fn make_way(&mut self, n: usize)
+        ensures { (front rest : List ℕ) → PartAt n front rest self.old → HaveNext rest → self.new ≡ front ++ map suc rest }
+    {
+        let k = count_below(self.list.as_slice(), n);
+        add(self.list.as_mut_slice(), k, 1);
+    }
+
+    /// Closes the gap of an item that goes, of another kind: numbers after `n` are one less then.
+    pub fn close(&mut self, n: usize)
+        ensures { (front rest : List ℕ) → PartAt n front rest (front ++ rest) → HaveNext rest → self.old ≡ front ++ map suc rest → self.new ≡ front ++ rest }
+    {
+        let k = count_below(self.list.as_slice(), n);
+        add(self.list.as_mut_slice(), k, usize::MAX);
+    }
+}

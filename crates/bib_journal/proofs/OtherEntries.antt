@@ -1,0 +1,47 @@
+-- What edits that add entries or remove one keep of the others, of the files of a session.
+use Rattle.std.proofs.Common.{◌≡◌, ℕ, [], ◌∷◌, length, sym, ◌∙◌, ap, subst}
+use Rattle.std.proofs.lemmas.List.{length-map}
+use Rattle.bib_spec.specs.Text.{Text}
+use Rattle.bib_spec.specs.Reading.{Reading}
+use Rattle.edit_spec.specs.Edits as edits
+use Rattle.edit_spec.specs.Edits.{edited, IsAccepted}
+use Rattle.edit_spec.specs.OtherLaws.{KeepsOthers, same_number}
+use Rattle.edit_spec.proofs.OtherEntries.{add_entry-keeps_others, remove_entry-keeps_others}
+use Rattle.edit_spec.proofs.AddedBehind.{add_many-keeps_others}
+use Rattle.bib_data.specs.declared.edit.Edit.{Edit}
+use Rattle.bib_data.specs.declared.edit.Edit.TheVariants.{SetField, DropField, AddEntry, AddMany, RemoveEntry, MoveEntry, RenameKey, RegenerateKeys, RenameMacro, InlineMacro, IntroduceMacro}
+use Rattle.bib_edit.specs.Asking.{OfEdit, made_base, add_entry, add_many, remove_entry}
+use Rattle.bib_edit.proofs.AskedEdits.{spelled_entry, spelled_entries}
+use Rattle.bib_edit.proofs.SpelledLists.{keys-spelled}
+use Rattle.bib_journal.specs.OtherEntries.{NoneWaits, KeepsOtherEntries, others_are_kept}
+use Rattle.bib_journal.proofs.MadeFiles.{of-made}
+
+made-others : (edit : Edit) (db db' : Reading) → OfEdit edit (IsAccepted made_base db) → OfEdit edit (λ e. db' ≡ edited made_base db e) → KeepsOtherEntries edit db db'
+made-others (AddEntry place entry) db db' allowed is =
+    let new = spelled_entry entry in
+    let e : edits.Edit = edits.AddEntry place new.0 in
+    let asks = add_entry place entry new.0 new.1 in
+    subst (KeepsOtherEntries (AddEntry place entry) db) (sym (is e asks))
+    (λ none. add_entry-keeps_others made_base db place new.0 (allowed e asks) (subst (λ (key : Text). NoneWaits db (key ∷ [])) (sym new.1.key) none))
+made-others (AddMany entries) db db' allowed is =
+    let news = spelled_entries entries in
+    let e : edits.Edit = edits.AddMany news.0 in
+    let asks = add_many entries news.0 news.1 in
+    let keys = keys-spelled entries news.0 news.1 in
+    let many : length news.0 ≡ length entries = sym (length-map news.0 (λ new. new.key)) ∙ ap length keys ∙ length-map entries (λ entry. entry.key) in
+    subst (KeepsOtherEntries (AddMany entries) db) (sym (is e asks))
+    (λ none. subst (λ (n : ℕ). KeepsOthers same_number n db (edited made_base db e)) many (add_many-keeps_others made_base db news.0 (allowed e asks) (subst (NoneWaits db) (sym keys) none)))
+made-others (RemoveEntry key) db db' allowed is =
+    subst (KeepsOtherEntries (RemoveEntry key) db) (sym (is (edits.RemoveEntry key) (remove_entry key)))
+    (remove_entry-keeps_others made_base db key (allowed (edits.RemoveEntry key) (remove_entry key)))
+made-others (SetField key field value) db db' allowed is = tt
+made-others (DropField key field) db db' allowed is = tt
+made-others (MoveEntry key place) db db' allowed is = tt
+made-others (RenameKey from to) db db' allowed is = tt
+made-others RegenerateKeys db db' allowed is = tt
+made-others (RenameMacro from to) db db' allowed is = tt
+made-others (InlineMacro name) db db' allowed is = tt
+made-others (IntroduceMacro name text) db db' allowed is = tt
+
+pub others-are-kept : others_are_kept
+others-are-kept = of-made KeepsOtherEntries made-others

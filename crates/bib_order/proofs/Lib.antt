@@ -1,0 +1,6 @@
+pub mod Ordering
+pub mod KeptOrder
+pub mod Following
+pub mod Counting
+pub mod Ascending
+pub mod Keeping

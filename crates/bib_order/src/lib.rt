@@ -1,0 +1,11 @@
+//! Keeps distinct ids in an order that changes: one for each member of a list that is kept elsewhere. It knows where they
+//! stand; it does not know what they are the ids of. It promises that an id stays with its member while others come and go.
+#![tactic(auto)]
+
+mod listed;
+mod order;
+mod paged;
+mod sheet;
+mod sheets;
+
+pub use order::{Order, holders_follow, keeps_order};

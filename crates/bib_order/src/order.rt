@@ -1,0 +1,172 @@
+//! Handles of the members of a list.
+
+ghost use Rattle.std.specs.Prelude.{◌≡◌, ◌≤◌, ◌<◌, ℕ, Bool, [], length, take, insert, remove, slice_index, slice_get, Some, IfOk, OnErr};
+ghost use Rattle.std.specs.Option.{IfSome, IfNone};
+ghost use Rattle.bib_order.specs.Holders.{holders, before, FollowOrder};
+ghost use Rattle.bib_order.specs.Orders.{Lacks, IsDistinct, is_among, KeepsOrder};
+
+use crate::listed::{add_next, position_among};
+use crate::paged::Paged;
+use std::alloc::{AllocError, Global};
+use std::marker::Model;
+
+/// How the ids of an order are kept.
+#[derive(Drop)]
+enum Ids {
+    // they ascend: each new one came after all others
+    Listed(Vec<usize>),
+    Paged(Paged),
+}
+
+/// Distinct ids in an order: one for each member of a list that is kept elsewhere. An id stays with its member while
+/// others come and go, and is free again once it is taken away. As long as each new id came after all others and none but
+/// the last was taken away, an id is its number, and both are found at once. From then on the ids stand in pages, and a
+/// call takes a step for each page and some for the ids of one.
+#[derive(Drop)]
+pub struct Order {
+    alloc: Global,
+    ids: Ids,
+}
+
+impl Model for Order {
+    ghost use Rattle.std.specs.Prelude.{List, ℕ};
+    ghost use Rattle.bib_order.specs.Ids.{ids_of, AreKept};
+
+    ghost Value = { List ℕ };
+
+    ghost view = { λ o. ids_of o.ids };
+
+    ghost invariant = { λ o. AreKept o.ids };
+}
+
+/// Ids keep their order while others come and go. It does nothing.
+pub fn keeps_order()
+    ensures { KeepsOrder }
+{}
+
+/// The ids that pass a test follow the order of all. It does nothing.
+pub fn holders_follow()
+    ensures { FollowOrder }
+{}
+
+impl Order {
+    /// The order without ids. It asks for no memory.
+    pub fn new(alloc: Global) -> Self
+        ensures { result ≡ [] }
+    {
+        Order {
+            alloc,
+            ids: Ids::Listed(Vec::new(alloc)),
+        }
+    }
+
+    /// How many ids there are. They are distinct.
+    pub fn count(&self) -> usize
+        ensures count { result ≡ length self.now }
+        ensures distinct { IsDistinct self.now }
+    {
+        match &self.ids {
+            Ids::Listed(ids) => ids.len(),
+            Ids::Paged(paged) => paged.count(),
+        }
+    }
+
+    /// Id `n`, counted from 0.
+    pub fn id_at(&self, n: usize) -> usize
+        requires { n < length self.now }
+        ensures { result ≡ slice_index self.now n }
+    {
+        match &self.ids {
+            Ids::Listed(ids) => ids[n],
+            Ids::Paged(paged) => paged.id_at(n),
+        }
+    }
+
+    /// The number that the id has, if it is in use.
+    pub fn position_of(&self, id: usize) -> Option<usize>
+        ensures found { IfSome result (λ n. slice_get self.now n ≡ Some id) }
+        ensures none { IfNone result (Lacks self.now id) }
+    {
+        match &self.ids {
+            Ids::Listed(ids) => position_among(ids, id),
+            Ids::Paged(paged) => paged.position_of(id),
+        }
+    }
+
+    /// Whether the id stands before number `n`.
+    fn stands_before(&self, id: usize, n: usize) -> bool
+        ensures { result ≡ is_among (take n self.now) id }
+    {
+        let _ = &self.ids;
+        match self.position_of(id) {
+            Some(m) => m < n,
+            None => false,
+        }
+    }
+
+    /// How many of the ids that pass a test stand before number `n`, where `ids` are all that pass, in order. It looks at
+    /// the last of these first, and then goes on by halves.
+    pub fn count_before(&self, ids: &[usize], n: usize) -> usize
+        ensures count { (test : ℕ → Bool) → ids.now ≡ holders test self.now → result ≡ before test self.now n }
+        ensures within { result ≤ length ids.now }
+    {
+        let _ = &self.ids;
+        match ids.last() {
+            Some(last) if self.stands_before(*last, n) => ids.len(),
+            _ => ids.partition_point(|id| self.stands_before(*id, n)),
+        }
+    }
+
+    /// Puts a new id before id `n`, or at the end.
+    pub fn insert(&mut self, n: usize) -> Result<usize, AllocError>
+        requires { n ≤ length self.old }
+        ensures ok { IfOk result (λ id. (self.new ≡ insert self.old n id) × Lacks self.old id) }
+        ensures err { OnErr result (self.new ≡ self.old) }
+    {
+        match &mut self.ids {
+            Ids::Listed(ids) if n == ids.len() => add_next(ids),
+            Ids::Listed(ids) => {
+                let mut paged = Paged::of(self.alloc, ids)?;
+                let id = paged.insert(n)?;
+                self.ids = Ids::Paged(paged);
+                Ok(id)
+            }
+            Ids::Paged(paged) => paged.insert(n),
+        }
+    }
+
+    /// Takes id `n` away. It needs no memory.
+    pub fn remove(&mut self, n: usize)
+        requires { n < length self.old }
+        ensures { self.new ≡ remove self.old n }
+    {
+        if n < self.count() - 1 {
+            self.make_pages();
+        }
+        self.take_out(n);
+    }
+
+    /// Makes pages of a list, where there is memory for them. No id changes.
+    fn make_pages(&mut self)
+        ensures { self.new ≡ self.old }
+    {
+        if let Ids::Listed(ids) = &self.ids {
+            if let Ok(paged) = Paged::of(self.alloc, ids) {
+                self.ids = Ids::Paged(paged);
+            }
+        }
+    }
+
+    /// Takes id `n` away, from the list or its page.
+    fn take_out(&mut self, n: usize)
+        requires { n < length self.old }
+        ensures { self.new ≡ remove self.old n }
+    {
+        match &mut self.ids {
+            Ids::Listed(ids) => {
+                ids.remove(n);
+            }
+            Ids::Paged(paged) => paged.remove(n),
+        }
+    }
+}

@@ -1,0 +1,9 @@
+use Rattle.std.proofs.Common.{◌≡◌, ◌++◌, length, take, drop, reverse}
+use Rattle.bib_ris.specs.Drafts.{with_keys}
+use Rattle.bib_ris.proofs.drafts.with_keys.Given as goal
+
+abbrev pub invariant-entries : goal.invariant-entries
+invariant-entries l = record {
+  given : take l.n l.entries.items ++ with_keys (reverse l.left.items) (drop l.n l.entries.items) ≡ with_keys l.fn.keys l.fn.entries.items;
+  all : length l.entries.items ≡ length l.fn.entries.items;
+}

@@ -1,0 +1,68 @@
+-- The entries that a RIS text adds to a file, and their keys. (dialect)
+use Rattle.std.specs.Prelude.{◌≡◌, ◌≢◌, true, false, if◌then◌else◌, List, [], ◌∷◌, map, filter}
+use Rattle.std.specs.List.{list_all}
+use Rattle.bib_spec.specs.Text.{Text, is_new_key}
+use Rattle.bib_spec.specs.Reading.{Reading}
+use Rattle.bib_spec.specs.Records.{Record}
+use Rattle.bib_spec.specs.MadeKeys.{free_key}
+use Rattle.bib_data.specs.declared.edit.NewEntry.{NewEntry}
+use Rattle.bib_store.specs.Meaning.{OfReading}
+use Rattle.bib_edit.specs.Asking.{made_base}
+use Rattle.bib_edit.specs.TakenKeys.{taken_in}
+use Rattle.ris_text.specs.declared.records.RisRecord.{RisRecord}
+use Rattle.ris_text.specs.declared.records.RisFile.{RisFile}
+use Rattle.ris_text.specs.declared.fault.RisFault.TheVariants as text_fault
+use Rattle.ris_text.specs.Reading.{Reads, IsFaultOf}
+use Rattle.ris_format.specs.Mapping.{back}
+use Rattle.ris_format.specs.Entry.{entry_of, are_balanced}
+use Rattle.bib_ris.specs.declared.fault.ImportFault.{ImportFault}
+use Rattle.bib_ris.specs.declared.fault.ImportFault.TheVariants.{Unread, UnbalancedText, Memory}
+use Rattle.bib_ris.specs.declared.importing.Additions.{Additions}
+
+-- ---- keys
+
+-- the IDs that an edit may write as keys
+abbrev pub usable_ids : List Record → List Text
+usable_ids records = filter is_new_key (map (λ r. r.key) records)
+
+abbrev pub with_key : Record → Text → Record
+with_key r key = record r { key = key }
+
+-- A record whose ID can be a key keeps it. Each other gets, in turn, the first candidate of its base that is not taken, which
+-- then is taken too.
+abbrev pub keyed : List Text → List Record → List Record
+keyed taken [] = []
+keyed taken (r ∷ records) =
+    if is_new_key r.key then r ∷ keyed taken records
+    else with_key r (free_key taken (made_base r)) ∷ keyed (free_key taken (made_base r) ∷ taken) records
+
+-- ---- entries
+
+-- the records as entries for this file: no made key is a key of the file, the text of a dangling crossref, or an ID that
+-- can be a key, whichever record has it
+abbrev pub imported : Reading → List Record → List NewEntry
+imported db records = map entry_of (keyed (taken_in db (usable_ids records)) records)
+
+-- the records that these RIS records say
+abbrev pub records_of : List RisRecord → List Record
+records_of records = map back records
+
+-- what a RIS text adds to a file: the text says records whose texts are balanced, and these are their entries
+pub record AreAdditions (file text : Text) (a : Additions) : Type 0 where
+  pub said : RisFile
+  pub reads : Reads text said
+  pub balanced : list_all are_balanced (records_of said.records) ≡ true
+  pub entries : OfReading file (λ db. a.entries ≡ imported db (records_of said.records))
+  pub skipped : a.skipped ≡ said.skipped
+
+-- the text says records, and a text of one is not balanced
+pub record HasUnbalanced (text : Text) : Type 0 where
+  pub said : RisFile
+  pub reads : Reads text said
+  pub unbalanced : list_all are_balanced (records_of said.records) ≡ false
+
+-- why a text gives no entries: it is not read; or else a text of a record is not balanced; or memory was refused
+abbrev pub RefusesImport : ImportFault → Text → Type 0
+RefusesImport Memory text = Unit {0}
+RefusesImport (Unread fault) text = (fault ≢ text_fault.Memory) × IsFaultOf text fault
+RefusesImport UnbalancedText text = HasUnbalanced text

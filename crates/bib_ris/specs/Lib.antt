@@ -1,0 +1,4 @@
+pub mod Export
+pub mod Faults
+pub mod Import
+pub mod Drafts

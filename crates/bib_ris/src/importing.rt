@@ -1,0 +1,62 @@
+//! Entries that a RIS text adds to a file.
+
+ghost use Rattle.std.specs.Prelude.{◌≡◌, ◌⊎◌, true, false, IfOk, IfErr, OnOk};
+ghost use Rattle.std.specs.List.{list_all};
+ghost use Rattle.bib_store.specs.Meaning.{OfReading};
+ghost use Rattle.ris_format.specs.Entry.{are_balanced};
+ghost use Rattle.bib_ris.specs.Import.{records_of, imported, AreAdditions, RefusesImport};
+ghost use Rattle.bib_ris.specs.declared.fault.ImportFault.TheVariants.{UnbalancedText, Memory};
+
+use crate::drafts::{Drafts, with_keys};
+use crate::fault::ImportFault;
+use bib_data::NewEntry;
+use bib_edit::free_keys;
+use bib_scan::Seq;
+use bib_store::{Database, ItemList};
+use ris_text::{RisRecord, read_ris};
+use std::alloc::Global;
+
+/// What a RIS text adds to a file: its records as entries, and how many of its lines were skipped.
+#[derive(Debug, Drop)]
+pub struct Additions {
+    pub entries: Seq<NewEntry>,
+    pub skipped: u64,
+}
+
+/// The entries of these records.
+fn imported<L: ItemList>(
+    alloc: Global,
+    db: &Database<L>,
+    records: &[RisRecord],
+) -> Result<Seq<NewEntry>, ImportFault>
+    ensures entries { IfOk result (λ entries. OfReading db.now (λ r. entries ≡ imported r (records_of records.now))) }
+    ensures balanced { OnOk result (list_all are_balanced (records_of records.now) ≡ true) }
+    ensures refused { IfErr result (λ fault. (fault ≡ Memory) ⊎ ((fault ≡ UnbalancedText) × (list_all are_balanced (records_of records.now) ≡ false))) }
+{
+    let drafts = Drafts::of(alloc, records)?;
+    match free_keys(alloc, db, drafts.bases.as_slice(), drafts.ids.as_slice()) {
+        Ok(keys) => Ok(with_keys(drafts.entries, keys)),
+        Err(_) => Err(ImportFault::Memory),
+    }
+}
+
+/// What a RIS text adds to an open file. A record whose ID can be a key keeps it; each other gets a free key of its made
+/// key, which is no ID of the text and no key that was made before. It takes time in the lengths of the text and of the
+/// file's keys, and memory for the entries.
+///
+/// A text that is not read is refused as 61 to 63, with its place; else one of which a record has a text whose braces do
+/// not balance as 64; else the one refusal is want of memory.
+pub fn import<L: ItemList>(
+    alloc: Global,
+    db: &Database<L>,
+    text: &[u8],
+) -> Result<Additions, ImportFault>
+    ensures additions { IfOk result (AreAdditions db.now text.now) }
+    ensures refused { IfErr result (λ fault. RefusesImport fault text.now) }
+{
+    let said = read_ris(alloc, text)?;
+    Ok(Additions {
+        entries: imported(alloc, db, said.records.as_slice())?,
+        skipped: said.skipped,
+    })
+}

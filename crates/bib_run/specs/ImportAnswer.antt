@@ -1,0 +1,62 @@
+-- `import`: what a RIS text adds to a file. (dialect)
+use Rattle.std.specs.Prelude.{ℕ, ◌≡◌, ◌≢◌, [], ◌++◌, length, Option, None, codes}
+use Rattle.std.specs.Fmt.{decimal}
+use Rattle.bib_spec.specs.Text.{Text}
+use Rattle.edit_spec.specs.Steps.{KeptSteps}
+use Rattle.bib_data.specs.declared.edit.Edit.TheVariants.{AddMany}
+use Rattle.bib_journal.specs.declared.fault.SessionFault.{SessionFault}
+use Rattle.bib_journal.specs.declared.fault.SessionFault.TheVariants.{Memory}
+use Rattle.bib_journal.specs.declared.saving.Saved.{Saved}
+use Rattle.bib_journal.specs.Loading.{Saves}
+use Rattle.bib_journal.specs.Session.{MakesEdit, RefusesEdit}
+use Rattle.ris_text.specs.declared.fault.RisFault.{RisFault}
+use Rattle.ris_text.specs.declared.fault.RisFault.TheVariants as ris_fault
+use Rattle.bib_ris.specs.declared.fault.ImportFault.{ImportFault}
+use Rattle.bib_ris.specs.declared.fault.ImportFault.TheVariants as import_fault
+use Rattle.bib_ris.specs.declared.importing.Additions.{Additions}
+use Rattle.bib_ris.specs.Import.{AreAdditions, RefusesImport}
+use Rattle.bib_run.specs.declared.answers.Answer.{Answer}
+use Rattle.bib_run.specs.Messages.{placed_line}
+use Rattle.bib_run.specs.Outcome.{answer_of}
+use Rattle.bib_run.specs.Sessions.{fault_line, outcome_left}
+use Rattle.bib_run.specs.Inputs.{AnswersInput}
+
+-- ---- messages
+
+-- `added N skipped M`, a line: how many entries were added, and how many lines of the text were skipped
+abbrev pub added_line : ℕ → ℕ → Text
+added_line added skipped = codes "added " ++ (decimal added ++ (codes " skipped " ++ (decimal skipped ++ codes "\n")))
+
+-- why a RIS text is not read, a line
+abbrev pub unread_line : RisFault → Text
+unread_line (ris_fault.NoStart place) = placed_line 61 (codes "NoStart") place
+unread_line (ris_fault.NoEnd place) = placed_line 62 (codes "NoEnd") place
+unread_line (ris_fault.EmptyType place) = placed_line 63 (codes "EmptyType") place
+unread_line ris_fault.Memory = codes "bibkeep: 10 Memory\n"
+
+-- why a RIS text gives no entries, a line
+abbrev pub import_fault_line : ImportFault → Text
+import_fault_line (import_fault.Unread fault) = unread_line fault
+import_fault_line import_fault.UnbalancedText = codes "bibkeep: 64 UnbalancedText\n"
+import_fault_line import_fault.Memory = codes "bibkeep: 10 Memory\n"
+
+-- ---- answers
+
+-- the answer where so many entries were added, and this file and journal are left
+abbrev pub added_answer : ℕ → ℕ → Saved → Answer
+added_answer added skipped saved = record { output = added_line added skipped; outcome = outcome_left 1 None saved }
+
+-- The entries are added all at once, which is one step; or why they cannot be.
+pub data HasAdded (a : Additions) (opened : KeptSteps) (answer : Answer) : Type 0 where
+  added : (closed : KeptSteps) (saved : Saved) → MakesEdit (AddMany a.entries) opened closed → Saves closed saved → answer ≡ added_answer (length a.entries) a.skipped saved
+      → HasAdded a opened answer
+  refused : (fault : SessionFault) → fault ≢ Memory → RefusesEdit fault (AddMany a.entries) opened → answer ≡ answer_of [] (fault_line fault) 1 → HasAdded a opened answer
+
+-- the answer to a RIS text of a session that was opened with these steps: its entries are added, or why it gives none
+pub data HasImported (text : Text) (opened : KeptSteps) (answer : Answer) : Type 0 where
+  read : (a : Additions) → AreAdditions opened.present text a → HasAdded a opened answer → HasImported text opened answer
+  unread : (fault : ImportFault) → fault ≢ import_fault.Memory → RefusesImport fault text → answer ≡ answer_of [] (import_fault_line fault) 1 → HasImported text opened answer
+
+-- `import F`: the records of the text are added to the file as entries
+abbrev pub IsImportAnswer : Text → Option Text → Text → Answer → Type 0
+IsImportAnswer = AnswersInput HasImported

@@ -1,0 +1,128 @@
+//! `import`: what a RIS text adds to a file.
+
+ghost use Rattle.std.specs.Prelude.{◌≡◌, ◌≢◌, [], IfOk, IfErr, OnOk, option_map};
+ghost use Rattle.bib_data.specs.declared.edit.Edit.TheVariants.{AddMany};
+ghost use Rattle.bib_journal.specs.Session.{MakesEdit, RefusesEdit};
+ghost use Rattle.bib_journal.specs.declared.fault.SessionFault.TheVariants.{Memory};
+ghost use Rattle.bib_ris.specs.declared.fault.ImportFault.TheVariants.{Memory as ImportMemory};
+ghost use Rattle.bib_run.specs.Outcome.{answer_of};
+ghost use Rattle.bib_run.specs.Sessions.{fault_line};
+ghost use Rattle.bib_run.specs.ImportAnswer.{added_line, unread_line, import_fault_line, HasAdded, HasImported, IsImportAnswer};
+
+use crate::answers::{Answer, refused, too_long};
+use crate::messages::placed_line;
+use crate::sessions::{fault_line, outcome_left, unopened};
+use bib_data::{Edit, NewEntry};
+use bib_journal::{Session, SessionFault};
+use bib_ris::{Additions, ImportFault, import};
+use bib_scan::{FILE_LIMIT, Seq, Text};
+use bib_store::Paged;
+use ris_text::RisFault;
+use std::alloc::{AllocError, Global};
+
+/// The message of a record with a text whose braces do not balance.
+const UNBALANCED_TEXT: &[u8] = b"bibkeep: 64 UnbalancedText\n";
+
+/// What the records of the input add to the file, all at once.
+pub fn answer_import(
+    alloc: Global,
+    file: Vec<u8>,
+    journal: Option<&[u8]>,
+    input: &[u8],
+) -> Result<Answer, AllocError>
+    ensures { IfOk result (IsImportAnswer file.items (option_map (λ text. text.now) journal.entry) input.now) }
+{
+    let mut session = match Session::open(alloc, file.as_slice(), journal, Paged::new(alloc)) {
+        Ok(session) => session,
+        Err(fault) => return unopened(alloc, fault),
+    };
+    if input.len() > FILE_LIMIT {
+        return too_long(alloc);
+    }
+    import_into(alloc, &mut session, input)
+}
+
+/// What the records of a text add to a session.
+fn import_into(
+    alloc: Global,
+    session: &mut Session<Paged>,
+    text: &[u8],
+) -> Result<Answer, AllocError>
+    ensures { IfOk result (HasImported text.now session.old) }
+{
+    match import(alloc, session.database(), text) {
+        Ok(additions) => add(alloc, session, additions),
+        Err(fault) => unread(alloc, fault),
+    }
+}
+
+/// Adds the entries, or says why they cannot be added.
+fn add(
+    alloc: Global,
+    session: &mut Session<Paged>,
+    additions: Additions,
+) -> Result<Answer, AllocError>
+    ensures { IfOk result (HasAdded additions session.old) }
+{
+    let output = added_line(alloc, additions.entries.as_slice().len(), additions.skipped)?;
+    if let Err(fault) = add_entries(session, additions.entries) {
+        return unadded(alloc, fault);
+    }
+    let Ok(saved) = session.saved() else {
+        return Err(AllocError);
+    };
+    let outcome = outcome_left(alloc, 1, None, saved);
+    Ok(Answer { output, outcome })
+}
+
+/// Adds the entries by one edit. They are let go before more is made of the file.
+fn add_entries(session: &mut Session<Paged>, entries: Seq<NewEntry>) -> Result<(), SessionFault>
+    ensures made { OnOk result (MakesEdit (AddMany entries) session.old session.new) }
+    ensures refused { IfErr result (λ fault. RefusesEdit fault (AddMany entries) session.old) }
+{
+    session.edit(&Edit::AddMany { entries })
+}
+
+/// `added N skipped M`, a line.
+fn added_line(alloc: Global, added: usize, skipped: u64) -> Result<Text, AllocError>
+    ensures { IfOk result (λ line. line ≡ added_line added skipped) }
+{
+    let line = format!(in alloc; "added {} skipped {}\n", added, skipped)?;
+    Ok(Text::from_vec(line.into_bytes()))
+}
+
+/// Nothing is output, and the message says why no entry is added; want of memory is no answer.
+fn unadded(alloc: Global, fault: SessionFault) -> Result<Answer, AllocError>
+    ensures { IfOk result (λ answer. (fault ≢ Memory) × (answer ≡ answer_of [] (fault_line fault) 1)) }
+{
+    if fault == SessionFault::Memory {
+        return Err(AllocError);
+    }
+    Ok(refused(alloc, fault_line(alloc, fault)?))
+}
+
+/// Nothing is output, and the message says why the text gives no entries; want of memory is no answer.
+fn unread(alloc: Global, fault: ImportFault) -> Result<Answer, AllocError>
+    ensures { IfOk result (λ answer. (fault ≢ ImportMemory) × (answer ≡ answer_of [] (import_fault_line fault) 1)) }
+{
+    match fault {
+        ImportFault::Unread(fault) => Ok(refused(alloc, unread_line(alloc, fault)?)),
+        ImportFault::UnbalancedText => Ok(refused(
+            alloc,
+            Text::from_vec(Vec::from_slice(alloc, UNBALANCED_TEXT)?),
+        )),
+        ImportFault::Memory => Err(AllocError),
+    }
+}
+
+/// Why a text is not read, a line.
+fn unread_line(alloc: Global, fault: RisFault) -> Result<Text, AllocError>
+    ensures { IfOk result (λ line. line ≡ unread_line fault) }
+{
+    match fault {
+        RisFault::NoStart(place) => placed_line(alloc, 61, "NoStart", place),
+        RisFault::NoEnd(place) => placed_line(alloc, 62, "NoEnd", place),
+        RisFault::EmptyType(place) => placed_line(alloc, 63, "EmptyType", place),
+        RisFault::Memory => Err(AllocError),
+    }
+}

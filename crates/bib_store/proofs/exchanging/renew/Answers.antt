@@ -1,0 +1,24 @@
+use Rattle.std.proofs.Common.{◌∙◌, List, sym, subst, arith}
+use Rattle.std.proofs.lemmas.Result.{err_from_is_err_and, on_ok_weaker}
+use Rattle.bib_items.specs.declared.list.Item.{Item}
+use Rattle.bib_store.specs.Beside.{HasItems}
+use Rattle.bib_store.specs.Windows.{joined}
+use Rattle.bib_store.proofs.Answered.{err_from}
+use Rattle.bib_store.proofs.Exchanges.{put_without}
+use Rattle.bib_store.proofs.exchanging.renew.Goals as goal
+
+pub returns-then-can_follow-clause-tables : goal.returns-then-can_follow-clause-tables
+returns-then-can_follow-clause-tables g c = on_ok_weaker c.follow.result (λ tables old put. tables old c.args.front_len put) c.follow.ensures.tables
+
+pub returns-then-can_follow-clause-refused : goal.returns-then-can_follow-clause-refused
+returns-then-can_follow-clause-refused g c = err_from c.follow.result _ _ (λ fault refused bad old put. refused bad old c.args.front_len put) c.follow.ensures.refused
+
+pub returns-in_err-tables-clause-refused : goal.returns-in_err-tables-clause-refused
+returns-in_err-tables-clause-refused g c =
+    let p = err_from_is_err_and c.from_residual.result c.from_residual.ensures.1 in
+    rw (p.1, p.2) (λ bad old put front db inner k reads has.
+    c.in_err-tables.ensures.refused bad (joined c.args.change.now.window db inner) (subst (λ (l : List Item). HasItems c.args.front_len l (joined c.args.change.now.window db inner)) (sym (put_without c.args.change.now old (g.L.ItemList.items c.args.items.now) c.args.count put inner reads)) has))
+
+pub returns-clause-tables : goal.returns-clause-tables
+returns-clause-tables g c = λ old put front db inner k reads has.
+    c.in_ok-tables.ensures.tables (joined c.args.change.now.window db inner) (subst (λ (l : List Item). HasItems c.args.front_len l (joined c.args.change.now.window db inner)) (sym (put_without c.args.change.now old (g.L.ItemList.items c.args.items.now) c.args.count put inner reads)) has)

@@ -1,0 +1,7 @@
+use Rattle.std.proofs.Common.{◌-◌, List, take}
+use Rattle.bib_spec.specs.Reading.{Item}
+use Rattle.bib_store.specs.Following.{bodies_between, AreItemsOf, DefineNothing}
+use Rattle.bib_store.proofs.following.are_others.Given as goal
+
+abbrev pub invariant-pass : goal.invariant-pass
+invariant-pass g l = (new : List Item) → AreItemsOf (bodies_between l.from l.to (g.L.ItemList.items l.items)) new → DefineNothing (take (l.k - l.from) new)

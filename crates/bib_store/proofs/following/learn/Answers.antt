@@ -1,0 +1,58 @@
+use Rattle.std.proofs.Common.{◌≡◌, ◌≤◌, ◌<◌, ◌+◌, ◌-◌, ◌∙◌, ℕ, List, Some, length, slice_get, refl, suc, sym, ap, subst, arith}
+use Rattle.bib_spec.specs.Text.{Text}
+use Rattle.bib_items.specs.declared.list.Item.{Item}
+use Rattle.bib_items.specs.Items.{item_at}
+use Rattle.bib_store.specs.Following.{bodies_between}
+use Rattle.bib_store.proofs.Followed.{PutSoFar, learn_more, learn_none, learn_over, learn_back, body_between}
+use Rattle.bib_store.proofs.following.learn.Goals as goal
+
+-- the body of the item that comes next, counted from the last
+next_body : (items : List Item) (from to j : ℕ) (body : Text) (at : ℕ) → j < to - from → to ≤ length items → body ≡ (item_at items (to - 1 - j)).body → at ≡ to - from - (j + 1)
+    → slice_get (bodies_between from to items) at ≡ Some body
+next_body items from to j body at many within is place =
+    let low : from ≤ to - 1 - j = omega (arith, many) in
+    let high : to - 1 - j < to = omega (arith, many) in
+    let same : to - 1 - j - from ≡ at = omega (arith, many, place) in
+    ap (slice_get (bodies_between from to items)) (sym same) ∙ body_between items from to (to - 1 - j) body low high within is
+
+left_at : (from to j : ℕ) → j < to - from → to - from - j ≡ suc (to - from - (j + 1))
+left_at from to j many = omega (arith, many)
+
+pub learn-init : goal.learn-init
+learn-init g c =
+    let all : c.args.to - c.args.from ≡ c.args.to - c.args.from - 0 = omega arith in
+    let items = g.L.ItemList.items c.args.items.now in (
+      subst (λ (m : ℕ). PutSoFar m c.args.at c.args.from c.args.to items c.args.tables.now c.args.tables.now) all
+          (learn_none c.args.at c.args.from c.args.to items c.args.tables.now c.requires.ordered c.requires.within),
+      refl,
+    )
+
+pub learn-preserved : goal.learn-preserved
+learn-preserved g c =
+    let items = g.L.ItemList.items c.args.items.now in
+    let left : ℕ = c.args.to - c.args.from - (c.learn.j + 1) in (
+      learn_more left c.args.at c.args.from c.args.to items c.args.tables.now c.learn.tables c.insert.new.self c.body.result.now c.of.result
+          (next_body items c.args.from c.args.to c.learn.j c.body.result.now left c.learn-test.true c.requires.within c.body.ensures refl) c.of.ensures.item
+          (subst (λ (m : ℕ). PutSoFar m c.args.at c.args.from c.args.to items c.args.tables.now c.learn.tables) (left_at c.args.from c.args.to c.learn.j c.learn-test.true) c.learn.invariant.0)
+          c.in_default.ensures.step c.insert.ensures.definitions,
+      c.insert.ensures.len ∙ c.learn.invariant.1,
+    )
+
+pub returns-in-Err-clause-refused : goal.returns-in-Err-clause-refused
+returns-in-Err-clause-refused g c bad =
+    let items = g.L.ItemList.items c.args.items.now in
+    let left : ℕ = c.args.to - c.args.from - (c.learn.j + 1) in
+    let long = c.of_splice.ensures.too_long bad in
+    learn_over left c.args.at c.args.from c.args.to items c.args.tables.now c.learn.tables c.insert.new.self c.body.result.now c.of.result
+    (next_body items c.args.from c.args.to c.learn.j c.body.result.now left c.learn-test.true c.requires.within c.body.ensures refl) c.of.ensures.item
+    long.0 c.learn.invariant.0.1 (c.in-Err.ensures.too_long long.0 long.1)
+
+pub returns-in-Err-clause-err : goal.returns-in-Err-clause-err
+returns-in-Err-clause-err g c =
+    let items = g.L.ItemList.items c.args.items.now in
+    let left : ℕ = c.args.to - c.args.from - (c.learn.j + 1) in
+    let many = c.learn-test.true in
+    learn_back left (c.args.to - 1 - c.learn.j + 1) c.args.at c.args.from c.args.to items c.args.tables.now c.learn.tables c.insert.new.self c.forget.new.tables
+    (omega (arith, many)) (omega (arith, many)) c.requires.within
+    (subst (λ (m : ℕ). PutSoFar m c.args.at c.args.from c.args.to items c.args.tables.now c.learn.tables) (left_at c.args.from c.args.to c.learn.j many) c.learn.invariant.0)
+    c.in-Err.ensures.err c.forget.ensures.tables

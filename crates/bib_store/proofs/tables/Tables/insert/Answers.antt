@@ -1,0 +1,17 @@
+use Rattle.std.proofs.Common.{◌∙◌, refl, sym, ap}
+use Rattle.bib_scan.specs.View.{View}
+use Rattle.bib_store.specs.declared.tables.Tables.{Tables}
+use Rattle.bib_store.proofs.TableSteps.{comment_insertion}
+use Rattle.bib_store.proofs.tables.Tables.insert.Goals as goal
+
+pub returns-in-Comment-clause-step : goal.returns-in-Comment-clause-step
+returns-in-Comment-clause-step c tree is other seen =
+    let old = c.args.self.now in
+    let new : Tables = record {
+      file_len = old.file_len;
+      entries = c.make_way.new.self;
+      preambles = c.make_way-in-Comment.new.self;
+      named = old.named;
+      definitions = old.definitions;
+    } in
+    comment_insertion old new c.args.n c.args.view.now c.requires c.make_way.ensures c.make_way-in-Comment.ensures refl refl tree is (sym (ap (λ (v : View). v.kind) seen) ∙ sym c.kind.ensures ∙ c.in-Comment.is) seen

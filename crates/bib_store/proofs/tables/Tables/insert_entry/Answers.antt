@@ -1,0 +1,45 @@
+use Rattle.std.proofs.Common.{◌∙◌, length, insert, subst, refl}
+use Rattle.std.proofs.lemmas.Result.{err_from_is_err_and}
+use Rattle.bib_spec.specs.Text.{Text}
+use Rattle.bib_entries.specs.EntryTable.{IsTableOf}
+use Rattle.bib_store.proofs.Answered.{err_always}
+use Rattle.bib_store.specs.Definitions.{macros_seen}
+use Rattle.bib_store.specs.declared.tables.Tables.{Tables}
+use Rattle.bib_store.proofs.TableSteps.{entry_insertion, entry_over, named_kept}
+use Rattle.bib_store.proofs.tables.Tables.insert_entry.Goals as goal
+
+pub returns-in_err-crossref-clause-too_long : goal.returns-in_err-crossref-clause-too_long
+returns-in_err-crossref-clause-too_long c =
+    let p = err_from_is_err_and c.from_residual.result c.from_residual.ensures.1 in
+    rw (p.1, p.2) (λ place is.
+    let over = c.in_err-crossref.ensures.too_long place is in
+    entry_over c.args.self.now c.args.self.now c.args.n c.args.view.now (macros_seen c.at.result) place c.at.ensures
+    (λ before rows are fields. over before rows are (c.fields.ensures.fields ∙ fields)))
+
+pub returns-in_err-insert_named-clause-err : goal.returns-in_err-insert_named-clause-err
+returns-in_err-insert_named-clause-err c =
+    let new : Tables = record {
+      file_len = c.args.self.now.file_len;
+      entries = c.insert_named.new.entries;
+      preambles = c.args.self.now.preambles;
+      named = c.insert_named.new.named;
+      definitions = c.args.self.now.definitions;
+    } in
+    err_always c.from_residual-in_err-insert_named.result (named_kept c.args.self.now new refl c.in_err-insert_named.ensures.err.0 refl refl c.in_err-insert_named.ensures.err.1)
+
+pub returns-clause-step : goal.returns-clause-step
+returns-clause-step c =
+    let new : Tables = record {
+      file_len = c.args.self.now.file_len;
+      entries = c.insert_named.new.entries;
+      preambles = c.make_way.new.self;
+      named = c.insert_named.new.named;
+      definitions = c.args.self.now.definitions;
+    } in
+    entry_insertion c.args.self.now new c.args.n c.args.view.now (macros_seen c.at.result) c.in_ok-crossref.crossref c.at.ensures c.requires
+    c.in_ok-insert_named.ensures.entries c.make_way.ensures
+    (λ front rest keys crossrefs parts low t. subst (λ (key : Text). IsTableOf (insert keys (length front) key) (insert crossrefs (length front) c.in_ok-crossref.crossref) c.insert_named.new.named) c.key.ensures
+    (c.in_ok-insert_named.ensures.named front rest keys crossrefs parts low t))
+    refl
+    (λ before rows are fields. c.in_ok-crossref.ensures.text before rows are (c.fields.ensures.fields ∙ fields))
+    (λ before rows are fields. c.in_ok-crossref.ensures.short before rows are (c.fields.ensures.fields ∙ fields))

@@ -1,0 +1,16 @@
+use Rattle.std.proofs.Common.{refl}
+use Rattle.bib_store.specs.declared.tables.Tables.{Tables}
+use Rattle.bib_store.proofs.TableSteps.{preamble_insertion}
+use Rattle.bib_store.proofs.tables.Tables.insert_preamble.Goals as goal
+
+pub returns-clause-step : goal.returns-clause-step
+returns-clause-step c =
+    let old = c.args.self.now in
+    let new : Tables = record {
+      file_len = old.file_len;
+      entries = c.make_way.new.self;
+      preambles = c.insert.new.self;
+      named = old.named;
+      definitions = old.definitions;
+    } in
+    preamble_insertion old new c.args.n c.args.view.now c.requires c.in_ok-insert.ensures.ok c.make_way.ensures refl refl c.in_ok-measure_preamble.ensures.short

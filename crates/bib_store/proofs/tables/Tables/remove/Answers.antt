@@ -1,0 +1,28 @@
+use Rattle.std.proofs.Common.{◌∙◌, List, Option, slice_get, Some, remove, refl, sym, ap, subst}
+use Rattle.bib_spec.specs.Text.{Text}
+use Rattle.bib_scan.specs.View.{View}
+use Rattle.bib_store.specs.declared.tables.Tables.{Tables}
+use Rattle.bib_store.proofs.TableSteps.{entry_removal, preamble_removal, comment_removal}
+use Rattle.bib_store.proofs.tables.Tables.remove.Goals as goal
+
+pub returns-in-Entry-clause-step : goal.returns-in-Entry-clause-step
+returns-in-Entry-clause-step c tree is other seen =
+    let old = c.args.self.now in
+    let new : Tables = record { file_len = old.file_len; entries = c.remove-in-Entry.new.self; preambles = c.close.new.self; named = c.remove.new.self; definitions = old.definitions } in
+    entry_removal old new c.args.n c.args.view.now c.requires c.remove-in-Entry.ensures c.close.ensures c.rank.result c.rank.ensures.below
+    (λ keys crossrefs at. c.remove.ensures keys crossrefs (at ∙ ap Some (sym c.key.ensures))) refl
+    tree is (sym (ap (λ (v : View). v.kind) seen) ∙ sym c.kind.ensures ∙ c.in-Entry.is) seen
+
+pub returns-in-Preamble-clause-step : goal.returns-in-Preamble-clause-step
+returns-in-Preamble-clause-step c tree is other seen =
+    let old = c.args.self.now in
+    let new : Tables = record { file_len = old.file_len; entries = c.close-in-Preamble.new.self; preambles = c.remove-in-Preamble.new.self; named = old.named; definitions = old.definitions } in
+    preamble_removal old new c.args.n c.args.view.now c.requires c.remove-in-Preamble.ensures c.close-in-Preamble.ensures refl refl
+    tree is (sym (ap (λ (v : View). v.kind) seen) ∙ sym c.kind.ensures ∙ c.in-Preamble.is) seen
+
+pub returns-in-Comment-clause-step : goal.returns-in-Comment-clause-step
+returns-in-Comment-clause-step c tree is other seen =
+    let old = c.args.self.now in
+    let new : Tables = record { file_len = old.file_len; entries = c.close-in-Comment.new.self; preambles = c.close-in-Comment-2.new.self; named = old.named; definitions = old.definitions } in
+    comment_removal old new c.args.n c.args.view.now c.requires c.close-in-Comment.ensures c.close-in-Comment-2.ensures refl refl
+    tree is (sym (ap (λ (v : View). v.kind) seen) ∙ sym c.kind.ensures ∙ c.in-Comment.is) seen

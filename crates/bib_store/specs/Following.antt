@@ -1,0 +1,35 @@
+-- Items that come and go where no macro is defined.
+use Rattle.std.specs.Prelude.{◌≡◌, ◌≢◌, List, ◌++◌, map, None}
+use Rattle.std.specs.List.{AllByRecursion, between}
+use Rattle.std.specs.Prelude.{ℕ}
+use Rattle.bib_spec.specs.Bytes.{name_limit}
+use Rattle.bib_spec.specs.Text.{Text}
+use Rattle.bib_spec.specs.Tree.{IsTree, tree_bytes}
+use Rattle.bib_spec.specs.Reading as reading
+use Rattle.bib_spec.specs.Texts.{Macros}
+use Rattle.bib_scan.specs.View.{kind_of}
+use Rattle.bib_scan.specs.declared.view.Kind.TheVariants as kind
+use Rattle.bib_items.specs.declared.list.Item.{Item}
+use Rattle.bib_store.specs.ItemTexts.{first_too_long, placed_texts}
+
+-- the bodies of the items from one number up to another
+abbrev pub bodies_between : ℕ → ℕ → List Item → List Text
+bodies_between from to items = map (λ i. i.body) (between from to items)
+
+-- items with these bodies
+pub record AreItemsOf (bodies : List Text) (items : List reading.Item) : Type 0 where
+  pub trees : AllByRecursion (λ i. IsTree name_limit i.tree) items
+  pub same : map (λ i. tree_bytes i.tree) items ≡ bodies
+
+-- none of them is a definition
+abbrev pub DefineNothing : List reading.Item → Type 0
+DefineNothing items = AllByRecursion (λ i. kind_of i.tree ≢ kind.Macro) items
+
+-- items with these bodies, none of which is a definition
+pub record AreOthersOf (bodies : List Text) (items : List reading.Item) : Type 0 where
+  pub are : AreItemsOf bodies items
+  pub others : DefineNothing items
+
+-- no raw text of theirs is too long, where macros stand for these texts
+abbrev pub HaveShortTexts : Macros → List reading.Item → Type 0
+HaveShortTexts macros items = AllByRecursion (λ i. first_too_long (placed_texts macros i.tree) ≡ None) items

@@ -1,0 +1,75 @@
+//! Tables that follow items that come and go, where no macro is defined.
+
+ghost use Rattle.std.specs.Prelude.{◌≡◌, ◌+◌, ◌≤◌, ◌<◌, ◌^◌, ◌⊎◌, ℕ, List, ◌++◌, length, IsTrue, IfErr, OnOk, OnErr};
+ghost use Rattle.bib_spec.specs.Reading.{Item};
+ghost use Rattle.bib_items.specs.declared.fault.StoreFault.TheVariants.{Memory, BadSplice};
+ghost use Rattle.bib_store.specs.Beside.{AreTablesOf};
+ghost use Rattle.bib_store.specs.Defined.{EndsBy, texts_at};
+ghost use Rattle.bib_store.specs.Following.{bodies_between, AreItemsOf, AreOthersOf, DefineNothing, HaveShortTexts};
+
+use crate::tables::Tables;
+use bib_items::{ItemList, StoreFault};
+use bib_scan::{ItemView, Kind};
+use std::alloc::Global;
+
+/// Puts items into the tables, before the items that have number `at` and the greater ones: those of the list from
+/// number `from` up to `to`. None is a definition, and all definitions stand before them. Where it is refused, the
+/// tables say what they said.
+pub(crate) fn learn<L: ItemList>(
+    alloc: Global,
+    tables: &mut Tables,
+    items: &L,
+    at: usize,
+    from: usize,
+    to: usize,
+) -> Result<(), StoreFault>
+    requires ordered { from ≤ to }
+    requires within { to ≤ length (L.items items.now) }
+    requires ends { EndsBy at tables.old.definitions }
+    ensures tables { OnOk result ((before new after : List Item) → length before ≡ at → AreOthersOf (bodies_between from to (L.items items.now)) new → at + (length new + length after) < 2 ^ 64 → AreTablesOf (before ++ after) tables.old → AreTablesOf (before ++ (new ++ after)) tables.new) }
+    ensures short { OnOk result ((new : List Item) → AreOthersOf (bodies_between from to (L.items items.now)) new → HaveShortTexts (texts_at tables.old.definitions at) new) }
+    ensures definitions { tables.new.definitions ≡ tables.old.definitions }
+    ensures len { tables.new.file_len ≡ tables.old.file_len }
+    ensures refused { IfErr result (λ fault. fault ≡ BadSplice → (new : List Item) → AreOthersOf (bodies_between from to (L.items items.now)) new → HaveShortTexts (texts_at tables.old.definitions at) new → ⊥) }
+    ensures only { IfErr result (λ fault. (fault ≡ BadSplice) ⊎ (fault ≡ Memory)) }
+    ensures err { OnErr result ((before new after : List Item) → length before ≡ at → AreOthersOf (bodies_between from to (L.items items.now)) new → at + (length new + length after) < 2 ^ 64 → AreTablesOf (before ++ after) tables.old → AreTablesOf (before ++ after) tables.new) }
+{
+    'learn: for j in 0..to - from {
+        let k = to - 1 - j;
+        if let Err(fault) = tables.insert(alloc, at, &ItemView::of(items.body(k), b"")) {
+            forget(tables, items, at, k + 1, to);
+            return Err(fault.of_splice());
+        }
+    }
+    Ok(())
+}
+
+/// Takes items out of the tables, from number `at` on: those of the list from number `from` up to `to`. None is a
+/// definition, and all definitions stand before them. It asks for no memory.
+pub(crate) fn forget<L: ItemList>(tables: &mut Tables, items: &L, at: usize, from: usize, to: usize)
+    requires ordered { from ≤ to }
+    requires within { to ≤ length (L.items items.now) }
+    requires ends { EndsBy at tables.old.definitions }
+    ensures tables { (before gone after : List Item) → length before ≡ at → AreOthersOf (bodies_between from to (L.items items.now)) gone → at + (length gone + length after) < 2 ^ 64 → AreTablesOf (before ++ (gone ++ after)) tables.old → AreTablesOf (before ++ after) tables.new }
+    ensures definitions { tables.new.definitions ≡ tables.old.definitions }
+    ensures len { tables.new.file_len ≡ tables.old.file_len }
+{
+    'forget: for k in from..to {
+        tables.remove(at, &ItemView::of(items.body(k), b""));
+    }
+}
+
+/// Whether none of the items of the list from number `from` up to `to` is a definition.
+pub(crate) fn are_others<L: ItemList>(items: &L, from: usize, to: usize) -> bool
+    requires ordered { from ≤ to }
+    requires within { to ≤ length (L.items items.now) }
+    ensures { IsTrue result → (new : List Item) → AreItemsOf (bodies_between from to (L.items items.now)) new → DefineNothing new }
+{
+    'pass: for k in from..to {
+        match ItemView::of(items.body(k), b"").kind() {
+            Kind::Macro => return false,
+            Kind::Entry | Kind::Preamble | Kind::Comment => {}
+        }
+    }
+    true
+}

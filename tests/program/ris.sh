@@ -1,0 +1,113 @@
+# `bibkeep ris` and `bibkeep import`.
+# shellcheck shell=sh
+
+# An entry and its RIS record.
+given king.bib '@article{k1, author = {King, Jr, Martin Luther and de la Fontaine, Jean}, title = {On Things}, journal = {J}, year = 1984, month = may, pages = {10--20}}'
+king='TY  - JOUR\nAU  - King, Martin Luther, Jr\nAU  - de la Fontaine, Jean\nTI  - On Things\nJF  - J\nPY  - 1984/05//\nSP  - 10\nEP  - 20\nID  - k1\nER  - \n'
+when ris king.bib k1; ends_with 0; prints "$king"; says_nothing
+when ris king.bib '*'; ends_with 0; prints "$king"; says_nothing
+when ris king.bib zz; ends_with 1; writes_nothing; says 'bibkeep: 11 NoSuchEntry'
+when ris king.bib k1 zz; ends_with 1; writes_nothing; says 'bibkeep: 11 NoSuchEntry'
+
+# A parent is listed where two of its children are cited, and each has what it inherits.
+when ris parents.bib c1; ends_with 0; says_nothing
+prints 'TY  - CONF\nTI  - One\nT2  - Proc\nPY  - 2001///\nID  - c1\nER  - \n'
+when ris parents.bib c1 c2 C1; ends_with 0; says_nothing
+prints 'TY  - CONF\nTI  - One\nT2  - Proc\nPY  - 2001///\nID  - c1\nER  - \nTY  - CONF\nTI  - Two\nT2  - Proc\nPY  - 2001///\nID  - c2\nER  - \nTY  - GEN\nTI  - Proc\nT2  - Proc\nPY  - 2001///\nID  - p\nER  - \n'
+
+# A file that is refused, one without entries, and one that is not there.
+when ris newline.bib '*'; ends_with 1; writes_nothing; says 'bibkeep: 6 UnbalancedBrace at 15'
+when ris empty.bib '*'; ends_with 0; writes_nothing; says_nothing
+when ris nothing.bib '*'; ends_with 3; writes_nothing; says 'bibkeep: read fault'
+when ris king.bib; ends_with 2; writes_nothing; complains_of '<KEY>'
+
+# A file to which nothing was done, and the RIS text that is added to it.
+given_import() {
+    rm -f edited.bib.bibkeep
+    given edited.bib "$1"
+    given script "$2"
+}
+
+import() {
+    input=script
+    when import edited.bib
+}
+
+# Lines of another program: a mark, CR LF, a tag that is not known, a value in two lines.
+long_one='TY  - JOUR\r\nXX  - q\r\nTI  - A\r\n  long one\r\n\r\nER  -\r\n'
+first='@article{anon,\n  title = {A long one}\n}\n'
+second='@article{anona,\n  title = {A long one}\n}\n'
+given_import '' "\357\273\277$long_one"
+import; ends_with 0; prints 'added 1 skipped 1\n'; says_nothing; leaves "$first"
+import; ends_with 0; prints 'added 1 skipped 1\n'; says_nothing; leaves "$first$second"
+
+# An import is one change, and one undo takes it back; an import of nothing is a change too.
+given script ''
+import; ends_with 0; prints 'added 0 skipped 0\n'; says_nothing; leaves "$first$second"
+when log edited.bib; ends_with 0; prints 'done 1 0 40\ndone 1 0 41\ndone 0 0 0\n'
+when undo edited.bib --steps 2; ends_with 0; prints 'undone 2\n'; leaves "$first"
+when redo edited.bib; ends_with 0; prints 'redone 1\n'; leaves "$first$second"
+given_import 'mail joe@x.org\n@misc{a}' 'TY  - BOOK\nTI  - One\nER  - \nTY  - GEN\nID  - b\nKW  - x\nKW  - y\nER  - \n'
+import; ends_with 0; prints 'added 2 skipped 0\n'; says_nothing
+leaves 'mail joe@x.org\n@misc{a}@book{anon,\n  title = {One}\n}\n@misc{b,\n  keywords = {x, y}\n}\n'
+when undo edited.bib; ends_with 0; prints 'undone 1\n'; leaves 'mail joe@x.org\n@misc{a}'
+
+# What is written by `ris` is added again as it was.
+given_import '' "$king"
+import; ends_with 0; prints 'added 1 skipped 0\n'
+leaves '@article{k1,\n  author = {King, Jr, Martin Luther and de la Fontaine, Jean},\n  title = {On Things},\n  journal = {J},\n  year = {1984},\n  month = {May},\n  pages = {10--20}\n}\n'
+when ris edited.bib '*'; ends_with 0; prints "$king"
+
+# A made key is no key of the file, no text that a crossref waits for, no ID of any record, and no key made before.
+given_import '@misc{anon}@misc{c, crossref = {AnonA}}' 'TY  - GEN\nER  - \nTY  - GEN\nID  - anonC\nER  - \nTY  - GEN\nID  - a key\nER  - \nTY  - GEN\nID  - ANONB\nER  - \n'
+import; ends_with 0; prints 'added 4 skipped 0\n'; leaves '@misc{anon}@misc{c, crossref = {AnonA}}@misc{anond}\n@misc{anonC}\n@misc{anone}\n@misc{ANONB}\n'
+
+# An ID that a crossref waits for is taken, as by `add`.
+given_import '@misc{c, crossref = {P}}' 'TY  - GEN\nID  - p\nPY  - 1999\nER  - \n'
+import; ends_with 0; prints 'added 1 skipped 0\n'; leaves '@misc{c, crossref = {P}}@misc{p,\n  year = {1999}\n}\n'
+when show edited.bib c; ends_with 0; prints '@misc c\nyear = 1999\ncrossref = p\n'
+
+# Why nothing is added, in the order in which it is judged: the file and the journal, the length of the input, its lines,
+# the braces of its texts, and the edit. Neither the file nor its journal is touched.
+refuses_import() {
+    given_import "$2" "$3"
+    import
+    case="import $3 into $2"
+    ends_with 1; writes_nothing; says "bibkeep: $1"; leaves "$2"
+    expect 'a journal was left' test ! -e edited.bib.bibkeep
+}
+record='TY  - GEN\nID  - x\nER  - \n'
+refuses_import '61 NoStart at 0' '' 'AU  - x\n'
+refuses_import '61 NoStart at 25' '' "${record}ER  - \n"
+refuses_import '62 NoEnd at 11' '' 'TY  - BOOK\n'
+refuses_import '62 NoEnd at 6' '' 'TY  -\nTY  - BOOK\nER  - \n'
+refuses_import '63 EmptyType at 0' '' 'TY  -\nER  -\n'
+refuses_import '61 NoStart at 36' '' 'TY  - BOOK\nTI  - a}b\nID  - x\nER  - \nAU  - x\n'
+refuses_import '64 UnbalancedText' '' 'TY  - BOOK\nTI  - a}b\nER  - \n'
+refuses_import '64 UnbalancedText' '@misc{x}' "${record}TY  - BOOK\nTI  - a}b\nER  - \n"
+refuses_import '37 KeyInUse' '' "$record$record"
+refuses_import '37 KeyInUse' '@misc{X}' "$record"
+refuses_import '4 ExpectedCommaOrClose at 8' '@misc{a b}' 'AU  - x\n'
+given_import '@misc{a}' ''
+{ printf 'TY  - BOOK\nTI  - '; head -c 1048577 /dev/zero | tr '\0' x; printf '\nER  - \n'; } >script
+import; ends_with 1; writes_nothing; says 'bibkeep: 8 TextTooLong'; leaves '@misc{a}'
+cp too_long.bib script
+import; ends_with 1; writes_nothing; says 'bibkeep: 9 FileTooLong at 16777216'; leaves '@misc{a}'
+cp longest.bib edited.bib
+given script "$record"
+import; ends_with 1; writes_nothing; says 'bibkeep: 9 FileTooLong'
+given_journal abc bib
+given script "$record"
+import; ends_with 1; writes_nothing; says 'bibkeep: 53 BadJournal at 3'; leaves abc
+given_journal abc 'bibkeep 1\nba7816bf8f01cfea414140de5dae2223b00361a396177a9cb410ff61f20015ae\n0 0\n'
+import; ends_with 1; writes_nothing; says 'bibkeep: 54 JournalMismatch'; leaves abc
+when import nothing.bib; ends_with 3; writes_nothing; says 'bibkeep: read fault'
+when import; ends_with 2; writes_nothing; complains_of '<F>'
+when_shell_runs 'printf "@misc{a}" >edited.bib; rm -f edited.bib.bibkeep; "$program" import edited.bib <folder'; ends_with 3; writes_nothing; says 'bibkeep: read fault'
+
+# As many changes are kept as can be undone.
+given_edit '@misc{a, t = 1,}' ''
+yes "$(printf 'set\ta\tt\t1')" | head -n 65535 >script
+edit; ends_with 0
+given script "$record"
+import; ends_with 1; writes_nothing; says 'bibkeep: 41 JournalFull'; leaves '@misc{a, t = 1,}'
