@@ -1,9 +1,9 @@
 -- The RIS text of entries, one after another.
-use Rattle.std.proofs.Common.{◌≡◌, ◌∙◌, ℕ, ◌+◌, ◌<◌, List, [], ◌∷◌, ◌++◌, length, take, get_or, map, filter_map, Option, None, Some, option_map, sym, ap, append-nil}
+use Rattle.std.proofs.Common.{◌≡◌, ◌∙◌, ℕ, ◌+◌, ◌<◌, List, [], ◌∷◌, ◌++◌, length, take, get_or, map, filter_map, Option, None, Some, refl, sym, ap, append-nil}
 use Rattle.std.specs.List.{cons_option}
+use Rattle.std.specs.Option.{option_map_or}
 use Rattle.std.proofs.lemmas.List.{take_more, map-append}
 use Rattle.std.proofs.lemmas.List.Elements.{filter_map-append}
-use Rattle.std.proofs.lemmas.Option.{none-some, same_Some}
 use Rattle.std.proofs.lemmas.Grind.{flat_map-append}
 use Rattle.bib_spec.specs.Text.{Text}
 use Rattle.bib_spec.specs.Records.{Record}
@@ -20,15 +20,15 @@ texts-append f xs ys =
     ∙ ap ris_text (map-append ris (filter_map f xs) (filter_map f ys))
     ∙ flat_map-append record_text (map ris (filter_map f xs)) (map ris (filter_map f ys))
 
--- the text of a record that is found
-found_text : (o : Option Record) (text : Text) → option_map (λ r. record_text (ris r)) o ≡ Some text → text ≡ ris_text (map ris (cons_option o []))
-found_text None text e = absurd (none-some text e)
-found_text (Some r) text e = sym (append-nil (record_text (ris r)) ∙ same_Some (record_text (ris r)) text e)
+-- the text of one record, if it is found
+text_found : (o : Option Record) → option_map_or (λ r. record_text (ris r)) o [] ≡ ris_text (map ris (cons_option o []))
+text_found None = refl
+text_found (Some r) = sym (append-nil (record_text (ris r)))
 
 -- one more record
-pub texts_more : {X : Type 0} (f : X → Option Record) (xs : List X) (n : ℕ) (d : X) (text : Text) → n < length xs → option_map (λ r. record_text (ris r)) (f (get_or xs n d)) ≡ Some text
-    → ris_text (map ris (filter_map f (take n xs))) ++ text ≡ ris_text (map ris (filter_map f (take (n + 1) xs)))
-texts_more f xs n d text within found =
-    ap (λ (t : Text). texts_found f (take n xs) ++ t) (found_text (f (get_or xs n d)) text found)
+pub texts_more : {X : Type 0} (f : X → Option Record) (xs : List X) (n : ℕ) (d : X) → n < length xs
+    → ris_text (map ris (filter_map f (take n xs))) ++ option_map_or (λ r. record_text (ris r)) (f (get_or xs n d)) [] ≡ ris_text (map ris (filter_map f (take (n + 1) xs)))
+texts_more f xs n d within =
+    ap (λ (t : Text). texts_found f (take n xs) ++ t) (text_found (f (get_or xs n d)))
     ∙ sym (texts-append f (take n xs) (get_or xs n d ∷ []))
     ∙ ap (texts_found f) (sym (take_more xs n d within))

@@ -1,4 +1,4 @@
 pub mod EntriesRis
 pub mod GivenKeys
-pub mod UnbalancedTexts
 pub mod KeyedRecords
+pub mod DraftSteps

@@ -68,14 +68,16 @@ impl Drafts {
         Ok(())
     }
 
-    /// Of the records that these RIS records say.
-    pub fn of(alloc: Global, records: &[RisRecord]) -> Result<Drafts, ImportFault>
-        ensures drafts { IfOk result (AreDraftsOf (records_of records.now)) }
-        ensures refused { IfErr result (λ fault. (fault ≡ Memory) ⊎ ((fault ≡ UnbalancedText) × (list_all are_balanced (records_of records.now) ≡ false))) }
+    /// Of the records that these RIS records say, each of which is let go when its entry is made.
+    pub fn of(alloc: Global, records: Seq<RisRecord>) -> Result<Drafts, ImportFault>
+        ensures drafts { IfOk result (AreDraftsOf (records_of records)) }
+        ensures refused { IfErr result (λ fault. (fault ≡ Memory) ⊎ ((fault ≡ UnbalancedText) × (list_all are_balanced (records_of records) ≡ false))) }
     {
         let mut drafts = Drafts::none(alloc);
-        'records: for record in records {
-            let entry = from_ris(alloc, record)?;
+        let mut left = records.into_vec();
+        left.reverse();
+        'records: while let Some(record) = left.pop() {
+            let entry = from_ris(alloc, &record)?;
             drafts.add(alloc, &entry)?;
         }
         Ok(drafts)

@@ -1,6 +1,7 @@
 //! Entries of a file as RIS.
 
-ghost use Rattle.std.specs.Prelude.{◌≡◌, ◌<◌, length, All, Some, option_map, IfOk, IfErr};
+ghost use Rattle.std.specs.Prelude.{◌≡◌, ◌<◌, ◌++◌, [], length, All, IfOk, IfErr, OnOk};
+ghost use Rattle.std.specs.Option.{option_map_or};
 ghost use Rattle.bib_spec.specs.Records.{entries_of, default_depth, expanded};
 ghost use Rattle.bib_store.specs.Meaning.{OfReading, IsEntryNumber};
 ghost use Rattle.ris_text.specs.Writing.{record_text};
@@ -11,13 +12,18 @@ ghost use Rattle.bib_ris.specs.Export.{entries_ris};
 use bib_scan::{Seq, Text};
 use bib_store::{Database, ItemList};
 use ris_format::{MappingFault, given_records_fit, ris_of};
-use ris_text::write_ris;
+use ris_text::write_record;
 use std::alloc::Global;
 
-/// The RIS text of entry `n`, with what it inherits.
-fn entry_ris<L: ItemList>(alloc: Global, db: &Database<L>, n: usize) -> Result<Text, MappingFault>
+/// Puts the RIS text of entry `n`, with what it inherits, after a text.
+fn add_entry<L: ItemList>(
+    alloc: Global,
+    text: &mut Vec<u8>,
+    db: &Database<L>,
+    n: usize,
+) -> Result<(), MappingFault>
     requires { IsEntryNumber db.now n }
-    ensures text { IfOk result (λ text. OfReading db.now (λ r. option_map (λ entry. record_text (ris entry)) (expanded default_depth (entries_of r) n) ≡ Some text)) }
+    ensures text { OnOk result (OfReading db.now (λ r. text.new.items ≡ text.old.items ++ option_map_or (λ entry. record_text (ris entry)) (expanded default_depth (entries_of r) n) [])) }
     ensures memory { IfErr result (λ fault. fault ≡ Memory) }
 {
     db.opens();
@@ -26,10 +32,8 @@ fn entry_ris<L: ItemList>(alloc: Global, db: &Database<L>, n: usize) -> Result<T
         return Err(MappingFault::Memory);
     };
     let record = ris_of(alloc, &expanded.rec)?;
-    match write_ris(alloc, &[record]) {
-        Ok(text) => Ok(text),
-        Err(_) => Err(MappingFault::Memory),
-    }
+    write_record(text, &record)?;
+    Ok(())
 }
 
 /// The RIS text of these entries, each with what it inherits, in this order. What RIS has no place for is left out. It
@@ -45,8 +49,7 @@ pub fn entries_ris<L: ItemList>(
 {
     let mut text = Vec::new(alloc);
     'entries: for n in list {
-        let entry = entry_ris(alloc, db, *n)?;
-        text.extend_from_slice(entry.as_slice())?;
+        add_entry(alloc, &mut text, db, *n)?;
     }
     Ok(Seq::from_vec(text))
 }

@@ -27,11 +27,11 @@ pub struct Additions {
 fn imported<L: ItemList>(
     alloc: Global,
     db: &Database<L>,
-    records: &[RisRecord],
+    records: Seq<RisRecord>,
 ) -> Result<Seq<NewEntry>, ImportFault>
-    ensures entries { IfOk result (λ entries. OfReading db.now (λ r. entries ≡ imported r (records_of records.now))) }
-    ensures balanced { OnOk result (list_all are_balanced (records_of records.now) ≡ true) }
-    ensures refused { IfErr result (λ fault. (fault ≡ Memory) ⊎ ((fault ≡ UnbalancedText) × (list_all are_balanced (records_of records.now) ≡ false))) }
+    ensures entries { IfOk result (λ entries. OfReading db.now (λ r. entries ≡ imported r (records_of records))) }
+    ensures balanced { OnOk result (list_all are_balanced (records_of records) ≡ true) }
+    ensures refused { IfErr result (λ fault. (fault ≡ Memory) ⊎ ((fault ≡ UnbalancedText) × (list_all are_balanced (records_of records) ≡ false))) }
 {
     let drafts = Drafts::of(alloc, records)?;
     match free_keys(alloc, db, drafts.bases.as_slice(), drafts.ids.as_slice()) {
@@ -56,7 +56,7 @@ pub fn import<L: ItemList>(
 {
     let said = read_ris(alloc, text)?;
     Ok(Additions {
-        entries: imported(alloc, db, said.records.as_slice())?,
+        entries: imported(alloc, db, said.records)?,
         skipped: said.skipped,
     })
 }

@@ -118,7 +118,7 @@ fn record_lines(alloc: Global, kind: Kind, entry: &Record) -> Result<Vec<RisLine
     ensures { IfOk result (λ lines. lines.items ≡ lines_of (written kind entry.now)) }
 {
     let fields = entry.fields.as_slice();
-    let mut lines = Vec::new(alloc);
+    let mut lines = Vec::with_capacity(alloc, fields.len() + 4)?;
     push_names(alloc, &mut lines, fields)?;
     push_titles(alloc, &mut lines, kind, fields)?;
     push_numbers(alloc, &mut lines, fields)?;

@@ -1,13 +1,15 @@
-use Rattle.std.proofs.Common.{◌∙◌, ◌++◌, ◌<◌, length, rules, ap}
+use Rattle.std.proofs.Common.{◌∙◌, ◌++◌, ◌<◌, [], length, get_or, rules, ap}
+use Rattle.std.specs.Option.{option_map_or}
 use Rattle.bib_spec.specs.Text.{Text}
 use Rattle.bib_spec.specs.Records.{entries_of, default_depth, expanded}
+use Rattle.ris_text.specs.Writing.{record_text}
+use Rattle.ris_format.specs.Mapping.{ris}
 use Rattle.bib_ris.proofs.EntriesRis.{texts_more}
 use Rattle.bib_ris.proofs.exporting.entries_ris.Goals as goal
 
 pub entries-preserved : goal.entries-preserved
 entries-preserved g c db reads =
     let within : c.entries.n-index < length c.args.list.now = search rules in
-    c.in_ok-extend_from_slice.ensures.items
-    ∙ ap (λ (t : Text). c.entries.text.items ++ t) c.as_slice.ensures
-    ∙ ap (λ (t : Text). t ++ c.in_ok-entry.entry) (c.entries.invariant db reads)
-    ∙ texts_more (expanded default_depth (entries_of db)) c.args.list.now c.entries.n-index 0 c.in_ok-entry.entry within (c.in_ok-entry.ensures.text db reads)
+    c.in_ok-add_entry.ensures.text db reads
+    ∙ ap (λ (t : Text). t ++ option_map_or (λ entry. record_text (ris entry)) (expanded default_depth (entries_of db) (get_or c.args.list.now c.entries.n-index 0)) []) (c.entries.invariant db reads)
+    ∙ texts_more (expanded default_depth (entries_of db)) c.args.list.now c.entries.n-index 0 within

@@ -9,7 +9,7 @@ use Rattle.bib_ris.proofs.importing.imported.Goals as goal
 
 pub returns-in-Ok-clause-entries : goal.returns-in-Ok-clause-entries
 returns-in-Ok-clause-entries g c db reads =
-    let records = records_of c.args.records.now in
+    let records = records_of c.args.records in
     let drafts = c.in_ok-drafts.ensures.drafts in
     c.with_keys.ensures
     ∙ ap (λ (keys : List Text). with_keys keys c.in_ok-drafts.drafts.entries.items)

@@ -12,7 +12,7 @@ returns c =
     let key : c.as_slice.result.now ≡ entry.key = search rules in
     six_sections (written_names entry.fields) (written_titles kind entry.fields) (written_numbers entry.fields) (written_publishers kind entry.fields) (written_notes entry.fields)
     (tagged (codes "ID") (single entry.key)) _ _ _ _ _ _
-    (rw (c.new-lines.ensures.items, fields) at c.in_ok-push_names.ensures)
+    (rw (c.in_ok-lines.ensures.items, fields) at c.in_ok-push_names.ensures)
     (rw fields at c.in_ok-push_titles.ensures)
     (rw fields at c.in_ok-push_numbers.ensures)
     (rw fields at c.in_ok-push_publishers.ensures)
