@@ -46,3 +46,4 @@ pub mod PartsLemmas
 pub mod PartsFaults
 pub mod TableLemmas
 pub mod OnlyPart
+pub mod JoinedReadings

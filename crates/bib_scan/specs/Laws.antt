@@ -37,3 +37,11 @@ abbrev pub CutEnds : TextKind → Type 0
 CutEnds IsSuch =
     (t : Text) (n : ℕ) → IsSuch name_limit t
     → IsSuch name_limit (take n t) ⊎ (IsHopeless (IsSuch name_limit) (take n t) (length (take n t)) × IsFaultAt IsSuch (take n t) (length (take n t)) Unended)
+
+-- one reading after the other: the front of the first, and the items of both
+abbrev pub both : Reading → Reading → Reading
+both db next = record { front = db.front; items = db.items ++ next.items }
+
+-- the text of a file, and after it that of one without a front, say what both say
+abbrev pub JoinedReadings : Type 0
+JoinedReadings = (file more : Text) (db next : Reading) → Reads file db → Reads more next → next.front ≡ [] → Reads (file ++ more) (both db next)

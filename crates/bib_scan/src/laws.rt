@@ -2,7 +2,7 @@
 
 ghost use Rattle.bib_spec.specs.Bytes.{name_limit};
 ghost use Rattle.bib_spec.specs.Reading.{HasReading, HasReadingWithin, IsValueWithin};
-ghost use Rattle.bib_scan.specs.Laws.{OneReading, CleanBeforeSign, IsSuchOrHopeless, OnePlace, OneFault, CutEnds};
+ghost use Rattle.bib_scan.specs.Laws.{OneReading, CleanBeforeSign, IsSuchOrHopeless, OnePlace, OneFault, CutEnds, JoinedReadings};
 
 /// No file has two readings.
 pub fn one_reading()
@@ -32,4 +32,9 @@ pub fn one_fault()
 pub fn cut_ends()
     ensures file { CutEnds HasReadingWithin }
     ensures value { CutEnds IsValueWithin }
+{}
+
+/// A file, and after it another that begins with an item, are one file with the items of both.
+pub fn joined_readings()
+    ensures { JoinedReadings }
 {}
