@@ -4,7 +4,6 @@ use crate::renames::parent_of;
 use crate::rows::ends;
 use crate::splicing::{is_piece, planned};
 use crate::turns::{Turn, add_many, after, counts, is_file, refusal};
-use bib_journal::SessionFault;
 use std::alloc::Global;
 use std::test::Fail;
 
@@ -13,12 +12,12 @@ const TWO: &[u8] = b"@misc{a}\n@misc{b}\n";
 const BOOK_AND_MISC: &[u8] = b"add\t0\tbook\tc\ttitle\t{T}\nadd\t0\tmisc\td";
 
 /// Whether the entries that the script adds make the new file of the old one, at once.
-fn makes(alloc: Global, old: &[u8], lines: &[u8], new: &[u8]) -> Result<bool, SessionFault> {
+fn makes(alloc: Global, old: &[u8], lines: &[u8], new: &[u8]) -> Result<bool, Fail> {
     ends(alloc, old, Turn::AddMany(lines), 0, new)
 }
 
 /// Whether the entries that the script adds are refused together with this number, and the file left as it was.
-fn refuses(alloc: Global, number: u16, file: &[u8], lines: &[u8]) -> Result<bool, SessionFault> {
+fn refuses(alloc: Global, number: u16, file: &[u8], lines: &[u8]) -> Result<bool, Fail> {
     ends(alloc, file, Turn::AddMany(lines), number, file)
 }
 

@@ -1,8 +1,10 @@
 //! Runs one after another, each from the file and the journal that the one before left.
 
-use crate::turns::{Left, Turn, left_after};
+ghost use Rattle.std.specs.Prelude.{◌≡◌, []};
+
+use crate::turns::{DIFFERENCE, Left, Turn, is_same, left_after};
 use bib_journal::{Saved, Session, SessionFault};
-use bib_store::Flat;
+use bib_store::{Flat, ItemList, Paged};
 use std::alloc::Global;
 use std::test::Fail;
 
@@ -10,20 +12,43 @@ use std::test::Fail;
 const REMOVED: &[u8] =
     b"bibkeep 1\nba7816bf8f01cfea414140de5dae2223b00361a396177a9cb410ff61f20015ad\n1 0\n1\n3 8 0\n@misc{k}\n";
 
-/// One run: what its turn leaves, and the file and the journal that it saves.
+fn ran_in<L: ItemList>(
+    alloc: Global,
+    file: &[u8],
+    journal: Option<&[u8]>,
+    items: L,
+    turn: &Turn<'_>,
+) -> Result<(Left, Saved), SessionFault>
+    requires { L.items items ≡ [] }
+{
+    let mut session = Session::open(alloc, file, journal, items)?;
+    let left = left_after(alloc, &mut session, turn)?;
+    Ok((left, session.saved()?))
+}
+
+fn is_saved_alike(one: &Saved, other: &Saved) -> bool {
+    one.file.as_slice() == other.file.as_slice()
+        && one.journal.as_slice() == other.journal.as_slice()
+}
+
+/// One run: what its turn leaves, and the file and the journal that it saves. It fails where it makes a difference in
+/// which list the file is kept.
 fn ran(
     alloc: Global,
     file: &[u8],
     journal: Option<&[u8]>,
     turn: &Turn<'_>,
-) -> Result<(Left, Saved), SessionFault> {
-    let mut session = Session::open(alloc, file, journal, Flat::new(alloc))?;
-    let left = left_after(alloc, &mut session, turn)?;
-    Ok((left, session.saved()?))
+) -> Result<(Left, Saved), Fail> {
+    let (left, saved) = ran_in(alloc, file, journal, Flat::new(alloc), turn)?;
+    let (left_too, saved_too) = ran_in(alloc, file, journal, Paged::new(alloc), turn)?;
+    if !is_same(&left, &left_too) || !is_saved_alike(&saved, &saved_too) {
+        return Err(Fail::new(DIFFERENCE));
+    }
+    Ok((left, saved))
 }
 
 /// A run that takes changes back, of what an earlier one saved.
-fn undone(alloc: Global, saved: &Saved, times: usize) -> Result<(Left, Saved), SessionFault> {
+fn undone(alloc: Global, saved: &Saved, times: usize) -> Result<(Left, Saved), Fail> {
     let journal = saved.journal.as_slice();
     ran(
         alloc,

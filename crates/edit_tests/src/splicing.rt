@@ -1,8 +1,11 @@
 //! Pieces of edits, and pieces put into a file.
 
+ghost use Rattle.std.specs.Prelude.{◌≡◌, []};
+
+use crate::turns::DIFFERENCE;
 use bib_edit::{Edit, EditFault, plan};
 use bib_scan::{ReadFault, Seq, Text};
-use bib_store::{Database, Flat, Piece, StoreFault};
+use bib_store::{Database, Flat, ItemList, Paged, Piece, StoreFault};
 use std::alloc::{AllocError, Global};
 use std::test::Fail;
 
@@ -62,14 +65,19 @@ fn piece(alloc: Global, place: u64, old: &[u8], new: &[u8]) -> Result<Piece, All
     })
 }
 
-fn one_piece(alloc: Global, place: u64, old: &[u8], new: &[u8]) -> Result<Seq<Piece>, AllocError> {
+pub fn one_piece(
+    alloc: Global,
+    place: u64,
+    old: &[u8],
+    new: &[u8],
+) -> Result<Seq<Piece>, AllocError> {
     let mut pieces = Vec::new(alloc);
     pieces.push(piece(alloc, place, old, new)?)?;
     Ok(Seq::from_vec(pieces))
 }
 
 /// The number of the refusal of these pieces; else 0 if the file is this one afterwards, and 1 if not.
-fn outcome(db: &mut Database<Flat>, pieces: &[Piece], to: &[u8]) -> Result<u16, Fail> {
+fn outcome<L: ItemList>(db: &mut Database<L>, pieces: &[Piece], to: &[u8]) -> Result<u16, Fail> {
     match db.splice(pieces) {
         Ok(()) if db.bytes()?.as_slice() == to => Ok(0),
         Ok(()) => Ok(1),
@@ -77,7 +85,20 @@ fn outcome(db: &mut Database<Flat>, pieces: &[Piece], to: &[u8]) -> Result<u16, 
     }
 }
 
-/// What comes of putting this piece into the file.
+fn outcome_in<L: ItemList>(
+    alloc: Global,
+    file: &[u8],
+    items: L,
+    pieces: &[Piece],
+    to: &[u8],
+) -> Result<u16, Fail>
+    requires { L.items items ≡ [] }
+{
+    let mut db = Database::open_bytes(alloc, file, items)?;
+    outcome(&mut db, pieces, to)
+}
+
+/// What comes of putting this piece into the file. It fails where it makes a difference in which list the file is kept.
 fn spliced(
     alloc: Global,
     file: &[u8],
@@ -87,8 +108,12 @@ fn spliced(
     to: &[u8],
 ) -> Result<u16, Fail> {
     let pieces = one_piece(alloc, place, old, new)?;
-    let mut db = opened(alloc, file)?;
-    outcome(&mut db, pieces.as_slice(), to)
+    let plain = outcome_in(alloc, file, Flat::new(alloc), pieces.as_slice(), to)?;
+    let paged = outcome_in(alloc, file, Paged::new(alloc), pieces.as_slice(), to)?;
+    if plain != paged {
+        return Err(Fail::new(DIFFERENCE));
+    }
+    Ok(plain)
 }
 
 #[test]

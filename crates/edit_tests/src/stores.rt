@@ -1,21 +1,47 @@
 //! What an open file says.
 
-use bib_scan::{ReadFault, Text};
-use bib_store::{Database, Flat, StoreFault};
+ghost use Rattle.std.specs.Prelude.{◌≡◌, []};
+
+use crate::splicing::one_piece;
+use crate::turns::DIFFERENCE;
+use bib_scan::Text;
+use bib_store::{Database, Flat, ItemList, Paged};
 use std::alloc::Global;
 use std::test::Fail;
 
-fn opened(alloc: Global, file: &[u8]) -> Result<Database<Flat>, ReadFault> {
-    Database::open_bytes(alloc, file, Flat::new(alloc))
-}
-
-/// What the macro stands for as item `n` of the file sees it, if it stands for a text.
-fn macro_text(alloc: Global, file: &[u8], n: usize, name: &[u8]) -> Result<Option<Text>, Fail> {
-    let db = opened(alloc, file)?;
+fn macro_text_in<L: ItemList>(
+    alloc: Global,
+    file: &[u8],
+    items: L,
+    n: usize,
+    name: &[u8],
+) -> Result<Option<Text>, Fail>
+    requires { L.items items ≡ [] }
+{
+    let db = Database::open_bytes(alloc, file, items)?;
     if n > db.item_count() {
         return Ok(None);
     }
     Ok(db.macro_text(n, name)?)
+}
+
+fn is_same(one: &Option<Text>, other: &Option<Text>) -> bool {
+    match (one, other) {
+        (Some(one), Some(other)) => one.as_slice() == other.as_slice(),
+        (None, None) => true,
+        _ => false,
+    }
+}
+
+/// What the macro stands for as item `n` of the file sees it, if it stands for a text. It fails where it makes a
+/// difference in which list the file is kept.
+fn macro_text(alloc: Global, file: &[u8], n: usize, name: &[u8]) -> Result<Option<Text>, Fail> {
+    let plain = macro_text_in(alloc, file, Flat::new(alloc), n, name)?;
+    let paged = macro_text_in(alloc, file, Paged::new(alloc), n, name)?;
+    if !is_same(&plain, &paged) {
+        return Err(Fail::new(DIFFERENCE));
+    }
+    Ok(plain)
 }
 
 fn is_text(found: Option<Text>, text: &[u8]) -> bool {
@@ -44,8 +70,10 @@ struct Preambles {
     first: Option<Text>,
 }
 
-fn preambles_of(alloc: Global, file: &[u8]) -> Result<Preambles, Fail> {
-    let db = opened(alloc, file)?;
+fn preambles_in<L: ItemList>(alloc: Global, file: &[u8], items: L) -> Result<Preambles, Fail>
+    requires { L.items items ≡ [] }
+{
+    let db = Database::open_bytes(alloc, file, items)?;
     let count = db.preamble_count();
     let mut first = None;
     if count > 0 {
@@ -58,11 +86,47 @@ fn preambles_of(alloc: Global, file: &[u8]) -> Result<Preambles, Fail> {
     })
 }
 
+/// Whether these are what the file of the example has.
+fn are_expected(preambles: Preambles) -> bool {
+    preambles.byte_count == 21 && preambles.count == 1 && is_text(preambles.first, b"a b")
+}
+
 #[test]
 fn a_preamble_has_a_text(rt: HostRuntime) -> Result<(), Fail> {
-    let preambles = preambles_of(rt.alloc(), b"@preamble{\"a\" # { b}}")?;
-    assert_eq!(rt; preambles.byte_count, 21);
-    assert_eq!(rt; preambles.count, 1);
-    assert!(rt; is_text(preambles.first, b"a b"));
+    let alloc = rt.alloc();
+    let file = b"@preamble{\"a\" # { b}}";
+    assert!(rt; are_expected(preambles_in(alloc, file, Flat::new(alloc))?));
+    assert!(rt; are_expected(preambles_in(alloc, file, Paged::new(alloc))?));
+    Ok(())
+}
+
+/// The target of an entry, if there is such an entry.
+fn target_of<L: ItemList>(db: &Database<L>, n: usize) -> Option<usize> {
+    if n < db.entry_count() {
+        return db.target(n);
+    }
+    None
+}
+
+/// Whether a crossref that is made of a macro finds the entry whose key the macro says, and another or none once the macro
+/// says another key.
+fn follows_its_macro<L: ItemList>(alloc: Global, items: L) -> Result<bool, Fail>
+    requires { L.items items ≡ [] }
+{
+    let file = b"@string{p={a}}@misc{a}@misc{b}@misc{c,crossref=p}";
+    let mut db = Database::open_bytes(alloc, file, items)?;
+    let at_first = target_of(&db, 2);
+    db.splice(one_piece(alloc, 11, b"a", b"b")?.as_slice())?;
+    let after_one = target_of(&db, 2);
+    db.splice(one_piece(alloc, 11, b"b", b"z")?.as_slice())?;
+    let after_two = target_of(&db, 2);
+    Ok(at_first == Some(0) && after_one == Some(1) && after_two.is_none())
+}
+
+#[test]
+fn a_crossref_of_a_macro_follows_what_the_macro_says(rt: HostRuntime) -> Result<(), Fail> {
+    let alloc = rt.alloc();
+    assert!(rt; follows_its_macro(alloc, Flat::new(alloc))?);
+    assert!(rt; follows_its_macro(alloc, Paged::new(alloc))?);
     Ok(())
 }

@@ -1,11 +1,18 @@
-//! Requests in turn, and what each turn leaves of a file. A test compares what is left, and holds no session.
+//! Requests in turn, and what each turn leaves of a file, be it kept in a plain list or in pages. A test compares what is
+//! left, and holds no session.
+
+ghost use Rattle.std.specs.Prelude.{◌≡◌, []};
 
 use bib_edit::Edit;
 use bib_journal::{Request, Session, SessionFault, perform};
 use bib_scan::{Seq, Text};
 use bib_script::read_script;
-use bib_store::Flat;
+use bib_store::{Flat, ItemList, Paged};
 use std::alloc::{AllocError, Global};
+use std::test::Fail;
+
+/// Why a test fails that gives one answer over a plain list and another over pages.
+pub const DIFFERENCE: &str = "a file in pages ends otherwise than one in a plain list";
 
 /// The edits of a script; the entries that a script adds, at once; or one request, so many times.
 #[derive(Clone, Copy)]
@@ -59,7 +66,7 @@ fn number_of(answer: Result<(), SessionFault>) -> u16 {
     }
 }
 
-fn asked(session: &mut Session<Flat>, request: &Request) -> u16 {
+fn asked<L: ItemList>(session: &mut Session<L>, request: &Request) -> u16 {
     match request {
         Request::Edit(edit) => number_of(session.edit(edit)),
         Request::Undo => number_of(session.undo()),
@@ -68,7 +75,7 @@ fn asked(session: &mut Session<Flat>, request: &Request) -> u16 {
 }
 
 /// Makes a request so many times, up to the first refusal.
-fn repeated(session: &mut Session<Flat>, times: usize, request: &Request) -> u16 {
+fn repeated<L: ItemList>(session: &mut Session<L>, times: usize, request: &Request) -> u16 {
     for _ in 0..times {
         let refusal = asked(session, request);
         if refusal != 0 {
@@ -78,7 +85,7 @@ fn repeated(session: &mut Session<Flat>, times: usize, request: &Request) -> u16
     0
 }
 
-fn performed(session: &mut Session<Flat>, requests: &[Request]) -> (usize, u16) {
+fn performed<L: ItemList>(session: &mut Session<L>, requests: &[Request]) -> (usize, u16) {
     let performed = perform(session, requests);
     match performed.fault {
         Some(fault) => (performed.done, fault.number()),
@@ -86,7 +93,11 @@ fn performed(session: &mut Session<Flat>, requests: &[Request]) -> (usize, u16) 
     }
 }
 
-fn taken(alloc: Global, session: &mut Session<Flat>, turn: &Turn<'_>) -> Result<u16, AllocError> {
+fn taken<L: ItemList>(
+    alloc: Global,
+    session: &mut Session<L>,
+    turn: &Turn<'_>,
+) -> Result<u16, AllocError> {
     match turn {
         Turn::Script(lines) => {
             let script = read_script(alloc, lines)?;
@@ -109,7 +120,7 @@ fn taken(alloc: Global, session: &mut Session<Flat>, turn: &Turn<'_>) -> Result<
     }
 }
 
-fn left_by(session: &Session<Flat>, refusal: u16) -> Result<Left, SessionFault> {
+fn left_by<L: ItemList>(session: &Session<L>, refusal: u16) -> Result<Left, SessionFault> {
     Ok(Left {
         refusal,
         file: session.bytes()?,
@@ -119,42 +130,87 @@ fn left_by(session: &Session<Flat>, refusal: u16) -> Result<Left, SessionFault> 
 }
 
 /// What a turn leaves of a session.
-pub fn left_after(
+pub fn left_after<L: ItemList>(
     alloc: Global,
-    session: &mut Session<Flat>,
+    session: &mut Session<L>,
     turn: &Turn<'_>,
 ) -> Result<Left, SessionFault> {
     let refusal = taken(alloc, session, turn)?;
     left_by(session, refusal)
 }
 
-fn lefts(
+fn lefts<L: ItemList>(
     alloc: Global,
-    session: &mut Session<Flat>,
+    session: &mut Session<L>,
     turns: &[Turn<'_>],
-) -> Result<Seq<Left>, SessionFault> {
+) -> Result<Vec<Left>, SessionFault> {
     let mut lefts = Vec::new(alloc);
     for turn in turns {
         lefts.push(left_after(alloc, session, turn)?)?;
     }
-    Ok(Seq::from_vec(lefts))
+    Ok(lefts)
 }
 
-/// What each turn leaves of the file.
-pub fn after(alloc: Global, file: &[u8], turns: &[Turn<'_>]) -> Result<Seq<Left>, SessionFault> {
-    let mut session = Session::start(alloc, file, Flat::new(alloc))?;
+fn after_in<L: ItemList>(
+    alloc: Global,
+    file: &[u8],
+    items: L,
+    turns: &[Turn<'_>],
+) -> Result<Vec<Left>, SessionFault>
+    requires { L.items items ≡ [] }
+{
+    let mut session = Session::start(alloc, file, items)?;
     lefts(alloc, &mut session, turns)
 }
 
-/// How many of the requests are made, and what they leave.
-pub fn asked_for(
+/// Whether both leave the same.
+pub fn is_same(one: &Left, other: &Left) -> bool {
+    one.refusal == other.refusal
+        && one.file.as_slice() == other.file.as_slice()
+        && one.undo_count == other.undo_count
+        && one.redo_count == other.redo_count
+}
+
+fn are_same(some: &[Left], others: &[Left]) -> bool {
+    some.len() == others.len()
+        && some
+            .iter()
+            .zip(others)
+            .all(|(one, other)| is_same(one, other))
+}
+
+/// What each turn leaves of the file. It fails where it makes a difference in which list the file is kept.
+pub fn after(alloc: Global, file: &[u8], turns: &[Turn<'_>]) -> Result<Seq<Left>, Fail> {
+    let plain = after_in(alloc, file, Flat::new(alloc), turns)?;
+    let paged = after_in(alloc, file, Paged::new(alloc), turns)?;
+    if !are_same(plain.as_slice(), paged.as_slice()) {
+        return Err(Fail::new(DIFFERENCE));
+    }
+    Ok(Seq::from_vec(plain))
+}
+
+fn asked_in<L: ItemList>(
     alloc: Global,
     file: &[u8],
+    items: L,
     requests: &[Request],
-) -> Result<(usize, Left), SessionFault> {
-    let mut session = Session::start(alloc, file, Flat::new(alloc))?;
+) -> Result<(usize, Left), SessionFault>
+    requires { L.items items ≡ [] }
+{
+    let mut session = Session::start(alloc, file, items)?;
     let (done, refusal) = performed(&mut session, requests);
     Ok((done, left_by(&session, refusal)?))
+}
+
+/// How many of the requests are made, and what they leave. It fails where it makes a difference in which list the file is
+/// kept.
+pub fn asked_for(alloc: Global, file: &[u8], requests: &[Request]) -> Result<(usize, Left), Fail> {
+    let (done, left) = asked_in(alloc, file, Flat::new(alloc), requests)?;
+    let (done_too, left_too) = asked_in(alloc, file, Paged::new(alloc), requests)?;
+    if done != done_too || !is_same(&left, &left_too) {
+        return Err(Fail::new(DIFFERENCE));
+    }
+    Ok((done, left))
 }
 
 /// The number of the refusal at which turn `n` ended, or 0.
