@@ -14,7 +14,7 @@ pub struct NewEntry {
 /// from 0.
 #[derive(Debug, Drop)]
 pub enum Edit {
-    /// The field of this entry gets this value; where it has none, it is added behind the last one.
+    /// The field of this entry gets this value; where it has none, it is added after the last one.
     SetField { key: Text, field: Text, value: Text },
     /// The field of this entry goes, with the comma before it.
     DropField { key: Text, field: Text },
@@ -22,7 +22,7 @@ pub enum Edit {
     AddEntry { place: usize, entry: NewEntry },
     /// The entries stand after the last item, in order.
     AddMany { entries: Seq<NewEntry> },
-    /// The entry goes; the text behind it stays.
+    /// The entry goes; the text after it stays.
     RemoveEntry { key: Text },
     /// The entry goes, and then stands before item `place` of what remains.
     MoveEntry { key: Text, place: usize },
@@ -32,7 +32,7 @@ pub enum Edit {
     RegenerateKeys,
     /// The macro gets another name, in its definition and in each use from there on.
     RenameMacro { from: Text, to: Text },
-    /// Each use of the macro behind its definition becomes what the macro says, in braces, and the definition goes.
+    /// Each use of the macro after its definition becomes what the macro says, in braces, and the definition goes.
     InlineMacro { name: Text },
     /// Each part that is the text, in braces or in quotes, becomes a use of a macro that is defined as it before the first.
     IntroduceMacro { name: Text, text: Text },

@@ -1,4 +1,4 @@
--- The first item that passes a test, with the items before and behind it.
+-- The first item that passes a test, with the items before and after it.
 use Rattle.std.proofs.Common.{◌≡◌, ℕ, suc, ◌+◌, Bool, true, false, List, [], ◌∷◌, ◌++◌, Some, option_map, slice_get, length, take, find, ⊎_elim, refl, sym, ◌∙◌, ap, ap₂}
 use Rattle.std.specs.List.{flat_map, AllByRecursion}
 use Rattle.std.proofs.lemmas.Bool.{cases_Bool, cond-true, cond-false}
@@ -56,7 +56,7 @@ module _ (test : Tree → Bool) where
         cond-false (test x.tree) (change x (before ++ item ∷ behind)) (kept_item x ∷ chunks_from_first test change (before ++ item ∷ behind)) none.0
         ∙ ap (λ l. kept_item x ∷ l) (chunks_behind before item behind t none.1)
 
-    -- the items before it are kept, and it and those behind it are as said
+    -- the items before it are kept, and it and those after it are as said
     pub chunks-first : (items : List Item) (n : ℕ) (first : IsFirstItem items n) → chunks_from_first test change items ≡ kept_items first.before ++ change first.item first.behind
     chunks-first items n first = ap (chunks_from_first test change) first.is ∙ chunks_behind first.before first.item first.behind first.passes first.none
 
@@ -86,7 +86,7 @@ module _ (test : Tree → Bool) (items : List Item) (n : ℕ) (first : IsFirstIt
   pub before-first : take n items ≡ first.before
   before-first = ap₂ take (sym first.number) first.is ∙ before_at first.before first.item first.behind
 
--- an item stands behind the front and those before it
+-- an item stands after the front and those before it
 pub start-first : (test : Tree → Bool) (db : Reading) (n : ℕ) (first : IsFirstItem test db.items n) → start_of db n ≡ length db.front + length (flat_map item_bytes first.before)
 start-first test db n first = ap (λ l. length db.front + length (flat_map item_bytes l)) (before-first test db.items n first)
 

@@ -133,7 +133,7 @@ olds-edited base db e = let within = olds_within 0 (chunks base db e) in let who
 
 -- ---- a macro inlined
 
--- the definition goes, and its text in braces stands for each use behind it
+-- the definition goes, and its text in braces stands for each use after it
 pub inlined-pieces : (base : Record → Text) (db : Reading) (name : Text) (n : ℕ) → first_item (defines name) db.items ≡ Some n →
     pieces_of base db (InlineMacro name) ≡ removal_of db n ∷ map (replaced_by (braced (text_of_macro name db))) (tokens_of (uses name) (items_placed (start_of db (n + 1)) (drop (n + 1) db.items)))
 inlined-pieces base db name n found =

@@ -102,7 +102,7 @@ module _ (test : Tree → Bool) (text : Text) where
       ∙ before (at + length (item_bytes item)) items n place f.1 (le_of_suc-le-suc lt)
       ∙ ap₂ (λ k j. in_at k text ∷ out_at j (body_at items n) ∷ []) same_in same
 
-  -- the place is that of the item, or behind it
+  -- the place is that of the item, or after it
   behind : (at : ℕ) (items : List Item) (n place : ℕ) → IsFirstAt test items n → n ≤ place →
       pieces_from at (chunks_at place (groups_without test items))
       ≡ out_at (at + length (items_bytes (take n items))) (body_at items n) ∷ in_at (at + length (items_bytes (take (suc place) items))) text ∷ []

@@ -116,7 +116,7 @@ module _ (key : Text) where
 pub no-field-long : (db : Reading) (n : ℕ) (fields : List Field) → fields ≡ [] → IsFieldLong false db n fields
 no-field-long db n fields e = subst (IsFieldLong false db n) (sym e) refl
 
--- what is found of the rest is found of all, behind fields that are short
+-- what is found of the rest is found of all, after fields that are short
 pub field-short : (db : Reading) (n : ℕ) (field : Field) (fields : List Field) → IsLong false db n field.value → (long : Bool) → IsFieldLong long db n fields → IsFieldLong long db n (field ∷ fields)
 field-short db n field fields short false h = (short, h)
 field-short db n field fields short true h = inr h

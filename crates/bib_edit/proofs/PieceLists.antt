@@ -39,7 +39,7 @@ pieces-behind_items at items chunks =
     pieces-append at (kept_items items) chunks
     ∙ ap₂ (λ (ps : List Piece) (t : Text). ps ++ pieces_from (at + length t) chunks) (pieces-kept_items at items) (old-kept_items items)
 
--- kept items stand behind other chunks
+-- kept items stand after other chunks
 pub pieces-before_items : (at : ℕ) (chunks : List Chunk) (trail : Text) (items : List Item) → pieces_from at (chunks ++ (Kept trail ∷ kept_items items)) ≡ pieces_from at chunks
 pieces-before_items at chunks trail items =
     pieces-append at chunks (Kept trail ∷ kept_items items)

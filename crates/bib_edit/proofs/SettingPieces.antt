@@ -29,7 +29,7 @@ use Rattle.bib_edit.proofs.PieceLists.{pieces-behind_items, pieces-before_items,
 value_behind : (b c n x y : Text) → (((b ++ c) ++ n) ++ x) ++ y ≡ b ++ (c ++ (n ++ (x ++ y)))
 value_behind b c n x y = simp append_assoc
 
--- a value stands behind the text before its row, and what the row begins with
+-- a value stands after the text before its row, and what the row begins with
 pub value-place : (before : Text) (row : Row) → (let f : Field = field_behind (length before) (before ++ comma ∷ row.space_before_name) row.assignment in f.value_at) ≡ length before + length (row_start row)
 value-place before row =
     ap length (value_behind before (comma ∷ row.space_before_name) row.assignment.name row.assignment.space_before_equals (equals_sign ∷ row.assignment.space_before_value))
@@ -38,7 +38,7 @@ value-place before row =
 row_regroup : (b s v e : Text) → ((b ++ s) ++ v) ++ e ≡ b ++ (s ++ (v ++ e))
 row_regroup b s v e = simp append_assoc
 
--- the text before the next row, where the white space behind a value is told apart
+-- the text before the next row, where the white space after a value is told apart
 pub before-next : (before : Text) (row : Row) → ((before ++ row_start row) ++ value_bytes row.assignment.value) ++ row.assignment.space_behind ≡ before ++ row_bytes row
 before-next before row =
     row_regroup before (row_start row) (value_bytes row.assignment.value) row.assignment.space_behind ∙ ap (λ t. before ++ t) (sym (row-parts row))
@@ -63,7 +63,7 @@ module _ (name : Text) (value : Value) (start : ℕ) where
   abbrev passed : Text → Row → List Row → List Chunk
   passed before row rows = Kept before ∷ Kept (row_start row) ∷ Kept (value_bytes row.assignment.value) ∷ field_set name value row.assignment.space_behind rows
 
-  -- the rows stand behind the text `pre`, and white space before them
+  -- the rows stand after the text `pre`, and white space before them
   pieces-set : (pre before : Text) (rows : List Row) → pieces_from (start + length pre) (field_set name value before rows) ≡ setting (length pre) (fields_behind (pre ++ before) rows) ∷ []
   pieces-set pre before [] = ap (λ t. record { place = start + length pre; old = []; new = t } ∷ []) (new_start name (value_bytes value))
   pieces-set pre before (row ∷ rows) =
@@ -115,7 +115,7 @@ count-fields name m before (row ∷ rows) =
 abbrev pub item_at : Tree → Text → Item
 item_at tree trail = record { tree = tree; trail = trail }
 
--- an entry's pieces stand behind what is kept before it
+-- an entry's pieces stand after what is kept before it
 pub pieces-entry_as : (change : Entry → List Chunk) (db : Reading) (key : Text) (n : ℕ) (e : Entry) (trail : Text) → item_named key db ≡ Some n → slice_get db.items n ≡ Some (item_at (EntryTree e) trail) →
     pieces_of_chunks (Kept db.front ∷ chunks_from_first (is_entry key) (entry_as change) db.items) ≡ pieces_from (start_of db n) (change e)
 pieces-entry_as change db key n e trail named at =

@@ -7,7 +7,7 @@ ghost use Rattle.edit_spec.specs.Steps.{IsAllowed, Leads, before};
 use bib_store::{Database, ItemList, Piece, StoreFault, reverse};
 use std::alloc::{AllocError, Global};
 
-/// Puts an item behind others, where there is room.
+/// Puts an item after others, where there is room.
 pub(crate) fn put<T: Drop>(items: &mut Vec<T>, item: T)
     requires { vec_len items.old < vec_capacity items.old }
     ensures items { items.new.items ≡ items.old.items ++ item ∷ [] }

@@ -130,7 +130,7 @@ between_at-found (first ∷ rest) b e = go (eqb first 123) refl e
 
 -- ---- a group that was found
 
--- the group is one of the grammar, and what follows it ended the text behind it
+-- the group is one of the grammar, and what follows it ended the text after it
 pub record IsFound (inside : Text) (g : Group) (rest : Text) : Type 0 where
   pub group : IsGroup g
   pub spelled : inside ≡ group_inside g ++ rest
@@ -203,7 +203,7 @@ letters_stop : (part : Part) (form : Form) (t : Text) → does_not_begin_with is
 letters_stop part Initials t = ap not (letter_no_ornament part)
 letters_stop part Words t = ap not (letter_no_ornament part)
 
--- behind the letters stands no letter
+-- after the letters stands no letter
 ornament_behind : (post t : Text) → list_all is_ornament post ≡ true → does_not_begin_with is_ascii_alphabetic (post ++ 125 ∷ t) ≡ true
 ornament_behind [] t all = refl
 ornament_behind (x ∷ xs) t all = ap not (ornament_no_letter x (both (is_ornament x) (list_all is_ornament xs) all).0)

@@ -85,7 +85,7 @@ links_fuel limit (suc n) zero [] small tiny = refl
 links_fuel limit (suc n) zero (b ∷ t) small tiny = absurd (omega arith)
 links_fuel limit (suc n) (suc m) t small tiny = links_turn limit n m t (past_hash (after_run is_space t)) refl small tiny (λ u a b. links_fuel limit n m u a b)
 
--- the further parts and the white space behind them
+-- the further parts and the white space after them
 abbrev pub links_gap : ℕ → ℕ → Text → Read (Unit {0})
 links_gap limit n t = read_links limit n t >>= skip
 
@@ -114,7 +114,7 @@ local_links limit (suc n) = local_same (links_gap limit (suc n)) (links_by_first
     (local_behind _ (local_bind (run is_space) _ (local_run is_space) (λ s. local_bind (read_part limit) (λ p u. links_gap limit n u) (local_part limit) (λ p. local_links limit n))))
     (local_ok tt)))
 
--- a value and the white space behind it
+-- a value and the white space after it
 abbrev pub value_gap : ℕ → Text → Read (Unit {0})
 value_gap limit t = read_value limit t >>= λ v. skip v.1
 
@@ -214,7 +214,7 @@ row_skip limit t = ap (λ (s : Text). read_assignment limit s >>= λ x. Ok x.1) 
 abbrev pub rows_read : ℕ → ℕ → ℕ → Text → Read (Unit {0})
 rows_read limit n c t = plain (read_rows limit n c) t
 
--- what stands behind a comma
+-- what stands after a comma
 abbrev pub after_comma : ℕ → ℕ → ℕ → Text → Read (Unit {0})
 after_comma limit n c s = cond (first_is (λ b. eqb b c) s) (behind_first ready s) (plain (read_row limit) s >>= λ r. rows_read limit n c r.1)
 
@@ -301,7 +301,7 @@ definition_is limit c t = bind_assoc (read_row limit t) (read_close c) ready ∙
 pub local_definition : (limit : ℕ) (c : ℕ) → Local (plain (read_definition limit c))
 local_definition limit c = local_same (plain (read_definition limit c)) _ (definition_is limit c) (local_bind (plain (read_row limit)) (λ r u. plain (read_close c) u) (local_row limit) (λ r. local_closing c))
 
--- a value, the white space behind it and the closing delimiter
+-- a value, the white space after it and the closing delimiter
 abbrev pub value_close : ℕ → ℕ → Text → Read (Unit {0})
 value_close limit c t = value_gap limit t >>= λ v. plain (read_close c) v.1
 

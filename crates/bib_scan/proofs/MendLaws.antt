@@ -147,7 +147,7 @@ mend_cond {A} test p q P G by_first mp mq t h is = go (test t) refl is
 pub mend_never : {A : Type 0} (p : Text → Read A) (P F : Text → Type 0) → ((t : Text) → (x : A × Text) × (p t ≡ Ok x)) → Mends p P F
 mend_never p P F reads t h is = let x = reads t in absurd (not_ok x.0 h (p t) is x.1)
 
--- behind the first byte of a text that has one
+-- after the first byte of a text that has one
 pub mend_behind : {A : Type 0} (p : Text → Read A) (P F : Text → Type 0) (test : Text → Bool) → test [] ≡ false → Mends p P (λ s. Unit {0}) → (t : Text) (h : Halt) → test t ≡ true → behind_first p t ≡ Err h → MendAt (behind_first p) P F t h
 mend_behind p P F test none m [] h passes is = absurd (both_ways (test []) none passes)
 mend_behind p P F test none m (b ∷ t) h passes is =

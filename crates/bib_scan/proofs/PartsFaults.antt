@@ -13,7 +13,7 @@ use Rattle.bib_scan.proofs.PartLaws.{part_ok}
 use Rattle.bib_scan.proofs.StopLaws.{fault_before}
 use Rattle.bib_scan.proofs.TakenApart.{link_found}
 
--- what is read behind a part, and that no text is left out
+-- what is read after a part, and that no text is left out
 abbrev RefusedBehind : ℕ → ℕ → ℕ → Halt → Type 0
 RefusedBehind limit total n h =
     (m : ℕ) (t : Text) → length t ≤ n → length t ≤ m → unless_end (read_link t >>= read_parts limit total n) t ≡ Err h → (read_links limit m t >>= nothing_behind) ≡ Err h
@@ -21,7 +21,7 @@ RefusedBehind limit total n h =
 part_shorter : (limit : ℕ) (t : Text) (p : Part × Text) → read_part limit t ≡ Ok p → length p.1 ≤ length t
 part_shorter limit t p is = omega (arith, ap (length {A = ℕ}) (part_ok limit t p is).0, length-append (part_bytes p.0) p.1)
 
--- a part and what is behind it, where links are read for so many turns
+-- a part and what follows it, where links are read for so many turns
 refused_part : (limit total n : ℕ) (turns : Part × Text → ℕ) (t : Text) (h : Halt) (read : Read Part) → read_part limit t ≡ read → RefusedBehind limit total n h → length t ≤ n → ((p : Part × Text) → length p.1 ≤ length t → length p.1 ≤ turns p) → (read >>= λ first. unless_end (read_link first.1 >>= read_parts limit total n) first.1 >>= λ later. Ok (part_span first.0 (total - length t) (total - length first.1) ∷ later)) ≡ Err h → ((read >>= λ p. read_links limit (turns p) p.1) >>= nothing_behind) ≡ Err h
 refused_part limit total n turns t h (Err k) read behind ln room is =
     let same : k ≡ h = err_is {A = List PartSpan} k h (Err k) refl is in
@@ -35,7 +35,7 @@ refused_parts : (limit total n : ℕ) (turns : Part × Text → ℕ) (t : Text) 
 unfolding read_parts
 refused_parts limit total n turns t h behind ln room is = refused_part limit total n turns t h (read_part limit t) refl behind ln room is
 
--- a link and what is behind it
+-- a link and what follows it
 refused_link : (limit total n m b : ℕ) (t : Text) (h : Halt) (o : Option Text) → past_hash (after_run is_space (b ∷ t)) ≡ o → RefusedBehind limit total n h → length t ≤ n → length t ≤ m → (go_on (Err (expected ExpectedCommaOrClose (after_run is_space (b ∷ t)))) Ok o >>= read_parts limit total (suc n)) ≡ Err h → (go_on (Ok (b ∷ t)) (λ u. read_part limit u >>= λ p. read_links limit m p.1) o >>= nothing_behind) ≡ Err h
 refused_link limit total n m b t h None o_is behind ln lm is =
     let same : expected ExpectedCommaOrClose (after_run is_space (b ∷ t)) ≡ h = err_is {A = List PartSpan} (expected ExpectedCommaOrClose (after_run is_space (b ∷ t))) h _ refl is in

@@ -1,4 +1,4 @@
--- One field after another: what is left behind the first.
+-- One field after another: what is left after the first.
 use Rattle.std.proofs.Common.{◌≡◌, ℕ, zero, suc, ◌<◌, ◌≤◌, List, [], ◌∷◌, length, refl, sym, ap, ◌∙◌, arith, Option, None, Some, Result, Ok, Err}
 use Rattle.std.specs.Result.{result_ok}
 use Rattle.bib_spec.specs.Bytes.{name_limit}

@@ -261,7 +261,7 @@ tell_part limit G each (b ∷ t) h is =
 pub keeps_part : (limit : ℕ) → Keeps (read_part limit) Breaks
 keeps_part limit = keeps_of (read_part limit) AfterPart Breaks (resumes_part limit) (λ d ok. record { name = not_from_false _ ok.name; digit = not_from_false _ ok.digit })
 
--- what stands behind a braced or quoted part does not matter
+-- what stands after a braced or quoted part does not matter
 braced_any : (limit : ℕ) (c r : Text) → IsPart limit (Braced c) → read_part limit (part_bytes (Braced c) ++ r) ≡ Ok (Braced c, r)
 unfolding read_part
 braced_any limit c r is =

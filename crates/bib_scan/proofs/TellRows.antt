@@ -46,7 +46,7 @@ digit_space = tried_space 49 the_digit
 pub digits_run : Digits (run is_space)
 digits_run = digits_of (run is_space) (λ d. is_space d ≡ false) (keeps_run is_space) letter_space digit_space
 
--- behind white space
+-- after white space
 pub tell_space : {A : Type 0} (p : Text → Read A) (G : ℕ → Type 0) → Local p → Tells p (λ d. (is_space d ≡ false) × G d) → Tells (λ t. run is_space t >>= λ s. p s.1) G
 tell_space p G local tells = tell_bind (run is_space) (λ s u. p u) (λ d. is_space d ≡ false) G (local_run is_space) (λ s. local) (keeps_run is_space) digits_run (tell_run is_space G) (λ s. tells)
 
@@ -78,7 +78,7 @@ close_ends d (inl is) = absurd is
 close_ends d (inr (inl is)) = subst EndsRow (sym is) (record { breaks = record { name = refl; digit = refl }; no_space = refl; no_hash = refl })
 close_ends d (inr (inr is)) = subst EndsRow (sym is) (record { breaks = record { name = refl; digit = refl }; no_space = refl; no_hash = refl })
 
--- behind `#`
+-- after `#`
 abbrev pub link_inside : ℕ → ℕ → Text → Read (Unit {0})
 link_inside limit n u = run is_space u >>= λ y. read_part limit y.1 >>= λ p. links_gap limit n p.1
 

@@ -32,7 +32,7 @@ delimiter_again Paren = refl
 pub closing_again : (c : ℕ) (x : Text) → read_close c (c ∷ x) ≡ Ok x
 closing_again c x = rw (closed_here c x) refl
 
--- ---- the three commands with delimiters, from behind the opening one on
+-- ---- the three commands with delimiters, given what follows the opening one
 
 abbrev pub definition_row : Definition → Row
 definition_row d = record { space_before_name = d.opening.space_behind; assignment = d.assignment }

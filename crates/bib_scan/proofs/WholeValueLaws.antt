@@ -28,7 +28,7 @@ use Rattle.bib_scan.proofs.WidenLaws.{IsLong, IsShort}
 use Rattle.bib_scan.proofs.WidenTrees.{widen_value}
 use Rattle.bib_scan.proofs.KindLaws.{GoesWrong, fault_at}
 
--- ---- a whole value, and a value with the white space behind it
+-- ---- a whole value, and a value with the white space after it
 
 abbrev valued : Text → Text → Read Text
 valued t rest = Ok (take (length t - length rest) t, rest)
@@ -59,7 +59,7 @@ gap_ok limit t s is = go (read_value_rest limit t) is
     go (Ok rest) e = last rest (ap (λ (y : Unit {0} × Text). y.1) (ok_same {A = Unit {0} × Text} (tt, after_run is_space rest) (tt, s) _ refl e))
     go (Err k) e = absurd (not_ok (tt, s) k _ refl e)
 
--- a text that is refused: its value stopped, or something stands behind
+-- a text that is refused: its value stopped, or something follows it
 pub data Refused (limit : ℕ) (t : Text) (h : Halt) : Type 0 where
   stopped : value_gap limit t ≡ Err h → Refused limit t h
   followed : (s : Text) → value_gap limit t ≡ Ok (tt, s) → expected ExpectedCommaOrClose s ≡ h → Refused limit t h

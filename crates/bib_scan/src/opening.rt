@@ -41,7 +41,7 @@ impl Delimiter {
         }
     }
 
-    /// Whether a key behind this delimiter goes on with the byte.
+    /// Whether a key after this delimiter goes on with the byte.
     pub fn goes_on_key(self, byte: u8) -> bool
         ensures { result ≡ goes_on_key (delimiter_view self) byte }
     {
@@ -111,7 +111,7 @@ fn is_clean(text: &[u8]) -> bool
     next_command(text) == text.len()
 }
 
-/// Whether the text may follow an item's body: no command begins in it, and behind a comment it does not
+/// Whether the text may follow an item's body: no command begins in it, and after a comment it does not
 /// go on with the comment's type name. (dialect)
 pub fn is_clean_trail(after_comment: bool, bytes: &[u8]) -> bool
     ensures { IsTrue result ↔ IsCleanTrail after_comment bytes.now }

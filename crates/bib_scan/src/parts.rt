@@ -63,7 +63,7 @@ impl PartKind {
     }
 }
 
-/// Where a part lies in the value: its first byte, and the first one behind it.
+/// Where a part lies in the value: its first byte, and the first one after it.
 #[derive(Clone, Copy, Debug, PartialEq, Eq)]
 pub(crate) struct PartSpan {
     pub kind: PartKind,
@@ -177,7 +177,7 @@ fn spans(alloc: Global, bytes: &[u8]) -> Result<Vec<PartSpan>, Refusal<'_>>
     }
 }
 
-/// The text behind `#` and white space, since no value ends here.
+/// The text after `#` and white space, since no value ends here.
 fn past_link(text: &[u8]) -> Result<&[u8], Stop<'_>>
     ensures read { Gives (λ x. x.now) result (read_link text.now) }
     ensures shorter { IfOk result (λ x. length x.now < length text.now) }

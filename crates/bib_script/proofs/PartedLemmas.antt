@@ -14,7 +14,7 @@ use Rattle.bib_script.specs.Parting.{parted, carriage_return, without_return, as
 abbrev pub len_before : ℕ → Text → ℕ
 len_before byte t = prefix_len (λ b. not (b == byte)) t
 
--- the byte is the first, or stands behind the first
+-- the byte is the first, or stands after the first
 at_once : (byte b : ℕ) (t : Text) → (b == byte) ≡ true → (len_before byte (b ∷ t) ≡ 0) × (parted byte (b ∷ t) ≡ [] ∷ parted byte t)
 at_once byte b t is = (rw is refl, rw is refl)
 

@@ -83,7 +83,7 @@ abbrev pub regenerate_of : List Text → Option Edit
 regenerate_of [] = Some RegenerateKeys
 regenerate_of _ = None
 
--- the edit of keys or macros that a verb and the words behind it say
+-- the edit of keys or macros that a verb and the words after it say
 abbrev pub renaming_of : Text → List Text → Option Edit
 renaming_of verb words =
     if bytes_eq verb (codes "rename-key") then rename_key_of words

@@ -146,7 +146,7 @@ fn regenerate_of(words: &[&[u8]]) -> Option<Edit>
     }
 }
 
-/// The edit of keys or macros that a verb and the words behind it say.
+/// The edit of keys or macros that a verb and the words after it say.
 fn renaming_of(alloc: Global, verb: &[u8], words: &[&[u8]]) -> Result<Option<Edit>, AllocError>
     ensures { IfOk result (λ edit. edit ≡ renaming_of verb.now (map (λ w. w.now) words.now)) }
 {

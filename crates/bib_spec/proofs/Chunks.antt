@@ -22,7 +22,7 @@ ascend_chunks at [] = tt
 ascend_chunks at (Kept text ∷ chunks) = ascend_more at (at + length text) (pieces_from (at + length text) chunks) (omega arith) (ascend_chunks (at + length text) chunks)
 ascend_chunks at (Replaced old new ∷ chunks) = (omega arith, ascend_chunks (at + length old) chunks)
 
--- the pieces of chunks stand behind what comes before the chunks
+-- the pieces of chunks stand after what comes before the chunks
 stand_chunks : (front : Text) (chunks : List Chunk) → AllByRecursion (Stands (front ++ old_of chunks)) (pieces_from (length front) chunks)
 stand_chunks front [] = tt
 stand_chunks front (Kept text ∷ chunks) =

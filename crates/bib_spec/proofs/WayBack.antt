@@ -6,7 +6,7 @@ use Rattle.bib_spec.specs.Text.{Text}
 use Rattle.bib_spec.specs.Pieces.{Piece, end_of, Stands, AscendFrom, applied_from, reversed_from, reversed_pieces_fit, reversed_pieces_lead_back, reversed_twice, first_moved_behind, two_entries, IsMovedAndBack}
 use Rattle.bib_spec.proofs.PieceLemmas.{drop_to, length-between, drop-place, stands_behind}
 
--- the new text, cut behind the first piece's new bytes
+-- the new text, cut after the first piece's new bytes
 regroup : (front gap new rest : Text) → front ++ (gap ++ new ++ rest) ≡ (front ++ gap ++ new) ++ rest
 regroup front gap new rest = simp append_assoc
 

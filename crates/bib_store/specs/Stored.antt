@@ -13,7 +13,7 @@ use Rattle.bib_store.specs.Beside.{AreTables}
 abbrev pub kept_bytes : Item → Text
 kept_bytes i = i.body ++ i.trail
 
--- the file that a front and the items behind it are
+-- the file that a front and the items after it are
 abbrev pub file_of : Text → List Item → Text
 file_of front items = front ++ flat_map kept_bytes items
 

@@ -38,7 +38,7 @@ preamble_numbers items = map (λ p. p.0) (filter (λ p. is_preamble_tree p.1.tre
 
 -- ---- macros
 
--- the table says what macros stand for where each item stands, and behind the last
+-- the table says what macros stand for where each item stands, and after the last
 abbrev pub AreDefinitionsOf : List reading.Item → (ℕ → Macros) → Type 0
 AreDefinitionsOf items table = (n : ℕ) → table n ≡ macros_at months items n
 

@@ -1,4 +1,4 @@
--- The items that an edit leaves stand in the new file with their trees, and behind their trails that of a neighbour that goes.
+-- The items that an edit leaves stand in the new file with their trees, and after their trails that of a neighbour that goes.
 use Rattle.std.proofs.Common.{◌≡◌, ◌≢◌, ◌||◌, ◌&&◌, ◌==◌, ℕ, zero, suc, ◌+◌, ◌-◌, ◌<◌, ◌≤◌, Bool, true, false, List, [], ◌∷◌, ◌++◌, Option, Some, None, is_some, unwrap_or, if◌then◌else◌, option_map, option_and_then, insert, find, map, slice_get, length, take, count_by, ⊎_elim, refl, sym, ◌∙◌, ap, ap₂, subst, arith, append-nil, add-zero, eqb-true, eq-eqb, ne_eqb, zero-lt-suc, suc-le-suc, le_of_suc-le-suc}
 use Rattle.std.specs.List.{list_any}
 use Rattle.std.specs.Option.{option_map_or}
@@ -230,7 +230,7 @@ gained_front test front (first ∷ items) = by_test (test first.tree)
     by_test true = ap (λ t. front ++ t) (sym (cond-true (zero == zero) first.trail [] (eq-eqb zero zero refl)))
     by_test false = sym (append-nil front) ∙ ap (λ t. front ++ t) (sym (cond-false (suc (number_of_first test items) == 0) first.trail [] (suc-zero (number_of_first test items))))
 
--- behind its place nothing more is gained
+-- after its place nothing more is gained
 gained-after : (items : List Item) (i n : ℕ) → (i == n) ≡ false → gained (λ n. i == n) items n ≡ []
 gained-after items i n e = cond-false (i == n) (option_map_or (λ item. item.trail) (slice_get items n) []) [] e
 
