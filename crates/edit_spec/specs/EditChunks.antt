@@ -168,9 +168,9 @@ inserted item = Replaced [] (item_bytes item) ∷ []
 
 -- the entry is taken out, and put in at this position of what remains
 abbrev pub moved : Text → ℕ → List Item → Item → List Chunk
-moved key place items item =
+moved key position items item =
     let groups = groups_without (is_entry key) items in
-    groups.0 ++ flat_map (λ chunks. chunks) (insert groups.1 place (inserted (in_line item.tree)))
+    groups.0 ++ flat_map (λ chunks. chunks) (insert groups.1 position (inserted (in_line item.tree)))
 
 -- ---- edits
 
@@ -185,10 +185,10 @@ changed_items key_base db (SetField key name value) =
     chunks_from_first (is_entry key) (entry_as (λ e. entry_chunks (Kept e.key) (field_set name value e.space_behind_key e.rows) e)) db.items
 changed_items key_base db (DropField key name) =
     chunks_from_first (is_entry key) (entry_as (λ e. entry_chunks (Kept e.key) (field_dropped name e.space_behind_key e.rows) e)) db.items
-changed_items key_base db (AddEntry place new) = kept_items (take place db.items) ++ (inserted (item_of new) ++ kept_items (drop place db.items))
+changed_items key_base db (AddEntry position new) = kept_items (take position db.items) ++ (inserted (item_of new) ++ kept_items (drop position db.items))
 changed_items key_base db (RemoveEntry key) = chunks_from_first (is_entry key) without_body db.items
-changed_items key_base db (MoveEntry key place) =
-    option_map_or (moved key place db.items) (find (λ item. is_entry key item.tree) db.items) (kept_items db.items)
+changed_items key_base db (MoveEntry key position) =
+    option_map_or (moved key position db.items) (find (λ item. is_entry key item.tree) db.items) (kept_items db.items)
 changed_items key_base db (RenameKey from to) = key_chunks (key_for (entry_named (entries_of db) from) to) db
 changed_items key_base db (RenameMacro from to) =
     chunks_from_first (defines from) (λ item items. items_chunks (name_renamed from to) (use_renamed from to) (item ∷ items)) db.items

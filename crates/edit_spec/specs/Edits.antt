@@ -254,11 +254,11 @@ item_of new = in_line (EntryTree (entry_of new))
 
 -- the item put in at this position
 abbrev pub with_item : ℕ → Item → Reading → Reading
-with_item place item db = record db { items = insert db.items place item }
+with_item position item db = record db { items = insert db.items position item }
 
 -- the new entry at this position
 abbrev pub add_entry : ℕ → NewEntry → Reading → Reading
-add_entry place new db = with_item place (item_of new) db
+add_entry position new db = with_item position (item_of new) db
 
 -- the new entries after the last item
 abbrev pub add_many : List NewEntry → Reading → Reading
@@ -270,8 +270,8 @@ remove_entry key db = without_first (is_entry key) db.front db.items
 
 -- the entry that the key names taken out, and put in at this position of what remains
 abbrev pub move_entry : Text → ℕ → Reading → Reading
-move_entry key place db =
-    option_map_or (λ item. with_item place (in_line item.tree) (remove_entry key db)) (find (λ item. is_entry key item.tree) db.items) db
+move_entry key position db =
+    option_map_or (λ item. with_item position (in_line item.tree) (remove_entry key db)) (find (λ item. is_entry key item.tree) db.items) db
 
 -- ---- keys
 
@@ -397,9 +397,9 @@ introduce_macro name text db = record db { items = from_first (any_part (holds t
 abbrev pub edited : (Record → Text) → Reading → Edit → Reading
 edited key_base db (SetField key name value) = set_field key name value db
 edited key_base db (DropField key name) = drop_field key name db
-edited key_base db (AddEntry place new) = add_entry place new db
+edited key_base db (AddEntry position new) = add_entry position new db
 edited key_base db (RemoveEntry key) = remove_entry key db
-edited key_base db (MoveEntry key place) = move_entry key place db
+edited key_base db (MoveEntry key position) = move_entry key position db
 edited key_base db (RenameKey from to) = rename_key from to db
 edited key_base db (RenameMacro from to) = rename_macro from to db
 edited key_base db (InlineMacro name) = inline_macro name db
@@ -411,7 +411,7 @@ edited key_base db (AddMany news) = add_many news db
 
 -- its new keys
 abbrev pub given_keys : Edit → List Text
-given_keys (AddEntry place new) = new.key ∷ []
+given_keys (AddEntry position new) = new.key ∷ []
 given_keys (AddMany news) = map (λ new. new.key) news
 given_keys (RenameKey from to) = to ∷ []
 given_keys other = []
@@ -428,7 +428,7 @@ field_values new = map (λ field. field.1) new.fields
 abbrev pub given_names : Edit → List Text
 given_names (SetField key name value) = name ∷ []
 given_names (DropField key name) = name ∷ []
-given_names (AddEntry place new) = field_names new
+given_names (AddEntry position new) = field_names new
 given_names (AddMany news) = flat_map field_names news
 given_names (RenameMacro from to) = from ∷ to ∷ []
 given_names (InlineMacro name) = name ∷ []
@@ -437,14 +437,14 @@ given_names other = []
 
 -- its types of entries
 abbrev pub given_types : Edit → List Text
-given_types (AddEntry place new) = new.kind_name ∷ []
+given_types (AddEntry position new) = new.kind_name ∷ []
 given_types (AddMany news) = map (λ new. new.kind_name) news
 given_types other = []
 
 -- its values; a text that is introduced stands in braces
 abbrev pub given_values : Edit → List Value
 given_values (SetField key name value) = value ∷ []
-given_values (AddEntry place new) = field_values new
+given_values (AddEntry position new) = field_values new
 given_values (AddMany news) = flat_map field_values news
 given_values (IntroduceMacro name text) = in_braces text ∷ []
 given_values other = []
@@ -465,9 +465,9 @@ abbrev pub definitions : Text → Reading → ℕ
 definitions name db = count_by (λ item. defines name item.tree) db.items
 
 -- the highest position at which an item can be put; a moved item is not counted
-abbrev pub last_place : Reading → Edit → ℕ
-last_place db (MoveEntry key place) = if is_some (entry_named (entries_of db) key) then length db.items - 1 else length db.items
-last_place db other = length db.items
+abbrev pub last_position : Reading → Edit → ℕ
+last_position db (MoveEntry key position) = if is_some (entry_named (entries_of db) key) then length db.items - 1 else length db.items
+last_position db other = length db.items
 
 -- two of the names are the same, folded
 abbrev pub has_same : List Text → Bool
@@ -529,17 +529,17 @@ edit_fault_number FileTooLong = 9
 edit_fault_number TextTooLong = 8
 
 -- the position that the edit names is too high
-abbrev pub IsPlaceTooHigh : Reading → Edit → Type 0
-IsPlaceTooHigh db (AddEntry place new) = last_place db (AddEntry place new) < place
-IsPlaceTooHigh db (MoveEntry key place) = last_place db (MoveEntry key place) < place
-IsPlaceTooHigh db other = ⊥
+abbrev pub IsPositionTooHigh : Reading → Edit → Type 0
+IsPositionTooHigh db (AddEntry position new) = last_position db (AddEntry position new) < position
+IsPositionTooHigh db (MoveEntry key position) = last_position db (MoveEntry key position) < position
+IsPositionTooHigh db other = ⊥
 
 -- what the edit addresses is not there; an empty key never is, and a month alone is no definition
 abbrev pub IsMissing : Reading → Edit → Type 0
 IsMissing db (SetField key name value) = holders key db ≡ 0
 IsMissing db (DropField key name) = fields_named key name db ≡ 0
 IsMissing db (RemoveEntry key) = holders key db ≡ 0
-IsMissing db (MoveEntry key place) = holders key db ≡ 0
+IsMissing db (MoveEntry key position) = holders key db ≡ 0
 IsMissing db (RenameKey from to) = holders from db ≡ 0
 IsMissing db (RenameMacro from to) = definitions from db ≡ 0
 IsMissing db (InlineMacro name) = definitions name db ≡ 0
@@ -550,9 +550,9 @@ IsMissing db other = ⊥
 abbrev pub IsAmbiguous : Reading → Edit → Type 0
 IsAmbiguous db (SetField key name value) = (1 < holders key db) ⊎ (1 < fields_named key name db)
 IsAmbiguous db (DropField key name) = (1 < holders key db) ⊎ (1 < fields_named key name db)
-IsAmbiguous db (AddEntry place new) = has_same (field_names new) ≡ true
+IsAmbiguous db (AddEntry position new) = has_same (field_names new) ≡ true
 IsAmbiguous db (RemoveEntry key) = 1 < holders key db
-IsAmbiguous db (MoveEntry key place) = 1 < holders key db
+IsAmbiguous db (MoveEntry key position) = 1 < holders key db
 IsAmbiguous db (RenameKey from to) = 1 < holders from db
 IsAmbiguous db (RenameMacro from to) = 1 < definitions from db
 IsAmbiguous db (InlineMacro name) = 1 < definitions name db
@@ -562,7 +562,7 @@ IsAmbiguous db other = ⊥
 -- The new key is another entry's, or another new entry's, or the text of a dangling crossref; that last only for a key
 -- that is renamed, since an added entry may be what the crossref was waiting for.
 abbrev pub IsKeyInUse : Reading → Edit → Type 0
-IsKeyInUse db (AddEntry place new) = list_any (same new.key) (keys_of (entries_of db)) ≡ true
+IsKeyInUse db (AddEntry position new) = list_any (same new.key) (keys_of (entries_of db)) ≡ true
 IsKeyInUse db (AddMany news) =
     (has_same (map (λ new. new.key) news) || list_any (λ new. list_any (same new.key) (keys_of (entries_of db))) news) ≡ true
 IsKeyInUse db (RenameKey from to) =
@@ -581,7 +581,7 @@ abbrev pub MergesText : Reading → Edit → Type 0
 MergesText db (DropField key name) =
     option_map_or (λ item. tree_ends_in_key item.tree) (find (λ item. is_entry key item.tree) (drop_field key name db).items) false ≡ true
 MergesText db (RemoveEntry key) = HasCleanTexts (remove_entry key db) → ⊥
-MergesText db (MoveEntry key place) = HasCleanTexts (remove_entry key db) → ⊥
+MergesText db (MoveEntry key position) = HasCleanTexts (remove_entry key db) → ⊥
 MergesText db (InlineMacro name) = HasCleanTexts (inline_macro name db) → ⊥
 MergesText db other = ⊥
 
@@ -590,7 +590,7 @@ abbrev pub Refuses : (Record → Text) → EditFault → Reading → Edit → Ty
 Refuses key_base BadKey db e = list_all is_new_key (given_keys e) ≡ false
 Refuses key_base BadName db e = (list_all is_name (given_names e) && list_all is_type (given_types e)) ≡ false
 Refuses key_base BadValue db e = All (IsValue name_limit) (given_values e) → ⊥
-Refuses key_base BadPosition db e = IsPlaceTooHigh db e
+Refuses key_base BadPosition db e = IsPositionTooHigh db e
 Refuses key_base NotFound db e = IsMissing db e
 Refuses key_base Ambiguous db e = IsAmbiguous db e
 Refuses key_base KeyInUse db e = IsKeyInUse db e

@@ -25,7 +25,7 @@ number_with_one_less (suc i) (suc n) = suc (number_with_one_less i n)
 
 -- how many entries stand before the item at this position
 abbrev pub entries_before : ℕ → Reading → ℕ
-entries_before place db = length (entries_of (record db { items = take place db.items }))
+entries_before position db = length (entries_of (record db { items = take position db.items }))
 
 -- ---- other entries
 
@@ -53,9 +53,9 @@ NoneAwaited db e = list_any (is_awaited db) (given_keys e) ≡ false
 -- Adding an entry that no dangling crossref waits for keeps every old entry's record and parent; the entries after it have
 -- numbers that are one more.
 abbrev pub add_entry_keeps_others : Type 0
-add_entry_keeps_others = (key_base : Record → Text) (db : Reading) (place : ℕ) (new : NewEntry) →
-    IsAccepted key_base db (AddEntry place new) → NoneAwaited db (AddEntry place new) →
-    KeepsOthers (number_with_one_more (entries_before place db)) 1 db (edited key_base db (AddEntry place new))
+add_entry_keeps_others = (key_base : Record → Text) (db : Reading) (position : ℕ) (new : NewEntry) →
+    IsAccepted key_base db (AddEntry position new) → NoneAwaited db (AddEntry position new) →
+    KeepsOthers (number_with_one_more (entries_before position db)) 1 db (edited key_base db (AddEntry position new))
 
 -- each entry has the number that it had
 abbrev pub same_number : ℕ → ℕ
@@ -85,7 +85,7 @@ is_first test items n = number_of_first test items == n
 -- the edit takes item n away, or moves it
 abbrev pub is_gone : Reading → Edit → ℕ → Bool
 is_gone db (RemoveEntry key) n = is_first (is_entry key) db.items n
-is_gone db (MoveEntry key place) n = is_first (is_entry key) db.items n
+is_gone db (MoveEntry key position) n = is_first (is_entry key) db.items n
 is_gone db (InlineMacro name) n = is_first (defines name) db.items n
 is_gone db other n = false
 
@@ -113,9 +113,9 @@ is_changed db other n = false
 
 -- the number of item n afterwards, if it is not taken away
 abbrev pub new_number : Reading → Edit → ℕ → ℕ
-new_number db (AddEntry place entry) n = number_with_one_more place n
+new_number db (AddEntry position entry) n = number_with_one_more position n
 new_number db (RemoveEntry key) n = number_with_one_less (number_of_first (is_entry key) db.items) n
-new_number db (MoveEntry key place) n = number_with_one_more place (number_with_one_less (number_of_first (is_entry key) db.items) n)
+new_number db (MoveEntry key position) n = number_with_one_more position (number_with_one_less (number_of_first (is_entry key) db.items) n)
 new_number db (InlineMacro name) n = number_with_one_less (number_of_first (defines name) db.items) n
 new_number db (IntroduceMacro name text) n = number_with_one_more (number_of_first (any_part (holds text)) db.items) n
 new_number db other n = n
@@ -146,5 +146,5 @@ untouched_items_stay = (key_base : Record → Text) (db : Reading) (e : Edit) �
 
 -- A moved entry keeps its body, and stands in a line of its own.
 abbrev pub moved_entry_stays : Type 0
-moved_entry_stays = (key_base : Record → Text) (db : Reading) (key : Text) (place : ℕ) → IsAccepted key_base db (MoveEntry key place) →
-    (item : Item) × (find (λ item. is_entry key item.tree) db.items ≡ Some item) × (slice_get (edited key_base db (MoveEntry key place)).items place ≡ Some (in_line item.tree))
+moved_entry_stays = (key_base : Record → Text) (db : Reading) (key : Text) (position : ℕ) → IsAccepted key_base db (MoveEntry key position) →
+    (item : Item) × (find (λ item. is_entry key item.tree) db.items ≡ Some item) × (slice_get (edited key_base db (MoveEntry key position)).items position ≡ Some (in_line item.tree))

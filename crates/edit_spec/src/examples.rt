@@ -123,7 +123,7 @@ pub fn an_added_key_takes_children()
 {}
 
 /// Without its condition, a moved entry does not stand at the place that was asked for.
-pub fn a_high_place_is_not_reached()
+pub fn a_high_position_is_not_reached()
     ensures { HighPlaceIsNotReached }
 {}
 
