@@ -16,7 +16,7 @@ use bib_store::{Database, ItemList, Piece};
 use std::alloc::Global;
 
 /// The piece that puts this entry before item `position`, or the first reason against it. It takes time and memory in
-/// length of the entry. A dangling crossref may have waited for the key: then the entry is its target from now on.
+/// the length of the entry. A dangling crossref may have waited for the key: then the entry is its target from now on.
 pub(crate) fn add_entry<L: ItemList>(
     alloc: Global,
     db: &Database<L>,

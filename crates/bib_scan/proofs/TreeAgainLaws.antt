@@ -25,7 +25,7 @@ unfolding is_space is_name_byte
 closes Brace = record { ends = record { breaks = record { name = refl; digit = refl }; no_space = refl; no_hash = refl }; no_comma = refl }
 closes Paren = record { ends = record { breaks = record { name = refl; digit = refl }; no_space = refl; no_hash = refl }; no_comma = refl }
 
-delimiter_again : (d : Delimiter) → delimiter_of (open_byte d) ≡ d
+pub delimiter_again : (d : Delimiter) → delimiter_of (open_byte d) ≡ d
 delimiter_again Brace = refl
 delimiter_again Paren = refl
 

@@ -5,10 +5,10 @@ use Rattle.std.proofs.lemmas.Bool.{cases_Bool}
 use Rattle.std.proofs.lemmas.Bool.Decides.{eqb_tells}
 use Rattle.std.specs.List.{prefix_len}
 use Rattle.std.specs.Borrow.{Bor}
-use Rattle.bib_spec.specs.Bytes.{line_feed}
+use Rattle.bib_spec.specs.Bytes.{line_feed, carriage_return}
 use Rattle.bib_spec.specs.Text.{Text}
 use Rattle.bib_spec.specs.Texts.{onto_first}
-use Rattle.bib_script.specs.Parting.{parted, carriage_return, without_return, as_lines}
+use Rattle.bib_script.specs.Parting.{parted, without_return, as_lines}
 
 -- how many bytes stand before the first of this kind, or before the end
 abbrev pub len_before : ℕ → Text → ℕ

@@ -1,14 +1,8 @@
 -- Texts between bytes that part them.
 use Rattle.std.specs.Prelude.{ℕ, ◌==◌, if◌then◌else◌, List, [], ◌∷◌}
-use Rattle.bib_spec.specs.Bytes.{line_feed}
+use Rattle.bib_spec.specs.Bytes.{tab, line_feed, carriage_return}
 use Rattle.bib_spec.specs.Text.{Text}
 use Rattle.bib_spec.specs.Texts.{is_empty, onto_first}
-
-abbrev pub tab : ℕ
-tab = 9
-
-abbrev pub carriage_return : ℕ
-carriage_return = 13
 
 -- the texts before, between and after the bytes that are this one; they may be empty
 abbrev pub parted : ℕ → Text → List Text

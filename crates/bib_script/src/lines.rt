@@ -2,8 +2,8 @@
 
 ghost use Rattle.std.specs.Prelude.{◌≡◌, ◌≤◌, ◌<◌, ◌==◌, ◌∷◌, not, length, map, IfOk};
 ghost use Rattle.std.specs.List.{prefix_len};
-ghost use Rattle.bib_spec.specs.Bytes.{line_feed};
-ghost use Rattle.bib_script.specs.Parting.{tab, words_of, without_return, lines_of};
+ghost use Rattle.bib_spec.specs.Bytes.{tab, line_feed};
+ghost use Rattle.bib_script.specs.Parting.{words_of, without_return, lines_of};
 
 use bib_scan::Seq;
 use std::alloc::{AllocError, Global};
