@@ -7,7 +7,7 @@ use Rattle.edit_spec.specs.Edits as edits
 use Rattle.edit_spec.specs.Edits.{edited, IsAccepted}
 use Rattle.edit_spec.specs.OtherLaws.{KeepsOthers, same_number}
 use Rattle.edit_spec.proofs.OtherEntries.{add_entry-keeps_others, remove_entry-keeps_others}
-use Rattle.edit_spec.proofs.AddedBehind.{add_many-keeps_others}
+use Rattle.edit_spec.proofs.AddedAfter.{add_many-keeps_others}
 use Rattle.bib_data.specs.declared.edit.Edit.{Edit}
 use Rattle.bib_data.specs.declared.edit.Edit.TheVariants.{SetField, DropField, AddEntry, AddMany, RemoveEntry, MoveEntry, RenameKey, RegenerateKeys, RenameMacro, InlineMacro, IntroduceMacro}
 use Rattle.bib_edit.specs.Asking.{OfEdit, made_base, add_entry, add_many, remove_entry}

@@ -1,4 +1,4 @@
--- What a reader does where another byte stands in place of the first one that it stopped at, and nothing after it it.
+-- What a reader does where another byte stands in place of the first one that it stopped at, and nothing after it.
 -- Each fault is told by some bytes that it passes and some that it stops at.
 use Rattle.std.proofs.Common.{◌≡◌, ℕ, ◌+◌, ◌<◌, ◌≤◌, Bool, true, false, cond, [], ◌∷◌, ◌++◌, length, refl, sym, ap, subst, ◌∙◌, arith, append_assoc, append-nil, inl, inr, ◌⊎◌, Result, Ok, Err}
 use Rattle.std.proofs.lemmas.List.{length-append, append_cancel_right}

@@ -14,7 +14,7 @@ use Rattle.bib_spec.proofs.Names.{eq-true}
 use Rattle.bib_store.specs.declared.definitions.Definition.{Definition}
 use Rattle.bib_store.specs.Tables.{AreDefinitionsOf}
 use Rattle.bib_store.specs.Defined.{Defined, definitions_of, text_before, texts_at, EndsBy, Defines}
-use Rattle.bib_store.proofs.MacrosBehind.{macros_before, macros_behind, macros_past}
+use Rattle.bib_store.proofs.MacrosAfter.{macros_before, macros_behind, macros_past}
 
 -- where no name is defined, names stand for months alone
 pub no_definitions : (defined : Defined) → ((name : Text) → value_at defined name ≡ None) → AreDefinitionsOf [] (texts_at defined)

@@ -1,37 +1,48 @@
-pub mod Citations
-pub mod Filters
-pub mod GatheredFields
-pub mod ChosenFields
-pub mod Inherited
-pub mod Changes
-pub mod Exchanges
-pub mod Loops
-pub mod Parents
-pub mod ReadableFields
-pub mod Standing
-pub mod WindowLaws
-pub mod Shifts
-pub mod RowTexts
-pub mod ShortValues
-pub mod Answered
+-- ---- walks, windows and pieces
 pub mod Walks
-pub mod TableSteps
-pub mod ItemsMore
-pub mod Holdings
-pub mod Insertions
-pub mod Followed
-pub mod FollowedFiles
-pub mod Numbered
-pub mod EntryItems
-pub mod CrossrefTexts
-pub mod ShortTexts
+pub mod Loops
+pub mod Standing
+pub mod Shifts
+pub mod Changes
+pub mod WindowLaws
+pub mod Exchanges
+
+-- ---- what is kept of a file
 pub mod KeptItems
 pub mod OpenedFiles
-pub mod PreambleTexts
-pub mod SplicedFiles
-pub mod DefinitionTables
-pub mod MacrosBehind
+pub mod Numbered
+pub mod EntryItems
 pub mod NumberedLists
+pub mod DefinitionTables
+pub mod MacrosAfter
+pub mod Holdings
+pub mod CrossrefTexts
+
+-- ---- the texts of items
+pub mod RowTexts
+pub mod ShortValues
+pub mod ShortTexts
+pub mod PreambleTexts
+pub mod ReadableFields
+
+-- ---- items that come and go
+pub mod ItemsMore
+pub mod Insertions
+pub mod Appended
+pub mod TableSteps
+pub mod Followed
+pub mod FollowedFiles
 pub mod Amended
 pub mod AmendedFiles
-pub mod Appended
+pub mod SplicedFiles
+
+-- ---- records and cited lists
+pub mod Parents
+pub mod GatheredFields
+pub mod Inherited
+pub mod Filters
+pub mod ChosenFields
+pub mod Citations
+
+-- ---- results
+pub mod Answered

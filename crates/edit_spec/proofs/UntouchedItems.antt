@@ -19,7 +19,7 @@ use Rattle.bib_spec.proofs.Keys.{option_cases}
 use Rattle.bib_spec.proofs.Accepted.{there_once}
 use Rattle.edit_spec.proofs.RenameKey.{only}
 use Rattle.edit_spec.proofs.OneMore.{slice_get-insert, slice_get-insert_same, within}
-use Rattle.edit_spec.proofs.AddedBehind.{slice_get-append}
+use Rattle.edit_spec.proofs.AddedAfter.{slice_get-append}
 use Rattle.edit_spec.proofs.KeptTrees.{IsNameLeft, leaving-leaves, tree-left}
 
 -- ---- numbers
