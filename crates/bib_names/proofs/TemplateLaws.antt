@@ -136,11 +136,11 @@ pub record IsFound (inside : Text) (g : Group) (rest : Text) : Type 0 where
   pub spelled : inside ≡ group_inside g ++ rest
   pub stops : does_not_begin_with is_no_brace rest ≡ true
 
-found_behind : (pre post behind : Text) (l : Part × Form × Text) (b : Option Text × Text) (inside : Text) → list_all is_ornament pre ≡ true → list_all is_ornament post ≡ true
+found_after : (pre post behind : Text) (l : Part × Form × Text) (b : Option Text × Text) (inside : Text) → list_all is_ornament pre ≡ true → list_all is_ornament post ≡ true
     → inside ≡ pre ++ (letters_of l.0 l.1 ++ l.2) → AreBetween l.2 b → b.1 ≡ post ++ 125 ∷ behind
     → IsFound inside (record { pre = pre; part = l.0; form = l.1; between = b.0; post = post; trail = take_while is_no_brace behind }) (after_run is_no_brace behind)
 unfolding AreBetween
-found_behind pre post behind l b inside pre_is post_is whole in_between rest =
+found_after pre post behind l b inside pre_is post_is whole in_between rest =
     let trail = take_while is_no_brace behind in
     let more = after_run is_no_brace behind in
     let apart : pre ++ (letters_of l.0 l.1 ++ (between_bytes b.0 ++ (post ++ (125 ∷ (trail ++ more))))) ≡ (pre ++ (letters_of l.0 l.1 ++ (between_bytes b.0 ++ (post ++ (125 ∷ trail))))) ++ more = simp append_assoc in
@@ -158,7 +158,7 @@ closed_found inside pre l b g rest pre_is whole in_between e =
     let closed = map_some (λ behind. (record { pre = pre; part = l.0; form = l.1; between = b.0; post = post; trail = take_while is_no_brace behind }, after_run is_no_brace behind)) (after_byte 125 t) (g, rest) e in
     let there : b.1 ≡ post ++ 125 ∷ closed.0 = run_whole is_ornament b.1 ∙ ap (λ u. post ++ u) (after_byte-found 125 t closed.0 closed.1) in
     subst (λ (p : Group × Text). IsFound inside p.0 p.1) closed.2
-    (found_behind pre post closed.0 l b inside pre_is (run_passes is_ornament b.1) whole in_between there)
+    (found_after pre post closed.0 l b inside pre_is (run_passes is_ornament b.1) whole in_between there)
 
 pub group_at-found : (inside : Text) (g : Group) (rest : Text) → group_at inside ≡ Some (g, rest) → IsFound inside g rest
 group_at-found inside g rest e =

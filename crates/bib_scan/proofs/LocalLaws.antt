@@ -72,16 +72,16 @@ local_cond {A} test p q by_first lp lq t = go (test t) refl
     go false is = let l = lq t in record { front = l.front; split = l.split; same = λ c v w e. cond-false (test _) _ _ (same_test l.front _ c v w l.split e ∙ is) ∙ l.same c v w e }
 
 -- the reader after the first byte
-abbrev pub behind_first : {A : Type 0} → (Text → Read A) → Text → Read A
-behind_first p [] = Err (stop Unended [])
-behind_first p (b ∷ t) = p t
+abbrev pub after_first : {A : Type 0} → (Text → Read A) → Text → Read A
+after_first p [] = Err (stop Unended [])
+after_first p (b ∷ t) = p t
 
-pub local_behind : {A : Type 0} (p : Text → Read A) → Local p → Local (behind_first p)
-local_behind p l [] = record { front = []; split = refl; same = λ c v w is. absurd (nil_cons is) }
+pub local_beyond : {A : Type 0} (p : Text → Read A) → Local p → Local (after_first p)
+local_beyond p l [] = record { front = []; split = refl; same = λ c v w is. absurd (nil_cons is) }
   where
     nil_cons : {c : ℕ} {v : Text} → ◌≡◌ {A = Text} [] (c ∷ v) → ⊥
     nil_cons e = cc
-local_behind p l (b ∷ t) =
+local_beyond p l (b ∷ t) =
     let at = l t in
     record { front = b ∷ at.front; split = ap (λ (u : Text). b ∷ u) at.split; same = at.same }
 

@@ -7,7 +7,7 @@ use Rattle.bib_spec.specs.Fault.{ReadingFault, Unended, ExpectedName, ExpectedEq
 use Rattle.bib_spec.specs.Text.{Text}
 use Rattle.bib_scan.specs.LeftToRight.{Read, Halt, stop, ◌>>=◌}
 use Rattle.bib_scan.proofs.RunLaws.{not_ok}
-use Rattle.bib_scan.proofs.LocalLaws.{rest_of, with_rest, LocalAt, Local, behind_first}
+use Rattle.bib_scan.proofs.LocalLaws.{rest_of, with_rest, LocalAt, Local, after_first}
 use Rattle.bib_scan.proofs.UniqueLaws.{tail_same}
 use Rattle.bib_scan.proofs.MendLaws.{Resumes, err_is}
 
@@ -408,11 +408,11 @@ some_front : (b : ℕ) (u : Text) → b ∷ u ≡ [] → ⊥
 some_front b u e = cc
 
 -- after the first byte of a text that has one
-pub tell_behind : {A : Type 0} (p : Text → Read A) (G : ℕ → Type 0) (test : Text → Bool) → test [] ≡ false → Tells p (λ d. Unit {0}) → (t : Text) (h : Halt) → test t ≡ true → behind_first p t ≡ Err h → (m : TellsAt (behind_first p) G t h) × (m.front ≡ [] → ⊥)
-tell_behind p G test none tells [] h passes is = absurd (both_ways (test []) none passes)
-tell_behind {A} p G test none tells (b ∷ t) h passes is =
+pub tell_beyond : {A : Type 0} (p : Text → Read A) (G : ℕ → Type 0) (test : Text → Bool) → test [] ≡ false → Tells p (λ d. Unit {0}) → (t : Text) (h : Halt) → test t ≡ true → after_first p t ≡ Err h → (m : TellsAt (after_first p) G t h) × (m.front ≡ [] → ⊥)
+tell_beyond p G test none tells [] h passes is = absurd (both_ways (test []) none passes)
+tell_beyond {A} p G test none tells (b ∷ t) h passes is =
     let m = tells t h is in
-    let at : TellsAt (behind_first p) G (b ∷ t) h = record {
+    let at : TellsAt (after_first p) G (b ∷ t) h = record {
       front = b ∷ m.front;
       split = ap (λ (u : Text). b ∷ u) m.split;
       end = m.end;
@@ -423,14 +423,14 @@ tell_behind {A} p G test none tells (b ∷ t) h passes is =
     } in
     (at, λ e. some_front b m.front e)
 
-pub digits_cond : {A : Type 0} (test : Text → Bool) (p q : Text → Read A) → ((b : ℕ) (t u : Text) → test (b ∷ t) ≡ test (b ∷ u)) → test [] ≡ false → test (120 ∷ []) ≡ false → test (49 ∷ []) ≡ false → Local p → Digits p → Digits q → Digits (λ t. cond (test t) (behind_first p t) (q t))
+pub digits_cond : {A : Type 0} (test : Text → Bool) (p q : Text → Read A) → ((b : ℕ) (t u : Text) → test (b ∷ t) ≡ test (b ∷ u)) → test [] ≡ false → test (120 ∷ []) ≡ false → test (49 ∷ []) ≡ false → Local p → Digits p → Digits q → Digits (λ t. cond (test t) (after_first p t) (q t))
 digits_cond {A} test p q by_first none letter digit local dp dq t a r u is split = go (test t) refl is
   where
     same_test : (x : Bool) (v : Text) (d : ℕ) → test t ≡ x → t ≡ v ++ r → (v ≡ [] → test (d ∷ []) ≡ x) → test (v ++ d ∷ []) ≡ x
     same_test x [] d was shape starts = starts refl
     same_test x (b ∷ v) d was shape starts = by_first b (v ++ d ∷ []) (v ++ r) ∙ ap test (sym shape) ∙ was
 
-    first : (s v : Text) → t ≡ s → t ≡ v ++ r → test s ≡ true → behind_first p s ≡ Ok (a, r) → TakesDigit (λ w. cond (test w) (behind_first p w) (q w)) a v
+    first : (s v : Text) → t ≡ s → t ≡ v ++ r → test s ≡ true → after_first p s ≡ Ok (a, r) → TakesDigit (λ w. cond (test w) (after_first p w) (q w)) a v
     first [] v shape parts was read = absurd (both_ways (test []) none was)
     first (b ∷ s) [] shape parts was read =
         let l = local s in
@@ -443,16 +443,16 @@ digits_cond {A} test p q by_first none letter digit local dp dq t a r u is split
         let to : (d : ℕ) → test ((c ∷ v) ++ d ∷ []) ≡ true = λ d. same_test true (c ∷ v) d (ap test shape ∙ was) parts (λ e. absurd (some_front c v e)) in
         lift to (dp s a r v read inner)
       where
-        lift : ((d : ℕ) → test ((c ∷ v) ++ d ∷ []) ≡ true) → TakesDigit p a v → TakesDigit (λ w. cond (test w) (behind_first p w) (q w)) a (c ∷ v)
+        lift : ((d : ℕ) → test ((c ∷ v) ++ d ∷ []) ≡ true) → TakesDigit p a v → TakesDigit (λ w. cond (test w) (after_first p w) (q w)) a (c ∷ v)
         lift to (inl l) = inl (cond-true (test _) _ _ (to 120) ∙ l.0, cond-true (test _) _ _ (to 49) ∙ l.1)
         lift to (inr (inl s)) = inr (inl (s.0, cond-true (test _) _ _ (to 120) ∙ s.1))
         lift to (inr (inr e)) = inr (inr (ap rest_of (cond-true (test _) _ _ (to 49)) ∙ e))
 
-    other : test (u ++ 120 ∷ []) ≡ false → test (u ++ 49 ∷ []) ≡ false → TakesDigit q a u → TakesDigit (λ w. cond (test w) (behind_first p w) (q w)) a u
+    other : test (u ++ 120 ∷ []) ≡ false → test (u ++ 49 ∷ []) ≡ false → TakesDigit q a u → TakesDigit (λ w. cond (test w) (after_first p w) (q w)) a u
     other to too (inl l) = inl (cond-false (test _) _ _ to ∙ l.0, cond-false (test _) _ _ too ∙ l.1)
     other to too (inr (inl s)) = inr (inl (s.0, cond-false (test _) _ _ to ∙ s.1))
     other to too (inr (inr e)) = inr (inr (ap rest_of (cond-false (test _) _ _ too) ∙ e))
 
-    go : (x : Bool) → test t ≡ x → cond x (behind_first p t) (q t) ≡ Ok (a, r) → TakesDigit (λ w. cond (test w) (behind_first p w) (q w)) a u
+    go : (x : Bool) → test t ≡ x → cond x (after_first p t) (q t) ≡ Ok (a, r) → TakesDigit (λ w. cond (test w) (after_first p w) (q w)) a u
     go true was e = first t u refl split was e
     go false was e = other (same_test false u 120 was split (λ gone. letter)) (same_test false u 49 was split (λ gone. digit)) (dq t a r u e split)

@@ -16,7 +16,7 @@ use Rattle.bib_scan.proofs.BraceLemmas.{braced_takes, quoted_takes, braced_opens
 use Rattle.bib_scan.proofs.BraceLaws.{plain_byte, braced_again, quoted_again, balanced_closes, quotes_inside}
 use Rattle.bib_scan.proofs.PartLaws.{AfterPart, name_byte_no, part_ok, part_again, name_parts, name_from, name_ok, name_again, begins_from}
 use Rattle.bib_scan.proofs.AgainLaws.{Breaks}
-use Rattle.bib_scan.proofs.LocalLaws.{rest_of, run, behind_first, run_beyond}
+use Rattle.bib_scan.proofs.LocalLaws.{rest_of, run, after_first, run_beyond}
 use Rattle.bib_scan.proofs.MendLaws.{err_is}
 use Rattle.bib_scan.proofs.MendRows.{resumes_run, resumes_name, resumes_part, x_name, inner_err, as_part, TooLong, too_long}
 use Rattle.bib_scan.proofs.TellLaws.{Past, Stopped, Leaves, Passes, Blocks, Tries, AsksDigit, IsEnd, DigitToo, TellsAt, Tells, Keeps, TakesDigit, keeps_of, digits_of}

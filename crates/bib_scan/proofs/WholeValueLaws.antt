@@ -80,15 +80,15 @@ refused_by limit t h is = go (read_value_rest limit t) refl is
 
 -- ---- sound and complete
 
-none_behind : (rest x : Text) → nothing_behind rest ≡ Ok x → rest ≡ []
-none_behind [] x is = refl
-none_behind (b ∷ rest) x is = absurd (not_ok x _ _ refl is)
+none_beyond : (rest x : Text) → nothing_behind rest ≡ Ok x → rest ≡ []
+none_beyond [] x is = refl
+none_beyond (b ∷ rest) x is = absurd (not_ok x _ _ refl is)
 
 -- what is read as one value is one
 pub whole_value : (limit : ℕ) (t x : Text) → read_whole_value limit t ≡ Ok x → IsValueWithin limit t
 whole_value limit t x is =
     let one = bind_ok (read_value_rest limit t) nothing_behind x is in
-    let rest : one.0 ≡ [] = none_behind one.0 x one.2 in
+    let rest : one.0 ≡ [] = none_beyond one.0 x one.2 in
     let v = value_ok limit t (take (length t - length one.0) t, one.0) (ap (λ (m : Result Text Halt). m >>= valued t) one.1) in
     (v.0, v.1, sym (v.3 ∙ ap (λ (u : Text). u ++ one.0) v.2 ∙ ap (λ (u : Text). value_bytes v.0 ++ u) rest ∙ append-nil (value_bytes v.0)))
 

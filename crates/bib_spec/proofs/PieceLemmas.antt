@@ -24,8 +24,8 @@ drop-place text p s =
     ∙ ap (λ rest. p.old ++ rest) (drop-drop (length p.old) p.place text)
 
 -- a piece stands after a text as long as its place, where its old bytes come next
-pub stands_behind : (front rest : Text) (p : Piece) → length front ≡ p.place → Stands (front ++ (p.old ++ rest)) p
-stands_behind front rest p h = record {
+pub stands_after : (front rest : Text) (p : Piece) → length front ≡ p.place → Stands (front ++ (p.old ++ rest)) p
+stands_after front rest p h = record {
   inside = omega (arith, length-append front (p.old ++ rest), length-append p.old rest);
   there = ap (take (length p.old)) (drop_at front (p.old ++ rest) p.place h) ∙ take_at p.old rest (length p.old) refl;
 }

@@ -1,7 +1,7 @@
 -- ---- walks, windows and pieces
-pub mod Walks
-pub mod Loops
-pub mod Standing
+pub mod TableWalk
+pub mod PieceLoops
+pub mod StandingPieces
 pub mod Shifts
 pub mod Changes
 pub mod WindowLaws
@@ -15,7 +15,7 @@ pub mod EntryItems
 pub mod NumberedLists
 pub mod DefinitionTables
 pub mod MacrosAfter
-pub mod Holdings
+pub mod RepeatedKeys
 pub mod CrossrefTexts
 
 -- ---- the texts of items
@@ -26,7 +26,7 @@ pub mod PreambleTexts
 pub mod ReadableFields
 
 -- ---- items that come and go
-pub mod ItemsMore
+pub mod GatheredItems
 pub mod Insertions
 pub mod Appended
 pub mod TableSteps
@@ -45,4 +45,4 @@ pub mod ChosenFields
 pub mod Citations
 
 -- ---- results
-pub mod Answered
+pub mod Results

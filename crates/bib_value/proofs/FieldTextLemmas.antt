@@ -15,9 +15,9 @@ abbrev filled : List Text → List Text
 filled ws = filter (λ word. not (is_empty word)) ws
 
 -- words, each with a space before it
-abbrev behind_word : List Text → Text
-behind_word [] = []
-behind_word (w ∷ ws) = space ∷ join_with_byte space (w ∷ ws)
+abbrev after_word : List Text → Text
+after_word [] = []
+after_word (w ∷ ws) = space ∷ join_with_byte space (w ∷ ws)
 
 abbrev first_word : List Text → Text
 first_word [] = []
@@ -27,16 +27,16 @@ abbrev other_words : List Text → List Text
 other_words [] = []
 other_words (w ∷ ws) = ws
 
-join-word : (w : Text) (ws : List Text) → join_with_byte space (w ∷ ws) ≡ w ++ behind_word ws
+join-word : (w : Text) (ws : List Text) → join_with_byte space (w ∷ ws) ≡ w ++ after_word ws
 join-word w [] = sym (append-nil w)
 join-word w (x ∷ xs) = refl
 
 record MoreText (t : Text) : Type 0 where
-  inside : more_text false true t ≡ first_word (words t) ++ behind_word (filled (other_words (words t)))
-  behind : more_text true true t ≡ behind_word (filled (words t))
+  inside : more_text false true t ≡ first_word (words t) ++ after_word (filled (other_words (words t)))
+  behind : more_text true true t ≡ after_word (filled (words t))
   before : (apart : Bool) → more_text apart false t ≡ join_with_byte space (filled (words t))
 
-onto : (b : ℕ) (u : Text) (ws : List Text) → u ≡ first_word ws ++ behind_word (filled (other_words ws)) → (b ∷ u ≡ first_word (onto_first b ws) ++ behind_word (filled (other_words (onto_first b ws)))) × (space ∷ b ∷ u ≡ behind_word (filled (onto_first b ws))) × (b ∷ u ≡ join_with_byte space (filled (onto_first b ws)))
+onto : (b : ℕ) (u : Text) (ws : List Text) → u ≡ first_word ws ++ after_word (filled (other_words ws)) → (b ∷ u ≡ first_word (onto_first b ws) ++ after_word (filled (other_words (onto_first b ws)))) × (space ∷ b ∷ u ≡ after_word (filled (onto_first b ws))) × (b ∷ u ≡ join_with_byte space (filled (onto_first b ws)))
 onto b u [] h = (ap (λ (x : Text). b ∷ x) h, ap (λ (x : Text). space ∷ b ∷ x) h, ap (λ (x : Text). b ∷ x) h)
 onto b u (w ∷ ws) h =
     let e : b ∷ u ≡ join_with_byte space ((b ∷ w) ∷ filled ws) = ap (λ (x : Text). b ∷ x) h ∙ sym (join-word (b ∷ w) (filled ws)) in

@@ -72,12 +72,12 @@ module _ (name held : Text) where
         uncounted items (sym (count-no (λ item. defines name item.tree) item items none) ∙ h),
       )
 
-  none_behind : (items : List Item) → count items ≡ 0 → (n : ℕ) → is_behind name items n ≡ false
-  none_behind items h zero = refl
-  none_behind [] h (suc n) = refl
-  none_behind (item ∷ items) h (suc n) =
+  none_beyond : (items : List Item) → count items ≡ 0 → (n : ℕ) → is_behind name items n ≡ false
+  none_beyond items h zero = refl
+  none_beyond [] h (suc n) = refl
+  none_beyond (item ∷ items) h (suc n) =
       let none : defines name item.tree ≡ false = false_from_ne_true (defines name item.tree) (λ e. let c = count-yes (λ item. defines name item.tree) item items e in absurd (omega (arith, c, h))) in
-      or_from (defines name item.tree) (is_behind name items n) none (none_behind items (sym (count-no (λ item. defines name item.tree) item items none) ∙ h) n)
+      or_from (defines name item.tree) (is_behind name items n) none (none_beyond items (sym (count-no (λ item. defines name item.tree) item items none) ∙ h) n)
 
   pub rest_uncounted : (item : Item) (items : List Item) → count (item ∷ items) ≡ 1 → defines name item.tree ≡ true → count items ≡ 0
   rest_uncounted item items h e = let c = count-yes (λ item. defines name item.tree) item items e in omega (arith, c, h)
@@ -89,7 +89,7 @@ module _ (name held : Text) where
   -- so it is what the one definition gives
   pub held_here : (m : Macros) (item : Item) (items : List Item) → count (item ∷ items) ≡ 1 → IsHeld m (item ∷ items) → defines name item.tree ≡ true → held ≡ unwrap_or (macros_after m item.tree (folded name)) []
   held_here m item items h is e =
-      is ∙ ap (λ o. unwrap_or o []) (undefined name (macros_after m item.tree) items (length items) (none_behind items (rest_uncounted item items h e) (length items)))
+      is ∙ ap (λ o. unwrap_or o []) (undefined name (macros_after m item.tree) items (length items) (none_beyond items (rest_uncounted item items h e) (length items)))
 
   -- what is left once the first definition is taken out of the items, its uses being replaced
   abbrev pub left : Text → List Item → Reading
