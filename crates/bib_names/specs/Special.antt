@@ -30,14 +30,14 @@ is_within_special text place =
 abbrev pub is_plain : ℕ → Bool
 is_plain byte = not (is_brace byte || goes_on byte)
 
--- the byte there goes on with the character before it (dialect)
+-- the byte there continues the character before it (dialect)
 abbrev pub is_joined : Text → ℕ → Bool
 is_joined text zero = false
 is_joined text (suc place) =
     goes_on (slice_index text (suc place)) && (is_plain (slice_index text place) || is_joined text place)
 
 -- A text character begins here: a special character, or outside of these a byte that is no brace (btxhak 5.3) and does
--- not go on with the character before it (dialect).
+-- not continue the character before it (dialect).
 abbrev pub begins_char : Text → ℕ → Bool
 begins_char text place =
     begins_special text place

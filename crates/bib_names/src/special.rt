@@ -57,7 +57,7 @@ pub(crate) fn special_end(text: &[u8], place: usize, braces: Braces) -> Option<u
     }
 }
 
-/// How many bytes go on with the character before the text.
+/// How many bytes continue the character before the text.
 fn going_on_len(text: &[u8]) -> usize
     ensures len { result ≡ prefix_len goes_on text.now }
     ensures within { result ≤ length text.now }

@@ -141,7 +141,7 @@ pub fn only_part(bytes: &[u8]) -> Option<Part<'_>>
 }
 
 /// The parts of a text that is one value and nothing else. They take memory in proportion to their count.
-/// A text that is none is refused with a fault of reading (1 to 7), want of memory with 10.
+/// A text that is no value is refused with a fault of reading (1 to 7), want of memory with 10.
 pub fn read_value(alloc: Global, bytes: &[u8]) -> Result<Parts, ReadFault>
     ensures found { IfOk result (λ parts. IsPartsOf bytes.now parts) }
     // Only a text that is no value is refused with 1 to 7, at the place where it goes wrong, and told what is wrong there.

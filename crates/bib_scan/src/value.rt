@@ -160,7 +160,7 @@ pub(crate) fn split_part(text: &[u8]) -> Result<(Part<'_>, &[u8]), Stop<'_>>
     }
 }
 
-/// The text after `#` and white space, where the text goes on so, white space aside.
+/// The text after a `#` and white space, if a `#` comes next, white space aside.
 #[inline(always)]
 pub(crate) fn past_hash(text: &[u8]) -> Option<&[u8]>
     ensures read { option_copied result ≡ past_hash (after_run is_space text.now) }
