@@ -18,7 +18,7 @@ abbrev pub listed_line : List EntryTexts → List ℕ → ℕ → Text
 listed_line entries list n =
     key_at entries n ++ (option_map_or (with_listed entries list) (parent entries n) [] ++ codes "\n")
 
--- a question mark and the key at this place, as it was given, a line
+-- a question mark and the key at this position, as it was given, a line
 abbrev pub unknown_line : List Text → ℕ → Text
 unknown_line keys place = codes "? " ++ (slice_index_or keys place [] ++ codes "\n")
 

@@ -68,7 +68,7 @@ fn with_added(
     Ok(all)
 }
 
-/// The entries that keys find, in the order of the keys, and the places of the keys that find none.
+/// The entries that keys find, in the order of the keys, and the positions of the keys that find none.
 #[derive(Drop)]
 struct Found {
     numbers: Vec<usize>,
@@ -85,7 +85,7 @@ impl<L: ItemList> Database<L> {
 
     /// The cited list of these keys: the entries that they find, each at its first citation, and after them in file
     /// order the others that are the parent of at least `min` of those; an added parent cites no parent of its own.
-    /// `*` alone cites all entries, in file order. Beside it stand the places, from 0, of the keys that find no entry.
+    /// `*` alone cites all entries, in file order. Beside it stand the positions, from 0, of the keys that find no entry.
     /// It takes time and memory in the number of keys and of entries. The one refusal is want of memory. (btxdoc 2.1;
     /// dialect)
     pub fn cited(&self, keys: &[Text], min: u32) -> Result<Cited, StoreFault>
