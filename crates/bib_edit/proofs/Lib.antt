@@ -7,14 +7,12 @@ pub mod FirstItems
 pub mod PieceLists
 pub mod PieceLengths
 pub mod PiecePlaces
-
 -- ---- what an edit is asked for
 pub mod AskedEdits
 pub mod KeyBases
 pub mod GivenNames
 pub mod SpelledEntries
 pub mod SpelledLists
-
 -- ---- what a file that opens holds, and where
 pub mod OpenFiles
 pub mod SeenItems
@@ -25,19 +23,16 @@ pub mod EntryCounts
 pub mod PlacedItems
 pub mod PlacedFields
 pub mod PlacedValues
-
 -- ---- limits and texts
 pub mod LimitTests
 pub mod LongTexts
 pub mod JoinedTexts
 pub mod PlacedTexts
-
 -- ---- fields that are set and dropped
 pub mod SettingPieces
 pub mod SettingFields
 pub mod CuttingRows
 pub mod DroppingFields
-
 -- ---- entries that are added, removed and moved
 pub mod SeenNames
 pub mod NewFields
@@ -50,7 +45,6 @@ pub mod Removed
 pub mod MovedPieces
 pub mod MovedTexts
 pub mod Moved
-
 -- ---- keys that are renamed and made
 pub mod KeyPieces
 pub mod DanglingTexts
@@ -61,7 +55,6 @@ pub mod FirstFree
 pub mod TakenLists
 pub mod MadeKeyLists
 pub mod Regenerated
-
 -- ---- macros
 pub mod DefinedNames
 pub mod TokenPieces

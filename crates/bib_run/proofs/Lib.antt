@@ -3,7 +3,6 @@ pub mod WholeFile
 pub mod Progress
 pub mod Endings
 pub mod Refusals
-
 -- ---- what the commands find in a file
 pub mod ItemCounts
 pub mod ItemFields
@@ -11,7 +10,6 @@ pub mod EntryNumbers
 pub mod Shown
 pub mod SeenSteps
 pub mod ReportSteps
-
 -- ---- cited lists, labels and names
 pub mod MarkSteps
 pub mod CitedNumbers
@@ -20,7 +18,6 @@ pub mod LabelFields
 pub mod LabelLines
 pub mod NameLines
 pub mod LineLists
-
 -- ---- sessions
 pub mod SessionAnswers
 pub mod LogLemmas

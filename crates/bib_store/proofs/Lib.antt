@@ -6,7 +6,6 @@ pub mod Shifts
 pub mod Changes
 pub mod WindowLaws
 pub mod Exchanges
-
 -- ---- what is kept of a file
 pub mod KeptItems
 pub mod OpenedFiles
@@ -17,14 +16,12 @@ pub mod DefinitionTables
 pub mod MacrosAfter
 pub mod RepeatedKeys
 pub mod CrossrefTexts
-
 -- ---- the texts of items
 pub mod RowTexts
 pub mod ShortValues
 pub mod ShortTexts
 pub mod PreambleTexts
 pub mod ReadableFields
-
 -- ---- items that come and go
 pub mod GatheredItems
 pub mod Insertions
@@ -35,7 +32,6 @@ pub mod FollowedFiles
 pub mod Amended
 pub mod AmendedFiles
 pub mod SplicedFiles
-
 -- ---- records and cited lists
 pub mod Parents
 pub mod GatheredFields
@@ -43,6 +39,5 @@ pub mod Inherited
 pub mod Filters
 pub mod ChosenFields
 pub mod Citations
-
 -- ---- results
 pub mod Results

@@ -1,14 +1,12 @@
 -- ---- histories and steps
 pub mod HistoryLemmas
 pub mod StepLemmas
-
 -- ---- entries whose keys change
 pub mod Fields
 pub mod Rekeyed
 pub mod CitedLists
 pub mod RenameKey
 pub mod Regenerate
-
 -- ---- macros that change
 pub mod Simulation
 pub mod InUse
@@ -18,20 +16,16 @@ pub mod RenameMacro
 pub mod InlineMacro
 pub mod IntroduceMacro
 pub mod MacroLaws
-
 -- ---- entries that come and go
 pub mod OneMore
 pub mod OtherEntries
 pub mod AddedAfter
-
 -- ---- items that an edit leaves
 pub mod KeptTrees
 pub mod UntouchedItems
-
 -- ---- the files of an edit, in chunks
 pub mod TreeChunks
 pub mod EditFiles
-
 -- ---- what an edit makes is a file, edit by edit
 pub mod Unrefuted
 pub mod WrittenRows
@@ -44,7 +38,6 @@ pub mod RekeyedEntries
 pub mod ChangedParts
 pub mod MadeKeyLengths
 pub mod EditedReads
-
 -- ---- examples
 pub mod ExampleFacts
 pub mod AcceptedExamples

@@ -6,12 +6,10 @@ pub mod Levels
 pub mod SliceLemmas
 pub mod ListLaws
 pub mod OrderLaws
-
 -- ---- dates, keywords and pages
 pub mod DateLaws
 pub mod KeywordLaws
 pub mod PageLaws
-
 -- ---- names
 pub mod PartLaws
 pub mod NameScans
@@ -19,7 +17,6 @@ pub mod PieceSteps
 pub mod TakenApart
 pub mod OpaqueValues
 pub mod PeopleLaws
-
 -- ---- lines and records
 pub mod LineLaws
 pub mod SectionLaws

@@ -5,11 +5,9 @@ pub mod TagLemmas
 pub mod JoinLemmas
 pub mod ToldLemmas
 pub mod FitLemmas
-
 -- ---- what lines say
 pub mod MeaningLemmas
 pub mod MeaningLaws
-
 -- ---- texts that are written
 pub mod WriteLemmas
 pub mod TextLaws
