@@ -16,6 +16,6 @@ HaveNext numbers = AllByRecursion (λ m. m + 1 < 2 ^ 64) numbers
 abbrev pub moved : ℕ → ℕ → ℕ
 moved by m = (m + by) % 2 ^ 64
 
--- the numbers, with those from position k on moved
+-- the numbers, where those from place k on are moved
 abbrev pub moved_from : ℕ → ℕ → List ℕ → List ℕ
 moved_from k by numbers = take k numbers ++ map (moved by) (drop k numbers)

@@ -21,7 +21,7 @@ impl Model for Numbers {
     ghost view = { λ numbers. numbers.list.items };
 }
 
-/// Adds to the numbers from position `from` on.
+/// Adds to the numbers from place `from` on.
 fn add(numbers: &mut [usize], from: usize, by: usize)
     requires { from ≤ length numbers.old }
     ensures { numbers.new ≡ moved_from from by numbers.old }

@@ -8,7 +8,7 @@ mod flat;
 mod list;
 mod page;
 mod paged;
-mod pages;
+mod places;
 mod span;
 
 pub use fault::StoreFault;

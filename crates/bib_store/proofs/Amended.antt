@@ -19,7 +19,7 @@ use Rattle.bib_store.specs.ItemTexts.{first_too_long, placed_texts}
 use Rattle.bib_store.specs.Beside.{AreTablesOf}
 use Rattle.bib_store.proofs.Numbered.{numbered, numbers}
 use Rattle.bib_store.proofs.TableSteps.{entries_counted}
-use Rattle.bib_store.proofs.GatheredItems.{gathered-append, raw_texts-append, first-append, first-shift}
+use Rattle.bib_store.proofs.ItemsMore.{gathered-append, raw_texts-append, first-append, first-shift}
 
 -- ---- numbers
 
@@ -35,11 +35,11 @@ first_from true k n zero p ps e rest at = omega (arith, e, same_Some p.0 n at)
 first_from true k n (suc j) p ps e rest at = omega (arith, rest j at)
 first_from false k n j p ps e rest at = omega (arith, rest j at)
 
-first_beyond : (b : Bool) (k n m : ℕ) (p : ℕ × Item) (all some : List (ℕ × Item)) → p.0 ≡ k → k < n → ((j : ℕ) → slice_get (first_of all) j ≡ Some n → j ≡ length (first_of some))
+first_behind : (b : Bool) (k n m : ℕ) (p : ℕ × Item) (all some : List (ℕ × Item)) → p.0 ≡ k → k < n → ((j : ℕ) → slice_get (first_of all) j ≡ Some n → j ≡ length (first_of some))
     → slice_get (first_of (cond b (p ∷ all) all)) m ≡ Some n → m ≡ length (first_of (cond b (p ∷ some) some))
-first_beyond true k n zero p all some e h rest at = absurd (omega (arith, e, h, same_Some p.0 n at))
-first_beyond true k n (suc j) p all some e h rest at = ap suc (rest j at)
-first_beyond false k n m p all some e h rest at = rest m at
+first_behind true k n zero p all some e h rest at = absurd (omega (arith, e, h, same_Some p.0 n at))
+first_behind true k n (suc j) p all some e h rest at = ap suc (rest j at)
+first_behind false k n m p all some e h rest at = rest m at
 
 module _ (test : Tree → Bool) where
   -- an item in the place of another of its kind changes no number
@@ -61,7 +61,7 @@ module _ (test : Tree → Bool) where
       let rest : List (ℕ × Item) = numbered test (k + 1) behind in
       absurd (omega (arith, is, number_from (k + 1) behind n m (ap (λ (b : Bool). slice_get (first_of (cond b ((k, x) ∷ rest) rest)) (suc m)) (sym t) ∙ at)))
   listed_behind k (z ∷ before) behind x n m t is at =
-      first_beyond (test z.tree) k n m (k, z) (numbered test (k + 1) (before ++ x ∷ behind)) (numbered test (k + 1) before) refl (omega (arith, is))
+      first_behind (test z.tree) k n m (k, z) (numbered test (k + 1) (before ++ x ∷ behind)) (numbered test (k + 1) before) refl (omega (arith, is))
       (λ i e. listed_behind (k + 1) before behind x n i t (omega (arith, is)) e) at
 
 -- ---- macros

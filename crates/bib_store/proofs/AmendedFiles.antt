@@ -36,7 +36,7 @@ use Rattle.bib_store.specs.Stored.{IsKeptAs, IsKept}
 use Rattle.bib_store.specs.Windows.{IsWindow, OfJoined, exchanged, joined}
 use Rattle.bib_store.specs.Amending.{HaveOneKey, IsAmendment, OfComing}
 use Rattle.bib_store.proofs.TableSteps.{other_kind, entries_counted}
-use Rattle.bib_store.proofs.MacrosAfter.{macros_taken}
+use Rattle.bib_store.proofs.MacrosBehind.{macros_taken}
 use Rattle.bib_store.proofs.RowTexts.{cons_parts}
 use Rattle.bib_store.proofs.EntryItems.{entry_tree}
 use Rattle.bib_store.proofs.KeptItems.{item_in, stored_at, count_kept}

@@ -19,7 +19,7 @@ use Rattle.bib_store.specs.ItemTexts.{first_too_long, placed_texts}
 use Rattle.bib_store.specs.Beside.{AreTablesOf}
 use Rattle.bib_store.proofs.Numbered.{numbered, numbers}
 use Rattle.bib_store.proofs.RowTexts.{cons_parts}
-use Rattle.bib_store.proofs.GatheredItems.{raw_texts-append, first-append}
+use Rattle.bib_store.proofs.ItemsMore.{raw_texts-append, first-append}
 use Rattle.bib_store.proofs.Amended.{first_of, first_kept, none_both, fit_parts, fit_joined}
 
 -- ---- items that differ in their trails alone

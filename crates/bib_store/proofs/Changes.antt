@@ -12,7 +12,7 @@ use Rattle.bib_store.specs.Shifting.{all_moved_back, FitBehind}
 use Rattle.bib_items.specs.Items.{kept_bytes}
 use Rattle.bib_store.specs.Stored.{file_of}
 use Rattle.bib_store.specs.Windows.{IsWindow, IsWhole, Serve, front_before, bytes_before, bytes_within, bytes_behind}
-use Rattle.bib_store.proofs.Shifts.{fit-after, applied-after, fit_after_nothing}
+use Rattle.bib_store.proofs.Shifts.{fit-behind, applied-behind, fit_behind_nothing}
 use Rattle.bib_store.proofs.WindowLaws.{file-around}
 
 -- the window is the file, with nothing before it and nothing after it
@@ -45,7 +45,7 @@ not_served ps front items w place old is whole p o unfit s =
     let all : IsAll front items w = whole_is_all w front items is whole in
     let zero_place : place ≡ 0 = p ∙ ap length all.before in
     let file : old ≡ file_of front items = o ∙ all.within in
-    unfit (subst (λ (n : ℕ). FitBehind n ps old) (sym zero_place) (subst (λ (t : Text). FitBehind 0 ps t) (sym file) (fit_after_nothing ps (file_of front items) s.fit)))
+    unfit (subst (λ (n : ℕ). FitBehind n ps old) (sym zero_place) (subst (λ (t : Text). FitBehind 0 ps t) (sym file) (fit_behind_nothing ps (file_of front items) s.fit)))
 
 -- pieces that fit the window fit the file, and lead to one in which the window's new text stands
 pub record IsMade (ps : List Piece) (front : Text) (items : List Item) (w : Window) (text : Text) : Type 0 where
@@ -61,9 +61,9 @@ window_made ps front items w place old text is p o f t =
     let behind : Text = bytes_behind w items in
     let around : file_of front items ≡ before ++ (old ++ behind) = file-around w front items is ∙ ap (λ l. before ++ (l ++ behind)) (sym o) in
     let made : applied ps (file_of front items) ≡ before ++ (text ++ behind)
-    = ap (applied ps) around ∙ applied-after before old behind place ps (sym p) f ∙ ap (λ l. before ++ (l ++ behind)) (sym t) in
+    = ap (applied ps) around ∙ applied-behind before old behind place ps (sym p) f ∙ ap (λ l. before ++ (l ++ behind)) (sym t) in
     record {
-      fit = subst (λ (x : Text). Fit ps x) (sym around) (fit-after before old behind place ps (sym p) f);
+      fit = subst (λ (x : Text). Fit ps x) (sym around) (fit-behind before old behind place ps (sym p) f);
       made = made;
       long = ap length made ∙ length-append before (text ++ behind) ∙ ap (λ n. length before + n) (length-append text behind);
     }

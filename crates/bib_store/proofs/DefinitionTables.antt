@@ -14,7 +14,7 @@ use Rattle.bib_spec.proofs.Names.{eq-true}
 use Rattle.bib_store.specs.declared.definitions.Definition.{Definition}
 use Rattle.bib_store.specs.Tables.{AreDefinitionsOf}
 use Rattle.bib_store.specs.Defined.{Defined, definitions_of, text_before, texts_at, EndsBy, Defines}
-use Rattle.bib_store.proofs.MacrosAfter.{macros_before, macros_beyond, macros_past}
+use Rattle.bib_store.proofs.MacrosBehind.{macros_before, macros_behind, macros_past}
 
 -- where no name is defined, names stand for months alone
 pub no_definitions : (defined : Defined) → ((name : Text) → value_at defined name ≡ None) → AreDefinitionsOf [] (texts_at defined)
@@ -64,7 +64,7 @@ module _ (old new : Defined) (name : Text) (d : Definition) (put : IsWith old na
     where
       behind : d.item < n → (x : Text) → macros_at months (items ++ item ∷ []) n x ≡ updated (macros_at months items d.item) name (Some d.text) x
       behind high x =
-          ap (λ m. m x) (macros_beyond months items item n (omega (arith, high, len)) ∙ ap (λ (k : ℕ). macros_after (macros_at months items k) item.tree) len ∙ says)
+          ap (λ m. m x) (macros_behind months items item n (omega (arith, high, len)) ∙ ap (λ (k : ℕ). macros_after (macros_at months items k) item.tree) len ∙ says)
 
       at_behind : d.item < n → (x : Text) → texts_at new n x ≡ macros_at months (items ++ item ∷ []) n x
       at_behind high x = ⊎_elim

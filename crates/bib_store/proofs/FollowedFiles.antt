@@ -23,7 +23,7 @@ use Rattle.bib_store.specs.Stored.{IsKeptAs, SayTheSameOf}
 use Rattle.bib_store.specs.Windows.{IsWindow, ArePut, joined}
 use Rattle.bib_store.specs.Following.{bodies_between, AreItemsOf, AreOthersOf, DefineNothing, HaveShortTexts}
 use Rattle.bib_store.proofs.KeptItems.{count_kept}
-use Rattle.bib_store.proofs.GatheredItems.{raw_texts-append, first-append}
+use Rattle.bib_store.proofs.ItemsMore.{raw_texts-append, first-append}
 use Rattle.bib_store.proofs.Amended.{none_both, fit_parts, fit_joined}
 use Rattle.bib_store.proofs.Appended.{fit_alike}
 use Rattle.bib_store.proofs.Insertions.{macros_in_front}

@@ -15,7 +15,7 @@ use Rattle.bib_store.specs.declared.definitions.Definition.{Definition}
 use Rattle.bib_store.specs.Defined.{Defined, definitions_of, text_before, texts_at, EndsBy}
 use Rattle.bib_store.specs.Tables.{AreDefinitionsOf}
 use Rattle.bib_store.proofs.Numbered.{numbered, numbers}
-use Rattle.bib_store.proofs.GatheredItems.{gathered-append}
+use Rattle.bib_store.proofs.ItemsMore.{gathered-append}
 
 -- ---- lists
 

@@ -23,7 +23,7 @@ use Rattle.bib_store.specs.ItemTexts.{first_too_long, placed_texts, row_texts, c
 use Rattle.bib_store.specs.Beside.{AreTablesOf, IsStep, IsInsertion, IsRemoval, IsTooLongAt, SayTheSame, OfView, item_with}
 use Rattle.bib_store.proofs.RowTexts.{cons_parts, first_fits, first_over}
 use Rattle.bib_store.proofs.Numbered.{numbers}
-use Rattle.bib_store.proofs.GatheredItems.{gathered-append, gathered-more, number_same}
+use Rattle.bib_store.proofs.ItemsMore.{gathered-append, gathered-more, number_same}
 use Rattle.bib_store.proofs.Insertions.{map-put, map-taken, map-stands, numbers-parts, numbers-with, parts_at, put_numbers, moved_numbers, taken_numbers, closed_numbers, macros_in_front, definitions_put, definitions_taken, gathered-with}
 
 -- ---- kinds

@@ -1,5 +1,5 @@
 use Rattle.std.proofs.Common.{◌≡◌, ◌++◌, ◌∷◌, [], ◌+◌, List, length}
-use Rattle.bib_store.proofs.Results.{ok_from}
+use Rattle.indexmap.proofs.MapLemmas.{OnOk-map}
 use Rattle.bib_spec.specs.Text.{folded}
 use Rattle.bib_spec.specs.Reading.{Item}
 use Rattle.bib_spec.specs.Texts.{months, macros_at}
@@ -17,11 +17,11 @@ abbrev IsPut : goal.After-put → Type 0
 IsPut c = IsWith c.args.self.now c.args.name.now (definitions_of c.args.self.now (folded c.args.name.now) ++ definition c ∷ []) c.put.new.self
 
 pub returns-clause-ok : goal.returns-clause-ok
-returns-clause-ok c = ok_from c.put.result (IsPut c)
+returns-clause-ok c = OnOk-map c.put.result (IsPut c)
     ((items : List Item) (item : Item) → length items ≡ c.args.n → AreDefinitionsOf items (texts_at c.args.self.now) → Defines (macros_at months items c.args.n) item.tree c.args.name.now c.args.text →
     AreDefinitionsOf (items ++ item ∷ []) (texts_at c.put.new.self))
     (λ put. definitions-defined c.args.self.now c.put.new.self c.args.name.now (definition c) put) c.put.ensures.ok
 
 pub returns-clause-ends : goal.returns-clause-ends
-returns-clause-ends c = ok_from c.put.result (IsPut c) (EndsBy (c.args.n + 1) c.put.new.self)
+returns-clause-ends c = OnOk-map c.put.result (IsPut c) (EndsBy (c.args.n + 1) c.put.new.self)
     (λ put. ends-defined c.args.self.now c.put.new.self c.args.name.now (definition c) put c.requires.behind) c.put.ensures.ok

@@ -1,6 +1,6 @@
 use Rattle.std.proofs.Common.{◌≡◌, [], ◌∷◌, ◌++◌, List, Some, unwrap_or, slice_index_or, slice_set, sym, ap, ◌∙◌, subst}
 use Rattle.std.specs.Option.{option_copied}
-use Rattle.bib_store.proofs.Results.{ok_from}
+use Rattle.indexmap.proofs.MapLemmas.{OnOk-map}
 use Rattle.bib_spec.specs.Text.{folded}
 use Rattle.bib_value.specs.FoldedMap.{value_at, IsWith}
 use Rattle.bib_store.specs.declared.definitions.Definition.{Definition}
@@ -30,7 +30,7 @@ put_first-requires-clause-first c =
     ∙ none-named c.self.inside.numbers (lists_of c.self.inside.lists.items) (folded c.args.name.now) (sym c.get.ensures ∙ ap option_copied c.in-None.is)
 
 pub returns-in-Some-clause-ok : goal.returns-in-Some-clause-ok
-returns-in-Some-clause-ok c = ok_from c.put_behind.result
+returns-in-Some-clause-ok c = OnOk-map c.put_behind.result
     (lists_of c.put_behind.new.lists.items ≡ more c)
     (IsWith c.args.self.now c.args.name.now (definitions_of c.args.self.now (folded c.args.name.now) ++ c.args.definition ∷ []) (named_lists c.self.inside.numbers (lists_of c.put_behind.new.lists.items)))
     (λ e. subst (λ (new : List (List Definition)). IsWith c.args.self.now c.args.name.now (definitions_of c.args.self.now (folded c.args.name.now) ++ c.args.definition ∷ []) (named_lists c.self.inside.numbers new)) (sym e)
@@ -39,7 +39,7 @@ returns-in-Some-clause-ok c = ok_from c.put_behind.result
     c.put_behind.ensures.ok
 
 pub returns-in-None-clause-ok : goal.returns-in-None-clause-ok
-returns-in-None-clause-ok c = ok_from c.put_first.result
+returns-in-None-clause-ok c = OnOk-map c.put_first.result
     (IsWith c.args.self.now c.args.name.now (c.args.definition ∷ []) c.put_first.new.self)
     (IsWith c.args.self.now c.args.name.now (definitions_of c.args.self.now (folded c.args.name.now) ++ c.args.definition ∷ []) c.put_first.new.self)
     (λ put. subst (λ (ds : List Definition). IsWith c.args.self.now c.args.name.now (ds ++ c.args.definition ∷ []) c.put_first.new.self)

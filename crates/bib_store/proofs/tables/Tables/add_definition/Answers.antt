@@ -1,6 +1,6 @@
 use Rattle.std.proofs.Common.{◌∙◌, sym}
 use Rattle.bib_scan.specs.View.{field_seen}
-use Rattle.bib_store.proofs.Results.{ok_from, ok_both, err_from}
+use Rattle.bib_store.proofs.Answered.{ok_from, ok_both, err_from}
 use Rattle.bib_store.proofs.TableSteps.{definition_step, definition_over}
 use Rattle.bib_store.proofs.tables.Tables.add_definition.Goals as goal
 

@@ -2,7 +2,7 @@ use Rattle.std.proofs.Common.{◌∙◌, length, insert, subst, refl}
 use Rattle.std.proofs.lemmas.Result.{err_from_is_err_and}
 use Rattle.bib_spec.specs.Text.{Text}
 use Rattle.bib_entries.specs.EntryTable.{IsTableOf}
-use Rattle.bib_store.proofs.Results.{err_always}
+use Rattle.bib_store.proofs.Answered.{err_always}
 use Rattle.bib_store.specs.Definitions.{macros_seen}
 use Rattle.bib_store.specs.declared.tables.Tables.{Tables}
 use Rattle.bib_store.proofs.TableSteps.{entry_insertion, entry_over, named_kept}

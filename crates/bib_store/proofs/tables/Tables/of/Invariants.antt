@@ -1,6 +1,6 @@
 use Rattle.bib_items.specs.Items.{without_range}
 use Rattle.bib_store.specs.Defined.{EndsBy}
-use Rattle.bib_store.proofs.TableWalk.{WalkedTo}
+use Rattle.bib_store.proofs.Walks.{WalkedTo}
 use Rattle.bib_store.proofs.tables.Tables.of.Given as goal
 
 abbrev pub invariant-walk : goal.invariant-walk

@@ -1,5 +1,5 @@
 use Rattle.bib_pages.specs.Pages.{IsOnWay}
-use Rattle.bib_items.proofs.pages.locate_from.Given as goal
+use Rattle.bib_items.proofs.places.locate_from.Given as goal
 
 abbrev pub invariant-pass : goal.invariant-pass
 invariant-pass l = IsOnWay l.pages l.p l.n l.left

@@ -14,11 +14,11 @@ pub macros_before : (m : Macros) (items : List Item) (item : Item) (n : ℕ) →
 macros_before m items item n h = ap (λ (l : List Item). fold (λ m item. macros_after m item.tree) m l) (take-append-le n items (item ∷ []) h)
 
 -- after it, for what it leaves
-pub macros_beyond : (m : Macros) (items : List Item) (item : Item) (n : ℕ) → length items < n → macros_at m (items ++ item ∷ []) n ≡ macros_after (macros_at m items (length items)) item.tree
-macros_beyond m items item zero h = absurd (not-suc-le-zero h)
-macros_beyond m [] item (suc zero) h = refl
-macros_beyond m [] item (suc (suc n)) h = refl
-macros_beyond m (x ∷ items) item (suc n) h = macros_beyond (macros_after m x.tree) items item n (le_of_suc-le-suc h)
+pub macros_behind : (m : Macros) (items : List Item) (item : Item) (n : ℕ) → length items < n → macros_at m (items ++ item ∷ []) n ≡ macros_after (macros_at m items (length items)) item.tree
+macros_behind m items item zero h = absurd (not-suc-le-zero h)
+macros_behind m [] item (suc zero) h = refl
+macros_behind m [] item (suc (suc n)) h = refl
+macros_behind m (x ∷ items) item (suc n) h = macros_behind (macros_after m x.tree) items item n (le_of_suc-le-suc h)
 
 -- no item is after the last
 pub macros_past : (m : Macros) (items : List Item) (n : ℕ) → length items ≤ n → macros_at m items n ≡ macros_at m items (length items)
@@ -43,7 +43,7 @@ defines m tree d name text is named says =
 pub definitions-same : (items : List Item) (item : Item) (table : ℕ → Macros) → macros_after (macros_at months items (length items)) item.tree ≡ macros_at months items (length items) →
     AreDefinitionsOf items table → AreDefinitionsOf (items ++ item ∷ []) table
 definitions-same items item table same are n = ⊎_elim
-    (λ behind. are n ∙ macros_past months items n (omega (arith, behind)) ∙ sym (macros_beyond months items item n behind ∙ same))
+    (λ behind. are n ∙ macros_past months items n (omega (arith, behind)) ∙ sym (macros_behind months items item n behind ∙ same))
     (λ before. are n ∙ sym (macros_before months items item n before))
     (cases_lt (length items) n)
 

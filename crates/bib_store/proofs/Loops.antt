@@ -44,8 +44,8 @@ next_at at end ps bytes i p f h e = next_fits at end p (drop (i + 1) ps) bytes (
 pub fit_from_start : (at : ℕ) (ps : List Piece) (bytes : Text) → FitBehind at ps bytes → FitFrom at 0 ps bytes
 fit_from_start at ps bytes f = record { begin = f.begin; ascending = f.fit.ascending; standing = f.fit.standing }
 
-pub fit_after : (at : ℕ) (ps : List Piece) (bytes : Text) → FitFrom at 0 ps bytes → FitBehind at ps bytes
-fit_after at ps bytes f = record { begin = f.begin; fit = record { ascending = f.ascending; standing = f.standing } }
+pub fit_behind : (at : ℕ) (ps : List Piece) (bytes : Text) → FitFrom at 0 ps bytes → FitBehind at ps bytes
+fit_behind at ps bytes f = record { begin = f.begin; fit = record { ascending = f.ascending; standing = f.standing } }
 
 -- what is written, and what the pieces from i on make of the rest, is the new text
 pub record IsApplied (at : ℕ) (ps : List Piece) (bytes out : Text) (end i : ℕ) : Type 0 where
@@ -79,7 +79,7 @@ pub record IsFitting (at : ℕ) (ps : List Piece) (bytes : Text) (end i : ℕ) :
   pub inside : end ≤ length bytes
 
 pub fitting_start : (at : ℕ) (ps : List Piece) (bytes : Text) → IsFitting at ps bytes 0 0
-fitting_start at ps bytes = record { whole = fit_after at ps bytes; rest = fit_from_start at ps bytes; inside = omega arith }
+fitting_start at ps bytes = record { whole = fit_behind at ps bytes; rest = fit_from_start at ps bytes; inside = omega arith }
 
 pub fitting_more : (at : ℕ) (ps : List Piece) (bytes : Text) (end i : ℕ) (p : Piece) → IsFitting at ps bytes end i → i < length ps → p ≡ get_or ps i p
     → at ≤ p.place → end ≤ p.place - at → Stands bytes (moved_back at p) → IsFitting at ps bytes (p.place - at + length p.old) (i + 1)
