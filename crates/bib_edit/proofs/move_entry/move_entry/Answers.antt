@@ -17,7 +17,7 @@ use Rattle.bib_edit.proofs.OpenFiles.{opens-as, none-long}
 use Rattle.bib_edit.proofs.MovedPieces.{move-pieces}
 use Rattle.bib_edit.proofs.MovedTexts.{entry-values, seat-within}
 use Rattle.bib_edit.proofs.AskedEdits.{of-move_entry}
-use Rattle.bib_edit.proofs.Moved.{found-item, place-within, move-high, move-merges, move-long_file, move-long_text, move-accepted, refused_address}
+use Rattle.bib_edit.proofs.Moved.{found-item, position-within, move-high, move-merges, move-long_file, move-long_text, move-accepted, refused_address}
 use Rattle.bib_edit.proofs.Results.{if_ok-as, on_ok-of}
 use Rattle.bib_edit.proofs.move_entry.move_entry.Goals as goal
 
@@ -69,7 +69,7 @@ seat-requires g c db reads =
     let low : c.args.position ≤ last_position db (MoveEntry c.args.key.now c.args.position) = omega (arith, bound, last) in
     let lone = c.in_ok-n.ensures.lone db reads in
     let at = first-at (is_entry c.args.key.now) db.items c.in_ok-n.n lone.item in
-    place-within c.args.key.now c.args.position db low lone.once c.in_ok-n.n at
+    position-within c.args.key.now c.args.position db low lone.once c.in_ok-n.n at
 
 pub item-requires : goal.item-requires
 item-requires g c db reads =
@@ -84,7 +84,7 @@ is_field_long-requires-clause-place g c db reads =
     let low : c.args.position ≤ last_position db (MoveEntry c.args.key.now c.args.position) = omega (arith, bound, last) in
     let lone = c.in_ok-n.ensures.lone db reads in
     let at = first-at (is_entry c.args.key.now) db.items c.in_ok-n.n lone.item in
-    subst (λ k. k ≤ length db.items) (sym c.seat.ensures) (seat-within c.in_ok-n.n c.args.position (length db.items) (place-within c.args.key.now c.args.position db low lone.once c.in_ok-n.n at))
+    subst (λ k. k ≤ length db.items) (sym c.seat.ensures) (seat-within c.in_ok-n.n c.args.position (length db.items) (position-within c.args.key.now c.args.position db low lone.once c.in_ok-n.n at))
 
 pub is_field_long-requires-clause-values : goal.is_field_long-requires-clause-values
 is_field_long-requires-clause-values g c =
@@ -127,7 +127,7 @@ moved_pieces-requires-clause-position g c db reads =
     let low : c.args.position ≤ last_position db (MoveEntry c.args.key.now c.args.position) = omega (arith, bound, last) in
     let lone = c.in_ok-n.ensures.lone db reads in
     let at = first-at (is_entry c.args.key.now) db.items c.in_ok-n.n lone.item in
-    place-within c.args.key.now c.args.position db low lone.once c.in_ok-n.n at
+    position-within c.args.key.now c.args.position db low lone.once c.in_ok-n.n at
 
 pub returns-clause-pieces : goal.returns-clause-pieces
 returns-clause-pieces g c =
