@@ -40,7 +40,7 @@ fn with_value<M: MacroTable>(
 }
 
 /// What the crossref says with one more field.
-fn with_new_field<M: MacroTable>(
+fn with_field<M: MacroTable>(
     alloc: Global,
     found: Option<Text>,
     field: FieldView<'_>,
@@ -69,7 +69,7 @@ pub(crate) fn crossref_of<M: MacroTable>(
     let mut fields = fields;
     let mut found = None;
     'rows: while let Some(field) = fields.next() {
-        found = with_new_field(alloc, found, field, macros)?;
+        found = with_field(alloc, found, field, macros)?;
     }
     Ok(found)
 }
