@@ -12,8 +12,8 @@ returns-then-not-is_one_of-clause-chosen c v ok same all from =
     let told : c.is_one_of.result ≡ false = search rules in
     from ∙ sym (other_field (map (λ (n : Bor (List ℕ)). n.now) c.args.names.now) all (record { name = c.args.name.now; raw = raw_text (macros_seen c.args.macros.now) v }) (sym c.is_one_of.ensures ∙ told))
 
-pub returns-then-is_taken-clause-chosen : goal.returns-then-is_taken-clause-chosen
-returns-then-is_taken-clause-chosen c v ok same all from =
+pub returns-then-is_settled-clause-chosen : goal.returns-then-is_settled-clause-chosen
+returns-then-is_settled-clause-chosen c v ok same all from =
     let wanted : c.is_one_of.result ≡ true = search rules in
     let taken : c.is_settled.result ≡ true = search rules in
     from ∙ sym (taken_field (map (λ (n : Bor (List ℕ)). n.now) c.args.names.now) all (record { name = c.args.name.now; raw = raw_text (macros_seen c.args.macros.now) v }) (sym c.is_one_of.ensures ∙ wanted)
