@@ -10,7 +10,7 @@ use Rattle.bib_spec.specs.Records.{Field, RecordField, record_field, field_of, c
 use Rattle.bib_spec.proofs.Names.{same_of, same-true}
 use Rattle.bib_scan.specs.View as view
 use Rattle.bib_value.specs.Raw.{OfValue}
-use Rattle.bib_store.specs.Gathering.{is_settled, with_new_field, with_new_fields, IsReadable, IsFieldOf}
+use Rattle.bib_store.specs.Gathering.{is_taken, with_field, with_fields, IsReadable, IsFieldOf}
 use Rattle.bib_store.specs.Choosing.{is_one_of, chosen}
 use Rattle.bib_store.proofs.GatheredFields.{same-folded_left}
 
@@ -49,27 +49,27 @@ module _ (names : List Text) (all : List RecordField) (field : Field) where
   split = filter-append (λ (f : RecordField). is_one_of names f.0) all (record_field field ∷ [])
 
   -- one of another name is not added
-  pub other_field : is_one_of names field.name ≡ false → chosen names (with_new_field all field) ≡ chosen names all
+  pub other_field : is_one_of names field.name ≡ false → chosen names (with_field all field) ≡ chosen names all
   other_field other = ⊎_elim
-      (λ taken. ap (chosen names) (cond-true (is_settled all field.name) all (all ++ record_field field ∷ []) taken))
-      (λ free. ap (chosen names) (cond-false (is_settled all field.name) all (all ++ record_field field ∷ []) free)
+      (λ taken. ap (chosen names) (cond-true (is_taken all field.name) all (all ++ record_field field ∷ []) taken))
+      (λ free. ap (chosen names) (cond-false (is_taken all field.name) all (all ++ record_field field ∷ []) free)
       ∙ split ∙ ap (λ (l : List RecordField). chosen names all ++ l) (cond-false (is_one_of names (folded field.name)) (record_field field ∷ []) [] (one_of_folded names field.name ∙ other))
       ∙ append-nil (chosen names all))
-      (cases_Bool (is_settled all field.name))
+      (cases_Bool (is_taken all field.name))
 
-  taken_kept : is_one_of names field.name ≡ true → is_settled (chosen names all) field.name ≡ is_settled all field.name
+  taken_kept : is_one_of names field.name ≡ true → is_taken (chosen names all) field.name ≡ is_taken all field.name
   taken_kept wanted =
       ap (λ b. same field.name crossref || b)
       (any_filtered (λ (f : RecordField). same f.0 field.name) (λ f. is_one_of names f.0) all (λ f alike. one_of_alike names f.0 field.name alike ∙ wanted))
 
   -- one whose name is taken is not added
-  pub taken_field : is_one_of names field.name ≡ true → is_settled (chosen names all) field.name ≡ true → chosen names (with_new_field all field) ≡ chosen names all
-  taken_field wanted taken = ap (chosen names) (cond-true (is_settled all field.name) all (all ++ record_field field ∷ []) (sym (taken_kept wanted) ∙ taken))
+  pub taken_field : is_one_of names field.name ≡ true → is_taken (chosen names all) field.name ≡ true → chosen names (with_field all field) ≡ chosen names all
+  taken_field wanted taken = ap (chosen names) (cond-true (is_taken all field.name) all (all ++ record_field field ∷ []) (sym (taken_kept wanted) ∙ taken))
 
   -- another is
-  pub free_field : is_one_of names field.name ≡ true → is_settled (chosen names all) field.name ≡ false → chosen names (with_new_field all field) ≡ chosen names all ++ record_field field ∷ []
+  pub free_field : is_one_of names field.name ≡ true → is_taken (chosen names all) field.name ≡ false → chosen names (with_field all field) ≡ chosen names all ++ record_field field ∷ []
   free_field wanted free =
-      ap (chosen names) (cond-false (is_settled all field.name) all (all ++ record_field field ∷ []) (sym (taken_kept wanted) ∙ free))
+      ap (chosen names) (cond-false (is_taken all field.name) all (all ++ record_field field ∷ []) (sym (taken_kept wanted) ∙ free))
       ∙ split ∙ ap (λ (l : List RecordField). chosen names all ++ l) (cond-true (is_one_of names (folded field.name)) (record_field field ∷ []) [] (one_of_folded names field.name ∙ wanted))
 
 -- ---- a loop that chooses
@@ -79,7 +79,7 @@ pub record IsChoosing (names : List Text) (macros : Macros) (old fields : List R
   pub readable : AllByRecursion (IsReadable macros) rest
   pub chosen_so_far : (rows : List Row) → AllZip IsFieldOf all rows → (before : List RecordField) → old ≡ chosen names before →
       (later : List Row) × (gathered : List RecordField) × AllZip IsFieldOf rest later × (fields ≡ chosen names gathered)
-      × (with_new_fields gathered (map (field_of macros) later) ≡ with_new_fields before (map (field_of macros) rows))
+      × (with_fields gathered (map (field_of macros) later) ≡ with_fields before (map (field_of macros) rows))
 
 pub choosing_start : (names : List Text) (macros : Macros) (old : List RecordField) (all : List view.Field) → AllByRecursion (IsReadable macros) all → IsChoosing names macros old old all all
 choosing_start names macros old all readable = record {
@@ -89,7 +89,7 @@ choosing_start names macros old all readable = record {
 
 pub choosing_more : (names : List Text) (macros : Macros) (old fields more : List RecordField) (all rest : List view.Field) (f : view.Field)
     → IsChoosing names macros old fields all (f ∷ rest)
-    → OfValue f.value (λ v. (gathered : List RecordField) → fields ≡ chosen names gathered → more ≡ chosen names (with_new_field gathered (record { name = f.name; raw = raw_text macros v })))
+    → OfValue f.value (λ v. (gathered : List RecordField) → fields ≡ chosen names gathered → more ≡ chosen names (with_field gathered (record { name = f.name; raw = raw_text macros v })))
     → IsChoosing names macros old more all rest
 choosing_more names macros old fields more all rest f h is = record {
   readable = h.readable.1;
@@ -97,23 +97,23 @@ choosing_more names macros old fields more all rest f h is = record {
 }
   where
     step : (rows : List Row) (before : List RecordField) (later : List Row) (gathered : List RecordField) → AllZip IsFieldOf (f ∷ rest) later → fields ≡ chosen names gathered
-        → with_new_fields gathered (map (field_of macros) later) ≡ with_new_fields before (map (field_of macros) rows)
+        → with_fields gathered (map (field_of macros) later) ≡ with_fields before (map (field_of macros) rows)
         → (further : List Row) × (wider : List RecordField) × AllZip IsFieldOf rest further × (more ≡ chosen names wider)
-        × (with_new_fields wider (map (field_of macros) further) ≡ with_new_fields before (map (field_of macros) rows))
+        × (with_fields wider (map (field_of macros) further) ≡ with_fields before (map (field_of macros) rows))
     step rows before [] gathered zip so e = elim zip [ ]
     step rows before (row ∷ further) gathered zip so e = (
       further,
-      with_new_field gathered (field_of macros row),
+      with_field gathered (field_of macros row),
       zip.1,
-      is row.assignment.value zip.0.is zip.0.value gathered so ∙ ap (λ (name : Text). chosen names (with_new_field gathered (record { name = name; raw = raw_text macros row.assignment.value }))) zip.0.name,
+      is row.assignment.value zip.0.is zip.0.value gathered so ∙ ap (λ (name : Text). chosen names (with_field gathered (record { name = name; raw = raw_text macros row.assignment.value }))) zip.0.name,
       e,
     )
 
 pub choosing_all : (names : List Text) (macros : Macros) (old fields : List RecordField) (all : List view.Field) → IsChoosing names macros old fields all []
-    → (rows : List Row) → AllZip IsFieldOf all rows → (before : List RecordField) → old ≡ chosen names before → fields ≡ chosen names (with_new_fields before (map (field_of macros) rows))
+    → (rows : List Row) → AllZip IsFieldOf all rows → (before : List RecordField) → old ≡ chosen names before → fields ≡ chosen names (with_fields before (map (field_of macros) rows))
 choosing_all names macros old fields all h rows zip before is = let w = h.chosen_so_far rows zip before is in done w.0 w.1 w.2 w.3 w.4
   where
     done : (later : List Row) (gathered : List RecordField) → AllZip IsFieldOf [] later → fields ≡ chosen names gathered
-        → with_new_fields gathered (map (field_of macros) later) ≡ with_new_fields before (map (field_of macros) rows) → fields ≡ chosen names (with_new_fields before (map (field_of macros) rows))
+        → with_fields gathered (map (field_of macros) later) ≡ with_fields before (map (field_of macros) rows) → fields ≡ chosen names (with_fields before (map (field_of macros) rows))
     done [] gathered z so e = so ∙ ap (chosen names) e
     done (_ ∷ _) gathered z so e = elim z [ ]

@@ -1,4 +1,4 @@
--- The table of definitions, where one more definition stands after the others.
+-- The table of definitions, where one more definition stands behind the others.
 use Rattle.std.proofs.Common.{◌≡◌, ℕ, zero, suc, ◌+◌, ◌<◌, ◌≤◌, nat_lt, Bool, true, false, cond, List, [], ◌∷◌, ◌++◌, Option, Some, None, unwrap_or, length, slice_index_or, if◌then◌else◌, ⊎_elim, refl, sym, ◌∙◌, ap, ap₂, subst, arith, All}
 use Rattle.std.specs.Str.{bytes_eq}
 use Rattle.std.specs.List.Sorted.{IsPartitionPoint}
@@ -24,7 +24,7 @@ no_definitions defined none (suc n) = λ i name. ap (λ (o : Option (List Defini
 pub no_ends : (defined : Defined) → ((name : Text) → value_at defined name ≡ None) → EndsBy 0 defined
 no_ends defined none name = subst (All (λ (d : Definition). d.item < 0)) (sym (ap (λ (o : Option (List Definition)). unwrap_or o []) (none name))) (λ k d lt. absurd (omega (arith, lt)))
 
--- of definitions with one more after them, that one is the last
+-- of definitions with one more behind them, that one is the last
 pub text_before-append : (n : ℕ) (ds : List Definition) (d : Definition) → text_before n (ds ++ d ∷ []) ≡ (if nat_lt d.item n then Some d.text else text_before n ds)
 text_before-append n [] d = refl
 text_before-append n (e ∷ es) d =
@@ -79,7 +79,7 @@ module _ (old new : Defined) (name : Text) (d : Definition) (put : IsWith old na
           (λ low. at_before n x low ∙ ap (λ m. m x) (are n ∙ sym (macros_before months items item n (omega (arith, low, len)))))
           (cases_lt d.item n)
 
-  -- and ends after it
+  -- and ends behind it
   pub ends-defined : EndsBy d.item old → EndsBy (d.item + 1) new
   ends-defined ends x = ⊎_elim
       (λ t. subst (All (λ (e : Definition). e.item < d.item + 1)) (sym (of_same x t))
@@ -94,7 +94,7 @@ module _ (old new : Defined) (name : Text) (d : Definition) (put : IsWith old na
       one zero e lt = omega arith
       one (suc k) e lt = absurd (omega (arith, lt))
 
--- where they end by one item, they end by any after it
+-- where they end by one item, they end by any behind it
 pub ends_later : (m n : ℕ) (defined : Defined) → m ≤ n → EndsBy m defined → EndsBy n defined
 ends_later m n defined le ends x k d lt = let h = ends x k d lt in omega (arith, le, h)
 

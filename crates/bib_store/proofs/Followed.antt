@@ -16,7 +16,7 @@ use Rattle.bib_entries.proofs.Tables.{heads}
 use Rattle.bib_store.specs.declared.tables.Tables.{Tables}
 use Rattle.bib_store.specs.Defined.{texts_at}
 use Rattle.bib_store.specs.ItemTexts.{first_too_long, placed_texts}
-use Rattle.bib_store.specs.Beside.{AreTablesOf, IsInsertion, IsRemoval, IsTooLongAt, OfOther, SayTheSame, listed_item}
+use Rattle.bib_store.specs.Beside.{AreTablesOf, IsInsertion, IsRemoval, IsTooLongAt, OfOther, SayTheSame, item_with}
 use Rattle.bib_store.specs.Following.{bodies_between, AreItemsOf, AreOthersOf, DefineNothing, HaveShortTexts}
 
 -- ---- one item of several
@@ -117,7 +117,7 @@ PutSoFar n at from to items old now =
 
 module _ (n at from to : ℕ) (items : List Item) (old now next : Tables) (body : Text) (view : View)
     (stands : slice_get (bodies_between from to items) n ≡ Some body)
-    (sees : (tree : Tree) → IsTree name_limit tree → tree_bytes tree ≡ body → view ≡ view_of (listed_item tree [])) where
+    (sees : (tree : Tree) → IsTree name_limit tree → tree_bytes tree ≡ body → view ≡ view_of (item_with tree [])) where
   abbrev body_of : (some : List reading.Item) → AreOthersOf (bodies_between from to items) some → IsNext some n body
   body_of some are = next_of (bodies_between from to items) some n body are.are stands
 
@@ -205,7 +205,7 @@ take_next P (i ∷ items) rest zero it parts all p = (subst P (sym (heads parts)
 take_next P (i ∷ items) rest (suc n) it parts all p = (all.0, take_next P items rest n it parts all.1 p)
 
 pub pass_more : (n : ℕ) (bodies : List Text) (body : Text) (view : View) (new : List reading.Item) → slice_get bodies n ≡ Some body → (view.kind ≡ kind.Macro → ⊥)
-    → ((tree : Tree) → IsTree name_limit tree → tree_bytes tree ≡ body → view ≡ view_of (listed_item tree []))
+    → ((tree : Tree) → IsTree name_limit tree → tree_bytes tree ≡ body → view ≡ view_of (item_with tree []))
     → AreItemsOf bodies new → DefineNothing (take n new) → DefineNothing (take (suc n) new)
 pass_more n bodies body view new stands other sees are all =
     let b = next_of bodies new n body are stands in

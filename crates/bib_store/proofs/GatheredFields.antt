@@ -14,7 +14,7 @@ use Rattle.bib_spec.proofs.Names.{same_of, same_comm, same-true}
 use Rattle.bib_scan.specs.View as view
 use Rattle.bib_value.specs.FoldedMap.{value_at, IsWith}
 use Rattle.bib_value.specs.Raw.{OfValue}
-use Rattle.bib_store.specs.Gathering.{is_settled, AreSettled, with_new_field, with_new_fields, IsReadable, IsFieldOf}
+use Rattle.bib_store.specs.Gathering.{is_taken, AreTaken, with_field, with_fields, IsReadable, IsFieldOf}
 use Rattle.bib_store.proofs.Filters.{filter_twice, filter_all}
 
 -- ---- names
@@ -30,7 +30,7 @@ same-folded_right : (a b : Text) → same a (folded b) ≡ same a b
 same-folded_right a b = same_of a (folded b) a b refl (folded_twice b)
 
 -- two names that are the same are taken alike
-taken_alike : (fields : List RecordField) (a b : Text) → same a b ≡ true → is_settled fields a ≡ is_settled fields b
+taken_alike : (fields : List RecordField) (a b : Text) → same a b ≡ true → is_taken fields a ≡ is_taken fields b
 taken_alike fields a b h =
     ap (λ c. c || list_any (λ other. same other.0 a) fields) (same_of a crossref b crossref (same-true a b h) refl)
     ∙ ap (λ c. same b crossref || c) (alike fields)
@@ -48,7 +48,7 @@ any_folded (field ∷ fields) name =
     ∙ ap (λ c. same field.0 name || c) (any_folded fields name)
 
 -- one more field takes its name
-taken_behind : (fields : List RecordField) (taken text name : Text) → is_settled (fields ++ (folded taken, text) ∷ []) name ≡ (same name crossref || (list_any (λ other. same other.0 name) fields || (same name taken || false)))
+taken_behind : (fields : List RecordField) (taken text name : Text) → is_taken (fields ++ (folded taken, text) ∷ []) name ≡ (same name crossref || (list_any (λ other. same other.0 name) fields || (same name taken || false)))
 taken_behind fields taken text name =
     ap (λ c. same name crossref || c) (list_any-append (λ other. same other.0 name) fields ((folded taken, text) ∷ []))
     ∙ ap (λ c. same name crossref || (list_any (λ other. same other.0 name) fields || (c || false))) (same-folded_left taken name ∙ same_comm taken name)
@@ -62,13 +62,13 @@ joined false true q o v e = e
 joined false false true o v e = e
 joined false false false o v e = e
 
-pub taken_more : (old new : List (Text × Unit {0})) (unit : Unit {0}) (fields : List RecordField) (taken text : Text) → AreSettled old fields → IsWith old taken unit new → AreSettled new (fields ++ (folded taken, text) ∷ [])
+pub taken_more : (old new : List (Text × Unit {0})) (unit : Unit {0}) (fields : List RecordField) (taken text : Text) → AreTaken old fields → IsWith old taken unit new → AreTaken new (fields ++ (folded taken, text) ∷ [])
 taken_more old new unit fields taken text h w name =
     ap is_some (w (folded name))
     ∙ joined (bytes_eq (folded name) (folded taken)) (same name crossref) (list_any (λ other. same other.0 name) fields) (value_at old (folded name)) unit (h name)
     ∙ sym (taken_behind fields taken text name)
 
-pub taken_none : (old new : List (Text × Unit {0})) (unit : Unit {0}) → ((name : Text) → value_at old name ≡ None) → IsWith old crossref unit new → AreSettled new []
+pub taken_none : (old new : List (Text × Unit {0})) (unit : Unit {0}) → ((name : Text) → value_at old name ≡ None) → IsWith old crossref unit new → AreTaken new []
 taken_none old new unit none w name =
     ap is_some (w (folded name) ∙ ap (cond (bytes_eq (folded name) (folded crossref)) (Some unit)) (none (folded name)))
     ∙ alone (bytes_eq (folded name) (folded crossref))
@@ -81,7 +81,7 @@ taken_none old new unit none w name =
 
 -- the fields whose names are not taken
 abbrev free : List RecordField → Field → Bool
-free fields field = not (is_settled fields field.name)
+free fields field = not (is_taken fields field.name)
 
 abbrev other_name : Field → Field → Bool
 other_name field other = not (has_name field.name other)
@@ -110,7 +110,7 @@ missing_is fields (x ∷ xs) = at (same x.name crossref) refl (missing_is fields
         ∙ moved (not (list_any (λ other. same other.0 x.name) fields))
 
 -- a free field has another name than one that is taken
-free_other : (fields : List RecordField) (field other : Field) → is_settled fields field.name ≡ true → free fields other ≡ (other_name field other && free fields other)
+free_other : (fields : List RecordField) (field other : Field) → is_taken fields field.name ≡ true → free fields other ≡ (other_name field other && free fields other)
 free_other fields field other taken = at (same other.name field.name) refl
   where
     at : (b : Bool) → same other.name field.name ≡ b → free fields other ≡ (not b && free fields other)
@@ -131,15 +131,15 @@ free_behind fields field other =
     at false false true = refl
     at false false false = refl
 
-gathered_is : (fields : List RecordField) (xs : List Field) → with_new_fields fields xs ≡ fields ++ map record_field (filter (free fields) (effective xs))
+gathered_is : (fields : List RecordField) (xs : List Field) → with_fields fields xs ≡ fields ++ map record_field (filter (free fields) (effective xs))
 gathered_is fields [] = sym (append-nil fields)
-gathered_is fields (x ∷ xs) = at (is_settled fields x.name) refl (λ own. gathered_is own xs)
+gathered_is fields (x ∷ xs) = at (is_taken fields x.name) refl (λ own. gathered_is own xs)
   where
     others : List Field
     others = filter (other_name x) (effective xs)
 
-    at : (b : Bool) → is_settled fields x.name ≡ b → ((own : List RecordField) → with_new_fields own xs ≡ own ++ map record_field (filter (free own) (effective xs))) →
-        with_new_fields (cond b fields (fields ++ record_field x ∷ [])) xs ≡ fields ++ map record_field (cond (not b) (x ∷ filter (free fields) others) (filter (free fields) others))
+    at : (b : Bool) → is_taken fields x.name ≡ b → ((own : List RecordField) → with_fields own xs ≡ own ++ map record_field (filter (free own) (effective xs))) →
+        with_fields (cond b fields (fields ++ record_field x ∷ [])) xs ≡ fields ++ map record_field (cond (not b) (x ∷ filter (free fields) others) (filter (free fields) others))
     at true e later =
         later fields
         ∙ ap (λ l. fields ++ map record_field l) (sym (filter_twice (free fields) (other_name x) (free fields) (λ other. free_other fields x other e) (effective xs)))
@@ -149,7 +149,7 @@ gathered_is fields (x ∷ xs) = at (is_settled fields x.name) refl (λ own. gath
         ∙ ap (λ l. fields ++ record_field x ∷ map record_field l) (sym (filter_twice (free fields) (other_name x) (free (fields ++ record_field x ∷ [])) (free_behind fields x) (effective xs)))
 
 -- gathered fields are those that there were, and the own fields of the entry that they lack
-pub gathered_missing : (fields : List RecordField) (xs : List Field) → with_new_fields fields xs ≡ fields ++ missing fields (map record_field (filter (λ field. not (has_name crossref field)) (effective xs)))
+pub gathered_missing : (fields : List RecordField) (xs : List Field) → with_fields fields xs ≡ fields ++ missing fields (map record_field (filter (λ field. not (has_name crossref field)) (effective xs)))
 gathered_missing fields xs = gathered_is fields xs ∙ ap (λ l. fields ++ l) (sym (missing_is fields (effective xs)))
 
 pub missing_all : (fields : List RecordField) → missing [] fields ≡ fields
@@ -159,13 +159,13 @@ missing_all fields = filter_all (λ _. true) (λ _. refl) fields
 
 -- the fields of so many rows are gathered, and these are left
 pub record IsGathering (macros : Macros) (old fields : List RecordField) (names : List (Text × Unit {0})) (all rest : List view.Field) : Type 0 where
-  pub taken : AreSettled names fields
+  pub taken : AreTaken names fields
   pub readable : AllByRecursion (IsReadable macros) rest
   pub added : (rows : List Row) → AllZip IsFieldOf all rows →
-      (later : List Row) × AllZip IsFieldOf rest later × (with_new_fields fields (map (field_of macros) later) ≡ with_new_fields old (map (field_of macros) rows))
+      (later : List Row) × AllZip IsFieldOf rest later × (with_fields fields (map (field_of macros) later) ≡ with_fields old (map (field_of macros) rows))
 
 pub gathering_more : (macros : Macros) (old fields more : List RecordField) (names others : List (Text × Unit {0})) (all rest : List view.Field) (f : view.Field)
-    → IsGathering macros old fields names all (f ∷ rest) → AreSettled others more → OfValue f.value (λ v. more ≡ with_new_field fields (record { name = f.name; raw = raw_text macros v }))
+    → IsGathering macros old fields names all (f ∷ rest) → AreTaken others more → OfValue f.value (λ v. more ≡ with_field fields (record { name = f.name; raw = raw_text macros v }))
     → IsGathering macros old more others all rest
 gathering_more macros old fields more names others all rest f h taken is = record {
   taken = taken;
@@ -173,19 +173,19 @@ gathering_more macros old fields more names others all rest f h taken is = recor
   added = λ rows zip. let w = h.added rows zip in step rows w.0 w.1 w.2;
 }
   where
-    step : (rows later : List Row) → AllZip IsFieldOf (f ∷ rest) later → with_new_fields fields (map (field_of macros) later) ≡ with_new_fields old (map (field_of macros) rows) →
-        (further : List Row) × AllZip IsFieldOf rest further × (with_new_fields more (map (field_of macros) further) ≡ with_new_fields old (map (field_of macros) rows))
+    step : (rows later : List Row) → AllZip IsFieldOf (f ∷ rest) later → with_fields fields (map (field_of macros) later) ≡ with_fields old (map (field_of macros) rows) →
+        (further : List Row) × AllZip IsFieldOf rest further × (with_fields more (map (field_of macros) further) ≡ with_fields old (map (field_of macros) rows))
     step rows [] zip e = elim zip [ ]
     step rows (row ∷ further) zip e = (
       further,
       zip.1,
-      ap (λ l. with_new_fields l (map (field_of macros) further)) (is row.assignment.value zip.0.is zip.0.value ∙ ap (λ (name : Text). with_new_field fields (record { name = name; raw = raw_text macros row.assignment.value })) zip.0.name) ∙ e,
+      ap (λ l. with_fields l (map (field_of macros) further)) (is row.assignment.value zip.0.is zip.0.value ∙ ap (λ (name : Text). with_field fields (record { name = name; raw = raw_text macros row.assignment.value })) zip.0.name) ∙ e,
     )
 
 pub gathering_all : (macros : Macros) (old fields : List RecordField) (names : List (Text × Unit {0})) (all : List view.Field) → IsGathering macros old fields names all []
-    → (rows : List Row) → AllZip IsFieldOf all rows → fields ≡ with_new_fields old (map (field_of macros) rows)
+    → (rows : List Row) → AllZip IsFieldOf all rows → fields ≡ with_fields old (map (field_of macros) rows)
 gathering_all macros old fields names all h rows zip = let w = h.added rows zip in done w.0 w.1 w.2
   where
-    done : (later : List Row) → AllZip IsFieldOf [] later → with_new_fields fields (map (field_of macros) later) ≡ with_new_fields old (map (field_of macros) rows) → fields ≡ with_new_fields old (map (field_of macros) rows)
+    done : (later : List Row) → AllZip IsFieldOf [] later → with_fields fields (map (field_of macros) later) ≡ with_fields old (map (field_of macros) rows) → fields ≡ with_fields old (map (field_of macros) rows)
     done [] z e = e
     done (_ ∷ _) z e = elim z [ ]

@@ -1,4 +1,4 @@
--- What macros stand for where one more item stands after the others.
+-- What macros stand for where one more item stands behind the others.
 use Rattle.std.proofs.Common.{◌≡◌, ◌≢◌, ℕ, zero, suc, ◌<◌, ◌≤◌, List, [], ◌∷◌, ◌++◌, Some, length, take, fold, ⊎_elim, refl, sym, ◌∙◌, ap, ap₂, arith, not-suc-le-zero, le_of_suc-le-suc}
 use Rattle.std.proofs.lemmas.Bool.{cases_lt}
 use Rattle.std.proofs.lemmas.List.{take-append-le, take_all}
@@ -13,14 +13,14 @@ use Rattle.bib_store.specs.Defined.{Defines}
 pub macros_before : (m : Macros) (items : List Item) (item : Item) (n : ℕ) → n ≤ length items → macros_at m (items ++ item ∷ []) n ≡ macros_at m items n
 macros_before m items item n h = ap (λ (l : List Item). fold (λ m item. macros_after m item.tree) m l) (take-append-le n items (item ∷ []) h)
 
--- after it, for what it leaves
+-- behind it, for what it leaves
 pub macros_behind : (m : Macros) (items : List Item) (item : Item) (n : ℕ) → length items < n → macros_at m (items ++ item ∷ []) n ≡ macros_after (macros_at m items (length items)) item.tree
 macros_behind m items item zero h = absurd (not-suc-le-zero h)
 macros_behind m [] item (suc zero) h = refl
 macros_behind m [] item (suc (suc n)) h = refl
 macros_behind m (x ∷ items) item (suc n) h = macros_behind (macros_after m x.tree) items item n (le_of_suc-le-suc h)
 
--- no item is after the last
+-- no item is behind the last
 pub macros_past : (m : Macros) (items : List Item) (n : ℕ) → length items ≤ n → macros_at m items n ≡ macros_at m items (length items)
 macros_past m items n h =
     let e : length items ≤ length items = omega arith in

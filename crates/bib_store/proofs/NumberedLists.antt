@@ -35,7 +35,7 @@ of-named numbers lists x number e = ap (λ o. unwrap_or o []) (value_at-named nu
 pub none-named : (numbers : List (Text × ℕ)) (lists : List (List Definition)) (x : Text) → value_at numbers x ≡ None → value_at (named_lists numbers lists) x ≡ None
 none-named numbers lists x e = value_at-named numbers lists x ∙ ap (option_map (λ number. slice_index_or lists number [])) e
 
--- a definition after those before it
+-- a definition behind those before it
 pub ascend-more : (ds : List Definition) (d : Definition) → Ascends ds → All (λ e. e.item ≤ d.item) ds → Ascends (ds ++ d ∷ [])
 ascend-more ds d ascend before i j e le lt =
     let len = length-append ds (d ∷ []) in
@@ -55,7 +55,7 @@ ascend-one d zero zero e le lt = omega arith
 ascend-one d zero (suc j) e le lt = absurd (omega (arith, lt))
 ascend-one d (suc i) j e le lt = absurd (omega (arith, le, lt))
 
--- ---- a definition after those of a name
+-- ---- a definition behind those of a name
 
 module _ (numbers : List (Text × ℕ)) (lists : List (List Definition)) (are : AreNumbered numbers lists) (name : Text) (number : ℕ) (has : value_at numbers (folded name) ≡ Some number) (d : Definition) where
   abbrev with_more : List (List Definition)
@@ -154,7 +154,7 @@ module _ (numbers : List (Text × ℕ)) (lists : List (List Definition)) (are : 
           (same_or_not k (length lists)))
           (cases_lt k (length lists))
 
--- ---- the lists of vectors
+-- ---- lists behind vectors
 
 module _ {Z : Type 0} (lists : List (Vec Definition Z)) (number : ℕ) (old new : Vec Definition Z) (is : old ≡ slice_index_or lists number old) where
   pub lists-kept : new.items ≡ old.items → lists_of (slice_set lists number new) ≡ lists_of lists

@@ -15,7 +15,7 @@ use Rattle.bib_value.proofs.Entries.{name_short}
 use Rattle.bib_spec.specs.Records.{RecordField, entries_of, own_fields, field_of, fields_at, missing}
 use Rattle.bib_store.specs.declared.definitions.MacrosAt.{MacrosAt}
 use Rattle.bib_store.specs.Definitions.{macros_seen}
-use Rattle.bib_store.specs.Gathering.{IsReadable, IsFieldOf, with_new_fields}
+use Rattle.bib_store.specs.Gathering.{IsReadable, IsFieldOf, with_fields}
 use Rattle.bib_store.proofs.GatheredFields.{gathered_missing}
 use Rattle.bib_store.specs.Meaning.{entry_numbers}
 use Rattle.bib_store.proofs.EntryItems.{IsEntryAt}
@@ -71,9 +71,9 @@ seen_at db n m item it macros numbered seen = seen ∙ ap (macros_at months db.i
 
 -- what is gathered of an entry of a file is what is missing of its own fields
 pub gathered_of : (db : Reading) (n : ℕ) (item : Item) (it : IsEntryAt db n item) (old new : List RecordField) (macros : MacrosAt) → macros_seen macros ≡ macros_at months db.items it.number
-    → new ≡ with_new_fields old (map (field_of (macros_seen macros)) it.entry.rows) → new ≡ old ++ missing old (fields_at (entries_of db) n)
+    → new ≡ with_fields old (map (field_of (macros_seen macros)) it.entry.rows) → new ≡ old ++ missing old (fields_at (entries_of db) n)
 gathered_of db n item it old new macros seen is =
     is
-    ∙ ap (λ (s : Macros). with_new_fields old (map (field_of s) it.entry.rows)) seen
+    ∙ ap (λ (s : Macros). with_fields old (map (field_of s) it.entry.rows)) seen
     ∙ gathered_missing old (map (field_of (macros_at months db.items it.number)) it.entry.rows)
     ∙ ap (λ o. old ++ missing old (option_map_or own_fields o [])) (sym it.texts)

@@ -20,7 +20,7 @@ use Rattle.bib_store.specs.Meaning.{is_entry_tree}
 use Rattle.bib_store.specs.Tables.{is_preamble_tree, AreDefinitionsOf}
 use Rattle.bib_store.specs.Defined.{texts_at, EndsBy, Defines}
 use Rattle.bib_store.specs.ItemTexts.{first_too_long, placed_texts, row_texts, crossref_in, own_text, OfRows}
-use Rattle.bib_store.specs.Beside.{AreTablesOf, IsStep, IsInsertion, IsRemoval, IsTooLongAt, SayTheSame, OfView, listed_item}
+use Rattle.bib_store.specs.Beside.{AreTablesOf, IsStep, IsInsertion, IsRemoval, IsTooLongAt, SayTheSame, OfView, item_with}
 use Rattle.bib_store.proofs.RowTexts.{cons_parts, first_fits, first_over}
 use Rattle.bib_store.proofs.Numbered.{numbers}
 use Rattle.bib_store.proofs.ItemsMore.{gathered-append, gathered-more, number_same}
@@ -133,7 +133,7 @@ module _ (old new : Tables) (n : ℕ) (view : View) where
       let long = ap (λ (t : Text). length t) (sym (append_assoc (opening_bytes e.opening) e.key e.space_behind_key)) in
       record {
         tables = λ before after trail count fits t.
-            let x = listed_item (EntryTree e) trail in
+            let x = item_with (EntryTree e) trail in
             let here = macros_at months before (length before) in
             let macros : m ≡ here = sees ∙ t.definitions n ∙ macros_in_front months before after n (omega (arith, count)) ∙ ap (macros_at months before) (sym count) in
             let said = texts_of here e in
@@ -163,7 +163,7 @@ module _ (old new : Tables) (n : ℕ) (view : View) where
   entry_removal ends entries preambles k rank named kept (DefinitionTree d) is at seen before after trail count fits t = other_kind kind.Entry kind.Macro (sym at) (omega arith)
   entry_removal ends entries preambles k rank named kept (PreambleTree p) is at seen before after trail count fits t = other_kind kind.Entry kind.Preamble (sym at) (omega arith)
   entry_removal ends entries preambles k rank named kept (EntryTree e) is at seen before after trail count fits t =
-      let x = listed_item (EntryTree e) trail in
+      let x = item_with (EntryTree e) trail in
       let here = macros_at months before (length before) in
       let said = texts_of here e in
       let front = numbers is_entry_tree 0 before in
@@ -224,7 +224,7 @@ module _ (old new : Tables) (n : ℕ) (view : View) where
       let value : value_bytes a.value ≡ field.value = ap (λ (f : Field). f.value) (sym same) in
       record {
         tables = λ items trail count t.
-            let i = listed_item (DefinitionTree d) trail in
+            let i = item_with (DefinitionTree d) trail in
             let here = macros_at months items n in
             let macros : texts_at old.definitions n ≡ here = t.definitions n in
             let defined : Defines here (DefinitionTree d) field.name (raw_text (own_text (texts_at old.definitions n) field.name) a.value) =
@@ -270,7 +270,7 @@ module _ (old new : Tables) (n : ℕ) (view : View) where
   preamble_insertion ends preambles entries named kept short (DefinitionTree d) is at seen = other_kind kind.Macro kind.Preamble at (omega arith)
   preamble_insertion ends preambles entries named kept short (PreambleTree p) is at seen = record {
     tables = λ before after trail count fits t.
-        let x = listed_item (PreambleTree p) trail in
+        let x = item_with (PreambleTree p) trail in
         record {
           entries = moved_numbers is_entry_tree before after x n count fits old.entries new.entries refl entries t.entries;
           preambles = put_numbers is_preamble_tree before after x n count fits old.preambles new.preambles refl preambles t.preambles;
@@ -290,7 +290,7 @@ module _ (old new : Tables) (n : ℕ) (view : View) where
   preamble_removal ends preambles entries named kept (EntryTree e) is at seen before after trail count fits t = other_kind kind.Entry kind.Preamble at (omega arith)
   preamble_removal ends preambles entries named kept (DefinitionTree d) is at seen before after trail count fits t = other_kind kind.Macro kind.Preamble at (omega arith)
   preamble_removal ends preambles entries named kept (PreambleTree p) is at seen before after trail count fits t =
-      let x = listed_item (PreambleTree p) trail in
+      let x = item_with (PreambleTree p) trail in
       record {
         entries = closed_numbers is_entry_tree before after x n count fits old.entries new.entries refl entries t.entries;
         preambles = taken_numbers is_preamble_tree before after x n count fits old.preambles new.preambles refl preambles t.preambles;
@@ -345,7 +345,7 @@ module _ (old new : Tables) (n : ℕ) (view : View) where
   comment_insertion ends entries preambles named kept (PreambleTree p) is at seen = other_kind kind.Preamble kind.Comment at (omega arith)
   comment_insertion ends entries preambles named kept (CommentTree h) is at seen = record {
     tables = λ before after trail count fits t.
-        let x = listed_item (CommentTree h) trail in
+        let x = item_with (CommentTree h) trail in
         record {
           entries = moved_numbers is_entry_tree before after x n count fits old.entries new.entries refl entries t.entries;
           preambles = moved_numbers is_preamble_tree before after x n count fits old.preambles new.preambles refl preambles t.preambles;
@@ -365,7 +365,7 @@ module _ (old new : Tables) (n : ℕ) (view : View) where
   comment_removal ends entries preambles named kept (DefinitionTree d) is at seen before after trail count fits t = other_kind kind.Macro kind.Comment at (omega arith)
   comment_removal ends entries preambles named kept (PreambleTree p) is at seen before after trail count fits t = other_kind kind.Preamble kind.Comment at (omega arith)
   comment_removal ends entries preambles named kept (CommentTree h) is at seen before after trail count fits t =
-      let x = listed_item (CommentTree h) trail in
+      let x = item_with (CommentTree h) trail in
       record {
         entries = closed_numbers is_entry_tree before after x n count fits old.entries new.entries refl entries t.entries;
         preambles = closed_numbers is_preamble_tree before after x n count fits old.preambles new.preambles refl preambles t.preambles;

@@ -45,22 +45,21 @@ pub record SayTheSame (old new : Tables) : Type 0 where
 
 -- ---- one item more
 
--- the item with this tree and this trail
-abbrev pub listed_item : Tree → Text → reading.Item
-listed_item tree trail = record { tree = tree; trail = trail }
+abbrev pub item_with : Tree → Text → reading.Item
+item_with tree trail = record { tree = tree; trail = trail }
 
 -- item n comes, before those that had its number and the greater ones; no raw text in it is too long
 pub record IsInsertion (n : ℕ) (tree : Tree) (old new : Tables) : Type 0 where
-  pub tables : (before after : List reading.Item) (trail : Text) → length before ≡ n → n + length after < 2 ^ 64 → AreTablesOf (before ++ after) old → AreTablesOf (before ++ listed_item tree trail ∷ after) new
+  pub tables : (before after : List reading.Item) (trail : Text) → length before ≡ n → n + length after < 2 ^ 64 → AreTablesOf (before ++ after) old → AreTablesOf (before ++ item_with tree trail ∷ after) new
   pub texts : first_too_long (placed_texts (texts_at old.definitions n) tree) ≡ None
 
 -- item n goes
 abbrev pub IsRemoval : ℕ → Tree → Tables → Tables → Type 0
-IsRemoval n tree old new = (before after : List reading.Item) (trail : Text) → length before ≡ n → n + length after < 2 ^ 64 → AreTablesOf (before ++ listed_item tree trail ∷ after) old → AreTablesOf (before ++ after) new
+IsRemoval n tree old new = (before after : List reading.Item) (trail : Text) → length before ≡ n → n + length after < 2 ^ 64 → AreTablesOf (before ++ item_with tree trail ∷ after) old → AreTablesOf (before ++ after) new
 
--- item n stands after those whose tables these were, and no raw text in it is too long
+-- item n stands behind those whose tables these were, and no raw text in it is too long
 pub record IsStep (n : ℕ) (tree : Tree) (old new : Tables) : Type 0 where
-  pub tables : (items : List reading.Item) (trail : Text) → length items ≡ n → AreTablesOf items old → AreTablesOf (items ++ listed_item tree trail ∷ []) new
+  pub tables : (items : List reading.Item) (trail : Text) → length items ≡ n → AreTablesOf items old → AreTablesOf (items ++ item_with tree trail ∷ []) new
   pub texts : first_too_long (placed_texts (texts_at old.definitions n) tree) ≡ None
 
 -- the first raw text that is too long in item n stands at this place of its body
@@ -69,8 +68,8 @@ IsTooLongAt n tree t place = first_too_long (placed_texts (texts_at t.definition
 
 -- it holds of the tree that is seen, unless that is a definition
 abbrev pub OfOther : View → (Tree → Type 0) → Type 0
-OfOther view P = (tree : Tree) → IsTree name_limit tree → kind_of tree ≢ kind.Macro → view ≡ view_of (listed_item tree []) → P tree
+OfOther view P = (tree : Tree) → IsTree name_limit tree → kind_of tree ≢ kind.Macro → view ≡ view_of (item_with tree []) → P tree
 
 -- it holds of the tree of this kind that is seen
 abbrev pub OfView : Kind → View → (Tree → Type 0) → Type 0
-OfView kind view P = (tree : Tree) → IsTree name_limit tree → kind_of tree ≡ kind → view ≡ view_of (listed_item tree []) → P tree
+OfView kind view P = (tree : Tree) → IsTree name_limit tree → kind_of tree ≡ kind → view ≡ view_of (item_with tree []) → P tree

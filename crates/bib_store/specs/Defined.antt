@@ -30,7 +30,7 @@ texts_at defined n = λ name. or_else (text_before n (definitions_of defined nam
 abbrev pub EndsBy : ℕ → Defined → Type 0
 EndsBy n defined = (name : Text) → All (λ d. d.item < n) (definitions_of defined name)
 
--- after an item that sees these macros, the name stands for the text, and the others for what they stood for
+-- behind an item that sees these macros, the name stands for the text, and the others for what they stood for
 abbrev pub Defines : Macros → Tree → Text → Text → Type 0
 Defines macros tree name text = macros_after macros tree ≡ updated macros name (Some text)
 

@@ -1,17 +1,31 @@
--- What is kept beside the items of a file: which of them are preambles, what macros stand for where each item stands, and what
--- each entry's crossref says.
-use Rattle.std.specs.Prelude.{ℕ, ◌≡◌, Bool, true, false, List, map, filter, Option}
+-- What is kept beside the items of a file: which of them are entries and preambles, which keys the entries have, what
+-- macros stand for where each item stands, and what each entry's crossref says.
+use Rattle.std.specs.Prelude.{ℕ, ◌≡◌, ◌++◌, Bool, true, false, List, take, drop, map, filter, Option, option_map, count_by}
 use Rattle.std.specs.List.{enumerate_from}
-use Rattle.bib_spec.specs.Text.{Text}
-use Rattle.bib_spec.specs.Tree.{Tree, CommentTree, DefinitionTree, PreambleTree, EntryTree}
+use Rattle.bib_spec.specs.Text.{Text, folded}
+use Rattle.bib_spec.specs.Tree.{Tree, CommentTree, DefinitionTree, PreambleTree, EntryTree, tree_bytes}
 use Rattle.bib_spec.specs.Reading as reading
 use Rattle.bib_spec.specs.Reading.{Reading}
 use Rattle.bib_spec.specs.Texts.{Macros, months, macros_at}
-use Rattle.bib_spec.specs.Records.{entries_of, crossref_text}
+use Rattle.bib_spec.specs.Records.{entries_of, crossref_text, is_named, first_named}
+use Rattle.bib_items.specs.declared.list.Item.{Item}
+use Rattle.bib_items.specs.Items.{item}
+
+-- ---- items as they are kept
+
+-- an item's bytes, as they are kept
+abbrev pub stored : reading.Item → Item
+stored i = item (tree_bytes i.tree) i.trail
+
+abbrev pub all_stored : List reading.Item → List Item
+all_stored items = map stored items
+
+-- a list of items without those from one number up to another
+abbrev pub without_range : ℕ → ℕ → List Item → List Item
+without_range from to items = take from items ++ drop to items
 
 -- ---- numbers
 
--- the item is a preamble
 abbrev pub is_preamble_tree : Tree → Bool
 is_preamble_tree (PreambleTree p) = true
 is_preamble_tree (CommentTree h) = false
@@ -24,7 +38,7 @@ preamble_numbers items = map (λ p. p.0) (filter (λ p. is_preamble_tree p.1.tre
 
 -- ---- macros
 
--- the table says what macros stand for where each item stands, and after the last
+-- the table says what macros stand for where each item stands, and behind the last
 abbrev pub AreDefinitionsOf : List reading.Item → (ℕ → Macros) → Type 0
 AreDefinitionsOf items table = (n : ℕ) → table n ≡ macros_at months items n
 

@@ -8,7 +8,7 @@ ghost use Rattle.bib_spec.specs.Texts.{raw_text};
 ghost use Rattle.bib_spec.specs.Records.{RecordField, field_of};
 ghost use Rattle.bib_value.specs.Raw.{OfValue};
 ghost use Rattle.bib_store.specs.Definitions.{macros_seen};
-ghost use Rattle.bib_store.specs.Gathering.{is_settled, with_new_field, with_new_fields, IsShortValue, IsReadable, IsFieldOf};
+ghost use Rattle.bib_store.specs.Gathering.{is_taken, with_field, with_fields, IsShortValue, IsReadable, IsFieldOf};
 ghost use Rattle.bib_store.specs.Choosing.{is_one_of, chosen};
 ghost use Rattle.bib_items.specs.declared.fault.StoreFault.TheVariants.{Memory};
 
@@ -36,8 +36,8 @@ fn has_name(fields: &[(Text, Text)], name: &[u8]) -> bool
 }
 
 /// Whether no field of this name is added: it is `crossref`, or the fields have one of that name.
-fn is_settled(fields: &[(Text, Text)], name: &[u8]) -> bool
-    ensures { result ≡ is_settled fields.now name.now }
+fn is_taken(fields: &[(Text, Text)], name: &[u8]) -> bool
+    ensures { result ≡ is_taken fields.now name.now }
 {
     same_folded(name, b"crossref") || has_name(fields, name)
 }
@@ -53,13 +53,13 @@ fn choose(
 ) -> Result<(), StoreFault>
     requires { IsShortValue (macros_seen macros.now) value.now }
     ensures chosen { OnOk result (OfValue value.now (λ v. (all : List RecordField) → fields.old.items ≡ chosen (map (λ n. n.now) names.now) all
-        → fields.new.items ≡ chosen (map (λ n. n.now) names.now) (with_new_field all (record { name = name.now; raw = raw_text (macros_seen macros.now) v })))) }
+        → fields.new.items ≡ chosen (map (λ n. n.now) names.now) (with_field all (record { name = name.now; raw = raw_text (macros_seen macros.now) v })))) }
     ensures only { IfErr result (λ fault. fault ≡ Memory) }
 {
     if !is_one_of(names, name) {
         return Ok(());
     }
-    if is_settled(fields.as_slice(), name) {
+    if is_taken(fields.as_slice(), name) {
         return Ok(());
     }
     let text = short_field_text(alloc, value, macros)?;
@@ -78,7 +78,7 @@ pub(crate) fn choose_all(
 ) -> Result<(), StoreFault>
     requires { AllByRecursion (IsReadable (macros_seen macros.now)) rows }
     ensures chosen { OnOk result ((list : List Row) → AllZip IsFieldOf rows.entry list → (all : List RecordField) → fields.old.items ≡ chosen (map (λ n. n.now) names.now) all
-        → fields.new.items ≡ chosen (map (λ n. n.now) names.now) (with_new_fields all (map (field_of (macros_seen macros.now)) list))) }
+        → fields.new.items ≡ chosen (map (λ n. n.now) names.now) (with_fields all (map (field_of (macros_seen macros.now)) list))) }
     ensures only { IfErr result (λ fault. fault ≡ Memory) }
 {
     'choose: for row in rows {

@@ -12,7 +12,7 @@ use bib_value::{FoldedMap, MacroTable, month};
 use std::alloc::Global;
 use std::marker::Model;
 
-/// What a name stands for after the item with this number.
+/// What a name stands for behind the item with this number.
 #[derive(Drop)]
 struct Definition {
     item: usize,
@@ -57,7 +57,7 @@ impl Definitions {
         }
     }
 
-    /// Puts in the definition that is item `n`, after all others. Where memory is refused, nothing changes.
+    /// Puts in the definition that is item `n`, behind all others. Where memory is refused, nothing changes.
     pub(crate) fn define(&mut self, n: usize, name: &[u8], text: Text) -> Result<(), StoreFault>
         requires short { length name.now ≤ name_limit }
         requires behind { EndsBy n self.old }
@@ -69,7 +69,7 @@ impl Definitions {
         self.put(name, Definition { item: n, text })
     }
 
-    /// Puts a definition after the others of its name.
+    /// Puts a definition behind the others of its name.
     fn put(&mut self, name: &[u8], definition: Definition) -> Result<(), StoreFault>
         requires short { length name.now ≤ name_limit }
         requires behind { EndsBy definition.item self.old }
@@ -135,7 +135,7 @@ impl Definitions {
     }
 }
 
-/// Puts a definition after those of the list with this number.
+/// Puts a definition behind those of the list with this number.
 fn put_behind(
     lists: &mut Vec<Vec<Definition>>,
     number: usize,

@@ -13,7 +13,7 @@ impl<L: ItemList> Database<L> {
     ghost use Rattle.std.specs.Prelude.{◌≡◌, ◌++◌, List, Some, map, option_map, IfOk, IfErr, IfSome, OnOk};
     ghost use Rattle.bib_spec.specs.Records.{RecordField, entries_of, parent, default_depth, expanded, missing, fields_at};
     ghost use Rattle.bib_store.specs.Meaning.{OfReading, IsEntryNumber};
-    ghost use Rattle.bib_store.specs.Gathering.{AreSettled};
+    ghost use Rattle.bib_store.specs.Gathering.{AreTaken};
     ghost use Rattle.bib_store.specs.Choosing.{chosen, with_chosen};
     ghost use Rattle.bib_items.specs.declared.fault.StoreFault.TheVariants.{Memory};
 
@@ -89,8 +89,8 @@ impl<L: ItemList> Database<L> {
     /// Adds the own fields of entry `n` that are missing.
     fn gather(&self, n: usize, fields: &mut Gathered) -> Result<(), StoreFault>
         requires number { IsEntryNumber self.now n }
-        requires names { AreSettled fields.old.names fields.old.fields.items }
-        ensures names { OnOk result (AreSettled fields.new.names fields.new.fields.items) }
+        requires names { AreTaken fields.old.names fields.old.fields.items }
+        ensures names { OnOk result (AreTaken fields.new.names fields.new.fields.items) }
         ensures added { OnOk result (OfReading self.now (λ db. fields.new.fields.items ≡ fields.old.fields.items ++ missing fields.old.fields.items (fields_at (entries_of db) n))) }
         ensures only { IfErr result (λ fault. fault ≡ Memory) }
     {

@@ -9,7 +9,7 @@ ghost use Rattle.bib_spec.specs.Texts.{raw_text};
 ghost use Rattle.bib_spec.specs.Records.{field_of};
 ghost use Rattle.bib_value.specs.Raw.{OfValue};
 ghost use Rattle.bib_store.specs.Definitions.{macros_seen};
-ghost use Rattle.bib_store.specs.Gathering.{AreSettled, with_new_field, with_new_fields, IsShortValue, IsReadable, IsFieldOf};
+ghost use Rattle.bib_store.specs.Gathering.{AreTaken, with_field, with_fields, IsShortValue, IsReadable, IsFieldOf};
 ghost use Rattle.bib_items.specs.declared.fault.StoreFault.TheVariants.{Memory};
 
 use crate::definitions::MacrosAt;
@@ -40,7 +40,7 @@ impl Gathered {
     /// No fields.
     pub fn none(alloc: Global) -> Result<Self, AllocError>
         ensures fields { IfOk result (λ g. g.fields.items ≡ []) }
-        ensures names { IfOk result (λ g. AreSettled g.names g.fields.items) }
+        ensures names { IfOk result (λ g. AreTaken g.names g.fields.items) }
     {
         let mut names = FoldedMap::new(alloc);
         names.insert(b"crossref", ())?;
@@ -60,11 +60,11 @@ impl Gathered {
 
     /// Adds a field, unless its name is taken.
     fn add(&mut self, name: &[u8], value: &[u8], macros: &MacrosAt<'_>) -> Result<(), StoreFault>
-        requires names { AreSettled self.old.names self.old.fields.items }
+        requires names { AreTaken self.old.names self.old.fields.items }
         requires name { length name.now ≤ name_limit }
         requires value { IsShortValue (macros_seen macros.now) value.now }
-        ensures names { OnOk result (AreSettled self.new.names self.new.fields.items) }
-        ensures added { OnOk result (OfValue value.now (λ v. self.new.fields.items ≡ with_new_field self.old.fields.items (record { name = name.now; raw = raw_text (macros_seen macros.now) v }))) }
+        ensures names { OnOk result (AreTaken self.new.names self.new.fields.items) }
+        ensures added { OnOk result (OfValue value.now (λ v. self.new.fields.items ≡ with_field self.old.fields.items (record { name = name.now; raw = raw_text (macros_seen macros.now) v }))) }
         ensures only { IfErr result (λ fault. fault ≡ Memory) }
     {
         if self.names.get(name).is_some() {
@@ -79,10 +79,10 @@ impl Gathered {
 
     /// Adds the fields of an entry in their order, each unless its name is taken by then.
     pub fn add_all(&mut self, fields: Fields<'_>, macros: &MacrosAt<'_>) -> Result<(), StoreFault>
-        requires names { AreSettled self.old.names self.old.fields.items }
+        requires names { AreTaken self.old.names self.old.fields.items }
         requires readable { AllByRecursion (IsReadable (macros_seen macros.now)) fields }
-        ensures names { OnOk result (AreSettled self.new.names self.new.fields.items) }
-        ensures added { OnOk result ((rows : List Row) → AllZip IsFieldOf fields.entry rows → self.new.fields.items ≡ with_new_fields self.old.fields.items (map (field_of (macros_seen macros.now)) rows)) }
+        ensures names { OnOk result (AreTaken self.new.names self.new.fields.items) }
+        ensures added { OnOk result ((rows : List Row) → AllZip IsFieldOf fields.entry rows → self.new.fields.items ≡ with_fields self.old.fields.items (map (field_of (macros_seen macros.now)) rows)) }
         ensures only { IfErr result (λ fault. fault ≡ Memory) }
     {
         'add: for field in fields {

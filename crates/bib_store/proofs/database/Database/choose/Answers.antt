@@ -4,7 +4,7 @@ use Rattle.bib_spec.specs.Texts.{Macros, months, macros_at}
 use Rattle.bib_spec.specs.Records.{field_of}
 use Rattle.bib_scan.specs.View.{Field, View}
 use Rattle.bib_store.specs.Definitions.{macros_seen}
-use Rattle.bib_store.specs.Gathering.{IsReadable, IsFieldOf, with_new_fields}
+use Rattle.bib_store.specs.Gathering.{IsReadable, IsFieldOf, with_fields}
 use Rattle.bib_store.specs.Choosing.{chosen}
 use Rattle.bib_store.proofs.EntryItems.{IsEntryAt, entry_at, entry_within}
 use Rattle.bib_store.proofs.ReadableFields.{fields_zip, fields_readable, seen_at, gathered_of}
@@ -37,4 +37,4 @@ returns-clause-chosen g c = λ db reads all from.
     subst (λ (fields : List Field). AllZip IsFieldOf fields it.entry.rows) (sym (c.fields.ensures.fields ∙ ap (λ (v : View). v.fields) (c.entry.ensures db reads at.0 it.listed))) (fields_zip c.args.self.now db n at.0 reads it) in
     c.in_ok-choose_all.ensures.chosen it.entry.rows zip all from
     ∙ ap (chosen (map (λ (n : Bor (List ℕ)). n.now) c.args.names.now))
-    (gathered_of db n at.0 it all (with_new_fields all (map (field_of (macros_seen c.macros_at.result)) it.entry.rows)) c.macros_at.result seen refl)
+    (gathered_of db n at.0 it all (with_fields all (map (field_of (macros_seen c.macros_at.result)) it.entry.rows)) c.macros_at.result seen refl)

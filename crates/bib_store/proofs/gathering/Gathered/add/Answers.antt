@@ -1,7 +1,7 @@
 use Rattle.std.proofs.Common.{List, ◌∷◌, [], ◌++◌, sym, ◌∙◌, ap, subst}
 use Rattle.bib_spec.specs.Text.{Text}
 use Rattle.bib_spec.specs.Records.{RecordField}
-use Rattle.bib_store.specs.Gathering.{AreSettled}
+use Rattle.bib_store.specs.Gathering.{AreTaken}
 use Rattle.bib_store.proofs.GatheredFields.{taken_more}
 use Rattle.bib_store.proofs.gathering.Gathered.add.Goals as goal
 
@@ -9,5 +9,5 @@ pub returns-clause-names : goal.returns-clause-names
 returns-clause-names c =
     let fields : List RecordField = c.args.self.now.fields.items in
     let text : Text = c.in_ok-text.text in
-    subst (λ (items : List RecordField). AreSettled c.insert.new.self items) (sym (c.in_ok-push.ensures.items ∙ ap (λ (l : Text). fields ++ (l, text) ∷ []) c.in_ok-lower.ensures))
+    subst (λ (items : List RecordField). AreTaken c.insert.new.self items) (sym (c.in_ok-push.ensures.items ∙ ap (λ (l : Text). fields ++ (l, text) ∷ []) c.in_ok-lower.ensures))
     (taken_more c.args.self.now.names c.insert.new.self tt fields c.args.name.now text c.requires.names c.in_ok-insert.ensures.ok)
