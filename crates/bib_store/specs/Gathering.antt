@@ -14,21 +14,21 @@ use Rattle.bib_value.specs.Raw.{OfValue}
 
 -- ---- names
 
--- the name is settled, so no field of it is added: it is `crossref`, or the fields have one of that name
+-- no field of this name is added: it is `crossref`, or the fields have one of that name
 abbrev pub is_taken : List RecordField → Text → Bool
 is_taken fields name = same name crossref || list_any (λ other. same other.0 name) fields
 
--- the table has the names that are settled
+-- the table has the names that are taken
 abbrev pub AreTaken : List (Text × Unit {0}) → List RecordField → Type 0
 AreTaken names fields = (name : Text) → is_some (value_at names (folded name)) ≡ is_taken fields name
 
 -- ---- fields
 
--- the fields, and this one if its name is not settled
+-- the fields, and this one if its name is not taken
 abbrev pub with_field : List RecordField → records.Field → List RecordField
 with_field fields field = if is_taken fields field.name then fields else fields ++ record_field field ∷ []
 
--- the fields, and these in their order, each unless its name is settled by then
+-- the fields, and these in their order, each unless its name is taken by then
 abbrev pub with_fields : List RecordField → List records.Field → List RecordField
 with_fields fields [] = fields
 with_fields fields (field ∷ others) = with_fields (with_field fields field) others
