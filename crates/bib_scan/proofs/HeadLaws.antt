@@ -7,7 +7,7 @@ use Rattle.std.specs.List.{take_while, flat_map, AllPass}
 use Rattle.bib_spec.specs.Bytes.{name_limit}
 use Rattle.bib_spec.specs.Text.{Text, is_space, is_type_byte, same, after_run, does_not_begin_with}
 use Rattle.bib_spec.specs.Tree as tree
-use Rattle.bib_spec.specs.Tree.{Tree, CommentTree, DefinitionTree, PreambleTree, EntryTree, Head, Opening, Delimiter, Brace, row_bytes, value_bytes, head_bytes, opening_bytes, open_byte, close_byte, last_comma_bytes, behind_key_bytes, tree_bytes, goes_on_key, is_no_keyword, IsHead, IsOpening, IsTree}
+use Rattle.bib_spec.specs.Tree.{Tree, CommentTree, DefinitionTree, PreambleTree, EntryTree, Head, Opening, Delimiter, Brace, Paren, row_bytes, value_bytes, head_bytes, opening_bytes, open_byte, close_byte, last_comma_bytes, behind_key_bytes, tree_bytes, goes_on_key, is_no_keyword, IsHead, IsOpening, IsTree}
 use Rattle.bib_scan.specs.View.{Field, view_of}
 use Rattle.bib_scan.specs.FieldsLeft.{fields_left, all_fields_left, read_head, kind_named, read_opening, view_behind, read_view}
 use Rattle.bib_scan.specs.declared.view.Kind.{Kind}
