@@ -30,9 +30,9 @@ use Rattle.bib_edit.proofs.HeldKeys.{named-any, counted-none, counted-some}
 
 -- ---- the reasons
 
-module _ (place : ℕ) (a : NewEntry) (new : edits.NewEntry) (spells : SpellsEntry a new) (db : Reading) where
+module _ (position : ℕ) (a : NewEntry) (new : edits.NewEntry) (spells : SpellsEntry a new) (db : Reading) where
   abbrev E : Edit
-  E = edits.AddEntry place new
+  E = edits.AddEntry position new
 
   abbrev Passes : ℕ → Type 0
   Passes n = IsClear made_base db E n
@@ -82,10 +82,10 @@ module _ (place : ℕ) (a : NewEntry) (new : edits.NewEntry) (spells : SpellsEnt
     passes_given : Passes 3
     passes_given = more BadValue (λ none. none values_are) (passes_names good.key (ap₂ ◌&&◌ good.names good.kind))
 
-    pub add-high : length db.items < place → IsFirstRefusal made_base db E BadPosition
+    pub add-high : length db.items < position → IsFirstRefusal made_base db E BadPosition
     add-high h = first BadPosition h passes_given
 
-    module _ (low : place ≤ length db.items) where
+    module _ (low : position ≤ length db.items) where
       passes_place : Passes 5
       passes_place = more NotFound (λ h. h) (more BadPosition (λ h. omega (arith, h, low)) passes_given)
 
@@ -107,8 +107,8 @@ module _ (place : ℕ) (a : NewEntry) (new : edits.NewEntry) (spells : SpellsEnt
           passes_key_free = more WouldMerge (λ h. h) (more Referred (λ h. h) (more NameInUse (λ h. h)
               (more KeyInUse (λ h. both_ways (list_any (is_named a.key) (keys_of (entries_of db))) (counted-none (is_named a.key) (keys_of (entries_of db)) free) (sym key_held ∙ h)) passes_fields)))
 
-          pub add-pieces : pieces_of made_base db E ≡ insertion_of db place (entry_text a) ∷ []
-          add-pieces = insertion-pieces (item_bytes (item_of new)) db place ∙ ap (λ (t : Text). insertion_of db place t ∷ []) (entry-written a new spells)
+          pub add-pieces : pieces_of made_base db E ≡ insertion_of db position (entry_text a) ∷ []
+          add-pieces = insertion-pieces (item_bytes (item_of new)) db position ∙ ap (λ (t : Text). insertion_of db position t ∷ []) (entry-written a new spells)
 
           add-length : length (bytes_of (edited made_base db E)) ≡ length (bytes_of db) + length (entry_text a)
           add-length =
@@ -128,32 +128,32 @@ module _ (place : ℕ) (a : NewEntry) (new : edits.NewEntry) (spells : SpellsEnt
               passes_length : Passes 11
               passes_length = more FileTooLong (λ h. short (let l = add-length in let f = file_length in omega (arith, h, l, f))) passes_key_free
 
-              texts_long : any_long months db.items ≡ false → (long : Bool) → IsAnyLong long db place a.fields → is_some (too_long_at (edited made_base db E)) ≡ long
+              texts_long : any_long months db.items ≡ false → (long : Bool) → IsAnyLong long db position a.fields → is_some (too_long_at (edited made_base db E)) ≡ long
               texts_long none long h =
                   too_long-any (edited made_base db E)
-                  ∙ inserted-long months db.items place (item_of new) (entry_of new) refl none
-                  ∙ ap (λ vs. list_any is_long (map (raw_text (macros_at months db.items place)) vs)) (rows-values new.fields)
-                  ∙ any-long db place long a.fields new.fields spells.fields values_are h
+                  ∙ inserted-long months db.items position (item_of new) (entry_of new) refl none
+                  ∙ ap (λ vs. list_any is_long (map (raw_text (macros_at months db.items position)) vs)) (rows-values new.fields)
+                  ∙ any-long db position long a.fields new.fields spells.fields values_are h
 
-              pub add-long_text : any_long months db.items ≡ false → IsAnyLong true db place a.fields → IsFirstRefusal made_base db E TextTooLong
+              pub add-long_text : any_long months db.items ≡ false → IsAnyLong true db position a.fields → IsFirstRefusal made_base db E TextTooLong
               add-long_text none h = first TextTooLong (texts_long none true h) passes_length
 
-              pub add-accepted : any_long months db.items ≡ false → IsAnyLong false db place a.fields → IsAccepted made_base db E
+              pub add-accepted : any_long months db.items ≡ false → IsAnyLong false db position a.fields → IsAccepted made_base db E
               add-accepted none h = all_clear made_base db E (more TextTooLong (λ long. both_ways (is_some (too_long_at (edited made_base db E))) (texts_long none false h) long) passes_length)
 
 -- ---- as it is asked for
 
-pub refused_entry : (place : ℕ) (a : NewEntry) (file : Text) (fault : Fault) → IsEntryFault a fault → IsRefusal file (asked.AddEntry place a) fault
-refused_entry place a file code.BadKey h = λ db reads. of-add_entry place a (λ e. IsFirstRefusal made_base db e BadKey) (λ new spells. add-bad_key place a new spells db h)
-refused_entry place a file code.BadName h = λ db reads. of-add_entry place a (λ e. IsFirstRefusal made_base db e BadName) (λ new spells. add-bad_name place a new spells db h.0 h.1)
-refused_entry place a file code.BadValue h = λ db reads. of-add_entry place a (λ e. IsFirstRefusal made_base db e BadValue) (λ new spells. add-bad_value place a new spells db h.0 h.1 h.2)
-refused_entry place a file code.Memory h = tt
-refused_entry place a file code.BadPosition h = λ db reads. absurd h
-refused_entry place a file code.NotFound h = λ db reads. absurd h
-refused_entry place a file code.Ambiguous h = λ db reads. absurd h
-refused_entry place a file code.KeyInUse h = λ db reads. absurd h
-refused_entry place a file code.NameInUse h = λ db reads. absurd h
-refused_entry place a file code.Referred h = λ db reads. absurd h
-refused_entry place a file code.WouldMerge h = λ db reads. absurd h
-refused_entry place a file code.FileTooLong h = λ db reads. absurd h
-refused_entry place a file code.TextTooLong h = λ db reads. absurd h
+pub refused_entry : (position : ℕ) (a : NewEntry) (file : Text) (fault : Fault) → IsEntryFault a fault → IsRefusal file (asked.AddEntry position a) fault
+refused_entry position a file code.BadKey h = λ db reads. of-add_entry position a (λ e. IsFirstRefusal made_base db e BadKey) (λ new spells. add-bad_key position a new spells db h)
+refused_entry position a file code.BadName h = λ db reads. of-add_entry position a (λ e. IsFirstRefusal made_base db e BadName) (λ new spells. add-bad_name position a new spells db h.0 h.1)
+refused_entry position a file code.BadValue h = λ db reads. of-add_entry position a (λ e. IsFirstRefusal made_base db e BadValue) (λ new spells. add-bad_value position a new spells db h.0 h.1 h.2)
+refused_entry position a file code.Memory h = tt
+refused_entry position a file code.BadPosition h = λ db reads. absurd h
+refused_entry position a file code.NotFound h = λ db reads. absurd h
+refused_entry position a file code.Ambiguous h = λ db reads. absurd h
+refused_entry position a file code.KeyInUse h = λ db reads. absurd h
+refused_entry position a file code.NameInUse h = λ db reads. absurd h
+refused_entry position a file code.Referred h = λ db reads. absurd h
+refused_entry position a file code.WouldMerge h = λ db reads. absurd h
+refused_entry position a file code.FileTooLong h = λ db reads. absurd h
+refused_entry position a file code.TextTooLong h = λ db reads. absurd h

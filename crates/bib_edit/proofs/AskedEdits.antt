@@ -48,18 +48,18 @@ spelled_entries (entry ∷ asked) =
 pub asked_for : EditsAreAskedFor
 asked_for (SetField key field value) = let v = some_value value in (edits.SetField key field v.0, set_field key field value v.0 v.1)
 asked_for (DropField key field) = (edits.DropField key field, drop_field key field)
-asked_for (AddEntry place entry) = let new = spelled_entry entry in (edits.AddEntry place new.0, add_entry place entry new.0 new.1)
+asked_for (AddEntry position entry) = let new = spelled_entry entry in (edits.AddEntry position new.0, add_entry position entry new.0 new.1)
 asked_for (AddMany entries) = let news = spelled_entries entries in (edits.AddMany news.0, add_many entries news.0 news.1)
 asked_for (RemoveEntry key) = (edits.RemoveEntry key, remove_entry key)
-asked_for (MoveEntry key place) = (edits.MoveEntry key place, move_entry key place)
+asked_for (MoveEntry key position) = (edits.MoveEntry key position, move_entry key position)
 asked_for (RenameKey from to) = (edits.RenameKey from to, rename_key from to)
 asked_for RegenerateKeys = (edits.RegenerateKeys default_depth, regenerate_keys)
 asked_for (RenameMacro from to) = (edits.RenameMacro from to, rename_macro from to)
 asked_for (InlineMacro name) = (edits.InlineMacro name, inline_macro name)
 asked_for (IntroduceMacro name text) = (edits.IntroduceMacro name text, introduce_macro name text)
 
-pub of-add_entry : (place : ℕ) (asked : NewEntry) (P : edits.Edit → Type 0) → ((new : edits.NewEntry) → SpellsEntry asked new → P (edits.AddEntry place new)) → OfEdit (AddEntry place asked) P
-of-add_entry place asked P h e (add_entry n a new spells) = h new spells
+pub of-add_entry : (position : ℕ) (asked : NewEntry) (P : edits.Edit → Type 0) → ((new : edits.NewEntry) → SpellsEntry asked new → P (edits.AddEntry position new)) → OfEdit (AddEntry position asked) P
+of-add_entry position asked P h e (add_entry n a new spells) = h new spells
 
 pub of-add_many : (asked : List NewEntry) (P : edits.Edit → Type 0) → ((news : List edits.NewEntry) → SpellEntries asked news → P (edits.AddMany news)) → OfEdit (AddMany asked) P
 of-add_many asked P h e (add_many a news spells) = h news spells
@@ -67,8 +67,8 @@ of-add_many asked P h e (add_many a news spells) = h news spells
 pub of-remove_entry : (key : Text) (P : edits.Edit → Type 0) → P (edits.RemoveEntry key) → OfEdit (RemoveEntry key) P
 of-remove_entry key P h e (remove_entry k) = h
 
-pub of-move_entry : (key : Text) (place : ℕ) (P : edits.Edit → Type 0) → P (edits.MoveEntry key place) → OfEdit (MoveEntry key place) P
-of-move_entry key place P h e (move_entry k n) = h
+pub of-move_entry : (key : Text) (position : ℕ) (P : edits.Edit → Type 0) → P (edits.MoveEntry key position) → OfEdit (MoveEntry key position) P
+of-move_entry key position P h e (move_entry k n) = h
 
 pub of-rename_key : (from to : Text) (P : edits.Edit → Type 0) → P (edits.RenameKey from to) → OfEdit (RenameKey from to) P
 of-rename_key from to P h e (rename_key f t) = h

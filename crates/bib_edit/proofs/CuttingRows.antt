@@ -30,7 +30,7 @@ rows_bytes rows = flat_map row_bytes rows
 abbrev spaced_rows : Text × List Row → Text
 spaced_rows rows = rows.0 ++ rows_bytes rows.1
 
--- white space and rows, behind this text, where the field's row is cut out
+-- white space and rows, after this text, where the field's row is cut out
 pub record IsCut (name key_text before : Text) (rows : List Row) (field : Field) : Type 0 where
   pub kept : Text
   pub gone : Text

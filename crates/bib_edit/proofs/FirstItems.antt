@@ -1,4 +1,4 @@
--- The first item that passes a test, with the items before and behind it.
+-- The first item that passes a test, with the items before and after it.
 use Rattle.std.proofs.Common.{◌≡◌, ℕ, suc, ◌+◌, Bool, true, false, List, [], ◌∷◌, ◌++◌, Some, option_map, slice_get, length, take, find, ⊎_elim, refl, sym, ◌∙◌, ap, ap₂}
 use Rattle.std.specs.List.{flat_map, AllByRecursion}
 use Rattle.std.proofs.lemmas.Bool.{cases_Bool, cond-true, cond-false}
@@ -56,7 +56,7 @@ module _ (test : Tree → Bool) where
         cond-false (test x.tree) (change x (before ++ item ∷ behind)) (kept_item x ∷ chunks_from_first test change (before ++ item ∷ behind)) none.0
         ∙ ap (λ l. kept_item x ∷ l) (chunks_behind before item behind t none.1)
 
-    -- the items before it are kept, and it and those behind it are as said
+    -- the items before it are kept, and it and those after it are as said
     pub chunks-first : (items : List Item) (n : ℕ) (first : IsFirstItem items n) → chunks_from_first test change items ≡ kept_items first.before ++ change first.item first.behind
     chunks-first items n first = ap (chunks_from_first test change) first.is ∙ chunks_behind first.before first.item first.behind first.passes first.none
 
@@ -71,9 +71,9 @@ module _ (test : Tree → Bool) where
     pub items-first : (items : List Item) (n : ℕ) (first : IsFirstItem items n) → from_first test change items ≡ first.before ++ change (first.item ∷ first.behind)
     items-first items n first = ap (from_first test change) first.is ∙ items_behind first.before first.item first.behind first.passes first.none
 
-item_behind : (before : List Item) (item : Item) (behind : List Item) → slice_get (before ++ item ∷ behind) (length before) ≡ Some item
-item_behind [] item behind = refl
-item_behind (x ∷ before) item behind = item_behind before item behind
+item_after : (before : List Item) (item : Item) (behind : List Item) → slice_get (before ++ item ∷ behind) (length before) ≡ Some item
+item_after [] item behind = refl
+item_after (x ∷ before) item behind = item_after before item behind
 
 before_at : (before : List Item) (item : Item) (behind : List Item) → take (length before) (before ++ item ∷ behind) ≡ before
 before_at [] item behind = refl
@@ -81,19 +81,19 @@ before_at (x ∷ before) item behind = ap (λ l. x ∷ l) (before_at before item
 
 module _ (test : Tree → Bool) (items : List Item) (n : ℕ) (first : IsFirstItem test items n) where
   pub item-first : slice_get items n ≡ Some first.item
-  item-first = ap₂ slice_get first.is (sym first.number) ∙ item_behind first.before first.item first.behind
+  item-first = ap₂ slice_get first.is (sym first.number) ∙ item_after first.before first.item first.behind
 
   pub before-first : take n items ≡ first.before
   before-first = ap₂ take (sym first.number) first.is ∙ before_at first.before first.item first.behind
 
--- an item stands behind the front and those before it
+-- an item stands after the front and those before it
 pub start-first : (test : Tree → Bool) (db : Reading) (n : ℕ) (first : IsFirstItem test db.items n) → start_of db n ≡ length db.front + length (flat_map item_bytes first.before)
 start-first test db n first = ap (λ l. length db.front + length (flat_map item_bytes l)) (before-first test db.items n first)
 
-find_behind : (test : Tree → Bool) (before : List Item) (item : Item) (behind : List Item) → test item.tree ≡ true → AllByRecursion (λ i. test i.tree ≡ false) before →
+find_after : (test : Tree → Bool) (before : List Item) (item : Item) (behind : List Item) → test item.tree ≡ true → AllByRecursion (λ i. test i.tree ≡ false) before →
     find (λ i. test i.tree) (before ++ item ∷ behind) ≡ Some item
-find_behind test [] item behind t none = cond-true (test item.tree) (Some item) (find (λ i. test i.tree) behind) t
-find_behind test (x ∷ before) item behind t none = cond-false (test x.tree) (Some x) (find (λ i. test i.tree) (before ++ item ∷ behind)) none.0 ∙ find_behind test before item behind t none.1
+find_after test [] item behind t none = cond-true (test item.tree) (Some item) (find (λ i. test i.tree) behind) t
+find_after test (x ∷ before) item behind t none = cond-false (test x.tree) (Some x) (find (λ i. test i.tree) (before ++ item ∷ behind)) none.0 ∙ find_after test before item behind t none.1
 
 -- where the first item stays one that passes the test, it is found again
 pub found-again : (test : Tree → Bool) (change : Tree → Tree) (items : List Item) (n : ℕ) (item : Item) → first_item test items ≡ Some n → slice_get items n ≡ Some item → test (change item.tree) ≡ true →
@@ -103,4 +103,4 @@ found-again test change items n item e at still =
     let it : item ≡ first.item = same_Some item first.item (sym at ∙ item-first test items n first) in
     ap (find (λ i. test i.tree)) (items-first test (with_first_tree change) items n first
     ∙ sym (ap (λ (i : Item). let new : Item = record i { tree = change i.tree } in first.before ++ new ∷ first.behind) it))
-    ∙ find_behind test first.before (record item { tree = change item.tree }) first.behind still first.none
+    ∙ find_after test first.before (record item { tree = change item.tree }) first.behind still first.none

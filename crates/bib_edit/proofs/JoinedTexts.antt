@@ -12,7 +12,7 @@ use Rattle.bib_edit.specs.Removal.{IsFirstAt, trail_at, text_before, is_behind_c
 abbrev AreClean : List Item → Type 0
 AreClean items = All (λ item. IsCleanTrail (is_comment item.tree) item.trail) items
 
--- the front stands behind a comment, or does not
+-- the front stands after a comment, or does not
 abbrev behind : Bool → List Item → ℕ → Bool
 behind c items zero = c
 behind c items (suc n) = is_behind_comment items (suc n)

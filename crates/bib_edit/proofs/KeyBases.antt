@@ -8,9 +8,9 @@ pub has_key_base : (e : edits.Edit) → HasKeyBase made_base e
 has_key_base (edits.RegenerateKeys depth) = key_bases_are_keys
 has_key_base (edits.SetField key field v) = tt
 has_key_base (edits.DropField key field) = tt
-has_key_base (edits.AddEntry place new) = tt
+has_key_base (edits.AddEntry position new) = tt
 has_key_base (edits.RemoveEntry key) = tt
-has_key_base (edits.MoveEntry key place) = tt
+has_key_base (edits.MoveEntry key position) = tt
 has_key_base (edits.RenameKey from to) = tt
 has_key_base (edits.RenameMacro from to) = tt
 has_key_base (edits.InlineMacro name) = tt

@@ -38,7 +38,7 @@ module _ (start : ℕ) (key : Text) where
   abbrev further : Row → List Row → List Chunk
   further row rows = Kept (row_bytes row) ∷ value_replaced crossref (in_braces key) rows
 
-  -- the rows stand behind the text `before`
+  -- the rows stand after the text `before`
   pieces-valued : (before : Text) (rows : List Row) → pieces_from (start + length before) (value_replaced crossref (in_braces key) rows) ≡ value_piece start key (first_field (fields_behind before rows))
   pieces-valued before [] = refl
   pieces-valued before (row ∷ rows) =

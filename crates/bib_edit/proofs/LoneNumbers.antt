@@ -23,12 +23,12 @@ none_named : (key : Text) (keys : List Text) → first_named key keys ≡ None �
 none_named key [] e = refl
 none_named key (k ∷ keys) e = ⊎_elim
     (λ t. absurd (none-some 0 (sym e ∙ cond-true (is_named key k) (Some 0) (option_map suc (first_named key keys)) t)))
-    (λ t. count-no (is_named key) k keys t ∙ none_named key keys (none_behind (first_named key keys) (sym (cond-false (is_named key k) (Some 0) (option_map suc (first_named key keys)) t) ∙ e)))
+    (λ t. count-no (is_named key) k keys t ∙ none_named key keys (none_beyond (first_named key keys) (sym (cond-false (is_named key k) (Some 0) (option_map suc (first_named key keys)) t) ∙ e)))
     (cases_Bool (is_named key k))
   where
-    none_behind : (o : Option ℕ) → option_map suc o ≡ None → o ≡ None
-    none_behind None e = refl
-    none_behind (Some n) e = absurd (none-some (suc n) (sym e))
+    none_beyond : (o : Option ℕ) → option_map suc o ≡ None → o ≡ None
+    none_beyond None e = refl
+    none_beyond (Some n) e = absurd (none-some (suc n) (sym e))
 
 pub lone-number : (key : Text) (db : Reading) (n : ℕ) → entry_named (entries_of db) key ≡ Some n → holders key db ≤ 1 → IsLoneNumber key db n
 lone-number key db n named few =

@@ -80,10 +80,10 @@ module _ (from to : Text) where
       let this = undefined item items none in
       ap₂ (λ (l m : List Chunk). (l ++ Kept item.trail ∷ []) ++ m) (tree_left item.tree this) (items_left items (sym (count-no (λ item. defines from item.tree) item items this) ∙ none))
 
-  none_behind : (before : List Item) (item : Item) (behind : List Item) → AllByRecursion (λ i. defines from i.tree ≡ false) before → defines from item.tree ≡ true → count (before ++ item ∷ behind) ≡ 1 → count behind ≡ 0
-  none_behind [] item behind none passes once = let c = count-yes (λ item. defines from item.tree) item behind passes in omega (arith, c, once)
-  none_behind (x ∷ before) item behind none passes once =
-      none_behind before item behind none.1 passes (sym (count-no (λ item. defines from item.tree) x (before ++ item ∷ behind) none.0) ∙ once)
+  none_beyond : (before : List Item) (item : Item) (behind : List Item) → AllByRecursion (λ i. defines from i.tree ≡ false) before → defines from item.tree ≡ true → count (before ++ item ∷ behind) ≡ 1 → count behind ≡ 0
+  none_beyond [] item behind none passes once = let c = count-yes (λ item. defines from item.tree) item behind passes in omega (arith, c, once)
+  none_beyond (x ∷ before) item behind none passes once =
+      none_beyond before item behind none.1 passes (sym (count-no (λ item. defines from item.tree) x (before ++ item ∷ behind) none.0) ∙ once)
 
   defined_piece : (at : ℕ) (d : Definition) (rest : List Chunk) → same d.assignment.name from ≡ true →
       pieces_from at (tree_chunks names parts (DefinitionTree d) ++ rest) ≡ replaced_by to (name_token at d) ∷ pieces_from at (tree_chunks leaving parts (DefinitionTree d) ++ rest)
@@ -103,7 +103,7 @@ module _ (from to : Text) where
       let first : IsFirstItem (defines from) db.items n = found_first (defines from) db.items n found in
       let start : ℕ = start_of db n in
       let it : first.item ≡ definition_item d at.0 = same_Some first.item (definition_item d at.0) (sym (item-first (defines from) db.items n first) ∙ at.1) in
-      let none : count first.behind ≡ 0 = none_behind first.before first.item first.behind first.none first.passes (sym (ap count first.is) ∙ once) in
+      let none : count first.behind ≡ 0 = none_beyond first.before first.item first.behind first.none first.passes (sym (ap count first.is) ∙ once) in
       pieces-first (defines from) db n first (λ item items. items_chunks names parts (item ∷ items))
       ∙ ap₂ (λ (i : Item) (l : List Chunk). pieces_from start (item_chunks names parts i ++ l)) it (items_left first.behind none)
       ∙ item_piece start d at.0 (items_chunks leaving parts first.behind) e
@@ -133,7 +133,7 @@ olds-edited base db e = let within = olds_within 0 (chunks base db e) in let who
 
 -- ---- a macro inlined
 
--- the definition goes, and its text in braces stands for each use behind it
+-- the definition goes, and its text in braces stands for each use after it
 pub inlined-pieces : (base : Record → Text) (db : Reading) (name : Text) (n : ℕ) → first_item (defines name) db.items ≡ Some n →
     pieces_of base db (InlineMacro name) ≡ removal_of db n ∷ map (replaced_by (braced (text_of_macro name db))) (tokens_of (uses name) (items_placed (start_of db (n + 1)) (drop (n + 1) db.items)))
 inlined-pieces base db name n found =

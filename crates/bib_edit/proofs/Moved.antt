@@ -9,7 +9,7 @@ use Rattle.bib_spec.specs.Tree.{IsTree, IsValue}
 use Rattle.bib_spec.specs.Reading.{Item, Reading, Reads, bytes_of}
 use Rattle.bib_spec.specs.Texts.{months, too_long_at}
 use Rattle.bib_spec.specs.Records.{entries_of, keys_of, entry_named}
-use Rattle.edit_spec.specs.Edits.{Edit, MoveEntry, EditFault, BadKey, BadName, BadValue, BadPosition, NotFound, Ambiguous, KeyInUse, NameInUse, Referred, WouldMerge, FileTooLong, TextTooLong, rank, Refuses, holders, is_entry, in_line, line_end, with_item, remove_entry, edited, last_place, IsAccepted, IsFirstRefusal}
+use Rattle.edit_spec.specs.Edits.{Edit, MoveEntry, EditFault, BadKey, BadName, BadValue, BadPosition, NotFound, Ambiguous, KeyInUse, NameInUse, Referred, WouldMerge, FileTooLong, TextTooLong, rank, Refuses, holders, is_entry, in_line, line_end, with_item, remove_entry, edited, last_position, IsAccepted, IsFirstRefusal}
 use Rattle.edit_spec.specs.EditChunks.{pieces_of}
 use Rattle.edit_spec.proofs.RenameKey.{only}
 use Rattle.edit_spec.proofs.EditedItems.{found-is, trees_of}
@@ -36,15 +36,15 @@ use Rattle.bib_edit.proofs.AskedEdits.{of-move_entry}
 use Rattle.bib_edit.proofs.Ranks.{IsClear, clear_none, clear_more, first_refusal, all_clear}
 
 -- the pieces of a move put as much in as they take out, and a line's end
-moved_len : (db : Reading) (n place : ℕ) → news_len (moved_pieces db n place) ≡ olds_len (moved_pieces db n place) + 1
-moved_len db n place =
+moved_len : (db : Reading) (n position : ℕ) → news_len (moved_pieces db n position) ≡ olds_len (moved_pieces db n position) + 1
+moved_len db n position =
     let line = length-append (body_at db.items n) line_end in
     ⊎_elim
-    (λ t. let is = cond-true (nat_lt place n) (insertion_of db place (line_of db n) ∷ removal_of db n ∷ []) (removal_of db n ∷ insertion_of db (place + 1) (line_of db n) ∷ []) t in
+    (λ t. let is = cond-true (nat_lt position n) (insertion_of db position (line_of db n) ∷ removal_of db n ∷ []) (removal_of db n ∷ insertion_of db (position + 1) (line_of db n) ∷ []) t in
     ap news_len is ∙ omega (arith, line) ∙ ap (λ ps. olds_len ps + 1) (sym is))
-    (λ t. let is = cond-false (nat_lt place n) (insertion_of db place (line_of db n) ∷ removal_of db n ∷ []) (removal_of db n ∷ insertion_of db (place + 1) (line_of db n) ∷ []) t in
+    (λ t. let is = cond-false (nat_lt position n) (insertion_of db position (line_of db n) ∷ removal_of db n ∷ []) (removal_of db n ∷ insertion_of db (position + 1) (line_of db n) ∷ []) t in
     ap news_len is ∙ omega (arith, line) ∙ ap (λ ps. olds_len ps + 1) (sym is))
-    (cases_Bool (nat_lt place n))
+    (cases_Bool (nat_lt position n))
 
 -- item n, which is the entry that the key names
 pub record IsFound (key : Text) (db : Reading) (n : ℕ) (item : Item) : Type 0 where
@@ -65,9 +65,9 @@ found-item key file db n reads at =
       },
     )
 
-module _ (key : Text) (place : ℕ) (db : Reading) where
+module _ (key : Text) (position : ℕ) (db : Reading) where
   abbrev E : Edit
-  E = MoveEntry key place
+  E = MoveEntry key position
 
   abbrev Passes : ℕ → Type 0
   Passes n = IsClear made_base db E n
@@ -81,10 +81,10 @@ module _ (key : Text) (place : ℕ) (db : Reading) where
   passes_given : Passes 3
   passes_given = more BadValue (λ h. h (All-nil (IsValue name_limit))) (more BadName (λ h. true≢false h) (more BadKey (λ h. true≢false h) (clear_none made_base db E)))
 
-  pub move-high : last_place db E < place → IsFirstRefusal made_base db E BadPosition
+  pub move-high : last_position db E < position → IsFirstRefusal made_base db E BadPosition
   move-high h = first BadPosition h passes_given
 
-  module _ (low : place ≤ last_place db E) where
+  module _ (low : position ≤ last_position db E) where
     passes_place : Passes 4
     passes_place = more BadPosition (λ h. omega (arith, h, low)) passes_given
 
@@ -96,10 +96,10 @@ module _ (key : Text) (place : ℕ) (db : Reading) where
 
     module _ (once : holders key db ≡ 1) (n : ℕ) (at : IsFirstAt (is_entry key) db.items n) where
       -- the place is one of what remains, or its end
-      pub place-within : place < length db.items
-      place-within =
+      pub position-within : position < length db.items
+      position-within =
           let named = only key (keys_of (entries_of db)) once in
-          let last : last_place db E ≡ length db.items - 1 = cond-true (is_some (entry_named (entries_of db) key)) (length db.items - 1) (length db.items) (ap is_some named.1) in
+          let last : last_position db E ≡ length db.items - 1 = cond-true (is_some (entry_named (entries_of db) key)) (length db.items - 1) (length db.items) (ap is_some named.1) in
           let some = first-within (is_entry key) db.items n at in
           omega (arith, last, some, low)
 
@@ -117,9 +117,9 @@ module _ (key : Text) (place : ℕ) (db : Reading) where
         move_length : length (bytes_of (edited made_base db E)) ≡ length file + 1
         move_length =
             let lengths = length-edited made_base db E in
-            let olds : olds_len (pieces_of made_base db E) ≡ olds_len (moved_pieces db n place) = ap olds_len (move-pieces key db n place at) in
-            let news : news_len (pieces_of made_base db E) ≡ news_len (moved_pieces db n place) = ap news_len (move-pieces key db n place at) in
-            let both = moved_len db n place in
+            let olds : olds_len (pieces_of made_base db E) ≡ olds_len (moved_pieces db n position) = ap olds_len (move-pieces key db n position at) in
+            let news : news_len (pieces_of made_base db E) ≡ news_len (moved_pieces db n position) = ap news_len (move-pieces key db n position at) in
+            let both = moved_len db n position in
             let bytes : length (bytes_of db) ≡ length file = ap length reads.bytes in
             omega (arith, lengths, olds, news, both, bytes)
 
@@ -130,35 +130,35 @@ module _ (key : Text) (place : ℕ) (db : Reading) where
           passes_length : Passes 11
           passes_length = more FileTooLong (λ h. short (let l = move_length in omega (arith, h, l))) passes_joined
 
-          texts_long : any_long months db.items ≡ false → (item : Item) → IsFound key db n item → (long : Bool) → IsFieldLong long db (seat n place) (fields_of item.tree) → is_some (too_long_at (edited made_base db E)) ≡ long
+          texts_long : any_long months db.items ≡ false → (item : Item) → IsFound key db n item → (long : Bool) → IsFieldLong long db (seat n position) (fields_of item.tree) → is_some (too_long_at (edited made_base db E)) ≡ long
           texts_long none item found long h =
               let entry = entry-is key item.tree found.passes in
-              ap (λ o. is_some (too_long_at (option_map_or (λ item. with_item place (in_line item.tree) (remove_entry key db)) o db))) found.is
-              ∙ too_long-any (with_item place (in_line item.tree) (remove_entry key db))
-              ∙ inserted-long months (remove_entry key db).items place (in_line item.tree) entry.0 entry.1 (removed-short key months db.front db.items none)
-              ∙ ap (λ m. is_long_in m item.tree) (macros-seat key months db.front db.items n place at)
-              ∙ entry-long key db (seat n place) long item.tree found.passes found.tree h
+              ap (λ o. is_some (too_long_at (option_map_or (λ item. with_item position (in_line item.tree) (remove_entry key db)) o db))) found.is
+              ∙ too_long-any (with_item position (in_line item.tree) (remove_entry key db))
+              ∙ inserted-long months (remove_entry key db).items position (in_line item.tree) entry.0 entry.1 (removed-short key months db.front db.items none)
+              ∙ ap (λ m. is_long_in m item.tree) (macros-seat key months db.front db.items n position at)
+              ∙ entry-long key db (seat n position) long item.tree found.passes found.tree h
 
-          pub move-long_text : any_long months db.items ≡ false → (item : Item) → IsFound key db n item → IsFieldLong true db (seat n place) (fields_of item.tree) → IsFirstRefusal made_base db E TextTooLong
+          pub move-long_text : any_long months db.items ≡ false → (item : Item) → IsFound key db n item → IsFieldLong true db (seat n position) (fields_of item.tree) → IsFirstRefusal made_base db E TextTooLong
           move-long_text none item found h = first TextTooLong (texts_long none item found true h) passes_length
 
-          pub move-accepted : any_long months db.items ≡ false → (item : Item) → IsFound key db n item → IsFieldLong false db (seat n place) (fields_of item.tree) → IsAccepted made_base db E
+          pub move-accepted : any_long months db.items ≡ false → (item : Item) → IsFound key db n item → IsFieldLong false db (seat n position) (fields_of item.tree) → IsAccepted made_base db E
           move-accepted none item found h = all_clear made_base db E (more TextTooLong (λ long. both_ways (is_some (too_long_at (edited made_base db E))) (texts_long none item found false h) long) passes_length)
 
 -- ---- as it is asked for
 
-pub refused_address : (key file : Text) (place : ℕ) (fault : Fault) → OfReading file (λ db. place ≤ last_place db (MoveEntry key place)) → OfReading file (λ db. IsHolderFault key db fault) →
-    IsRefusal file (asked.MoveEntry key place) fault
-refused_address key file place code.NotFound low h = λ db reads. of-move_entry key place (λ e. IsFirstRefusal made_base db e NotFound) (move-missing key place db (low db reads) (h db reads))
-refused_address key file place code.Ambiguous low h = λ db reads. of-move_entry key place (λ e. IsFirstRefusal made_base db e Ambiguous) (move-ambiguous key place db (low db reads) (h db reads))
-refused_address key file place code.Memory low h = tt
-refused_address key file place code.BadKey low h = λ db reads. absurd (h db reads)
-refused_address key file place code.BadName low h = λ db reads. absurd (h db reads)
-refused_address key file place code.BadValue low h = λ db reads. absurd (h db reads)
-refused_address key file place code.BadPosition low h = λ db reads. absurd (h db reads)
-refused_address key file place code.KeyInUse low h = λ db reads. absurd (h db reads)
-refused_address key file place code.NameInUse low h = λ db reads. absurd (h db reads)
-refused_address key file place code.Referred low h = λ db reads. absurd (h db reads)
-refused_address key file place code.WouldMerge low h = λ db reads. absurd (h db reads)
-refused_address key file place code.FileTooLong low h = λ db reads. absurd (h db reads)
-refused_address key file place code.TextTooLong low h = λ db reads. absurd (h db reads)
+pub refused_address : (key file : Text) (position : ℕ) (fault : Fault) → OfReading file (λ db. position ≤ last_position db (MoveEntry key position)) → OfReading file (λ db. IsHolderFault key db fault) →
+    IsRefusal file (asked.MoveEntry key position) fault
+refused_address key file position code.NotFound low h = λ db reads. of-move_entry key position (λ e. IsFirstRefusal made_base db e NotFound) (move-missing key position db (low db reads) (h db reads))
+refused_address key file position code.Ambiguous low h = λ db reads. of-move_entry key position (λ e. IsFirstRefusal made_base db e Ambiguous) (move-ambiguous key position db (low db reads) (h db reads))
+refused_address key file position code.Memory low h = tt
+refused_address key file position code.BadKey low h = λ db reads. absurd (h db reads)
+refused_address key file position code.BadName low h = λ db reads. absurd (h db reads)
+refused_address key file position code.BadValue low h = λ db reads. absurd (h db reads)
+refused_address key file position code.BadPosition low h = λ db reads. absurd (h db reads)
+refused_address key file position code.KeyInUse low h = λ db reads. absurd (h db reads)
+refused_address key file position code.NameInUse low h = λ db reads. absurd (h db reads)
+refused_address key file position code.Referred low h = λ db reads. absurd (h db reads)
+refused_address key file position code.WouldMerge low h = λ db reads. absurd (h db reads)
+refused_address key file position code.FileTooLong low h = λ db reads. absurd (h db reads)
+refused_address key file position code.TextTooLong low h = λ db reads. absurd (h db reads)

@@ -14,7 +14,7 @@ use Rattle.bib_edit.specs.Removal.{IsFirstAt, body_at, removal_of}
 use Rattle.bib_edit.specs.NewEntries.{insertion_of}
 use Rattle.bib_edit.specs.Moving.{line_of, moved_pieces}
 use Rattle.bib_edit.proofs.PiecePlaces.{items_bytes}
-use Rattle.bib_edit.proofs.PieceLists.{pieces-behind_items, pieces-kept_items}
+use Rattle.bib_edit.proofs.PieceLists.{pieces-after_items, pieces-kept_items}
 
 -- the first item that passes the test, itself
 pub first-item : (test : Tree → Bool) (items : List Item) (n : ℕ) → IsFirstAt test items n →
@@ -102,7 +102,7 @@ module _ (test : Tree → Bool) (text : Text) where
       ∙ before (at + length (item_bytes item)) items n place f.1 (le_of_suc-le-suc lt)
       ∙ ap₂ (λ k j. in_at k text ∷ out_at j (body_at items n) ∷ []) same_in same
 
-  -- the place is that of the item, or behind it
+  -- the place is that of the item, or after it
   behind : (at : ℕ) (items : List Item) (n place : ℕ) → IsFirstAt test items n → n ≤ place →
       pieces_from at (chunks_at place (groups_without test items))
       ≡ out_at (at + length (items_bytes (take n items))) (body_at items n) ∷ in_at (at + length (items_bytes (take (suc place) items))) text ∷ []
@@ -115,7 +115,7 @@ module _ (test : Tree → Bool) (text : Text) where
       let same : at + length (tree_bytes item.tree) + length item.trail + length (items_bytes (take place items)) ≡ at + length (items_bytes (take (suc place) (item ∷ items))) = omega (arith, own, long) in
       ap (λ groups. pieces_from at (chunks_at place groups)) (cond-true (test item.tree) (gone item items) (stays item items) f)
       ∙ ap (λ l. out_at at (tree_bytes item.tree) ∷ pieces_from inside l) (singles-with items place new)
-      ∙ ap (λ l. out_at at (tree_bytes item.tree) ∷ l) (pieces-behind_items inside (take place items) (new ++ kept_items (drop place items))
+      ∙ ap (λ l. out_at at (tree_bytes item.tree) ∷ l) (pieces-after_items inside (take place items) (new ++ kept_items (drop place items))
       ∙ ap (λ l. in_at (inside + length (items_bytes (take place items))) text ∷ l) (pieces-kept_items (inside + length (items_bytes (take place items)) + 0) (drop place items)))
       ∙ ap₂ (λ k j. out_at k (tree_bytes item.tree) ∷ in_at j text ∷ []) here same
   behind at (item ∷ items) (suc n) zero f le = absurd (not-suc-le-zero le)

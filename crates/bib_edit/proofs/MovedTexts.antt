@@ -42,23 +42,23 @@ module _ (key : Text) where
       ap (λ (db : Reading). macros_at m db.items (suc place)) (cond-false (is_entry key item.tree) (gone front item items) (stays front item items) f.0)
       ∙ macros_before (macros_after m item.tree) item.trail items n place f.1 (le_of_suc-le-suc lt)
 
-  macros_behind : (m : Macros) (front : Text) (items : List Item) (n place : ℕ) → IsFirstAt (is_entry key) items n → n ≤ place →
+  macros_beyond : (m : Macros) (front : Text) (items : List Item) (n place : ℕ) → IsFirstAt (is_entry key) items n → n ≤ place →
       macros_at m (without_first (is_entry key) front items).items place ≡ macros_at m items (suc place)
-  macros_behind m front [] n place f le = absurd f
-  macros_behind m front (item ∷ items) zero place f le =
+  macros_beyond m front [] n place f le = absurd f
+  macros_beyond m front (item ∷ items) zero place f le =
       ap (λ (db : Reading). macros_at m db.items place) (cond-true (is_entry key item.tree) (gone front item items) (stays front item items) f)
       ∙ ap (λ (a : Macros). macros_at a items place) (sym (entry_defines_none key m item.tree f))
-  macros_behind m front (item ∷ items) (suc n) zero f le = absurd (not-suc-le-zero le)
-  macros_behind m front (item ∷ items) (suc n) (suc place) f le =
+  macros_beyond m front (item ∷ items) (suc n) zero f le = absurd (not-suc-le-zero le)
+  macros_beyond m front (item ∷ items) (suc n) (suc place) f le =
       ap (λ (db : Reading). macros_at m db.items (suc place)) (cond-false (is_entry key item.tree) (gone front item items) (stays front item items) f.0)
-      ∙ macros_behind (macros_after m item.tree) item.trail items n place f.1 (le_of_suc-le-suc le)
+      ∙ macros_beyond (macros_after m item.tree) item.trail items n place f.1 (le_of_suc-le-suc le)
 
   -- the macros before the place among what remains
   pub macros-seat : (m : Macros) (front : Text) (items : List Item) (n place : ℕ) → IsFirstAt (is_entry key) items n →
       macros_at m (without_first (is_entry key) front items).items place ≡ macros_at m items (seat n place)
   macros-seat m front items n place f = ⊎_elim
       (λ t. macros_before m front items n place f (ltb-true place n t) ∙ ap (macros_at m items) (sym (cond-true (nat_lt place n) place (place + 1) t)))
-      (λ t. macros_behind m front items n place f (ltb-false place n t)
+      (λ t. macros_beyond m front items n place f (ltb-false place n t)
       ∙ (let more : suc place ≡ place + 1 = omega arith in ap (macros_at m items) (more ∙ sym (cond-false (nat_lt place n) place (place + 1) t))))
       (cases_Bool (nat_lt place n))
 
@@ -116,7 +116,7 @@ module _ (key : Text) where
 pub no-field-long : (db : Reading) (n : ℕ) (fields : List Field) → fields ≡ [] → IsFieldLong false db n fields
 no-field-long db n fields e = subst (IsFieldLong false db n) (sym e) refl
 
--- what is found of the rest is found of all, behind fields that are short
+-- what is found of the rest is found of all, after fields that are short
 pub field-short : (db : Reading) (n : ℕ) (field : Field) (fields : List Field) → IsLong false db n field.value → (long : Bool) → IsFieldLong long db n fields → IsFieldLong long db n (field ∷ fields)
 field-short db n field fields short false h = (short, h)
 field-short db n field fields short true h = inr h

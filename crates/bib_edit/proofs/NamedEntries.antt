@@ -74,14 +74,14 @@ module _ (key : Text) where
   IsCounted m items = (first_item (is_entry key) items ≡ None → (entry_number m items ≡ None) × (count_by (is_named key) (keys_of (entries m items)) ≡ 0))
       × ((j : ℕ) → first_item (is_entry key) items ≡ Some j → 1 ≤ count_by (is_named key) (keys_of (entries m items)))
 
-  none_behind : (o : Option ℕ) → option_map suc o ≡ None → o ≡ None
-  none_behind None e = refl
-  none_behind (Some n) e = absurd (none-some (suc n) (sym e))
+  none_beyond : (o : Option ℕ) → option_map suc o ≡ None → o ≡ None
+  none_beyond None e = refl
+  none_beyond (Some n) e = absurd (none-some (suc n) (sym e))
 
   counted_behind : (m : Macros) (tree : Tree) (trail : Text) (items : List Item) → IsCounted (macros_after m tree) items → IsCounted m (item_at tree trail ∷ items)
-  counted_behind m (CommentTree h) trail items rest = (λ e. rest.0 (none_behind _ e), λ j e. let later = suc_some (first_item (is_entry key) items) j e in rest.1 later.0 later.1)
-  counted_behind m (DefinitionTree d) trail items rest = (λ e. rest.0 (none_behind _ e), λ j e. let later = suc_some (first_item (is_entry key) items) j e in rest.1 later.0 later.1)
-  counted_behind m (PreambleTree p) trail items rest = (λ e. rest.0 (none_behind _ e), λ j e. let later = suc_some (first_item (is_entry key) items) j e in rest.1 later.0 later.1)
+  counted_behind m (CommentTree h) trail items rest = (λ e. rest.0 (none_beyond _ e), λ j e. let later = suc_some (first_item (is_entry key) items) j e in rest.1 later.0 later.1)
+  counted_behind m (DefinitionTree d) trail items rest = (λ e. rest.0 (none_beyond _ e), λ j e. let later = suc_some (first_item (is_entry key) items) j e in rest.1 later.0 later.1)
+  counted_behind m (PreambleTree p) trail items rest = (λ e. rest.0 (none_beyond _ e), λ j e. let later = suc_some (first_item (is_entry key) items) j e in rest.1 later.0 later.1)
   counted_behind m (EntryTree x) trail items rest = ⊎_elim
       (λ t. (
         λ e. absurd (none-some zero (sym e ∙ cond-true (is_named key x.key) (Some zero) (option_map suc (first_item (is_entry key) items)) t)),
@@ -89,7 +89,7 @@ module _ (key : Text) where
       ))
       (λ t.
       let less = count-no (is_named key) x.key (keys_of (entries m items)) t in (
-        λ e. let none = rest.0 (none_behind _ (sym (cond-false (is_named key x.key) (Some zero) (option_map suc (first_item (is_entry key) items)) t) ∙ e)) in
+        λ e. let none = rest.0 (none_beyond _ (sym (cond-false (is_named key x.key) (Some zero) (option_map suc (first_item (is_entry key) items)) t) ∙ e)) in
             (cond-false (is_named key x.key) (Some zero) (option_map suc (entry_number m items)) t ∙ ap (option_map suc) none.0, less ∙ none.1),
         λ j e. let later = suc_some (first_item (is_entry key) items) j (sym (cond-false (is_named key x.key) (Some zero) (option_map suc (first_item (is_entry key) items)) t) ∙ e) in
             let some = rest.1 later.0 later.1 in omega (arith, some, less),
@@ -118,7 +118,7 @@ module _ (key : Text) where
   unnumbered_behind m (EntryTree x) trail items rest e = ⊎_elim
       (λ t. absurd (none-some zero (sym e ∙ cond-true (is_named key x.key) (Some zero) (option_map suc (entry_number m items)) t)))
       (λ t. cond-false (is_named key x.key) (Some zero) (option_map suc (first_item (is_entry key) items)) t
-      ∙ ap (option_map suc) (rest (none_behind _ (sym (cond-false (is_named key x.key) (Some zero) (option_map suc (entry_number m items)) t) ∙ e))))
+      ∙ ap (option_map suc) (rest (none_beyond _ (sym (cond-false (is_named key x.key) (Some zero) (option_map suc (entry_number m items)) t) ∙ e))))
       (cases_Bool (is_named key x.key))
 
   unnumbered : (m : Macros) (items : List Item) → entry_number m items ≡ None → first_item (is_entry key) items ≡ None

@@ -34,12 +34,12 @@ pub old-kept_items : (items : List Item) → old_of (kept_items items) ≡ flat_
 old-kept_items items = old-read (kept_items items) ∙ items-kept false items
 
 -- kept items stand before other chunks
-pub pieces-behind_items : (at : ℕ) (items : List Item) (chunks : List Chunk) → pieces_from at (kept_items items ++ chunks) ≡ pieces_from (at + length (flat_map item_bytes items)) chunks
-pieces-behind_items at items chunks =
+pub pieces-after_items : (at : ℕ) (items : List Item) (chunks : List Chunk) → pieces_from at (kept_items items ++ chunks) ≡ pieces_from (at + length (flat_map item_bytes items)) chunks
+pieces-after_items at items chunks =
     pieces-append at (kept_items items) chunks
     ∙ ap₂ (λ (ps : List Piece) (t : Text). ps ++ pieces_from (at + length t) chunks) (pieces-kept_items at items) (old-kept_items items)
 
--- kept items stand behind other chunks
+-- kept items stand after other chunks
 pub pieces-before_items : (at : ℕ) (chunks : List Chunk) (trail : Text) (items : List Item) → pieces_from at (chunks ++ (Kept trail ∷ kept_items items)) ≡ pieces_from at chunks
 pieces-before_items at chunks trail items =
     pieces-append at chunks (Kept trail ∷ kept_items items)

@@ -15,7 +15,7 @@ use Rattle.edit_spec.proofs.EditFiles.{chunks-are-files}
 use Rattle.bib_scan.specs.Layout.{start_of}
 use Rattle.bib_edit.specs.Removal.{IsFirstAt, body_at, trail_at}
 use Rattle.bib_edit.specs.Limits.{olds_len, news_len}
-use Rattle.bib_edit.proofs.PieceLists.{pieces-behind_items, pieces-kept_items, lengths-chunks}
+use Rattle.bib_edit.proofs.PieceLists.{pieces-after_items, pieces-kept_items, lengths-chunks}
 
 abbrev pub items_bytes : List Item → Text
 items_bytes items = flat_map item_bytes items
@@ -35,7 +35,7 @@ removal-pieces test db n f =
     let rest = Replaced (body_at db.items n) [] ∷ Kept (trail_at db.items n) ∷ kept_items (drop (suc n) db.items) in
     ap (λ l. pieces_from (0 + length db.front) l) (removed_chunks test db.items n f)
     ∙ ap (λ k. pieces_from k (kept_items (take n db.items) ++ rest)) (zero-add (length db.front))
-    ∙ pieces-behind_items (length db.front) (take n db.items) rest
+    ∙ pieces-after_items (length db.front) (take n db.items) rest
     ∙ ap (λ l. record { place = start_of db n; old = body_at db.items n; new = [] } ∷ l) (pieces-kept_items (start_of db n + length (body_at db.items n) + length (trail_at db.items n)) (drop (suc n) db.items))
 
 -- ---- an insertion
@@ -45,7 +45,7 @@ pub insertion-pieces : (new : Text) (db : Reading) (n : ℕ) →
 insertion-pieces new db n =
     let rest = Replaced [] new ∷ kept_items (drop n db.items) in
     ap (λ k. pieces_from k (kept_items (take n db.items) ++ rest)) (zero-add (length db.front))
-    ∙ pieces-behind_items (length db.front) (take n db.items) rest
+    ∙ pieces-after_items (length db.front) (take n db.items) rest
     ∙ ap (λ l. record { place = start_of db n; old = []; new = new } ∷ l) (pieces-kept_items (start_of db n + 0) (drop n db.items))
 
 -- at the end

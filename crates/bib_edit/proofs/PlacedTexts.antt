@@ -61,7 +61,7 @@ module _ (key : Text) where
 after_entry : (m : Macros) (tree : Tree) (e : Entry) → tree ≡ EntryTree e → macros_after m tree ≡ m
 after_entry m tree e is = ap (macros_after m) is
 
--- an entry is put in before item n, or behind the last
+-- an entry is put in before item n, or after the last
 pub inserted-long : (m : Macros) (items : List Item) (n : ℕ) (item : Item) (e : Entry) → item.tree ≡ EntryTree e → any_long m items ≡ false →
     any_long m (insert items n item) ≡ is_long_in (macros_at m items n) item.tree
 inserted-long m items zero item e is none = ap (λ b. is_long_in m item.tree || b) (ap (λ (a : Macros). any_long a items) (after_entry m item.tree e is) ∙ none) ∙ or_none (is_long_in m item.tree)

@@ -24,21 +24,21 @@ use Rattle.bib_edit.specs.Addressing.{is_field, field_end, fields_end, item_name
 use Rattle.bib_edit.specs.FieldPieces.{row_text, rows_end, set_at, set_piece, IsNamedItem, OfItem}
 use Rattle.bib_edit.proofs.NamedEntries.{named-entry}
 use Rattle.bib_edit.proofs.FirstItems.{IsFirstItem, found_first, chunks-first, item-first, start-first}
-use Rattle.bib_edit.proofs.PieceLists.{pieces-behind_items, pieces-before_items, pieces-entry, pieces-kept_rows, within-one_piece}
+use Rattle.bib_edit.proofs.PieceLists.{pieces-after_items, pieces-before_items, pieces-entry, pieces-kept_rows, within-one_piece}
 
-value_behind : (b c n x y : Text) → (((b ++ c) ++ n) ++ x) ++ y ≡ b ++ (c ++ (n ++ (x ++ y)))
-value_behind b c n x y = simp append_assoc
+value_after : (b c n x y : Text) → (((b ++ c) ++ n) ++ x) ++ y ≡ b ++ (c ++ (n ++ (x ++ y)))
+value_after b c n x y = simp append_assoc
 
--- a value stands behind the text before its row, and what the row begins with
+-- a value stands after the text before its row, and what the row begins with
 pub value-place : (before : Text) (row : Row) → (let f : Field = field_behind (length before) (before ++ comma ∷ row.space_before_name) row.assignment in f.value_at) ≡ length before + length (row_start row)
 value-place before row =
-    ap length (value_behind before (comma ∷ row.space_before_name) row.assignment.name row.assignment.space_before_equals (equals_sign ∷ row.assignment.space_before_value))
+    ap length (value_after before (comma ∷ row.space_before_name) row.assignment.name row.assignment.space_before_equals (equals_sign ∷ row.assignment.space_before_value))
     ∙ length-append before (row_start row)
 
 row_regroup : (b s v e : Text) → ((b ++ s) ++ v) ++ e ≡ b ++ (s ++ (v ++ e))
 row_regroup b s v e = simp append_assoc
 
--- the text before the next row, where the white space behind a value is told apart
+-- the text before the next row, where the white space after a value is told apart
 pub before-next : (before : Text) (row : Row) → ((before ++ row_start row) ++ value_bytes row.assignment.value) ++ row.assignment.space_behind ≡ before ++ row_bytes row
 before-next before row =
     row_regroup before (row_start row) (value_bytes row.assignment.value) row.assignment.space_behind ∙ ap (λ t. before ++ t) (sym (row-parts row))
@@ -63,7 +63,7 @@ module _ (name : Text) (value : Value) (start : ℕ) where
   abbrev passed : Text → Row → List Row → List Chunk
   passed before row rows = Kept before ∷ Kept (row_start row) ∷ Kept (value_bytes row.assignment.value) ∷ field_set name value row.assignment.space_behind rows
 
-  -- the rows stand behind the text `pre`, and white space before them
+  -- the rows stand after the text `pre`, and white space before them
   pieces-set : (pre before : Text) (rows : List Row) → pieces_from (start + length pre) (field_set name value before rows) ≡ setting (length pre) (fields_behind (pre ++ before) rows) ∷ []
   pieces-set pre before [] = ap (λ t. record { place = start + length pre; old = []; new = t } ∷ []) (new_start name (value_bytes value))
   pieces-set pre before (row ∷ rows) =
@@ -115,7 +115,7 @@ count-fields name m before (row ∷ rows) =
 abbrev pub item_at : Tree → Text → Item
 item_at tree trail = record { tree = tree; trail = trail }
 
--- an entry's pieces stand behind what is kept before it
+-- an entry's pieces stand after what is kept before it
 pub pieces-entry_as : (change : Entry → List Chunk) (db : Reading) (key : Text) (n : ℕ) (e : Entry) (trail : Text) → item_named key db ≡ Some n → slice_get db.items n ≡ Some (item_at (EntryTree e) trail) →
     pieces_of_chunks (Kept db.front ∷ chunks_from_first (is_entry key) (entry_as change) db.items) ≡ pieces_from (start_of db n) (change e)
 pieces-entry_as change db key n e trail named at =
@@ -124,7 +124,7 @@ pieces-entry_as change db key n e trail named at =
     let zero_add : 0 + length db.front ≡ length db.front = omega arith in
     ap (λ k. pieces_from k (chunks_from_first (is_entry key) (entry_as change) db.items)) zero_add
     ∙ ap (pieces_from (length db.front)) (chunks-first (is_entry key) (entry_as change) db.items n first)
-    ∙ pieces-behind_items (length db.front) first.before (entry_as change first.item first.behind)
+    ∙ pieces-after_items (length db.front) first.before (entry_as change first.item first.behind)
     ∙ ap (λ k. pieces_from k (entry_as change first.item first.behind)) (sym (start-first (is_entry key) db n first))
     ∙ sym (ap (λ i. pieces_from (start_of db n) (entry_as change i first.behind)) it)
     ∙ pieces-before_items (start_of db n) (change e) trail first.behind

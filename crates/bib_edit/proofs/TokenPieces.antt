@@ -15,7 +15,7 @@ use Rattle.bib_scan.specs.Layout.{start_of}
 use Rattle.bib_edit.specs.PlacedParts.{links_placed, value_placed, rows_placed, tree_placed, items_placed, tokens_of, replaced_by}
 use Rattle.bib_edit.proofs.PlacedValues.{tokens-met, tokens-unmet}
 use Rattle.bib_edit.proofs.PlacedFields.{tokens-append}
-use Rattle.bib_edit.proofs.PieceLists.{pieces-behind_items}
+use Rattle.bib_edit.proofs.PieceLists.{pieces-after_items}
 use Rattle.bib_edit.proofs.FirstItems.{IsFirstItem, chunks-first, start-first}
 
 module _ (test : Part → Bool) (parts : Part → Option Part) (new : Text) where
@@ -168,9 +168,9 @@ module _ (test : Part → Bool) (parts : Part → Option Part) (new : Text) wher
 
 -- ---- from the first item that passes a test on
 
-behind_at : (before : List Item) (item : Item) (behind : List Item) → drop (length before) (before ++ item ∷ behind) ≡ item ∷ behind
-behind_at [] item behind = refl
-behind_at (x ∷ before) item behind = behind_at before item behind
+beyond_at : (before : List Item) (item : Item) (behind : List Item) → drop (length before) (before ++ item ∷ behind) ≡ item ∷ behind
+beyond_at [] item behind = refl
+beyond_at (x ∷ before) item behind = beyond_at before item behind
 
 past_at : (before : List Item) (item : Item) (behind : List Item) → drop (suc (length before)) (before ++ item ∷ behind) ≡ behind
 past_at [] item behind = refl
@@ -178,13 +178,13 @@ past_at (x ∷ before) item behind = past_at before item behind
 
 module _ (test : Tree → Bool) (db : Reading) (n : ℕ) (first : IsFirstItem test db.items n) where
   pub from-first : drop n db.items ≡ first.item ∷ first.behind
-  from-first = ap₂ drop (sym first.number) first.is ∙ behind_at first.before first.item first.behind
+  from-first = ap₂ drop (sym first.number) first.is ∙ beyond_at first.before first.item first.behind
 
   pub pieces-first : (change : Item → List Item → List Chunk) → pieces_of_chunks (Kept db.front ∷ chunks_from_first test change db.items) ≡ pieces_from (start_of db n) (change first.item first.behind)
   pieces-first change =
       ap (λ l. pieces_from (0 + length db.front) l) (chunks-first test change db.items n first)
       ∙ ap (λ k. pieces_from k (kept_items first.before ++ change first.item first.behind)) (zero-add (length db.front))
-      ∙ pieces-behind_items (length db.front) first.before (change first.item first.behind)
+      ∙ pieces-after_items (length db.front) first.before (change first.item first.behind)
       ∙ ap (λ k. pieces_from k (change first.item first.behind)) (sym (start-first test db n first))
 
   pub behind-first : drop (n + 1) db.items ≡ first.behind

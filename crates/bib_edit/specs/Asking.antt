@@ -38,10 +38,10 @@ SpellEntries (asked ∷ others) (new ∷ news) = SpellsEntry asked new × SpellE
 pub data AsksFor : Edit → edits.Edit → Type 0 where
   set_field : (key field value : Text) (v : Value) → Spells value v → AsksFor (SetField key field value) (edits.SetField key field v)
   drop_field : (key field : Text) → AsksFor (DropField key field) (edits.DropField key field)
-  add_entry : (place : ℕ) (asked : NewEntry) (new : edits.NewEntry) → SpellsEntry asked new → AsksFor (AddEntry place asked) (edits.AddEntry place new)
+  add_entry : (position : ℕ) (asked : NewEntry) (new : edits.NewEntry) → SpellsEntry asked new → AsksFor (AddEntry position asked) (edits.AddEntry position new)
   add_many : (asked : List NewEntry) (news : List edits.NewEntry) → SpellEntries asked news → AsksFor (AddMany asked) (edits.AddMany news)
   remove_entry : (key : Text) → AsksFor (RemoveEntry key) (edits.RemoveEntry key)
-  move_entry : (key : Text) (place : ℕ) → AsksFor (MoveEntry key place) (edits.MoveEntry key place)
+  move_entry : (key : Text) (position : ℕ) → AsksFor (MoveEntry key position) (edits.MoveEntry key position)
   rename_key : (from to : Text) → AsksFor (RenameKey from to) (edits.RenameKey from to)
   regenerate_keys : AsksFor RegenerateKeys (edits.RegenerateKeys default_depth)
   rename_macro : (from to : Text) → AsksFor (RenameMacro from to) (edits.RenameMacro from to)

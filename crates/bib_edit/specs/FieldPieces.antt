@@ -19,7 +19,7 @@ IsNamedItem file n = (key : Text) × OfReading file (λ db. item_named key db �
 abbrev pub row_text : Text → Text → Text
 row_text name value = codes ",\n  " ++ (name ++ (codes " = " ++ value))
 
--- the place behind the last value, or behind the key where there is no field
+-- the place after the last value, or after the key where there is no field
 abbrev pub rows_end : View → ℕ
 rows_end view = option_map_or field_end (last_or None view.fields) (view.key_at + length view.key)
 
@@ -40,6 +40,6 @@ OfItem file n P = OfReading file (λ db. (item : Item) → slice_get db.items n 
 abbrev pub cut_piece : ℕ → Text → Field → Piece
 cut_piece start body field = record { place = start + field.start; old = between field.start (field_end field) body; new = [] }
 
--- without the row, the closing parenthesis would stand directly behind the key
+-- without the row, the closing parenthesis would stand directly after the key
 abbrev pub joins_key : View → Field → Bool
 joins_key view field = (field.start == view.key_at + length view.key) && bytes_eq (drop (field_end field) view.body) (close_paren ∷ [])

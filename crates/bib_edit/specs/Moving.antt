@@ -12,18 +12,18 @@ use Rattle.bib_edit.specs.Removal.{body_at, removal_of}
 
 -- the item before which it stands, counted with the moved one still there
 abbrev pub seat : ℕ → ℕ → ℕ
-seat n place = if nat_lt place n then place else place + 1
+seat n position = if nat_lt position n then position else position + 1
 
 -- an item's body, in a line of its own
 abbrev pub line_of : Reading → ℕ → Text
 line_of db n = body_at db.items n ++ line_end
 
--- the body of item n goes, and is put before item `place` of what remains
+-- the body of item n goes, and is put before item `position` of what remains
 abbrev pub moved_pieces : Reading → ℕ → ℕ → List Piece
-moved_pieces db n place =
-    if nat_lt place n
-    then insertion_of db place (line_of db n) ∷ removal_of db n ∷ []
-    else removal_of db n ∷ insertion_of db (place + 1) (line_of db n) ∷ []
+moved_pieces db n position =
+    if nat_lt position n
+    then insertion_of db position (line_of db n) ∷ removal_of db n ∷ []
+    else removal_of db n ∷ insertion_of db (position + 1) (line_of db n) ∷ []
 
 -- each field has a value
 abbrev pub FieldsHaveValues : List Field → Type 0

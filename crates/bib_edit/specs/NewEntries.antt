@@ -56,18 +56,18 @@ abbrev pub line_before_close : List (Text × Text) → Text
 line_before_close [] = []
 line_before_close (field ∷ fields) = codes "\n"
 
--- an entry as it is written, with the line's end behind it
+-- an entry as it is written, with the line's end after it
 abbrev pub entry_text : NewEntry → Text
 entry_text new = codes "@" ++ new.kind_name ++ codes "{" ++ new.key ++ lines_of new.fields ++ line_before_close new.fields ++ codes "}\n"
 
--- the entry's key, names, type and values are such
+-- the entry's key, names, type and values are valid
 pub record IsGoodEntry (new : NewEntry) : Type 0 where
   pub key : is_new_key new.key ≡ true
   pub names : list_all is_name (names_of new.fields) ≡ true
   pub kind : is_type new.kind_name ≡ true
   pub values : HaveValues new.fields
 
--- the first of these that is none such, or memory was refused
+-- the first of these that is not valid, or memory was refused
 abbrev pub IsEntryFault : NewEntry → EditFault → Type 0
 IsEntryFault new BadKey = is_new_key new.key ≡ false
 IsEntryFault new BadName = (is_new_key new.key ≡ true) × ((list_all is_name (names_of new.fields) && is_type new.kind_name) ≡ false)
@@ -75,6 +75,6 @@ IsEntryFault new BadValue = (is_new_key new.key ≡ true) × ((list_all is_name 
 IsEntryFault new Memory = Unit {0}
 IsEntryFault new other = ⊥
 
--- the entry is put in before item n, or behind the last
+-- the entry is put in before item n, or after the last
 abbrev pub insertion_of : Reading → ℕ → Text → Piece
 insertion_of db n text = record { place = start_of db n; old = []; new = text }

@@ -15,22 +15,22 @@ use bib_scan::{Seq, one_reading};
 use bib_store::{Database, ItemList, Piece};
 use std::alloc::Global;
 
-/// The piece that puts this entry before item `place`, or the first reason against it. It takes time and memory in the
-/// length of the entry. A dangling crossref may have waited for the key: then the entry is its target from now on.
+/// The piece that puts this entry before item `position`, or the first reason against it. It takes time and memory in
+/// the length of the entry. A dangling crossref may have waited for the key: then the entry is its target from now on.
 pub(crate) fn add_entry<L: ItemList>(
     alloc: Global,
     db: &Database<L>,
-    place: usize,
+    position: usize,
     entry: &NewEntry,
 ) -> Result<Seq<Piece>, EditFault>
-    ensures pieces { IfOk result (ArePiecesOf db.now (AddEntry place entry.now)) }
-    ensures allowed { OnOk result (IsAllowedEdit db.now (AddEntry place entry.now)) }
-    ensures refused { IfErr result (IsRefusal db.now (AddEntry place entry.now)) }
+    ensures pieces { IfOk result (ArePiecesOf db.now (AddEntry position entry.now)) }
+    ensures allowed { OnOk result (IsAllowedEdit db.now (AddEntry position entry.now)) }
+    ensures refused { IfErr result (IsRefusal db.now (AddEntry position entry.now)) }
 {
     db.opens();
     one_reading();
     judge_entry(alloc, entry)?;
-    if place > db.item_count() {
+    if position > db.item_count() {
         return Err(EditFault::BadPosition);
     }
     if has_same_name(alloc, entry.fields.as_slice())? {
@@ -43,8 +43,8 @@ pub(crate) fn add_entry<L: ItemList>(
     if is_file_too_long(db, 0, text.as_slice().len()) {
         return Err(EditFault::FileTooLong);
     }
-    if is_any_long(alloc, db, place, entry.fields.as_slice())? {
+    if is_any_long(alloc, db, position, entry.fields.as_slice())? {
         return Err(EditFault::TextTooLong);
     }
-    one_piece(alloc, insertion_of(alloc, db, place, text))
+    one_piece(alloc, insertion_of(alloc, db, position, text))
 }

@@ -54,7 +54,7 @@ pub(crate) fn drop_field<L: ItemList>(
     one_piece(alloc, piece)
 }
 
-/// Whether the closing parenthesis stands directly behind the key once the row is gone.
+/// Whether the closing parenthesis stands directly after the key once the row is gone.
 fn joins_key(view: &ItemView<'_>, row: FieldView<'_>) -> bool
     requires end { field_end (field_seen row) ≤ length view.now.body }
     requires key { view.now.key_at + length view.now.key < 2 ^ 64 }

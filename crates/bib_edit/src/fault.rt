@@ -9,16 +9,16 @@ use thiserror::Error;
 /// Why an edit is refused, in the order in which the reasons are tried. A refusal changes nothing.
 #[derive(Clone, Copy, Debug, PartialEq, Eq, Error)]
 pub enum EditFault {
-    /// A new key is none: it has 1 to 255 bytes above 0x20, and none of 0x7F, `,`, `{` and `}`.
+    /// A new key is not valid: it has 1 to 255 bytes above 0x20, and none of 0x7F, `,`, `{` and `}`.
     #[error("31 BadKey")]
     BadKey,
-    /// A name of a field or a macro is none, or a type.
+    /// The name of a field or a macro is not valid, or a type is not.
     #[error("32 BadName")]
     BadName,
-    /// A value is none, or the braces of an introduced text don't match.
+    /// A value is not valid, or the braces of an introduced text don't match.
     #[error("33 BadValue")]
     BadValue,
-    /// There is no item at this place, and it is not the end.
+    /// There is no item at this position, and it is not the end.
     #[error("34 BadPosition")]
     BadPosition,
     /// The key, the field or the definition isn't there.
@@ -36,7 +36,7 @@ pub enum EditFault {
     /// The crossref of another entry names the entry.
     #[error("39 Referred")]
     Referred,
-    /// The text that a removal joins would begin an item, or a key would go on.
+    /// The text that a removal joins would begin an item, or a closing parenthesis would become part of a key.
     #[error("40 WouldMerge")]
     WouldMerge,
     /// The file would be longer than 16,777,216 bytes.

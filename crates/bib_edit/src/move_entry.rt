@@ -7,27 +7,27 @@ ghost use Rattle.bib_data.specs.declared.edit.Edit.TheVariants.{MoveEntry};
 use crate::address::lone_entry;
 use crate::fault::EditFault;
 use crate::limits::is_file_too_long;
-use crate::moving::{is_field_long, last_place, moved_pieces, seat};
+use crate::moving::{is_field_long, last_position, moved_pieces, seat};
 use crate::taking_out::joins_cleanly;
 use bib_scan::{Seq, one_reading};
 use bib_store::{Database, ItemList, Piece};
 use std::alloc::Global;
 
-/// The pieces that take this entry's body out and put it before item `place` of what remains, in a line of its own, or
+/// The pieces that take this entry's body out and put it before item `position` of what remains, in a line of its own, or
 /// the first reason against it. It takes time and memory in the length of the entry and of the texts beside it.
 pub(crate) fn move_entry<L: ItemList>(
     alloc: Global,
     db: &Database<L>,
     key: &[u8],
-    place: usize,
+    position: usize,
 ) -> Result<Seq<Piece>, EditFault>
-    ensures pieces { IfOk result (ArePiecesOf db.now (MoveEntry key.now place)) }
-    ensures allowed { OnOk result (IsAllowedEdit db.now (MoveEntry key.now place)) }
-    ensures refused { IfErr result (IsRefusal db.now (MoveEntry key.now place)) }
+    ensures pieces { IfOk result (ArePiecesOf db.now (MoveEntry key.now position)) }
+    ensures allowed { OnOk result (IsAllowedEdit db.now (MoveEntry key.now position)) }
+    ensures refused { IfErr result (IsRefusal db.now (MoveEntry key.now position)) }
 {
     db.opens();
     one_reading();
-    if place > last_place(db, key) {
+    if position > last_position(db, key) {
         return Err(EditFault::BadPosition);
     }
     let n = lone_entry(db, key)?;
@@ -38,8 +38,8 @@ pub(crate) fn move_entry<L: ItemList>(
     if is_file_too_long(db, 0, 1) {
         return Err(EditFault::FileTooLong);
     }
-    if is_field_long(alloc, db, seat(db, n, place), db.item(n).fields())? {
+    if is_field_long(alloc, db, seat(db, n, position), db.item(n).fields())? {
         return Err(EditFault::TextTooLong);
     }
-    moved_pieces(alloc, db, n, place)
+    moved_pieces(alloc, db, n, position)
 }

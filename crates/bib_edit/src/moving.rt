@@ -1,7 +1,7 @@
 //! The body of an item goes, and stands elsewhere in a line of its own.
 
 ghost use Rattle.std.specs.Prelude.{◌≡◌, [], ◌∷◌, IfOk, IfErr};
-ghost use Rattle.edit_spec.specs.Edits.{MoveEntry, last_place};
+ghost use Rattle.edit_spec.specs.Edits.{MoveEntry, last_position};
 ghost use Rattle.bib_store.specs.Meaning.{OfReading, IsItemNumber, IsItemPlace};
 ghost use Rattle.bib_edit.specs.Moving.{seat, line_of, moved_pieces, FieldsHaveValues, IsFieldLong};
 ghost use Rattle.bib_edit.specs.declared.fault.EditFault.TheVariants.{Memory};
@@ -15,9 +15,9 @@ use bib_scan::{Fields, Seq, Text};
 use bib_store::{Database, ItemList, Piece};
 use std::alloc::{AllocError, Global};
 
-/// The highest place before which a moved entry can stand: where the key is there, its entry is not counted.
-pub(crate) fn last_place<L: ItemList>(db: &Database<L>, key: &[u8]) -> usize
-    ensures { OfReading db.now (λ r. result ≡ last_place r (MoveEntry key.now 0)) }
+/// The highest position before which a moved entry can stand: where the key is there, its entry is not counted.
+pub(crate) fn last_position<L: ItemList>(db: &Database<L>, key: &[u8]) -> usize
+    ensures { OfReading db.now (λ r. result ≡ last_position r (MoveEntry key.now 0)) }
 {
     match db.find(key) {
         Ok(_) => db.item_count().saturating_sub(1),
@@ -26,14 +26,14 @@ pub(crate) fn last_place<L: ItemList>(db: &Database<L>, key: &[u8]) -> usize
 }
 
 /// The number of the item before which item `n` stands once it is moved, counted with item `n` where it was.
-pub(crate) fn seat<L: ItemList>(db: &Database<L>, n: usize, place: usize) -> usize
-    requires { IsItemNumber db.now place }
-    ensures { result ≡ seat n place }
+pub(crate) fn seat<L: ItemList>(db: &Database<L>, n: usize, position: usize) -> usize
+    requires { IsItemNumber db.now position }
+    ensures { result ≡ seat n position }
 {
-    // A place below the count of the items can grow by one.
+    // A position below the count of the items can grow by one.
     db.opens();
     let _ = db.item_count();
-    if place < n { place } else { place + 1 }
+    if position < n { position } else { position + 1 }
 }
 
 /// The body of item `n`, in a line of its own.
@@ -57,22 +57,22 @@ fn two_pieces(alloc: Global, first: Piece, second: Piece) -> Result<Seq<Piece>, 
     Ok(Seq::from_vec(pieces))
 }
 
-/// The pieces that take the body of item `n` out and put it before item `place` of what remains.
+/// The pieces that take the body of item `n` out and put it before item `position` of what remains.
 pub(crate) fn moved_pieces<L: ItemList>(
     alloc: Global,
     db: &Database<L>,
     n: usize,
-    place: usize,
+    position: usize,
 ) -> Result<Seq<Piece>, EditFault>
     requires number { IsItemNumber db.now n }
-    requires place { IsItemNumber db.now place }
-    ensures pieces { IfOk result (λ pieces. OfReading db.now (λ r. pieces ≡ moved_pieces r n place)) }
+    requires position { IsItemNumber db.now position }
+    ensures pieces { IfOk result (λ pieces. OfReading db.now (λ r. pieces ≡ moved_pieces r n position)) }
     ensures only { IfErr result (λ fault. fault ≡ Memory) }
 {
     let removal = removal_of(alloc, db, n)?;
     let line = line_of(alloc, db, n)?;
-    let insertion = insertion_of(alloc, db, seat(db, n, place), line);
-    if place < n {
+    let insertion = insertion_of(alloc, db, seat(db, n, position), line);
+    if position < n {
         return two_pieces(alloc, insertion, removal);
     }
     two_pieces(alloc, removal, insertion)

@@ -28,7 +28,7 @@ pub(crate) fn are_named(fields: &[(Text, Text)]) -> bool
     true
 }
 
-/// Refuses a field whose value is none.
+/// Refuses a field whose value is not valid.
 pub(crate) fn judge_values(alloc: Global, fields: &[(Text, Text)]) -> Result<(), EditFault>
     ensures values { OnOk result (HaveValues fields.now) }
     ensures refused { IfErr result (IsFieldFault fields.now) }

@@ -44,10 +44,10 @@ pub fn plan<L: ItemList>(
         Edit::DropField { key, field } => {
             drop_field(alloc, db, key.as_slice(), field.as_slice())
         }
-        Edit::AddEntry { place, entry } => add_entry(alloc, db, *place, entry),
+        Edit::AddEntry { position, entry } => add_entry(alloc, db, *position, entry),
         Edit::AddMany { entries } => add_many(alloc, db, entries.as_slice()),
         Edit::RemoveEntry { key } => remove_entry(alloc, db, key.as_slice()),
-        Edit::MoveEntry { key, place } => move_entry(alloc, db, key.as_slice(), *place),
+        Edit::MoveEntry { key, position } => move_entry(alloc, db, key.as_slice(), *position),
         Edit::RenameKey { from, to } => rename_key(alloc, db, from.as_slice(), to.as_slice()),
         Edit::RegenerateKeys => regenerate_keys(alloc, db),
         Edit::RenameMacro { from, to } => {

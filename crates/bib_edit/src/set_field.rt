@@ -75,7 +75,7 @@ fn setting<L: ItemList>(
     }
 }
 
-/// The place in the body behind the last value, or behind the key where there is no field.
+/// The place in the body after the last value, or after the key where there is no field.
 fn rows_end(view: &ItemView<'_>) -> usize
     requires { rows_end view.now < 2 ^ 64 }
     ensures { result ≡ rows_end view.now }

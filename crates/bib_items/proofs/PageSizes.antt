@@ -56,8 +56,8 @@ room_before {X} pages n p k full gap low =
     let len : length (page_at (parted_at 32 p pages) p) ≡ 32 = ap (length {A = X}) (are_parted pages p 32 gap.page).first ∙ length-take-le 32 (page_at pages p) (omega arith) in
     record { gap = gap_before pages n p k 32 (omega arith) gap low; room = omega arith }
 
-pub room_behind : {X : Type 0} (pages : List (List X)) (n p k : ℕ) → ArePages pages → 64 ≤ length (page_at pages p) → IsGap pages n p k → 32 < k → IsRoom (parted_at 32 p pages) n (p + 1) (k - 32)
-room_behind {X} pages n p k all full gap high =
+pub room_after : {X : Type 0} (pages : List (List X)) (n p k : ℕ) → ArePages pages → 64 ≤ length (page_at pages p) → IsGap pages n p k → 32 < k → IsRoom (parted_at 32 p pages) n (p + 1) (k - 32)
+room_after {X} pages n p k all full gap high =
     let is_page : IsPage (page_at pages p) = (around pages p all gap.page).page in
     let small : length (page_at pages p) ≤ 64 = is_page.within in
     let len : length (page_at (parted_at 32 p pages) (p + 1)) ≡ length (page_at pages p) - 32 = ap (length {A = X}) (are_parted pages p 32 gap.page).second ∙ length-drop 32 (page_at pages p) in

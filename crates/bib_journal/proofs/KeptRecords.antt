@@ -52,10 +52,10 @@ made-keeps (IntroduceMacro name text) db db' allowed is =
     (introduce-macro-keeps made_base db name text (allowed (edits.IntroduceMacro name text) (introduce_macro name text)))
 made-keeps (SetField key field value) db db' allowed is = tt
 made-keeps (DropField key field) db db' allowed is = tt
-made-keeps (AddEntry place entry) db db' allowed is = tt
+made-keeps (AddEntry position entry) db db' allowed is = tt
 made-keeps (AddMany entries) db db' allowed is = tt
 made-keeps (RemoveEntry key) db db' allowed is = tt
-made-keeps (MoveEntry key place) db db' allowed is = tt
+made-keeps (MoveEntry key position) db db' allowed is = tt
 
 pub edit-keeps : edit_keeps
 edit-keeps = of-made Keeps made-keeps
@@ -114,10 +114,10 @@ renaming-texts (InlineMacro name) is old new keeps = keeps-texts no_new_key old 
 renaming-texts (IntroduceMacro name text) is old new keeps = keeps-texts no_new_key old new keeps.0
 renaming-texts (SetField key field value) is old new keeps = absurd (false≢true is)
 renaming-texts (DropField key field) is old new keeps = absurd (false≢true is)
-renaming-texts (AddEntry place entry) is old new keeps = absurd (false≢true is)
+renaming-texts (AddEntry position entry) is old new keeps = absurd (false≢true is)
 renaming-texts (AddMany entries) is old new keeps = absurd (false≢true is)
 renaming-texts (RemoveEntry key) is old new keeps = absurd (false≢true is)
-renaming-texts (MoveEntry key place) is old new keeps = absurd (false≢true is)
+renaming-texts (MoveEntry key position) is old new keeps = absurd (false≢true is)
 
 texts-stay : (db : Reading) → KeepsTexts db db
 texts-stay db = record { count = refl; records = λ _ _. refl; parents = λ _. refl; preambles = refl }

@@ -7,7 +7,7 @@ use Rattle.edit_spec.specs.Edits as edits
 use Rattle.edit_spec.specs.Edits.{edited, IsAccepted}
 use Rattle.edit_spec.specs.OtherLaws.{KeepsOthers, same_number}
 use Rattle.edit_spec.proofs.OtherEntries.{add_entry-keeps_others, remove_entry-keeps_others}
-use Rattle.edit_spec.proofs.AddedBehind.{add_many-keeps_others}
+use Rattle.edit_spec.proofs.AddedAfter.{add_many-keeps_others}
 use Rattle.bib_data.specs.declared.edit.Edit.{Edit}
 use Rattle.bib_data.specs.declared.edit.Edit.TheVariants.{SetField, DropField, AddEntry, AddMany, RemoveEntry, MoveEntry, RenameKey, RegenerateKeys, RenameMacro, InlineMacro, IntroduceMacro}
 use Rattle.bib_edit.specs.Asking.{OfEdit, made_base, add_entry, add_many, remove_entry}
@@ -17,12 +17,12 @@ use Rattle.bib_journal.specs.OtherEntries.{NoneWaits, KeepsOtherEntries, others_
 use Rattle.bib_journal.proofs.MadeFiles.{of-made}
 
 made-others : (edit : Edit) (db db' : Reading) → OfEdit edit (IsAccepted made_base db) → OfEdit edit (λ e. db' ≡ edited made_base db e) → KeepsOtherEntries edit db db'
-made-others (AddEntry place entry) db db' allowed is =
+made-others (AddEntry position entry) db db' allowed is =
     let new = spelled_entry entry in
-    let e : edits.Edit = edits.AddEntry place new.0 in
-    let asks = add_entry place entry new.0 new.1 in
-    subst (KeepsOtherEntries (AddEntry place entry) db) (sym (is e asks))
-    (λ none. add_entry-keeps_others made_base db place new.0 (allowed e asks) (subst (λ (key : Text). NoneWaits db (key ∷ [])) (sym new.1.key) none))
+    let e : edits.Edit = edits.AddEntry position new.0 in
+    let asks = add_entry position entry new.0 new.1 in
+    subst (KeepsOtherEntries (AddEntry position entry) db) (sym (is e asks))
+    (λ none. add_entry-keeps_others made_base db position new.0 (allowed e asks) (subst (λ (key : Text). NoneWaits db (key ∷ [])) (sym new.1.key) none))
 made-others (AddMany entries) db db' allowed is =
     let news = spelled_entries entries in
     let e : edits.Edit = edits.AddMany news.0 in
@@ -36,7 +36,7 @@ made-others (RemoveEntry key) db db' allowed is =
     (remove_entry-keeps_others made_base db key (allowed (edits.RemoveEntry key) (remove_entry key)))
 made-others (SetField key field value) db db' allowed is = tt
 made-others (DropField key field) db db' allowed is = tt
-made-others (MoveEntry key place) db db' allowed is = tt
+made-others (MoveEntry key position) db db' allowed is = tt
 made-others (RenameKey from to) db db' allowed is = tt
 made-others RegenerateKeys db db' allowed is = tt
 made-others (RenameMacro from to) db db' allowed is = tt

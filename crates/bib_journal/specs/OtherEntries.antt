@@ -19,7 +19,7 @@ NoneWaits db keys = list_any (is_awaited db) keys ≡ false
 -- preamble. Entries that are added after all others leave each its number. No dangling crossref may wait for an added key.
 -- Of other edits nothing is said here.
 abbrev pub KeepsOtherEntries : Edit → Reading → Reading → Type 0
-KeepsOtherEntries (AddEntry place entry) old new = NoneWaits old (entry.key ∷ []) → KeepsOthers (number_with_one_more (entries_before place old)) 1 old new
+KeepsOtherEntries (AddEntry position entry) old new = NoneWaits old (entry.key ∷ []) → KeepsOthers (number_with_one_more (entries_before position old)) 1 old new
 KeepsOtherEntries (AddMany entries) old new = NoneWaits old (map (λ entry. entry.key) entries) → KeepsOthers same_number (length entries) old new
 KeepsOtherEntries (RemoveEntry key) old new = (i : ℕ) × (entry_named (entries_of old) key ≡ Some i) × KeepsOthers (number_with_one_more i) 1 new old
 KeepsOtherEntries other old new = Unit {0}

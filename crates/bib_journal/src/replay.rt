@@ -59,7 +59,7 @@ fn go_back_over<L: ItemList>(
     Ok(true)
 }
 
-/// Goes on over steps, the first first, if they lead on from this file.
+/// Makes the steps one after another, if they lead on from this file.
 fn go_on_over<L: ItemList>(db: &mut Database<L>, steps: &[Seq<Piece>]) -> Result<bool, AllocError>
     ensures yes { IfOk result (λ yes. IsTrue yes ↔ LeadOn steps.now db.old) }
     ensures on { IfOk result (λ yes. IsTrue yes → db.new ≡ last_of steps.now db.old) }

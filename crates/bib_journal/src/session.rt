@@ -10,7 +10,7 @@ ghost use Rattle.bib_journal.specs.Session.{started, MakesEdit, Opens, RefusesSt
 use crate::fault::{SessionFault, refused, unopened};
 use crate::loading::said_of;
 use crate::saving::{Saved, journal_of};
-use crate::stepping::{go_back, go_on, put};
+use crate::stepping::{go_back, go_on, push_within_capacity};
 use bib_edit::{Edit, plan};
 use bib_scan::{Seq, Text};
 use bib_store::{Database, ItemList, Piece};
@@ -140,7 +140,7 @@ impl<L: ItemList> Session<L> {
         }
         self.past.reserve(1)?;
         go_on(&mut self.database, pieces.as_slice())?;
-        put(&mut self.past, pieces);
+        push_within_capacity(&mut self.past, pieces);
         self.past_len = len;
         self.undone.clear();
         Ok(())
@@ -161,7 +161,7 @@ impl<L: ItemList> Session<L> {
             unreachable!()
         };
         self.past_len -= step_text_len(step.as_slice());
-        put(&mut self.undone, step);
+        push_within_capacity(&mut self.undone, step);
         Ok(())
     }
 
@@ -180,7 +180,7 @@ impl<L: ItemList> Session<L> {
             unreachable!()
         };
         self.past_len += step_text_len(step.as_slice());
-        put(&mut self.past, step);
+        push_within_capacity(&mut self.past, step);
         Ok(())
     }
 

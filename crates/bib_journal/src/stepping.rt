@@ -7,8 +7,8 @@ ghost use Rattle.edit_spec.specs.Steps.{IsAllowed, Leads, before};
 use bib_store::{Database, ItemList, Piece, StoreFault, reverse};
 use std::alloc::{AllocError, Global};
 
-/// Puts an item behind others, where there is room.
-pub(crate) fn put<T: Drop>(items: &mut Vec<T>, item: T)
+/// Adds an item at the end, where there is room.
+pub(crate) fn push_within_capacity<T: Drop>(items: &mut Vec<T>, item: T)
     requires { vec_len items.old < vec_capacity items.old }
     ensures items { items.new.items ≡ items.old.items ++ item ∷ [] }
     ensures len { vec_len items.new ≡ vec_len items.old + 1 }

@@ -16,7 +16,7 @@ use Rattle.bib_names.proofs.PlaceLemmas.{places_here, places_past, places_none}
 pub commas_whole : (text : Text) → commas text ≡ commas_from text 0
 commas_whole text = let whole : length text ≡ length text - 0 = omega arith in ap (places_from (is_comma text) 0) whole
 
--- behind a comma at depth 0 the depth is 0
+-- after a comma at depth 0 the depth is 0
 pub level_behind : (text : Text) (place : ℕ) → place < length text → is_level text place ≡ true → get_or text place 0 ≡ 44 → is_level text (place + 1) ≡ true
 level_behind text place lt level is =
     let here = eqb-true (opened_before text place) (closed_before text place) level in

@@ -1,15 +1,20 @@
+-- ---- tests, places and braces
 pub mod BoolLemmas
-pub mod BraceLemmas
 pub mod PlaceLemmas
+pub mod BraceLemmas
+pub mod BalanceLaws
+-- ---- text characters
+pub mod SpecialLemmas
+pub mod CharLemmas
+pub mod CaseLemmas
+-- ---- names
 pub mod NameListLemmas
 pub mod WordLemmas
 pub mod CommaLemmas
-pub mod SpecialLemmas
-pub mod CaseLemmas
-pub mod CharLemmas
+-- ---- templates
 pub mod OutputLemmas
 pub mod PrintLemmas
 pub mod TemplateLaws
-pub mod BalanceLaws
-pub mod MadeKeyLaws
+-- ---- labels and made keys
 pub mod LabelLaws
+pub mod MadeKeyLaws

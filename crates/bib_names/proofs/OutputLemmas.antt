@@ -1,4 +1,4 @@
--- What is known of an output, whatever is put behind it.
+-- What is known of an output, whatever is put after it.
 use Rattle.std.proofs.Common.{◌≡◌, ◌∙◌, ℕ, zero, suc, ◌+◌, ◌-◌, ◌≤◌, ◌<◌, Bool, true, false, cond, eqb, List, [], ◌∷◌, ◌++◌, length, take, get_or, filter, refl, sym, ap, arith, append_assoc, append-nil, add-zero}
 use Rattle.std.specs.Prelude.{◌&&◌, ◌||◌, not, count_by}
 use Rattle.std.specs.List.{range_with_len, prefix_len}
@@ -130,7 +130,7 @@ known_long text n many known =
 pub no_output : IsOutput [] 0 0 0
 no_output = record { braces = record { opening = refl; closing = refl; few_opening = omega arith; few_closing = omega arith }; known = none_known }
 
--- the count over a text with another behind it
+-- the count over a text with another after it
 count_whole : (test : ℕ → Bool) (text x : Text) (n : ℕ) → n ≡ count_by test (take (length text) text) → n + count_by test x ≡ count_by test (take (length (text ++ x)) (text ++ x))
 count_whole test text x n is =
     ap (λ k. k + count_by test x) (is ∙ ap (count_by test) (take_all (length text) text (omega arith)))

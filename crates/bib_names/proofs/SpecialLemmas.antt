@@ -14,7 +14,7 @@ use Rattle.bib_names.proofs.BoolLemmas.{both}
 use Rattle.bib_names.proofs.BraceLemmas.{one_if, opened_more, closed_more}
 use Rattle.bib_names.proofs.PlaceLemmas.{run_to, run_to_end}
 
--- the places behind the brace, up to this one, are not level
+-- the places after the brace, up to this one, are not level
 abbrev pub NoneLevel : Text → ℕ → ℕ → Type 0
 NoneLevel text place last = (p : ℕ) → place < p → p ≤ last → is_level text p ≡ false
 
@@ -43,7 +43,7 @@ pub group_missing : (text : Text) (place last : ℕ) → place < length text →
 group_missing text place last low high none =
     ap (is_level text) (next_level_end text place low (λ p l h. none p l (omega arith))) ∙ none (length text) low high
 
--- behind an opening brace the depth is 1, and so it is behind a backslash there
+-- after an opening brace the depth is 1, and so it is after a backslash there
 opening_deep : (text : Text) (place end : ℕ) → place < end → end ≤ length text → is_level text place ≡ true → is_opening text place ≡ true → is_level text end ≡ true → place + 2 < end
 opening_deep text place end low high level opening closed =
     let bytes = both (eqb (get_or text place 0) 123) (eqb (get_or text (place + 1) 0) 92) opening in

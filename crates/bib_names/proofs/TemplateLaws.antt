@@ -130,17 +130,17 @@ between_at-found (first ∷ rest) b e = go (eqb first 123) refl e
 
 -- ---- a group that was found
 
--- the group is one of the grammar, and what follows it ended the text behind it
+-- the group is one of the grammar, and what follows it ended the text after it
 pub record IsFound (inside : Text) (g : Group) (rest : Text) : Type 0 where
   pub group : IsGroup g
   pub spelled : inside ≡ group_inside g ++ rest
   pub stops : does_not_begin_with is_no_brace rest ≡ true
 
-found_behind : (pre post behind : Text) (l : Part × Form × Text) (b : Option Text × Text) (inside : Text) → list_all is_ornament pre ≡ true → list_all is_ornament post ≡ true
+found_after : (pre post behind : Text) (l : Part × Form × Text) (b : Option Text × Text) (inside : Text) → list_all is_ornament pre ≡ true → list_all is_ornament post ≡ true
     → inside ≡ pre ++ (letters_of l.0 l.1 ++ l.2) → AreBetween l.2 b → b.1 ≡ post ++ 125 ∷ behind
     → IsFound inside (record { pre = pre; part = l.0; form = l.1; between = b.0; post = post; trail = take_while is_no_brace behind }) (after_run is_no_brace behind)
 unfolding AreBetween
-found_behind pre post behind l b inside pre_is post_is whole in_between rest =
+found_after pre post behind l b inside pre_is post_is whole in_between rest =
     let trail = take_while is_no_brace behind in
     let more = after_run is_no_brace behind in
     let apart : pre ++ (letters_of l.0 l.1 ++ (between_bytes b.0 ++ (post ++ (125 ∷ (trail ++ more))))) ≡ (pre ++ (letters_of l.0 l.1 ++ (between_bytes b.0 ++ (post ++ (125 ∷ trail))))) ++ more = simp append_assoc in
@@ -158,7 +158,7 @@ closed_found inside pre l b g rest pre_is whole in_between e =
     let closed = map_some (λ behind. (record { pre = pre; part = l.0; form = l.1; between = b.0; post = post; trail = take_while is_no_brace behind }, after_run is_no_brace behind)) (after_byte 125 t) (g, rest) e in
     let there : b.1 ≡ post ++ 125 ∷ closed.0 = run_whole is_ornament b.1 ∙ ap (λ u. post ++ u) (after_byte-found 125 t closed.0 closed.1) in
     subst (λ (p : Group × Text). IsFound inside p.0 p.1) closed.2
-    (found_behind pre post closed.0 l b inside pre_is (run_passes is_ornament b.1) whole in_between there)
+    (found_after pre post closed.0 l b inside pre_is (run_passes is_ornament b.1) whole in_between there)
 
 pub group_at-found : (inside : Text) (g : Group) (rest : Text) → group_at inside ≡ Some (g, rest) → IsFound inside g rest
 group_at-found inside g rest e =
@@ -203,7 +203,7 @@ letters_stop : (part : Part) (form : Form) (t : Text) → does_not_begin_with is
 letters_stop part Initials t = ap not (letter_no_ornament part)
 letters_stop part Words t = ap not (letter_no_ornament part)
 
--- behind the letters stands no letter
+-- after the letters stands no letter
 ornament_behind : (post t : Text) → list_all is_ornament post ≡ true → does_not_begin_with is_ascii_alphabetic (post ++ 125 ∷ t) ≡ true
 ornament_behind [] t all = refl
 ornament_behind (x ∷ xs) t all = ap not (ornament_no_letter x (both (is_ornament x) (list_all is_ornament xs) all).0)

@@ -46,13 +46,13 @@ run_here text place lt none =
     let e : place ≡ suc (place - 1) = omega arith in
     ap (run_start text) e ∙ ap (λ b. cond b (run_start text (place - 1)) (suc (place - 1))) none ∙ sym e
 
--- behind a gap a word may begin
+-- after a gap a word may begin
 front_behind : (text : Text) (place : ℕ) → is_gap text place ≡ true → (eqb (place + 1) 0 || is_gap text (place + 1 - 1)) ≡ true
 front_behind text place gap =
     let e : place + 1 - 1 ≡ place = omega arith in
     ap (λ b. b || is_gap text (place + 1 - 1)) (ne_eqb (place + 1) 0 (λ i. omega arith)) ∙ ap (is_gap text) e ∙ gap
 
--- a gap right behind another, or at the front
+-- a gap directly after another, or at the front
 pub words_gap : (at : ℕ) (text : Text) (words : List NameWord) (start sep place : ℕ) → place < length text → AreWordsSoFar at text words start sep place → start ≡ place → is_gap text place ≡ true → AreWordsSoFar at text words (place + 1) sep (place + 1)
 words_gap at text words start sep place lt far is gap =
     let past : begins_word text place ≡ false = ap (λ g. not g && (eqb place 0 || is_gap text (place - 1))) gap in
@@ -83,7 +83,7 @@ word_is at text start sep end sep_is end_is =
     ap (λ (e : ℕ). record { sep = sep_before text start; at = at + start; text = slice_range text start e }) end_is
     ∙ ap (λ (s : ℕ). record { sep = s; at = at + start; text = slice_range text start end }) (sym sep_is)
 
--- a gap behind a word
+-- a gap after a word
 pub words_end : (at : ℕ) (text : Text) (words : List NameWord) (start sep place : ℕ) → place < length text → AreWordsSoFar at text words start sep place → start < place → is_gap text place ≡ true
     → AreWordsSoFar at text (words ++ record { sep = sep; at = at + start; text = slice_range text start place } ∷ []) (place + 1) (kept_separator (get_or text place 0)) (place + 1)
 words_end at text words start sep place lt far before gap =

@@ -31,7 +31,7 @@ abbrev pub first_letter_is_lower : Text → Bool
 first_letter_is_lower text = option_map_or is_ascii_lowercase (find is_ascii_alphabetic text) false
 
 -- A special character is lower case, given what stands between its backslash and its last brace: its control sequence
--- prints such a letter, or prints none of these and the first letter behind it is one. (btxhak 5.4)
+-- prints such a letter, or prints none of these and the first letter after it is one. (btxhak 5.4)
 abbrev pub is_lower_special : Text → Bool
 is_lower_special inside =
     let sequence = take (sequence_len inside) inside in

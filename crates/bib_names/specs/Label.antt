@@ -119,7 +119,7 @@ abbrev pub count_of : Text → List Text → ℕ
 count_of base bases = count_by (bytes_eq base) bases
 
 -- the label of a base that stands so often in the list, and so often earlier: where it stands more than once, letters
--- behind it, a for the first of them, b for the second and so on
+-- after it, a for the first of them, b for the second and so on
 abbrev pub label_of : Text → ℕ → ℕ → Text
 label_of base count earlier = if nat_lt 1 count then candidate base (suc earlier) else base
 

@@ -26,6 +26,6 @@ is_dropped_at_end byte = is_separator byte || byte == comma
 abbrev pub is_brace : ℕ → Bool
 is_brace byte = byte == open_brace || byte == close_brace
 
--- a byte from 0x80 to 0xBF, which in UTF-8 goes on with the character before it (dialect)
+-- a byte from 0x80 to 0xBF, which in UTF-8 continues the character before it (dialect)
 abbrev pub goes_on : ℕ → Bool
 goes_on byte = nat_le 128 byte && nat_lt byte 192

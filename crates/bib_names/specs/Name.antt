@@ -29,7 +29,7 @@ is_free word = not (word.sep == hyphen)
 abbrev pub hyphened_start : List NameWord → ℕ
 hyphened_start words = up_to_last is_free words - 1
 
--- the parts where von is the words from s on up to e, with First before it and Last behind it
+-- the parts where von is the words from s on up to e, with First before it and Last after it
 abbrev pub cut_at : ℕ → ℕ → List NameWord → Name
 cut_at s e words = record { first = take s words; von = drop s (take e words); last = drop e words; jr = [] }
 

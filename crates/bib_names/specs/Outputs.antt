@@ -5,7 +5,7 @@ use Rattle.bib_names.specs.Places.{places_from}
 use Rattle.bib_names.specs.Special.{begins_char}
 use Rattle.bib_names.specs.Scanning.{AreBraces}
 
--- so many text characters or more begin in the text, whatever is put behind it
+-- so many text characters or more begin in the text, whatever is put after it
 abbrev pub AreKnown : Text → ℕ → Type 0
 AreKnown text count = (more : Text) → count ≤ length (places_from (begins_char (text ++ more)) 0 (length text))
 

@@ -42,7 +42,7 @@ abbrev pub shown : Form → Text → Text
 shown Words word = word
 shown Initials word = initial word
 
--- behind an initial a period, and behind a word that has none nothing (dialect)
+-- after an initial a period, and after a word that has none nothing (dialect)
 abbrev pub dot : Form → Text → Text
 dot Words shown = []
 dot Initials shown = if length shown == 0 then [] else period ∷ []
@@ -67,7 +67,7 @@ tied form out shown sep is_last =
 abbrev pub joined : Group → Text → Text → ℕ → Bool → Text
 joined g out shown sep is_last = option_map_or (λ between. out ++ between) g.between (tied g.form out shown sep is_last)
 
--- the output so far and these words behind it
+-- the output so far and these words after it
 abbrev pub printed_words : Group → Text → List NameWord → Text
 printed_words g out [] = out
 printed_words g out (word ∷ []) = out ++ shown g.form word.text
@@ -77,7 +77,7 @@ printed_words g out (word ∷ next ∷ more) =
 
 -- ---- groups
 
--- of two ties at the end one is dropped; one tie behind an output that is not short becomes a space (dialect)
+-- of two ties at the end one is dropped; one tie after an output that is not short becomes a space (dialect)
 abbrev pub finished : Text → Text
 finished out =
     let front = take (length out - 1) out in
@@ -97,7 +97,7 @@ part_of name Von = name.von
 part_of name Last = name.last
 part_of name Jr = name.jr
 
--- the print of a group, and the text behind it as it stands
+-- the print of a group, and the text after it as it stands
 abbrev pub printed_with_trail : Name → Group → Text
 printed_with_trail name g = printed_group g (part_of name g.part) ++ g.trail
 

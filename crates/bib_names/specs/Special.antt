@@ -6,7 +6,7 @@ use Rattle.bib_spec.specs.Text.{Text}
 use Rattle.bib_names.specs.Marks.{backslash, is_brace, goes_on}
 use Rattle.bib_names.specs.Places.{is_level, places}
 
--- the first place of depth 0 behind this one, or the end
+-- the first place of depth 0 after this one, or the end
 abbrev pub next_level : Text → ℕ → ℕ
 next_level text place =
     place + 1 + prefix_len (λ p. not (is_level text p)) (range_with_len (place + 1) (length text - (place + 1)))
@@ -21,7 +21,7 @@ abbrev pub begins_special : Text → ℕ → Bool
 begins_special text place =
     is_level text place && is_opening text place && is_level text (next_level text place)
 
--- the place lies in a special character, behind its first byte
+-- the place lies in a special character, after its first byte
 abbrev pub is_within_special : Text → ℕ → Bool
 is_within_special text place =
     list_any (λ front. begins_special text front && nat_lt place (next_level text front)) (range_with_len 0 place)
@@ -30,14 +30,14 @@ is_within_special text place =
 abbrev pub is_plain : ℕ → Bool
 is_plain byte = not (is_brace byte || goes_on byte)
 
--- the byte there goes on with the character before it (dialect)
+-- the byte there continues the character before it (dialect)
 abbrev pub is_joined : Text → ℕ → Bool
 is_joined text zero = false
 is_joined text (suc place) =
     goes_on (slice_index text (suc place)) && (is_plain (slice_index text place) || is_joined text place)
 
 -- A text character begins here: a special character, or outside of these a byte that is no brace (btxhak 5.3) and does
--- not go on with the character before it (dialect).
+-- not continue the character before it (dialect).
 abbrev pub begins_char : Text → ℕ → Bool
 begins_char text place =
     begins_special text place

@@ -11,7 +11,7 @@ use Rattle.bib_names.specs.declared.template.Form.{Form}
 use Rattle.bib_names.specs.declared.template.Form.TheVariants.{Initials, Words}
 use Rattle.bib_names.specs.declared.template.Group.{Group}
 
--- a template: the text before the first group, and groups, each with the text behind it
+-- a template: the text before the first group, and groups, each with the text after it
 pub record Pattern : Type 0 where
   pub front : Text
   pub groups : List Group
@@ -20,7 +20,7 @@ pub record Pattern : Type 0 where
 abbrev pub is_no_brace : ℕ → Bool
 is_no_brace byte = not (is_brace byte)
 
--- what may stand before and behind the letters of a group (dialect)
+-- what may stand before and after the letters of a group (dialect)
 abbrev pub is_ornament : ℕ → Bool
 is_ornament byte = is_no_brace byte && not (is_ascii_alphabetic byte)
 
@@ -40,14 +40,14 @@ abbrev pub between_bytes : Option Text → Text
 between_bytes None = []
 between_bytes (Some between) = open_brace ∷ between ++ close_brace ∷ []
 
--- what stands behind the opening brace of a group `{pre letters{between}post}`, and the text behind it (btxhak 5.4)
+-- what stands after the opening brace of a group `{pre letters{between}post}`, and the text after it (btxhak 5.4)
 abbrev pub group_inside : Group → Text
 group_inside g = g.pre ++ (letters_of g.part g.form ++ (between_bytes g.between ++ (g.post ++ (close_brace ∷ g.trail))))
 
 abbrev pub group_bytes : Group → Text
 group_bytes g = open_brace ∷ group_inside g
 
--- the bytes of a template: the text before the first group, and each group with the text behind it
+-- the bytes of a template: the text before the first group, and each group with the text after it
 abbrev pub spelling : Pattern → Text
 spelling t = t.front ++ flat_map group_bytes t.groups
 
@@ -55,7 +55,7 @@ abbrev pub is_between : Option Text → Bool
 is_between None = true
 is_between (Some between) = list_all is_no_brace between
 
--- no brace and no letter stands beside the letters, no brace between words and none behind the group (dialect)
+-- no brace and no letter stands beside the letters, no brace between words and none after the group (dialect)
 pub record IsGroup (g : Group) : Type 0 where
   pub pre : list_all is_ornament g.pre ≡ true
   pub between : is_between g.between ≡ true

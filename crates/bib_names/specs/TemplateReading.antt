@@ -10,7 +10,7 @@ use Rattle.bib_names.specs.declared.template.Form.{Form}
 use Rattle.bib_names.specs.declared.template.Form.TheVariants.{Initials, Words}
 use Rattle.bib_names.specs.declared.template.Group.{Group}
 
--- the text behind this byte
+-- the text after this byte
 abbrev pub after_byte : ℕ → Text → Option Text
 after_byte byte [] = None
 after_byte byte (first ∷ rest) = if first == byte then Some rest else None
@@ -24,7 +24,7 @@ part_named letter =
     else if letter == 106 then Some Jr
     else None
 
--- the form of a letter that stands before the text, and the text behind a second one
+-- the form of a letter that stands before the text, and the text after a second one
 abbrev pub form_at : Part → ℕ → Text → Part × Form × Text
 form_at part letter [] = (part, Initials, [])
 form_at part letter (next ∷ behind) = if next == letter then (part, Words, behind) else (part, Initials, next ∷ behind)
@@ -33,7 +33,7 @@ abbrev pub letters_at : Text → Option (Part × Form × Text)
 letters_at [] = None
 letters_at (letter ∷ rest) = option_map (λ part. form_at part letter rest) (part_named letter)
 
--- the text between words and the text behind it, if a brace closes it
+-- the text between words and the text after it, if a brace closes it
 abbrev pub between_inside : Text → Option (Option Text × Text)
 between_inside inside =
     option_map (λ behind. (Some (take_while is_no_brace inside), behind)) (after_byte close_brace (after_run is_no_brace inside))
@@ -42,7 +42,7 @@ abbrev pub between_at : Text → Option (Option Text × Text)
 between_at [] = Some (None, [])
 between_at (first ∷ rest) = if first == open_brace then between_inside rest else Some (None, first ∷ rest)
 
--- the group that ends with this text behind `post`, if a brace closes it, and the text behind that
+-- the group that ends with this text after `post`, if a brace closes it, and the text after that
 abbrev pub group_closed : Text → Part → Form → Option Text → Text → Text → Option (Group × Text)
 group_closed pre part form between post rest =
     option_map
@@ -60,6 +60,6 @@ group_after_letters pre letters = option_and_then (group_after_between pre lette
 abbrev pub group_after : Text → Text → Option (Group × Text)
 group_after pre rest = option_and_then (group_after_letters pre) (letters_at rest)
 
--- the group whose opening brace stands before the text, and the text behind the group
+-- the group whose opening brace stands before the text, and the text after the group
 abbrev pub group_at : Text → Option (Group × Text)
 group_at inside = group_after (take_while is_ornament inside) (after_run is_ornament inside)

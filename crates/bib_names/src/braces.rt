@@ -22,7 +22,7 @@ impl Braces {
         }
     }
 
-    /// Whether the place behind the bytes seen has depth 0.
+    /// Whether the place after the bytes seen has depth 0.
     pub fn are_level(self) -> bool
         ensures { result ≡ (self.opened == self.closed) }
     {

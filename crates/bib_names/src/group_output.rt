@@ -12,7 +12,7 @@ use std::marker::Model;
 /// How many text characters an output has that is not short. (dialect)
 const ENOUGH: usize = 3;
 
-/// What a group has printed so far. Each joint at depth 0 is a text character, whatever is put behind it, so that an
+/// What a group has printed so far. Each joint at depth 0 is a text character, whatever is put after it, so that an
 /// output with three of them is known not to be short.
 #[derive(Drop)]
 pub(crate) struct Output {

@@ -42,7 +42,7 @@ pub fn key_base(alloc: Global, entry: &Record) -> Result<Text, NameFault>
     Ok(Seq::from_vec(key_letters(alloc, base.as_slice())?))
 }
 
-/// The key that is candidate `n` of a base: the base, and behind it no letters for 0, then a, b, .. z, aa, ab, .. It takes
+/// The key that is candidate `n` of a base: the base, and after it no letters for 0, then a, b, .. z, aa, ab, .. It takes
 /// time logarithmic in the number.
 pub fn candidate(alloc: Global, base: &[u8], n: usize) -> Result<Text, AllocError>
     ensures { IfOk result (λ key. key ≡ candidate base.now n) }

@@ -23,7 +23,7 @@ fn shown(form: Form, word: &[u8]) -> &[u8]
     }
 }
 
-/// What stands behind what is shown of a word, before a tie.
+/// What stands after what is shown of a word, before a tie.
 fn dot(form: Form, shown: &[u8]) -> &[u8]
     ensures { result.now ≡ dot form shown.now }
 {
@@ -106,7 +106,7 @@ fn finished(mut out: Vec<u8>) -> Result<Vec<u8>, AllocError>
     Ok(out)
 }
 
-/// The words of a group, behind what stands before them.
+/// The words of a group, after what stands before them.
 fn printed_words(alloc: Global, group: &Group, words: &[Word<'_>]) -> Result<Vec<u8>, AllocError>
     ensures { IfOk result (λ r. r.items ≡ printed_words group.now group.now.pre words.now) }
 {
@@ -147,7 +147,7 @@ fn part_of<'a, 'b>(name: &'b Name<'a>, part: Part) -> &'b [Word<'a>]
     }
 }
 
-/// The print of a group, and the text behind it.
+/// The print of a group, and the text after it.
 fn printed_with_trail(alloc: Global, group: &Group, name: &Name<'_>) -> Result<Vec<u8>, AllocError>
     ensures { IfOk result (λ r. r.items ≡ printed_with_trail name.now group.now) }
 {
@@ -173,7 +173,7 @@ pub(crate) fn printed(
 
 impl Template {
     /// The print of a name: the text outside of groups as it stands, and for each group whose part has a word its
-    /// words or their initials, with what stands before, between and behind them (btxhak 5.4). Ties, spaces and initials
+    /// words or their initials, with what stands before, between and after them (btxhak 5.4). Ties, spaces and initials
     /// follow this project's own rules. The one refusal is want of memory.
     pub fn print(&self, name: &Name<'_>) -> Result<Text, NameFault>
         ensures printed { IfOk result (λ text. text ≡ printed self.now name.now) }

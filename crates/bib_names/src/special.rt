@@ -57,7 +57,7 @@ pub(crate) fn special_end(text: &[u8], place: usize, braces: Braces) -> Option<u
     }
 }
 
-/// How many bytes go on with the character before the text.
+/// How many bytes continue the character before the text.
 fn going_on_len(text: &[u8]) -> usize
     ensures len { result ≡ prefix_len goes_on text.now }
     ensures within { result ≤ length text.now }
@@ -65,7 +65,7 @@ fn going_on_len(text: &[u8]) -> usize
     text.iter().take_while(|b| goes_on(**b)).count()
 }
 
-/// The place behind the bytes that go on from this place.
+/// The place after the bytes that go on from this place.
 fn going_on_end(text: &[u8], place: usize) -> usize
     requires { place ≤ length text.now }
     ensures end { result ≡ place + going_on text.now place }
@@ -125,7 +125,7 @@ impl<'a> Chars<'a> {
         }
     }
 
-    /// The first of them, and those behind it.
+    /// The first of them, and those after it.
     pub fn next(self) -> Option<(&'a [u8], Chars<'a>)>
         ensures some { IfSome result (λ r. self.entry ≡ r.0.now ∷ r.1) }
         ensures none { IfNone result (self.entry ≡ []) }

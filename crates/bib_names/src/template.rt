@@ -27,7 +27,7 @@ pub(crate) enum Form {
     Words,
 }
 
-/// A group `{pre letters{between}post}` of a template, and the text behind it.
+/// A group `{pre letters{between}post}` of a template, and the text after it.
 #[derive(Debug, Drop)]
 pub(crate) struct Group {
     pub pre: Text,
@@ -38,7 +38,7 @@ pub(crate) struct Group {
     pub trail: Text,
 }
 
-/// How a name is printed: a text, and groups, each with the text behind it. (btxhak 5.4)
+/// How a name is printed: a text, and groups, each with the text after it. (btxhak 5.4)
 #[derive(Debug, Drop)]
 pub struct Template {
     alloc: Global,
@@ -81,7 +81,7 @@ fn is_no_brace(byte: u8) -> bool
     !(byte == b'{' || byte == b'}')
 }
 
-/// Whether the byte may stand before and behind the letters of a group.
+/// Whether the byte may stand before and after the letters of a group.
 fn is_ornament(byte: u8) -> bool
     ensures { result ≡ is_ornament byte }
 {
@@ -118,7 +118,7 @@ fn split_ornament(text: &[u8]) -> (&[u8], &[u8])
     text.split_at(ornament_len(text))
 }
 
-/// The text behind this byte, if the text begins with it.
+/// The text after this byte, if the text begins with it.
 fn after_byte(text: &[u8], byte: u8) -> Option<&[u8]>
     ensures found { IfSome result (λ rest. after_byte byte text.now ≡ Some rest.now) }
     ensures none { IfNone result (after_byte byte text.now ≡ None) }
@@ -142,7 +142,7 @@ fn part_named(letter: u8) -> Option<Part>
     }
 }
 
-/// The letters at the front as a part and its form, and the text behind them.
+/// The letters at the front as a part and its form, and the text after them.
 fn split_letters(text: &[u8]) -> Option<(Part, Form, &[u8])>
     ensures found { IfSome result (λ r. letters_at text.now ≡ Some (r.0, r.1, r.2.now)) }
     ensures none { IfNone result (letters_at text.now ≡ None) }
@@ -157,7 +157,7 @@ fn split_letters(text: &[u8]) -> Option<(Part, Form, &[u8])>
     }
 }
 
-/// The text between words, if it is given, and the text behind it; none if no brace closes it.
+/// The text between words, if it is given, and the text after it; none if no brace closes it.
 fn split_between(text: &[u8]) -> Option<(Option<&[u8]>, &[u8])>
     ensures found { IfSome result (λ r. between_at text.now ≡ Some (option_map (λ b. b.now) r.0, r.1.now)) }
     ensures none { IfNone result (between_at text.now ≡ None) }
@@ -170,7 +170,7 @@ fn split_between(text: &[u8]) -> Option<(Option<&[u8]>, &[u8])>
     Some((Some(between), behind))
 }
 
-/// The group whose opening brace stands before the text, and the text behind the group; none if there is no group.
+/// The group whose opening brace stands before the text, and the text after the group; none if there is no group.
 fn split_group(text: &[u8]) -> Option<(GroupText<'_>, &[u8])>
     ensures found { IfSome result (λ r. group_at text.now ≡ Some (r.0, r.1.now)) }
     ensures none { IfNone result (group_at text.now ≡ None) }
@@ -269,7 +269,7 @@ impl Template {
         self.front.as_slice()
     }
 
-    /// The groups, each with the text behind it.
+    /// The groups, each with the text after it.
     pub(crate) fn groups(&self) -> &[Group]
         ensures { result.now ≡ self.now.groups }
     {

@@ -22,7 +22,7 @@ fn is_dropped_at_end(byte: u8) -> bool
     is_separator(byte) || byte == b','
 }
 
-/// Whether the byte goes on with the character before it. (dialect)
+/// Whether the byte continues the character before it. (dialect)
 pub(crate) fn goes_on(byte: u8) -> bool
     ensures { result ≡ goes_on byte }
 {

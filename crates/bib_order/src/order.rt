@@ -105,7 +105,7 @@ impl Order {
     }
 
     /// How many of the ids that pass a test stand before number `n`, where `ids` are all that pass, in order. It looks at
-    /// the last of these first, and then goes on by halves.
+    /// the last of these first, and then continues by halves.
     pub fn count_before(&self, ids: &[usize], n: usize) -> usize
         ensures count { (test : ℕ → Bool) → ids.now ≡ holders test self.now → result ≡ before test self.now n }
         ensures within { result ≤ length ids.now }

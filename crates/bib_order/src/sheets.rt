@@ -1,4 +1,4 @@
-//! Where ids stand in the pages of an order.
+//! The pages of an order: where each id stands, and how ids come and go.
 
 ghost use Rattle.std.specs.Prelude.{◌≡◌, ◌+◌, ◌≤◌, ◌<◌, ◌^◌, List, ℕ, [], ◌∷◌, length, take, insert, remove, set, slice_get, slice_index, Some, None, Option, OnOk, OnErr, IfOk, true};
 ghost use Rattle.std.specs.Option.{IfSome, IfNone};

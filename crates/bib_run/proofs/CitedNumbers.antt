@@ -1,10 +1,10 @@
--- A cited list has numbers of entries, and places of keys.
+-- A cited list has numbers of entries, and positions of keys.
 use Rattle.std.proofs.Common.{◌==◌, ◌≡◌, ℕ, zero, suc, ◌+◌, ◌<◌, Bool, not, List, [], ◌∷◌, ◌++◌, length, map, filter, filter_map, Option, None, Some, is_none, All, refl, sym, subst, ⊎_elim, arith}
 use Rattle.std.specs.List.{AllByRecursion, range_with_len, enumerate_from, cons_option}
 use Rattle.std.proofs.lemmas.Bool.{cases_Bool, cond-true, cond-false}
 use Rattle.bib_spec.specs.Text.{Text}
 use Rattle.bib_spec.specs.Records.{EntryTexts, entry_named, numbers_of, once, cited_by_key, with_parents, cites_all, listed, unknown}
-use Rattle.bib_run.proofs.EntryNumbers.{named_within}
+use Rattle.bib_store.proofs.Parents.{named_within}
 
 all_from : {X : Type 0} (P : X → Type 0) (xs : List X) → AllByRecursion P xs → All P xs
 all_from P [] all k d within = absurd (omega (arith, within))

@@ -1,42 +1,16 @@
--- The numbers of entries, and the entries that have them.
-use Rattle.std.proofs.Common.{◌==◌, ⊎_elim, ◌≡◌, ℕ, ◌<◌, List, [], ◌∷◌, length, map, Option, Some, None, slice_get, option_map, refl, sym, ap, subst, ◌∙◌, arith}
+-- How many entries there are, and the key of each.
+use Rattle.std.proofs.Common.{⊎_elim, ◌≡◌, ℕ, ◌<◌, List, [], ◌∷◌, length, map, Option, Some, slice_get, option_map, refl, sym, ap, ◌∙◌, arith}
 use Rattle.std.specs.Option.{option_map_or}
 use Rattle.std.proofs.lemmas.List.{length-map}
-use Rattle.std.proofs.lemmas.Bool.{cases_Bool, cond-true, cond-false}
-use Rattle.std.proofs.lemmas.Option.{slice_get-map, slice_get_within, slice_get_cases, option_and_then_some, same_Some, none-some}
+use Rattle.std.proofs.lemmas.Option.{slice_get-map, slice_get_cases, same_Some}
 use Rattle.bib_spec.specs.Text.{Text}
 use Rattle.bib_spec.specs.Tree.{Tree, CommentTree, DefinitionTree, PreambleTree, EntryTree}
 use Rattle.bib_spec.specs.Reading.{Item, Reading}
 use Rattle.bib_spec.specs.Texts.{Macros, months, macros_after, gathered}
-use Rattle.bib_spec.specs.Records.{EntryTexts, entry_in, entries_of, keys_of, entry_named, crossref_text, target, target_of, parent, other_than}
-use Rattle.bib_spec.proofs.Places.{first_is}
+use Rattle.bib_spec.specs.Records.{EntryTexts, entry_in, entries_of, keys_of}
 use Rattle.bib_scan.specs.View.{View, view_of, key_of}
 use Rattle.bib_store.specs.Meaning.{entry_items}
 use Rattle.bib_run.specs.Entries.{key_at}
-
--- ---- what look-ups find is an entry's number
-
-pub named_within : (entries : List EntryTexts) (text : Text) (n : ℕ) → entry_named entries text ≡ Some n → n < length entries
-named_within entries text n e =
-    let first = first_is text (keys_of entries) n e in
-    let within = slice_get_within (keys_of entries) n first.key first.stands in
-    omega (arith, within, length-map entries (λ (entry : EntryTexts). entry.key))
-
-pub target_within : (entries : List EntryTexts) (n m : ℕ) → target entries n ≡ Some m → m < length entries
-target_within entries n m e =
-    option_and_then_some (target_of entries) (slice_get entries n) m e
-    (λ entry _ of. option_and_then_some (entry_named entries) (crossref_text entry) m of (λ text _ named. named_within entries text m named))
-
-pub parent_within : (entries : List EntryTexts) (n m : ℕ) → parent entries n ≡ Some m → m < length entries
-parent_within entries n m e =
-    option_and_then_some (other_than n) (target entries n) m e
-    (λ p is other. let same : p ≡ m = other_is n p m other in subst (λ q. q < length entries) same (target_within entries n p is))
-  where
-    other_is : (n p m : ℕ) → other_than n p ≡ Some m → p ≡ m
-    other_is n p m e = ⊎_elim
-        (λ t. absurd (none-some m (sym (cond-true (p == n) None (Some p) t) ∙ e)))
-        (λ f. same_Some p m (sym (cond-false (p == n) None (Some p) f) ∙ e))
-        (cases_Bool (p == n))
 
 -- ---- keys
 

@@ -5,7 +5,7 @@ use Rattle.std.proofs.lemmas.List.{take_more}
 use Rattle.std.proofs.lemmas.Grind.{flat_map-append}
 use Rattle.bib_spec.specs.Text.{Text}
 
--- one more line, behind those so far
+-- one more line, after those so far
 pub lines_more : {X : Type 0} (f : X → Text) (xs : List X) (i : ℕ) (d : X) → i < length xs → flat_map f (take i xs) ++ f (get_or xs i d) ≡ flat_map f (take (i + 1) xs)
 lines_more f xs i d within =
     ap (λ (t : Text). flat_map f (take i xs) ++ t) (sym (append-nil (f (get_or xs i d))))

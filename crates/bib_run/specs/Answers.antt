@@ -27,15 +27,15 @@ pub data IsCatAnswer (file : Text) : Answer → Type 0 where
   copied : length file ≤ file_limit → HasReading file → IsCatAnswer file (answer_of file [] 0)
   refused : (kind place : ℕ) → kind ≢ 10 → IsReadFault file kind place → IsCatAnswer file (answer_of [] (refusal_line kind place) 1)
 
--- the word behind the file
+-- the word after the file
 abbrev pub key_word : Command → Text
 key_word command = slice_index_or command.words 1 []
 
--- the word behind that
+-- the word after that
 abbrev pub template_word : Command → Text
 template_word command = slice_index_or command.words 2 []
 
--- the words behind the file
+-- the words after the file
 abbrev pub key_words : Command → List Text
 key_words command = drop 1 command.words
 

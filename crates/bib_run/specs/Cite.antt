@@ -13,12 +13,12 @@ use Rattle.bib_run.specs.Outcome.{answer_of}
 abbrev pub with_listed : List EntryTexts → List ℕ → ℕ → Text
 with_listed entries list m = if list_any (λ n. n == m) list then codes "\t" ++ key_at entries m else []
 
--- the key of an entry and, behind a tab, that of its parent where that is in the list too, a line
+-- the key of an entry and, after a tab, that of its parent where that is in the list too, a line
 abbrev pub listed_line : List EntryTexts → List ℕ → ℕ → Text
 listed_line entries list n =
     key_at entries n ++ (option_map_or (with_listed entries list) (parent entries n) [] ++ codes "\n")
 
--- a question mark and the key at this place, as it was given, a line
+-- a question mark and the key at this position, as it was given, a line
 abbrev pub unknown_line : List Text → ℕ → Text
 unknown_line keys place = codes "? " ++ (slice_index_or keys place [] ++ codes "\n")
 

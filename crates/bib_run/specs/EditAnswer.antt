@@ -28,7 +28,7 @@ refused_line line fault = script_line line (fault_number fault) (session_fault_n
 abbrev pub bad_line : ℕ → Text
 bad_line line = script_line line 71 (codes "BadScript")
 
--- Why a script stopped behind so many edits, if it did: the next one is refused, or else a line says none.
+-- Why a script stopped after so many edits, if it did: the next one is refused, or else a line says none.
 abbrev pub stop_line : Said → ℕ → Option SessionFault → Option Text
 stop_line said done (Some fault) = Some (refused_line (slice_index_or said.lines done 0) fault)
 stop_line said done None = option_map bad_line said.bad_line

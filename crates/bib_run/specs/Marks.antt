@@ -14,6 +14,6 @@ pub record AreMarks (count : ℕ) (list : List ℕ) (marks : List Bool) : Type 0
 abbrev pub AreEntryNumbers : Text → List ℕ → Type 0
 AreEntryNumbers file list = OfReading file (λ db. All (λ n. n < length (entries_of db)) list)
 
--- there are keys at these places
+-- there are keys at these positions
 abbrev pub ArePlaces : List Text → List ℕ → Type 0
 ArePlaces keys places = All (λ place. place < length keys) places

@@ -66,12 +66,12 @@ line_of t (Err fault) = Err fault
 abbrev pub name_line : Pattern → Text → Result Text NameFault
 name_line t name = line_of t (parts_in name)
 
--- the text with those lines behind it
+-- the text with those lines after it
 abbrev pub before_lines : Text → Result Text NameFault → Result Text NameFault
 before_lines text (Ok lines) = Ok (text ++ lines)
 before_lines text (Err fault) = Err fault
 
--- a line, if there is one, and those lines behind it
+-- a line, if there is one, and those lines after it
 abbrev pub joined_lines : Result Text NameFault → Result Text NameFault → Result Text NameFault
 joined_lines (Ok line) lines = before_lines line lines
 joined_lines (Err fault) lines = Err fault

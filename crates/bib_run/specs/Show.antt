@@ -15,16 +15,16 @@ abbrev pub head_line : Record → Text
 head_line r = codes "@" ++ (r.kind_name ++ (codes " " ++ (r.key ++ codes "\n")))
 
 -- `name = text`, a line
-abbrev pub field_line : RecordField → Text
-field_line field = field.0 ++ (codes " = " ++ (field.1 ++ codes "\n"))
+abbrev pub shown_field : RecordField → Text
+shown_field field = field.0 ++ (codes " = " ++ (field.1 ++ codes "\n"))
 
 -- an entry's type and key, and its fields
 abbrev pub record_lines : Record → Text
-record_lines r = head_line r ++ flat_map field_line r.fields
+record_lines r = head_line r ++ flat_map shown_field r.fields
 
 -- `crossref = KEY`, a line, with the key of the parent, if there is one
 abbrev pub parent_line : List EntryTexts → Option ℕ → Text
-parent_line entries parent = option_map_or (λ m. field_line (crossref, key_at entries m)) parent []
+parent_line entries parent = option_map_or (λ m. shown_field (crossref, key_at entries m)) parent []
 
 -- entry n: its record, and its parent
 abbrev pub shown : List EntryTexts → ℕ → Text

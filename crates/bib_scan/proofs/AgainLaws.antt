@@ -142,7 +142,7 @@ pub equals_stands : (x : Text) → Stands (61 ∷ x)
 unfolding is_space
 equals_stands x = refl
 
--- what is read of an assignment with this text behind it
+-- what is read of an assignment with this text after it
 abbrev pub assigned_of : Assignment → Text → Assigned
 assigned_of a u = record { name = a.name; value = value_bytes a.value; value_left = length (value_bytes a.value ++ (a.space_behind ++ u)) }
 
@@ -185,7 +185,7 @@ name_not_closed limit c (b ∷ u) x close is =
     let first : is_name_byte b ≡ true = All-head (λ (y : ℕ). is_name_byte y ≡ true) b u n.bytes in
     not_closed c b (u ++ x) (ne_eqb b c (λ e. both_ways (is_name_byte b) (ap is_name_byte e ∙ close.ends.breaks.name) first))
 
--- the bytes behind some rows
+-- the bytes after some rows
 abbrev pub rows_inside : ℕ → List Row → Option Text → Text → Text
 rows_inside c rs tail x = flat_map row_bytes rs ++ (last_comma_bytes tail ++ c ∷ x)
 

@@ -37,7 +37,7 @@ Closes_cons d e b t sum c = record {
     go zero = omega arith
     go (suc n) = omega (arith, opened-cons b t n, closed-cons b t n, c.never_negative n)
 
--- the text behind the first byte
+-- the text after the first byte
 Closes_tail : (d e b : ℕ) (t : Text) → cond (eqb b 125) 1 0 + e ≡ d + cond (eqb b 123) 1 0 → Closes d (b ∷ t) → Closes e t
 Closes_tail d e b t sum c = record {
   never_negative = λ n. omega (arith, opened-cons b t n, closed-cons b t n, c.never_negative (suc n));

@@ -13,7 +13,7 @@ use Rattle.bib_scan.proofs.PartLaws.{type_name_from}
 use Rattle.bib_scan.proofs.ValueLaws.{Stands, space_split, value_ok}
 use Rattle.bib_scan.proofs.RowLaws.{row_inside, assignment_shape, row_ok, rows_ok, closing_ok}
 
--- a head, and the white space behind it
+-- a head, and the white space after it
 pub record Typed : Type 0 where
   pub head : Head
   pub space_before_delimiter : Text
@@ -41,7 +41,7 @@ is_opening y d behind ok space = record {
 abbrev pub typed_bytes : Typed → Text
 typed_bytes y = head_bytes y.head ++ y.space_before_delimiter
 
--- behind a comment the text does not go on with its type name
+-- after a comment the text does not go on with its type name
 abbrev pub EndsName : Tree → Text → Type 0
 EndsName tree rest = is_comment tree ≡ true → does_not_begin_with is_type_byte rest ≡ true
 

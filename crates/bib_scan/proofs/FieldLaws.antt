@@ -100,7 +100,7 @@ definition_field_again total before a b x is ends whole =
     let some : 0 < length t = omega (arith, ap (length {A = ℕ}) (before_value [] a (b ∷ x)), length-append (a.name ++ a.space_before_equals) (61 ∷ a.space_before_value), length-append (a.name ++ a.space_before_equals ++ 61 ∷ a.space_before_value) (value_bytes a.value ++ (a.space_behind ++ b ∷ x))) in
     one_field (length t) total kind.Macro t _ some found refl
 
--- the field of a preamble that begins behind so much text
+-- the field of a preamble that begins after so much text
 abbrev pub preamble_field : Text → Value → Field
 preamble_field before v = record { name = []; value = value_bytes v; start = length before; name_at = length before; value_at = length before }
 

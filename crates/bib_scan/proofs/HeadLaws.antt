@@ -8,7 +8,6 @@ use Rattle.bib_spec.specs.Bytes.{name_limit}
 use Rattle.bib_spec.specs.Text.{Text, is_space, is_type_byte, same, after_run, does_not_begin_with}
 use Rattle.bib_spec.specs.Tree as tree
 use Rattle.bib_spec.specs.Tree.{Tree, CommentTree, DefinitionTree, PreambleTree, EntryTree, Head, Opening, Delimiter, Brace, Paren, row_bytes, value_bytes, head_bytes, opening_bytes, open_byte, close_byte, last_comma_bytes, behind_key_bytes, tree_bytes, goes_on_key, is_no_keyword, IsHead, IsOpening, IsTree}
-use Rattle.bib_scan.specs.LeftToRight.{delimiter_of}
 use Rattle.bib_scan.specs.View.{Field, view_of}
 use Rattle.bib_scan.specs.FieldsLeft.{fields_left, all_fields_left, read_head, kind_named, read_opening, view_behind, read_view}
 use Rattle.bib_scan.specs.declared.view.Kind.{Kind}
@@ -18,7 +17,7 @@ use Rattle.bib_scan.proofs.PartLaws.{type_name_parts}
 use Rattle.bib_scan.proofs.ValueLaws.{Stands, skip_space}
 use Rattle.bib_scan.proofs.RowLaws.{assignment_inside}
 use Rattle.bib_scan.proofs.AgainLaws.{name_stands, value_stands, rows_inside, rows_begin}
-use Rattle.bib_scan.proofs.TreeAgainLaws.{closes, open_no_space, type_ends, key_stands, rows_len, string_no_comment, preamble_no_comment, preamble_no_string, head_shape, opening_shape, definition_shape, preamble_shape}
+use Rattle.bib_scan.proofs.TreeAgainLaws.{closes, delimiter_again, open_no_space, type_ends, key_stands, rows_len, string_no_comment, preamble_no_comment, preamble_no_string, head_shape, opening_shape, definition_shape, preamble_shape}
 use Rattle.bib_scan.proofs.FieldLaws.{rows_fields_again, definition_field_again, preamble_field_again}
 
 -- ---- heads
@@ -31,10 +30,6 @@ head_again h x is ends =
     let e2 : take_while is_type_byte (h.type_name ++ x) ≡ h.type_name = run_front is_type_byte h.type_name x named_well.1 ends in
     let e3 : after_run is_type_byte (h.type_name ++ x) ≡ x = run_rest is_type_byte h.type_name x named_well.1 ends in
     ap read_head (head_shape h x) ∙ ap (λ (t : Text). (take_while is_type_byte t, after_run is_type_byte t)) e1 ∙ (λ i. (e2 i, e3 i))
-
-delimiter_again : (d : Delimiter) → delimiter_of (open_byte d) ≡ d
-delimiter_again Brace = refl
-delimiter_again Paren = refl
 
 opening_again : (d : Delimiter) (s u : Text) → AllPass is_space s → Stands u → read_opening (open_byte d ∷ (s ++ u)) ≡ (d, u)
 opening_again d s u space stands = λ i. (delimiter_again d i, skip_space s u space stands i)

@@ -18,7 +18,7 @@ use Rattle.bib_scan.proofs.MendTrees.{mend_definition, mend_preamble, mend_entry
 use Rattle.bib_scan.proofs.StopLaws.{inside, FileStop, file_stop}
 use Rattle.bib_scan.proofs.PlaceLaws.{front_cut, front_more}
 
--- what holds of the three readers of what stands behind an opening delimiter holds of each command's
+-- what holds of the three readers of what stands after an opening delimiter holds of each command's
 pub of_inside : (P : (ℕ → Text → Result Text Halt) → Type 0) (type_name : Text) (d : Delimiter) → same type_name (codes "comment") ≡ false
     → P (λ m. read_definition m (close_byte d)) → P (λ m. read_preamble m (close_byte d)) → P (λ m. read_entry m d) → P (λ m. inside m type_name d)
 of_inside P type_name d no_comment definition preamble entry =
@@ -41,7 +41,7 @@ mend_inside limit some type_name d no_comment = of_inside (λ p. Mends (plain (p
 
 -- ---- where reading stops
 
--- reading stops behind front, whatever stands behind the byte there, and front goes on to such a text
+-- reading stops after front, whatever stands after the byte there, and front goes on to such a text
 pub record StopsAt {A : Type 0} (IsSuch : Text → Type 0) (read : Text → Result A Halt) (t : Text) (h : Halt) : Type 0 where
   pub front : Text
   pub split : t ≡ front ++ h.rest

@@ -19,7 +19,7 @@ use Rattle.bib_scan.proofs.TellTrees.{close_untried, tell_definition, tell_pream
 use Rattle.bib_scan.proofs.WidenLaws.{IsLong, IsShort, Widens}
 use Rattle.bib_scan.proofs.WidenTrees.{widen_definition, widen_preamble, widen_entry}
 
--- Texts of this kind go wrong behind front with this fault, where r stands.
+-- Texts of this kind go wrong after front with this fault, where r stands.
 pub record GoesWrong (IsSuch : TextKind) (t : Text) (f : ReadingFault) (r : Text) : Type 0 where
   pub front : Text
   pub split : t ≡ front ++ r
@@ -86,7 +86,7 @@ module _ (limit : ℕ) (t : Text) (h : Halt) (file : FileStop limit t h) where
   abbrev reader : ℕ → Text → Result Text Halt
   reader m = inside m file.type_name file.delimiter
 
-  -- what stands behind is read to its end: the whole is a front of a file
+  -- what follows is read to its end: the whole is a front of a file
   past_viable : (m : ℕ) → limit ≤ m → 0 < m → (s : Text) → rest_of (plain (reader m) s) ≡ [] → IsViable (HasReadingWithin m) (file.before ++ s)
   past_viable m longer some s past = go (reader m s) refl past
     where

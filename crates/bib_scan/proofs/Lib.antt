@@ -1,49 +1,59 @@
+-- ---- the readers, step by step
 pub mod BalanceLaws
-pub mod OpeningLemmas
-pub mod LocalLaws
-pub mod LocalParts
-pub mod LocalRows
-pub mod MendLaws
-pub mod LongerNames
-pub mod StopLaws
-pub mod PlaceLaws
-pub mod HopelessLaws
-pub mod TellParts
-pub mod TellRows
-pub mod TellTrees
-pub mod WidenLaws
-pub mod WidenTrees
-pub mod KindLaws
-pub mod WholeValueLaws
-pub mod PlaceOfFault
-pub mod MendRows
-pub mod MendTrees
-pub mod TellLaws
 pub mod BraceLemmas
 pub mod ScanInvariant
 pub mod ValueLemmas
+pub mod RowsLemmas
+pub mod CommandLemmas
+pub mod OpeningLemmas
+pub mod LayoutLemmas
+pub mod PartsLemmas
+pub mod TableLemmas
+-- ---- sound: what is read is a tree of the grammar with these bytes
 pub mod RunLaws
 pub mod BraceLaws
 pub mod PartLaws
 pub mod ValueLaws
 pub mod RowLaws
-pub mod CommandLemmas
-pub mod CommandLaws
 pub mod CleanLaws
+pub mod CommandLaws
+-- ---- complete: the bytes of a tree are read as that tree
 pub mod AgainLaws
 pub mod TreeAgainLaws
-pub mod FieldLaws
-pub mod HeadLaws
 pub mod ReadingLaws
+-- ---- unique: two trees with the same bytes are the same
 pub mod UniqueLaws
 pub mod OneReading
-pub mod RowsLemmas
+-- ---- local: a reader sees no byte after the first of those that it leaves
+pub mod LocalLaws
+pub mod LocalParts
+pub mod LocalRows
+-- ---- mends: where a reader stopped, there are bytes with which it would have continued
+pub mod MendLaws
+pub mod MendRows
+pub mod MendTrees
+-- ---- tells: what a reader does with another byte where it stopped
+pub mod TellLaws
+pub mod TellParts
+pub mod TellRows
+pub mod TellTrees
+-- ---- widens: a reader with a higher limit on names does the same, unless a name was too long
+pub mod LongerNames
+pub mod WidenLaws
+pub mod WidenTrees
+-- ---- the place and the kind of a fault
+pub mod PlaceLaws
+pub mod KindLaws
+pub mod StopLaws
+pub mod HopelessLaws
+pub mod WholeValueLaws
+pub mod PlaceOfFault
+-- ---- views: fields, places, and values taken apart
+pub mod FieldLaws
 pub mod StepLaws
-pub mod LayoutLemmas
+pub mod HeadLaws
 pub mod LayoutLaws
 pub mod TakenApart
-pub mod PartsLemmas
 pub mod PartsFaults
-pub mod TableLemmas
 pub mod OnlyPart
 pub mod JoinedReadings

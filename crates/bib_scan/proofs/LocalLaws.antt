@@ -1,4 +1,4 @@
--- A reader sees no byte behind the first of those that it leaves.
+-- A reader sees no byte after the first of those that it leaves.
 use Rattle.std.proofs.Common.{◌≡◌, ℕ, ◌+◌, ◌<◌, Bool, true, false, cond, ltb, [], ◌∷◌, ◌++◌, length, get_or, take, drop, refl, sym, ap, subst, ◌∙◌, arith, append_assoc, append-nil, Ok, Err}
 use Rattle.std.proofs.lemmas.Bool.{ltb-true, lt-ltb, cond-true, cond-false}
 use Rattle.std.proofs.lemmas.List.{take-append-drop, take-take, get_or-drop, drop_at, length-take-le}
@@ -11,7 +11,7 @@ use Rattle.bib_spec.specs.Text.{Text, does_not_begin_with, after_run}
 use Rattle.bib_scan.specs.LeftToRight.{Read, stop, expected, read_run, ◌>>=◌}
 use Rattle.bib_scan.proofs.RunLaws.{run_split, run_passes, run_stops, run_front, run_rest, limited_ok, limited_again}
 
--- what a reader left behind it, and the same answer with other bytes left
+-- what a reader left after it, and the same answer with other bytes left
 abbrev pub rest_of : {A : Type 0} → Read A → Text
 rest_of (Ok x) = x.1
 rest_of (Err h) = h.rest
@@ -20,7 +20,7 @@ abbrev pub with_rest : {A : Type 0} → Read A → Text → Read A
 with_rest (Ok x) r = Ok (x.0, r)
 with_rest (Err h) r = Err (stop h.fault r)
 
--- At t the reader left an end of t, and does the same where other bytes stand behind the first of that end.
+-- At t the reader left an end of t, and does the same where other bytes stand after the first of that end.
 pub record LocalAt {A : Type 0} (p : Text → Read A) (t : Text) (read : Read A) : Type 0 where
   pub front : Text
   pub split : t ≡ front ++ rest_of read
@@ -71,17 +71,17 @@ local_cond {A} test p q by_first lp lq t = go (test t) refl
     go true is = let l = lp t in record { front = l.front; split = l.split; same = λ c v w e. cond-true (test _) _ _ (same_test l.front _ c v w l.split e ∙ is) ∙ l.same c v w e }
     go false is = let l = lq t in record { front = l.front; split = l.split; same = λ c v w e. cond-false (test _) _ _ (same_test l.front _ c v w l.split e ∙ is) ∙ l.same c v w e }
 
--- the reader behind the first byte
-abbrev pub behind_first : {A : Type 0} → (Text → Read A) → Text → Read A
-behind_first p [] = Err (stop Unended [])
-behind_first p (b ∷ t) = p t
+-- the reader after the first byte
+abbrev pub after_first : {A : Type 0} → (Text → Read A) → Text → Read A
+after_first p [] = Err (stop Unended [])
+after_first p (b ∷ t) = p t
 
-pub local_behind : {A : Type 0} (p : Text → Read A) → Local p → Local (behind_first p)
-local_behind p l [] = record { front = []; split = refl; same = λ c v w is. absurd (nil_cons is) }
+pub local_beyond : {A : Type 0} (p : Text → Read A) → Local p → Local (after_first p)
+local_beyond p l [] = record { front = []; split = refl; same = λ c v w is. absurd (nil_cons is) }
   where
     nil_cons : {c : ℕ} {v : Text} → ◌≡◌ {A = Text} [] (c ∷ v) → ⊥
     nil_cons e = cc
-local_behind p l (b ∷ t) =
+local_beyond p l (b ∷ t) =
     let at = l t in
     record { front = b ∷ at.front; split = ap (λ (u : Text). b ∷ u) at.split; same = at.same }
 

@@ -8,7 +8,7 @@ use Rattle.bib_spec.specs.Tree.{Part, Braced, Quoted, Digits, Macro}
 use Rattle.bib_scan.specs.LeftToRight.{Read, stop, expected, read_run, with_front, read_braced, read_quoted, begins_name, read_name, read_part, ◌>>=◌}
 use Rattle.bib_scan.proofs.BraceLemmas.{braced_takes, quoted_takes, braced_opens, braced_closes, braced_ends, braced_nil, quoted_opens, quoted_closes, quoted_ends, quoted_inside, quoted_unbalanced, quoted_nil}
 use Rattle.bib_scan.proofs.BraceLaws.{plain_byte}
-use Rattle.bib_scan.proofs.LocalLaws.{LocalAt, Local, local_bind, local_same, local_cond, behind_first, local_behind, local_ok, local_expected, run, local_run, local_limited}
+use Rattle.bib_scan.proofs.LocalLaws.{LocalAt, Local, local_bind, local_same, local_cond, after_first, local_beyond, local_ok, local_expected, run, local_run, local_limited}
 
 -- ---- braced and quoted text
 
@@ -79,8 +79,8 @@ local_name limit = local_cond begins_name (read_run limit is_name_byte) (λ t. E
 
 abbrev pub part_by_first : (limit : ℕ) → Text → Read Part
 part_by_first limit t =
-    cond (first_is (λ b. eqb b 123) t) (behind_first (λ u. read_braced 0 u >>= λ x. Ok (Braced x.0, x.1)) t)
-    (cond (first_is (λ b. eqb b 34) t) (behind_first (λ u. read_quoted 0 u >>= λ x. Ok (Quoted x.0, x.1)) t)
+    cond (first_is (λ b. eqb b 123) t) (after_first (λ u. read_braced 0 u >>= λ x. Ok (Braced x.0, x.1)) t)
+    (cond (first_is (λ b. eqb b 34) t) (after_first (λ u. read_quoted 0 u >>= λ x. Ok (Quoted x.0, x.1)) t)
     (cond (first_is is_ascii_digit t) (run is_ascii_digit t >>= λ x. Ok (Digits x.0, x.1))
     (cond (first_is is_name_byte t) (read_run limit is_name_byte t >>= λ x. Ok (Macro x.0, x.1)) (Err (expected ExpectedValue t)))))
 
@@ -91,7 +91,7 @@ part_is limit (b ∷ t) = refl
 
 pub local_part : (limit : ℕ) → Local (read_part limit)
 local_part limit = local_same (read_part limit) (part_by_first limit) (part_is limit)
-    (local_cond (first_is (λ b. eqb b 123)) _ _ (λ b t u. refl) (local_behind _ (local_bind (read_braced 0) (λ c u. Ok (Braced c, u)) (local_braced 0) (λ c. local_ok (Braced c))))
-    (local_cond (first_is (λ b. eqb b 34)) _ _ (λ b t u. refl) (local_behind _ (local_bind (read_quoted 0) (λ c u. Ok (Quoted c, u)) (local_quoted 0) (λ c. local_ok (Quoted c))))
+    (local_cond (first_is (λ b. eqb b 123)) _ _ (λ b t u. refl) (local_beyond _ (local_bind (read_braced 0) (λ c u. Ok (Braced c, u)) (local_braced 0) (λ c. local_ok (Braced c))))
+    (local_cond (first_is (λ b. eqb b 34)) _ _ (λ b t u. refl) (local_beyond _ (local_bind (read_quoted 0) (λ c u. Ok (Quoted c, u)) (local_quoted 0) (λ c. local_ok (Quoted c))))
     (local_cond (first_is is_ascii_digit) _ _ (λ b t u. refl) (local_bind (run is_ascii_digit) (λ c u. Ok (Digits c, u)) (local_run is_ascii_digit) (λ c. local_ok (Digits c)))
     (local_cond (first_is is_name_byte) _ _ (λ b t u. refl) (local_bind (read_run limit is_name_byte) (λ c u. Ok (Macro c, u)) (local_limited limit is_name_byte) (λ c. local_ok (Macro c))) (local_expected ExpectedValue)))))

@@ -10,7 +10,7 @@ use Rattle.bib_scan.proofs.RunLaws.{not_ok, run_stops}
 use Rattle.bib_scan.proofs.PartLaws.{part_ok}
 use Rattle.bib_scan.proofs.ValueLaws.{joined_ok, skip_space}
 use Rattle.bib_scan.proofs.RowLaws.{row_shorter, comma_ok}
-use Rattle.bib_scan.proofs.LocalLaws.{rest_of, with_rest, LocalAt, Local, local_bind, local_same, local_cond, behind_first, local_behind, local_ok, local_expected, run, local_run, local_limited}
+use Rattle.bib_scan.proofs.LocalLaws.{rest_of, with_rest, LocalAt, Local, local_bind, local_same, local_cond, after_first, local_beyond, local_ok, local_expected, run, local_run, local_limited}
 use Rattle.bib_scan.proofs.LocalParts.{first_is, local_part, local_name}
 use Rattle.std.proofs.lemmas.List.Elements.{All-nil}
 
@@ -85,13 +85,13 @@ links_fuel limit (suc n) zero [] small tiny = refl
 links_fuel limit (suc n) zero (b ∷ t) small tiny = absurd (omega arith)
 links_fuel limit (suc n) (suc m) t small tiny = links_turn limit n m t (past_hash (after_run is_space t)) refl small tiny (λ u a b. links_fuel limit n m u a b)
 
--- the further parts and the white space behind them
+-- the further parts and the white space after them
 abbrev pub links_gap : ℕ → ℕ → Text → Read (Unit {0})
 links_gap limit n t = read_links limit n t >>= skip
 
 abbrev pub links_by_first : ℕ → ℕ → Text → Read (Unit {0})
 links_by_first limit n t =
-    run is_space t >>= λ x. cond (first_is (λ b. eqb b 35) x.1) (behind_first (λ u. run is_space u >>= λ y. read_part limit y.1 >>= λ p. links_gap limit n p.1) x.1) (Ok (tt, x.1))
+    run is_space t >>= λ x. cond (first_is (λ b. eqb b 35) x.1) (after_first (λ u. run is_space u >>= λ y. read_part limit y.1 >>= λ p. links_gap limit n p.1) x.1) (Ok (tt, x.1))
 
 pub links_gap_is : (limit : ℕ) (n : ℕ) (t : Text) → links_gap limit (suc n) t ≡ links_by_first limit n t
 unfolding read_links
@@ -101,7 +101,7 @@ links_gap_is limit n t = go (after_run is_space t) refl
     hash b s true is e = bind_assoc (read_part limit (after_run is_space s)) (λ p. read_links limit n p.1) skip
     hash b s false is e = ap (λ (u : Text). Ok (tt, u)) e
 
-    go : (s : Text) → after_run is_space t ≡ s → (go_on (Ok t) (λ u. read_part limit u >>= λ p. read_links limit n p.1) (past_hash s) >>= skip) ≡ cond (first_is (λ b. eqb b 35) s) (behind_first (λ u. run is_space u >>= λ y. read_part limit y.1 >>= λ p. links_gap limit n p.1) s) (Ok (tt, s))
+    go : (s : Text) → after_run is_space t ≡ s → (go_on (Ok t) (λ u. read_part limit u >>= λ p. read_links limit n p.1) (past_hash s) >>= skip) ≡ cond (first_is (λ b. eqb b 35) s) (after_first (λ u. run is_space u >>= λ y. read_part limit y.1 >>= λ p. links_gap limit n p.1) s) (Ok (tt, s))
     go [] e = ap (λ (u : Text). Ok (tt, u)) e
     go (b ∷ s) e = hash b s (eqb b 35) refl e
 
@@ -111,10 +111,10 @@ local_links limit zero = local_skip
 local_links limit (suc n) = local_same (links_gap limit (suc n)) (links_by_first limit n) (links_gap_is limit n)
     (local_bind (run is_space) _ (local_run is_space) (λ s.
     local_cond (first_is (λ b. eqb b 35)) _ _ (λ b t u. refl)
-    (local_behind _ (local_bind (run is_space) _ (local_run is_space) (λ s. local_bind (read_part limit) (λ p u. links_gap limit n u) (local_part limit) (λ p. local_links limit n))))
+    (local_beyond _ (local_bind (run is_space) _ (local_run is_space) (λ s. local_bind (read_part limit) (λ p u. links_gap limit n u) (local_part limit) (λ p. local_links limit n))))
     (local_ok tt)))
 
--- a value and the white space behind it
+-- a value and the white space after it
 abbrev pub value_gap : ℕ → Text → Read (Unit {0})
 value_gap limit t = read_value limit t >>= λ v. skip v.1
 
@@ -133,7 +133,7 @@ local_value limit = local_family (value_gap limit) (value_family limit) (value_i
 -- ---- rows
 
 equals_by_first : Text → Read (Unit {0})
-equals_by_first t = cond (first_is (λ b. eqb b 61) t) (behind_first ready t) (Err (expected ExpectedEquals t))
+equals_by_first t = cond (first_is (λ b. eqb b 61) t) (after_first ready t) (Err (expected ExpectedEquals t))
 
 equals_is : (t : Text) → plain read_equals t ≡ equals_by_first t
 unfolding equals_by_first
@@ -146,7 +146,7 @@ equals_is (b ∷ t) = go (eqb b 61)
 
 pub local_equals : Local (plain read_equals)
 unfolding equals_by_first
-local_equals = local_same (plain read_equals) equals_by_first equals_is (local_cond (first_is (λ b. eqb b 61)) _ _ (λ b t u. refl) (local_behind _ (local_ok tt)) (local_expected ExpectedEquals))
+local_equals = local_same (plain read_equals) equals_by_first equals_is (local_cond (first_is (λ b. eqb b 61)) _ _ (λ b t u. refl) (local_beyond _ (local_ok tt)) (local_expected ExpectedEquals))
 
 abbrev pub row_pieces : ℕ → Text → Read (Unit {0})
 row_pieces limit t =
@@ -173,11 +173,11 @@ local_row limit = local_same (plain (read_row limit)) (row_pieces limit) (row_is
 -- ---- closing delimiters and rows
 
 byte_by_first : ℕ → Text → Read (Unit {0})
-byte_by_first c t = cond (first_is (λ b. eqb b c) t) (behind_first ready t) (Err (expected ExpectedCommaOrClose t))
+byte_by_first c t = cond (first_is (λ b. eqb b c) t) (after_first ready t) (Err (expected ExpectedCommaOrClose t))
 
 local_byte : (c : ℕ) → Local (byte_by_first c)
 unfolding byte_by_first
-local_byte c = local_cond (first_is (λ b. eqb b c)) _ _ (λ b t u. refl) (local_behind _ (local_ok tt)) (local_expected ExpectedCommaOrClose)
+local_byte c = local_cond (first_is (λ b. eqb b c)) _ _ (λ b t u. refl) (local_beyond _ (local_ok tt)) (local_expected ExpectedCommaOrClose)
 
 closing_is : (c : ℕ) (t : Text) → plain (read_close c) t ≡ byte_by_first c t
 unfolding byte_by_first
@@ -214,13 +214,13 @@ row_skip limit t = ap (λ (s : Text). read_assignment limit s >>= λ x. Ok x.1) 
 abbrev pub rows_read : ℕ → ℕ → ℕ → Text → Read (Unit {0})
 rows_read limit n c t = plain (read_rows limit n c) t
 
--- what stands behind a comma
+-- what stands after a comma
 abbrev pub after_comma : ℕ → ℕ → ℕ → Text → Read (Unit {0})
-after_comma limit n c s = cond (first_is (λ b. eqb b c) s) (behind_first ready s) (plain (read_row limit) s >>= λ r. rows_read limit n c r.1)
+after_comma limit n c s = cond (first_is (λ b. eqb b c) s) (after_first ready s) (plain (read_row limit) s >>= λ r. rows_read limit n c r.1)
 
 abbrev pub rows_by_first : ℕ → ℕ → ℕ → Text → Read (Unit {0})
 rows_by_first limit n c t =
-    cond (first_is (λ b. eqb b c) t) (behind_first ready t) (plain read_comma t >>= λ u. run is_space u.1 >>= λ s. after_comma limit n c s.1)
+    cond (first_is (λ b. eqb b c) t) (after_first ready t) (plain read_comma t >>= λ u. run is_space u.1 >>= λ s. after_comma limit n c s.1)
 
 after_comma_is : (limit : ℕ) (n c : ℕ) (u : Text) → (go_on (read_row limit u >>= λ rest. read_rows limit n c rest) Ok (past_byte c (after_run is_space u)) >>= ready) ≡ after_comma limit n c (after_run is_space u)
 after_comma_is limit n c u = ap (λ (m : Result Text Halt). go_on (m >>= λ rest. read_rows limit n c rest) Ok (past_byte c (after_run is_space u)) >>= ready) (row_skip limit u) ∙ go (after_run is_space u)
@@ -254,10 +254,10 @@ pub local_rows : (limit : ℕ) (n c : ℕ) → Local (rows_read limit n c)
 unfolding read_rows
 local_rows limit zero c = local_expected ExpectedCommaOrClose
 local_rows limit (suc n) c = local_same (rows_read limit (suc n) c) (rows_by_first limit n c) (rows_is limit n c)
-    (local_cond (first_is (λ b. eqb b c)) _ _ (λ b t u. refl) (local_behind _ (local_ok tt))
+    (local_cond (first_is (λ b. eqb b c)) _ _ (λ b t u. refl) (local_beyond _ (local_ok tt))
     (local_bind (plain read_comma) _ local_comma (λ u.
     local_bind (run is_space) _ (local_run is_space) (λ s.
-    local_cond (first_is (λ b. eqb b c)) _ _ (λ b t u. refl) (local_behind _ (local_ok tt))
+    local_cond (first_is (λ b. eqb b c)) _ _ (λ b t u. refl) (local_beyond _ (local_ok tt))
     (local_bind (plain (read_row limit)) (λ r u. rows_read limit n c u) (local_row limit) (λ r. local_rows limit n c))))))
 
 rows_turn : (limit : ℕ) (n m c : ℕ) (t : Text) (o : Option Text) → length t < suc n → length t < suc m → ((u : Text) → length u < n → length u < m → read_rows limit n c u ≡ read_rows limit m c u) → go_on (read_comma t >>= λ u. go_on (read_row limit u >>= λ v. read_rows limit n c v) Ok (past_byte c (after_run is_space u))) Ok o ≡ go_on (read_comma t >>= λ u. go_on (read_row limit u >>= λ v. read_rows limit m c v) Ok (past_byte c (after_run is_space u))) Ok o
@@ -301,7 +301,7 @@ definition_is limit c t = bind_assoc (read_row limit t) (read_close c) ready ∙
 pub local_definition : (limit : ℕ) (c : ℕ) → Local (plain (read_definition limit c))
 local_definition limit c = local_same (plain (read_definition limit c)) _ (definition_is limit c) (local_bind (plain (read_row limit)) (λ r u. plain (read_close c) u) (local_row limit) (λ r. local_closing c))
 
--- a value, the white space behind it and the closing delimiter
+-- a value, the white space after it and the closing delimiter
 abbrev pub value_close : ℕ → ℕ → Text → Read (Unit {0})
 value_close limit c t = value_gap limit t >>= λ v. plain (read_close c) v.1
 

@@ -8,7 +8,7 @@ use Rattle.bib_scan.specs.LeftToRight.{Read, Halt, stop, with_front, read_braced
 use Rattle.bib_scan.proofs.RunLaws.{not_ok}
 use Rattle.bib_scan.proofs.BraceLemmas.{braced_takes, quoted_takes, braced_opens, braced_closes, braced_ends, braced_nil, quoted_opens, quoted_closes, quoted_ends, quoted_inside, quoted_unbalanced, quoted_nil}
 use Rattle.bib_scan.proofs.BraceLaws.{plain_byte}
-use Rattle.bib_scan.proofs.LocalLaws.{LocalAt, Local, behind_first}
+use Rattle.bib_scan.proofs.LocalLaws.{LocalAt, Local, after_first}
 
 -- P speaks of the bytes that follow what is read, F and G of those that follow what was read before.
 
@@ -147,10 +147,10 @@ mend_cond {A} test p q P G by_first mp mq t h is = go (test t) refl is
 pub mend_never : {A : Type 0} (p : Text → Read A) (P F : Text → Type 0) → ((t : Text) → (x : A × Text) × (p t ≡ Ok x)) → Mends p P F
 mend_never p P F reads t h is = let x = reads t in absurd (not_ok x.0 h (p t) is x.1)
 
--- behind the first byte of a text that has one
-pub mend_behind : {A : Type 0} (p : Text → Read A) (P F : Text → Type 0) (test : Text → Bool) → test [] ≡ false → Mends p P (λ s. Unit {0}) → (t : Text) (h : Halt) → test t ≡ true → behind_first p t ≡ Err h → MendAt (behind_first p) P F t h
-mend_behind p P F test none m [] h passes is = absurd (both_ways (test []) none passes)
-mend_behind p P F test none m (b ∷ t) h passes is =
+-- after the first byte of a text that has one
+pub mend_after : {A : Type 0} (p : Text → Read A) (P F : Text → Type 0) (test : Text → Bool) → test [] ≡ false → Mends p P (λ s. Unit {0}) → (t : Text) (h : Halt) → test t ≡ true → after_first p t ≡ Err h → MendAt (after_first p) P F t h
+mend_after p P F test none m [] h passes is = absurd (both_ways (test []) none passes)
+mend_after p P F test none m (b ∷ t) h passes is =
     let at = m t h is in
     record { front = b ∷ at.front; split = ap (λ (u : Text). b ∷ u) at.split; end = at.end; works = at.works; starts = λ e. cons_nil b at.front e }
   where

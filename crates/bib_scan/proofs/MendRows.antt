@@ -16,10 +16,10 @@ use Rattle.bib_scan.proofs.ValueLaws.{Stands, space_split, skip_space, links_ok}
 use Rattle.bib_scan.proofs.RowLaws.{equals_ok}
 use Rattle.bib_scan.proofs.AgainLaws.{value_again}
 use Rattle.bib_scan.proofs.UniqueLaws.{AfterRow, AfterValue, after_value, after_row_stands}
-use Rattle.bib_scan.proofs.LocalLaws.{behind_first, run, local_run}
+use Rattle.bib_scan.proofs.LocalLaws.{after_first, run, local_run}
 use Rattle.bib_scan.proofs.LocalParts.{first_is, local_part, local_name}
 use Rattle.bib_scan.proofs.LocalRows.{plain, ready, skip, links_gap, links_by_first, links_gap_is, value_gap, value_family, value_is, row_pieces, row_is, local_equals}
-use Rattle.bib_scan.proofs.MendLaws.{MendAt, Mends, Resumes, Default, mend_bind, mend_bind_some, mend_same, mend_cond, mend_never, mend_behind, mend_braced, mend_quoted, err_is, Always}
+use Rattle.bib_scan.proofs.MendLaws.{MendAt, Mends, Resumes, Default, mend_bind, mend_bind_some, mend_same, mend_cond, mend_never, mend_after, mend_braced, mend_quoted, err_is, Always}
 
 -- ---- pieces
 
@@ -216,7 +216,7 @@ unfolding read_links
 default_links limit zero r a = (tt, ap (λ (u : Text). Ok (tt, u)) (after_row_skip r a))
 default_links limit (suc n) r a = (
   tt,
-  links_gap_is limit n r ∙ ap (λ (u : Text). cond (first_is (λ b. eqb b 35) u) (behind_first (λ v. run is_space v >>= λ y. read_part limit y.1 >>= λ p. links_gap limit n p.1) u) (Ok (tt, u))) (after_row_skip r a)
+  links_gap_is limit n r ∙ ap (λ (u : Text). cond (first_is (λ b. eqb b 35) u) (after_first (λ v. run is_space v >>= λ y. read_part limit y.1 >>= λ p. links_gap limit n p.1) u) (Ok (tt, u))) (after_row_skip r a)
       ∙ cond-false (first_is (λ b. eqb b 35) r) _ _ (no_hash_first r a),
 )
 
@@ -235,9 +235,9 @@ mend_links limit some (suc n) G =
     (λ y r a. let w = default_part limit r (after_row_part r a) in let l = default_links limit n r a in (l.0, ap (λ (m : Read Part). m >>= λ p. links_gap limit n p.1) w.1 ∙ l.1))
     (λ r a. tt) in
     mend_same (links_gap limit (suc n)) (links_by_first limit n) AfterRow G (links_gap_is limit n)
-    (mend_bind (run is_space) (λ s u. cond (first_is (λ b. eqb b 35) u) (behind_first inner u) (Ok (tt, u))) Always AfterRow Stands G [] (local_run is_space) (resumes_run is_space) (mend_run is_space Always G)
-    (λ s. mend_cond (first_is (λ b. eqb b 35)) (behind_first inner) ready AfterRow (λ u. Stands u × G u) (λ b t u. refl)
-    (mend_behind inner AfterRow (λ u. (first_is (λ b. eqb b 35) u ≡ true) × (Stands u × G u)) (first_is (λ b. eqb b 35)) refl more)
+    (mend_bind (run is_space) (λ s u. cond (first_is (λ b. eqb b 35) u) (after_first inner u) (Ok (tt, u))) Always AfterRow Stands G [] (local_run is_space) (resumes_run is_space) (mend_run is_space Always G)
+    (λ s. mend_cond (first_is (λ b. eqb b 35)) (after_first inner) ready AfterRow (λ u. Stands u × G u) (λ b t u. refl)
+    (mend_after inner AfterRow (λ u. (first_is (λ b. eqb b 35) u ≡ true) × (Stands u × G u)) (first_is (λ b. eqb b 35)) refl more)
     (mend_never ready AfterRow (λ u. (first_is (λ b. eqb b 35) u ≡ false) × (Stands u × G u)) (λ t. ((tt, t), refl))))
     (λ s r a. (tt, cond-false (first_is (λ b. eqb b 35) r) _ _ (no_hash_first r a)))
     (λ r a. tt))

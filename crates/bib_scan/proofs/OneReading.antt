@@ -28,7 +28,7 @@ head_of (DefinitionTree d) = d.opening.head
 head_of (PreambleTree p) = p.opening.head
 head_of (EntryTree e) = e.opening.head
 
--- the bytes behind the type name, where the opening goes on to u
+-- the bytes after the type name, where the opening goes on to u
 abbrev opened_text : Opening → Text → Text
 opened_text o u = o.space_before_delimiter ++ (open_byte o.delimiter ∷ (o.space_behind ++ u))
 
@@ -41,13 +41,13 @@ preamble_inside p x = value_bytes p.value ++ (p.space_behind ++ close_byte p.ope
 abbrev entry_inside : Entry → Text → Text
 entry_inside e x = e.key ++ (behind_key_bytes e ++ x)
 
-abbrev behind_of : Tree → Text → Text
-behind_of (CommentTree h) x = x
-behind_of (DefinitionTree d) x = opened_text d.opening (definition_inside d x)
-behind_of (PreambleTree p) x = opened_text p.opening (preamble_inside p x)
-behind_of (EntryTree e) x = opened_text e.opening (entry_inside e x)
+abbrev after_of : Tree → Text → Text
+after_of (CommentTree h) x = x
+after_of (DefinitionTree d) x = opened_text d.opening (definition_inside d x)
+after_of (PreambleTree p) x = opened_text p.opening (preamble_inside p x)
+after_of (EntryTree e) x = opened_text e.opening (entry_inside e x)
 
-tree_shape : (t : Tree) (x : Text) → tree_bytes t ++ x ≡ 64 ∷ ((head_of t).space_before_type ++ ((head_of t).type_name ++ behind_of t x))
+tree_shape : (t : Tree) (x : Text) → tree_bytes t ++ x ≡ 64 ∷ ((head_of t).space_before_type ++ ((head_of t).type_name ++ after_of t x))
 tree_shape (CommentTree h) x = head_shape h x
 tree_shape (DefinitionTree d) x = definition_shape d x ∙ opening_shape d.opening _
 tree_shape (PreambleTree p) x = preamble_shape p x ∙ opening_shape p.opening _
@@ -55,7 +55,7 @@ tree_shape (EntryTree e) x = entry_shape e x ∙ opening_shape e.opening _
 
 pub record Headed (t : Tree) (x : Text) : Type 0 where
   pub head : IsHead (head_of t)
-  pub ends : does_not_begin_with is_type_byte (behind_of t x) ≡ true
+  pub ends : does_not_begin_with is_type_byte (after_of t x) ≡ true
 
 opened_head : (o : Opening) (u : Text) → IsOpening o → does_not_begin_with is_type_byte (opened_text o u) ≡ true
 opened_head o u is = type_ends o.space_before_delimiter o.delimiter (o.space_behind ++ u) is.space_before_delimiter
@@ -68,15 +68,15 @@ headed limit (EntryTree e) x is ends = record { head = is.opening.head; ends = o
 
 pub record SameHead (t u : Tree) (x y : Text) : Type 0 where
   pub head : head_of t ≡ head_of u
-  pub behind : behind_of t x ≡ behind_of u y
+  pub behind : after_of t x ≡ after_of u y
 
 head_unique : (t u : Tree) (x y : Text) → Headed t x → Headed u y → tree_bytes t ++ x ≡ tree_bytes u ++ y → SameHead t u x y
 head_unique t u x y ht hu e =
     let ht_named = type_name_parts (head_of t).type_name ht.head.type_name in
     let hu_named = type_name_parts (head_of u).type_name hu.head.type_name in
     let whole = tail_same 64 64 _ _ (sym (tree_shape t x) ∙ e ∙ tree_shape u y) in
-    let one = run_unique is_space (head_of t).space_before_type (head_of u).space_before_type ((head_of t).type_name ++ behind_of t x) ((head_of u).type_name ++ behind_of u y) ht.head.space_before_type hu.head.space_before_type (name_stands name_limit (head_of t).type_name (behind_of t x) ht_named.0) (name_stands name_limit (head_of u).type_name (behind_of u y) hu_named.0) whole in
-    let two = run_unique is_type_byte (head_of t).type_name (head_of u).type_name (behind_of t x) (behind_of u y) ht_named.1 hu_named.1 ht.ends hu.ends one.1 in
+    let one = run_unique is_space (head_of t).space_before_type (head_of u).space_before_type ((head_of t).type_name ++ after_of t x) ((head_of u).type_name ++ after_of u y) ht.head.space_before_type hu.head.space_before_type (name_stands name_limit (head_of t).type_name (after_of t x) ht_named.0) (name_stands name_limit (head_of u).type_name (after_of u y) hu_named.0) whole in
+    let two = run_unique is_type_byte (head_of t).type_name (head_of u).type_name (after_of t x) (after_of u y) ht_named.1 hu_named.1 ht.ends hu.ends one.1 in
     record { head = λ i. record { space_before_type = one.0 i; type_name = two.0 i }; behind = two.1 }
 
 -- ---- openings
@@ -130,7 +130,7 @@ preamble_unique limit p q x y ip iq h =
       tail_same _ _ x y three.1,
     )
 
--- an entry's bytes behind its opening, with the facts that fix them
+-- an entry's bytes after its opening, with the facts that fix them
 key_shape : (e : Entry) (x : Text) → behind_key_bytes e ++ x ≡ e.space_behind_key ++ rows_inside (close_byte e.opening.delimiter) e.rows e.last_comma x
 key_shape e x =
     let c = close_byte e.opening.delimiter in

@@ -95,7 +95,7 @@ name_again limit u r is ends = rw (begins_from limit u r is) (limited_name_again
 
 -- ---- parts
 
--- what may stand behind a part
+-- what may stand after a part
 pub record AfterPart (r : Text) : Type 0 where
   pub name : does_not_begin_with is_name_byte r ≡ true
   pub digit : does_not_begin_with is_ascii_digit r ≡ true

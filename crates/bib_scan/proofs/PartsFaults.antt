@@ -13,16 +13,16 @@ use Rattle.bib_scan.proofs.PartLaws.{part_ok}
 use Rattle.bib_scan.proofs.StopLaws.{fault_before}
 use Rattle.bib_scan.proofs.TakenApart.{link_found}
 
--- what is read behind a part, and that no text is left out
-abbrev RefusedBehind : ℕ → ℕ → ℕ → Halt → Type 0
-RefusedBehind limit total n h =
+-- what is read after a part, and that no text is left out
+abbrev RefusedAfter : ℕ → ℕ → ℕ → Halt → Type 0
+RefusedAfter limit total n h =
     (m : ℕ) (t : Text) → length t ≤ n → length t ≤ m → unless_end (read_link t >>= read_parts limit total n) t ≡ Err h → (read_links limit m t >>= nothing_behind) ≡ Err h
 
 part_shorter : (limit : ℕ) (t : Text) (p : Part × Text) → read_part limit t ≡ Ok p → length p.1 ≤ length t
 part_shorter limit t p is = omega (arith, ap (length {A = ℕ}) (part_ok limit t p is).0, length-append (part_bytes p.0) p.1)
 
--- a part and what is behind it, where links are read for so many turns
-refused_part : (limit total n : ℕ) (turns : Part × Text → ℕ) (t : Text) (h : Halt) (read : Read Part) → read_part limit t ≡ read → RefusedBehind limit total n h → length t ≤ n → ((p : Part × Text) → length p.1 ≤ length t → length p.1 ≤ turns p) → (read >>= λ first. unless_end (read_link first.1 >>= read_parts limit total n) first.1 >>= λ later. Ok (part_span first.0 (total - length t) (total - length first.1) ∷ later)) ≡ Err h → ((read >>= λ p. read_links limit (turns p) p.1) >>= nothing_behind) ≡ Err h
+-- a part and what follows it, where links are read for so many turns
+refused_part : (limit total n : ℕ) (turns : Part × Text → ℕ) (t : Text) (h : Halt) (read : Read Part) → read_part limit t ≡ read → RefusedAfter limit total n h → length t ≤ n → ((p : Part × Text) → length p.1 ≤ length t → length p.1 ≤ turns p) → (read >>= λ first. unless_end (read_link first.1 >>= read_parts limit total n) first.1 >>= λ later. Ok (part_span first.0 (total - length t) (total - length first.1) ∷ later)) ≡ Err h → ((read >>= λ p. read_links limit (turns p) p.1) >>= nothing_behind) ≡ Err h
 refused_part limit total n turns t h (Err k) read behind ln room is =
     let same : k ≡ h = err_is {A = List PartSpan} k h (Err k) refl is in
     ap (λ (j : Halt). Err j) same
@@ -31,12 +31,12 @@ refused_part limit total n turns t h (Ok p) read behind ln room is =
     let fault = fault_before (unless_end (read_link p.1 >>= read_parts limit total n) p.1) (λ later. part_span p.0 (total - length t) (total - length p.1) ∷ later) h is in
     behind (turns p) p.1 (omega arith) (room p short) fault
 
-refused_parts : (limit total n : ℕ) (turns : Part × Text → ℕ) (t : Text) (h : Halt) → RefusedBehind limit total n h → length t ≤ n → ((p : Part × Text) → length p.1 ≤ length t → length p.1 ≤ turns p) → read_parts limit total (suc n) t ≡ Err h → ((read_part limit t >>= λ p. read_links limit (turns p) p.1) >>= nothing_behind) ≡ Err h
+refused_parts : (limit total n : ℕ) (turns : Part × Text → ℕ) (t : Text) (h : Halt) → RefusedAfter limit total n h → length t ≤ n → ((p : Part × Text) → length p.1 ≤ length t → length p.1 ≤ turns p) → read_parts limit total (suc n) t ≡ Err h → ((read_part limit t >>= λ p. read_links limit (turns p) p.1) >>= nothing_behind) ≡ Err h
 unfolding read_parts
 refused_parts limit total n turns t h behind ln room is = refused_part limit total n turns t h (read_part limit t) refl behind ln room is
 
--- a link and what is behind it
-refused_link : (limit total n m b : ℕ) (t : Text) (h : Halt) (o : Option Text) → past_hash (after_run is_space (b ∷ t)) ≡ o → RefusedBehind limit total n h → length t ≤ n → length t ≤ m → (go_on (Err (expected ExpectedCommaOrClose (after_run is_space (b ∷ t)))) Ok o >>= read_parts limit total (suc n)) ≡ Err h → (go_on (Ok (b ∷ t)) (λ u. read_part limit u >>= λ p. read_links limit m p.1) o >>= nothing_behind) ≡ Err h
+-- a link and what follows it
+refused_link : (limit total n m b : ℕ) (t : Text) (h : Halt) (o : Option Text) → past_hash (after_run is_space (b ∷ t)) ≡ o → RefusedAfter limit total n h → length t ≤ n → length t ≤ m → (go_on (Err (expected ExpectedCommaOrClose (after_run is_space (b ∷ t)))) Ok o >>= read_parts limit total (suc n)) ≡ Err h → (go_on (Ok (b ∷ t)) (λ u. read_part limit u >>= λ p. read_links limit m p.1) o >>= nothing_behind) ≡ Err h
 refused_link limit total n m b t h None o_is behind ln lm is =
     let same : expected ExpectedCommaOrClose (after_run is_space (b ∷ t)) ≡ h = err_is {A = List PartSpan} (expected ExpectedCommaOrClose (after_run is_space (b ∷ t))) h _ refl is in
     ap (λ (j : Halt). Err j) same
@@ -45,15 +45,15 @@ refused_link limit total n m b t h (Some u) o_is behind ln lm is =
     let short : length u ≤ length t = omega (arith, ap (length {A = ℕ}) link.4, length-append link.0 (35 ∷ link.1 ++ u), length-append link.1 u) in
     refused_parts limit total n (λ p. m) u h behind (omega arith) (λ p le. omega arith) is
 
-refused_behind : (limit total n : ℕ) (h : Halt) → RefusedBehind limit total n h
+refused_after : (limit total n : ℕ) (h : Halt) → RefusedAfter limit total n h
 unfolding read_links
-refused_behind limit total n h m [] ln lm is = absurd (not_ok {A = List PartSpan} [] h _ is refl)
-refused_behind limit total zero h m (b ∷ t) ln lm is = absurd (omega arith)
-refused_behind limit total (suc n) h zero (b ∷ t) ln lm is = absurd (omega arith)
-refused_behind limit total (suc n) h (suc m) (b ∷ t) ln lm is =
-    refused_link limit total n m b t h (past_hash (after_run is_space (b ∷ t))) refl (refused_behind limit total n h) (omega arith) (omega arith) is
+refused_after limit total n h m [] ln lm is = absurd (not_ok {A = List PartSpan} [] h _ is refl)
+refused_after limit total zero h m (b ∷ t) ln lm is = absurd (omega arith)
+refused_after limit total (suc n) h zero (b ∷ t) ln lm is = absurd (omega arith)
+refused_after limit total (suc n) h (suc m) (b ∷ t) ln lm is =
+    refused_link limit total n m b t h (past_hash (after_run is_space (b ∷ t))) refl (refused_after limit total n h) (omega arith) (omega arith) is
 
 pub refused_whole : (limit : ℕ) (t : Text) (h : Halt) → read_all_parts limit t ≡ Err h → read_whole_value limit t ≡ Err h
 refused_whole limit t h is =
     let turns : length t + 1 ≡ suc (length t) = omega arith in
-    refused_parts limit (length t) (length t) (λ p. length p.1) t h (refused_behind limit (length t) (length t) h) (omega arith) (λ p le. omega arith) (subst (λ (n : ℕ). read_parts limit (length t) n t ≡ Err h) turns is)
+    refused_parts limit (length t) (length t) (λ p. length p.1) t h (refused_after limit (length t) (length t) h) (omega arith) (λ p le. omega arith) (subst (λ (n : ℕ). read_parts limit (length t) n t ≡ Err h) turns is)

@@ -48,14 +48,14 @@ nothing_there more [] none = refl
 nothing_there more (b ∷ t) none = absurd (omega arith)
 
 -- the parts of t are these, and then, if the text does not end, those of rest
-behind_part : (limit : ℕ) (t next rest : Text) (spans : List PartSpan) (p : Part) → PartsOn limit t next spans → read_part limit next ≡ Ok (p, rest) → (n : ℕ) × (length next ≤ n) × (read_all_parts limit t ≡ with_spans (spans ++ span_here t next rest p ∷ []) (unless_end (read_link rest >>= read_parts limit (length t) n) rest))
-behind_part limit t next rest spans p on is =
+after_part : (limit : ℕ) (t next rest : Text) (spans : List PartSpan) (p : Part) → PartsOn limit t next spans → read_part limit next ≡ Ok (p, rest) → (n : ℕ) × (length next ≤ n) × (read_all_parts limit t ≡ with_spans (spans ++ span_here t next rest p ∷ []) (unless_end (read_link rest >>= read_parts limit (length t) n) rest))
+after_part limit t next rest spans p on is =
     let room : length next < on.read.0 = on.read.1 in
     (on.read.0 - 1, omega arith, on.read.2 ∙ ap (with_spans spans) (turn limit (length t) on.read.0 next rest p (omega arith) is) ∙ with_spans-append spans (span_here t next rest p ∷ []) _)
 
 pub parts_more : (limit : ℕ) (t next rest after : Text) (spans : List PartSpan) (p : Part) → PartsOn limit t next spans → read_part limit next ≡ Ok (p, rest) → length rest < length next → 0 < length rest → read_link rest ≡ Ok after → length after < length rest → PartsOn limit t after (spans ++ span_here t next rest p ∷ [])
 parts_more limit t next rest after spans p on is shorter some linked less =
-    let b = behind_part limit t next rest spans p on is in
+    let b = after_part limit t next rest spans p on is in
     let room : length next ≤ b.0 = b.1 in
     let kept = spans ++ span_here t next rest p ∷ [] in
     record {
@@ -65,7 +65,7 @@ parts_more limit t next rest after spans p on is shorter some linked less =
 
 pub parts_end : (limit : ℕ) (t next rest : Text) (spans : List PartSpan) (p : Part) → PartsOn limit t next spans → read_part limit next ≡ Ok (p, rest) → length rest ≡ 0 → read_all_parts limit t ≡ Ok (spans ++ span_here t next rest p ∷ [])
 parts_end limit t next rest spans p on is none =
-    let b = behind_part limit t next rest spans p on is in
+    let b = after_part limit t next rest spans p on is in
     let kept = spans ++ span_here t next rest p ∷ [] in
     b.2 ∙ ap (with_spans kept) (nothing_there _ rest none) ∙ ap Ok (append-nil kept)
 
@@ -76,6 +76,6 @@ part_fault limit t next spans h on is =
 
 pub link_fault : (limit : ℕ) (t next rest : Text) (spans : List PartSpan) (p : Part) (h : Halt) → PartsOn limit t next spans → read_part limit next ≡ Ok (p, rest) → 0 < length rest → read_link rest ≡ Err h → read_all_parts limit t ≡ Err h
 link_fault limit t next rest spans p h on is some linked =
-    let b = behind_part limit t next rest spans p on is in
+    let b = after_part limit t next rest spans p on is in
     let kept = spans ++ span_here t next rest p ∷ [] in
     b.2 ∙ ap (with_spans kept) (more_there _ rest some ∙ ap (λ (m : Result Text Halt). m >>= read_parts limit (length t) b.0) linked)

@@ -1,4 +1,4 @@
--- Of files and values: each text that is none goes wrong at one place, one thing is wrong there, and a text that is cut
+-- Of files and values: each text that is not one goes wrong at one place, one thing is wrong there, and a text that is cut
 -- has ended too early at most.
 use Rattle.std.proofs.Common.{◌≡◌, ℕ, ◌+◌, ◌-◌, ◌<◌, ◌≤◌, List, [], ◌∷◌, ◌++◌, length, take, drop, refl, sym, ap, subst, ◌∙◌, arith, inl, inr, ◌⊎◌, Result, Ok, Err}
 use Rattle.std.proofs.lemmas.List.{length-append, take-append-drop}

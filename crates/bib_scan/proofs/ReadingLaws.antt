@@ -43,7 +43,7 @@ abbrev pub spans_from : ℕ → List Item → List Span
 spans_from at [] = []
 spans_from at (i ∷ items) = span at (at + length (tree_bytes i.tree)) ∷ spans_from (at + length (item_bytes i)) items
 
--- the next item begins behind this one
+-- the next item begins after this one
 pub start_more : (db : Reading) (n : ℕ) (i : Item) (items : List Item) → drop n db.items ≡ i ∷ items → start_of db (n + 1) ≡ start_of db n + length (item_bytes i)
 start_more db n i items is =
     let one : take (n + 1) db.items ≡ take n db.items ++ i ∷ [] = sym (take-more n 1 db.items) ∙ ap (λ (u : List Item). take n db.items ++ take 1 u) is in

@@ -43,7 +43,7 @@ closing_ok c t rest is = go (past_byte c t) refl is
     go None o_is e = absurd (not_ok rest _ _ refl e)
     go (Some u) o_is e = closed_ok c t u o_is ∙ ap (λ (v : Text). c ∷ v) (ok_same u rest _ refl e)
 
--- ---- the bytes of rows, with others behind them
+-- ---- the bytes of rows, with others after them
 
 abbrev pub assignment_inside : Assignment → Text → Text
 assignment_inside a u = a.name ++ (a.space_before_equals ++ (61 ∷ (a.space_before_value ++ (value_bytes a.value ++ (a.space_behind ++ u)))))

@@ -3,7 +3,7 @@ use Rattle.std.proofs.Common.{◌≡◌, ℕ, zero, suc, ◌+◌, ◌-◌, ◌<�
 use Rattle.bib_spec.specs.Text.{Text, after_run, is_space}
 use Rattle.bib_scan.specs.LeftToRight.{Halt, Assigned, read_comma, past_byte, go_on, read_assignment, read_row, read_rows, ◌>>=◌}
 
--- The text behind the rows of t is the text behind those of rest.
+-- The text after the rows of t is the text after those of rest.
 pub record RowsOn (limit : ℕ) (c : ℕ) (t rest : Text) : Type 0 where
   pub shorter : length rest ≤ length t
   pub read : (n : ℕ) × (length rest < n) × (read_rows limit (length t + 1) c t ≡ read_rows limit n c rest)
@@ -35,9 +35,9 @@ row_stops : (limit : ℕ) (u : Text) (h : Halt) → read_assignment limit (after
 unfolding read_row
 row_stops limit u h is = rw is refl
 
-row_behind : (limit : ℕ) (u : Text) (x : Assigned × Text) → read_assignment limit (after_run is_space u) ≡ Ok x → read_row limit u ≡ Ok x.1
+row_after : (limit : ℕ) (u : Text) (x : Assigned × Text) → read_assignment limit (after_run is_space u) ≡ Ok x → read_row limit u ≡ Ok x.1
 unfolding read_row
-row_behind limit u x is = rw is refl
+row_after limit u x is = rw is refl
 
 pub rows_row_fault : (limit c : ℕ) (t rest u : Text) (h : Halt) → RowsOn limit c t rest → None ≡ past_byte c rest → read_comma rest ≡ Ok u → None ≡ past_byte c (after_run is_space u) → read_assignment limit (after_run is_space u) ≡ Err h → read_rows limit (length t + 1) c t ≡ Err h
 rows_row_fault limit c t rest u h on open_still is still fault = by_turn limit c t rest on ∙ rw (← open_still, is, ← still, row_stops limit u h fault) refl
@@ -47,5 +47,5 @@ rows_more limit c t rest u x on open_still is still read shorter =
     let room : length rest < on.read.0 = on.read.1 in
     record {
       shorter = omega (arith, on.shorter);
-      read = (on.read.0 - 1, omega arith, by_turn limit c t rest on ∙ rw (← open_still, is, ← still, row_behind limit u x read) refl);
+      read = (on.read.0 - 1, omega arith, by_turn limit c t rest on ∙ rw (← open_still, is, ← still, row_after limit u x read) refl);
     }

@@ -9,7 +9,7 @@ pub record Scanned (F : ℕ → Text → Read Text) (t : Text) (at depth : ℕ) 
   pub shallow : depth ≤ at
   pub read : F 0 t ≡ with_front (take at t) (F depth (drop at t))
 
--- The text behind the value is the text behind the parts that are left, of which rest has no more than bytes.
+-- The text after the value is the text after the parts that are left, of which rest has no more than bytes.
 pub record LeadsOn (limit : ℕ) (t rest : Text) : Type 0 where
   pub shorter : length rest < length t
   pub read : (n : ℕ) × (length rest ≤ n) × (read_value_rest limit t ≡ read_links limit n rest)

@@ -1,4 +1,4 @@
--- One field after another: what is left behind the first.
+-- One field after another: what is left after the first.
 use Rattle.std.proofs.Common.{◌≡◌, ℕ, zero, suc, ◌<◌, ◌≤◌, List, [], ◌∷◌, length, refl, sym, ap, ◌∙◌, arith, Option, None, Some, Result, Ok, Err}
 use Rattle.std.specs.Result.{result_ok}
 use Rattle.bib_spec.specs.Bytes.{name_limit}
@@ -59,18 +59,18 @@ field_last kind.Preamble total [] is = refl
 field_last kind.Comment total [] is = refl
 field_last k total (b ∷ t) is = ap (λ (o : Option (Field × Text)). first_and_others o (fields_left (length t) (kind_behind k) total)) is
 
-turns_behind : (k : Kind) (n total : ℕ) (t : Text) → length t ≤ n → fields_left n (kind_behind k) total t ≡ all_fields_left (kind_behind k) total t
-turns_behind kind.Entry n total t le = rows_turns n (length t) total t le (omega arith)
-turns_behind kind.Macro n total t le = none_left n total t ∙ sym (none_left (length t) total t)
-turns_behind kind.Preamble n total t le = none_left n total t ∙ sym (none_left (length t) total t)
-turns_behind kind.Comment n total t le = none_left n total t ∙ sym (none_left (length t) total t)
+turns_after : (k : Kind) (n total : ℕ) (t : Text) → length t ≤ n → fields_left n (kind_behind k) total t ≡ all_fields_left (kind_behind k) total t
+turns_after kind.Entry n total t le = rows_turns n (length t) total t le (omega arith)
+turns_after kind.Macro n total t le = none_left n total t ∙ sym (none_left (length t) total t)
+turns_after kind.Preamble n total t le = none_left n total t ∙ sym (none_left (length t) total t)
+turns_after kind.Comment n total t le = none_left n total t ∙ sym (none_left (length t) total t)
 
 pub field_step : (k : Kind) (total : ℕ) (t : Text) (x : Field × Text) → first_field k total t ≡ Some x → length x.1 < length t → all_fields_left k total t ≡ x.0 ∷ all_fields_left (kind_behind k) total x.1
 unfolding fields_left
 field_step k total [] x is short = absurd (omega arith)
 field_step k total (b ∷ t) x is short =
     ap (λ (o : Option (Field × Text)). first_and_others o (fields_left (length t) (kind_behind k) total)) is
-    ∙ ap (λ (fs : List Field). x.0 ∷ fs) (turns_behind k (length t) total x.1 (omega arith))
+    ∙ ap (λ (fs : List Field). x.0 ∷ fs) (turns_after k (length t) total x.1 (omega arith))
 
 -- ---- how many there are
 

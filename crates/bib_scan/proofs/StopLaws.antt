@@ -1,5 +1,5 @@
--- Where the reading of a file stops: behind the opening delimiter of a command. What stands before it is read again
--- whatever stands behind, and also where names and keys may be longer.
+-- Where the reading of a file stops: after the opening delimiter of a command. What stands before it is read again
+-- whatever follows, and also where names and keys may be longer.
 use Rattle.std.proofs.Common.{◌≡◌, ℕ, zero, suc, ◌+◌, ◌-◌, ◌<◌, ◌≤◌, Bool, true, false, ◌||◌, List, [], ◌∷◌, ◌++◌, length, take, drop, refl, sym, ap, subst, ◌∙◌, arith, append_assoc, append-nil, inl, inr, Result, Ok, Err}
 use Rattle.std.proofs.lemmas.Bool.{eqb-true, both_ways, and_parts, or_cases}
 use Rattle.std.proofs.lemmas.List.{length-append, length-drop, take-append-drop, drop_at}
@@ -22,7 +22,7 @@ use Rattle.bib_scan.proofs.ReadingLaws.{not_here, ends_more, ends_take, some_byt
 use Rattle.bib_scan.proofs.LongerNames.{longer_tree, longer_item}
 use Rattle.bib_scan.proofs.MendLaws.{err_is}
 
--- the text behind the command of this type, from behind its opening delimiter on
+-- the text after the command of this type, given what follows its opening delimiter
 abbrev pub inside : ℕ → Text → Delimiter → Text → Result Text Halt
 inside limit type_name d s = read_body limit type_name (open_byte d ∷ s)
 

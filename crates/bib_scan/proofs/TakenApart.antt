@@ -34,7 +34,7 @@ link_found t u (Some v) o_is is =
 link_ok : (t u : Text) → read_link t ≡ Ok u → IsLinkTo t u
 link_ok t u is = link_found t u (past_hash (after_run is_space t)) refl is
 
--- the text is a part and links, behind the text before
+-- the text is a part and links, after the text before
 abbrev pub ArePartsAt : ℕ → Text → Text → List PartSpan → Type 0
 ArePartsAt limit before t spans =
     (p : Part) × (ls : List Link) × IsPart limit p × All (IsLink limit) ls × (t ≡ part_bytes p ++ flat_map link_bytes ls) × (spans ≡ span_behind before p ∷ spans_behind (before ++ part_bytes p) ls)

@@ -1,4 +1,4 @@
--- What a reader does where another byte stands in place of the first one that it stopped at, and nothing behind it.
+-- What a reader does where another byte stands in place of the first one that it stopped at, and nothing after it.
 -- Each fault is told by some bytes that it passes and some that it stops at.
 use Rattle.std.proofs.Common.{◌≡◌, ℕ, ◌+◌, ◌<◌, ◌≤◌, Bool, true, false, cond, [], ◌∷◌, ◌++◌, length, refl, sym, ap, subst, ◌∙◌, arith, append_assoc, append-nil, inl, inr, ◌⊎◌, Result, Ok, Err}
 use Rattle.std.proofs.lemmas.List.{length-append, append_cancel_right}
@@ -7,19 +7,19 @@ use Rattle.bib_spec.specs.Fault.{ReadingFault, Unended, ExpectedName, ExpectedEq
 use Rattle.bib_spec.specs.Text.{Text}
 use Rattle.bib_scan.specs.LeftToRight.{Read, Halt, stop, ◌>>=◌}
 use Rattle.bib_scan.proofs.RunLaws.{not_ok}
-use Rattle.bib_scan.proofs.LocalLaws.{rest_of, with_rest, LocalAt, Local, behind_first}
+use Rattle.bib_scan.proofs.LocalLaws.{rest_of, with_rest, LocalAt, Local, after_first}
 use Rattle.bib_scan.proofs.UniqueLaws.{tail_same}
 use Rattle.bib_scan.proofs.MendLaws.{Resumes, err_is}
 
--- behind u the reader goes on past the byte d
+-- after u the reader goes on past the byte d
 abbrev pub Past : {A : Type 0} → (Text → Read A) → Text → ℕ → Type 0
 Past p u d = rest_of (p (u ++ d ∷ [])) ≡ []
 
--- behind u the reader stops at the byte d
+-- after u the reader stops at the byte d
 abbrev pub Stopped : {A : Type 0} → (Text → Read A) → Text → ℕ → Type 0
 Stopped p u d = (k : ReadingFault) × (p (u ++ d ∷ []) ≡ Err (stop k (d ∷ [])))
 
--- behind u the reader ends before the byte d, and has read a
+-- after u the reader ends before the byte d, and has read a
 abbrev pub Leaves : {A : Type 0} → (Text → Read A) → A → Text → ℕ → Type 0
 Leaves p a u d = p (u ++ d ∷ []) ≡ Ok (a, d ∷ [])
 
@@ -119,7 +119,7 @@ Tells p G = (t : Text) (h : Halt) → p t ≡ Err h → TellsAt p G t h
 abbrev pub Keeps : {A : Type 0} → (Text → Read A) → (ℕ → Type 0) → Type 0
 Keeps {A} p F = (t : Text) (a : A) (r u : Text) → p t ≡ Ok (a, r) → t ≡ u ++ r → (d : ℕ) → F d → Leaves p a u d
 
--- Behind what the reader read: a letter and a digit follow, or it stops at the letter, or it goes on past the digit.
+-- After what the reader read: a letter and a digit follow, or it stops at the letter, or it goes on past the digit.
 abbrev pub TakesDigit : {A : Type 0} → (Text → Read A) → A → Text → Type 0
 TakesDigit p a u = (Leaves p a u 120 × Leaves p a u 49) ⊎ Stopped p u 120 ⊎ Past p u 49
 
@@ -159,7 +159,7 @@ module _ {A B : Type 0} (p : Text → Read A) (f : A → Text → Read B) where
   stopped_first : (u : Text) (d : ℕ) → Stopped p u d → Stopped Both u d
   stopped_first u d s = (s.0, ap (λ (m : Read A). m >>= λ x. f x.0 x.1) s.1)
 
-  -- where p reads a up to u2 and the text behind it, f goes on there
+  -- where p reads a up to u2 and the text after it, f goes on there
   goes_on : (a : A) (u1 u2 w : Text) → p (u1 ++ (u2 ++ w)) ≡ Ok (a, u2 ++ w) → Both ((u1 ++ u2) ++ w) ≡ f a (u2 ++ w)
   goes_on a u1 u2 w is = ap Both (append_assoc u1 u2 w) ∙ ap (λ (m : Read A). m >>= λ x. f x.0 x.1) is
 
@@ -199,7 +199,7 @@ module _ {A B : Type 0} (p : Text → Read A) (f : A → Text → Read B) where
     starts = starts;
   }
 
-  -- the second reader stopped behind its first byte
+  -- the second reader stopped after its first byte
   pub tell_later : (G H : ℕ → Type 0) (t : Text) (a : A) (r : Text) (h : Halt) → LocalAt p t (Ok (a, r)) → (m : TellsAt (f a) H r h) → (m.front ≡ [] → ⊥) → TellsAt Both G t h
   tell_later G H t a r h l m some = tell_moved G H t a r h l m (λ d ok. first m.front refl d) (digit m.front refl) (λ none. absurd (some (second_nil l.front m.front none)))
     where
@@ -407,12 +407,12 @@ tell_cond {A} test p q G by_first other mp mq t h is = go (test t) refl is
 some_front : (b : ℕ) (u : Text) → b ∷ u ≡ [] → ⊥
 some_front b u e = cc
 
--- behind the first byte of a text that has one
-pub tell_behind : {A : Type 0} (p : Text → Read A) (G : ℕ → Type 0) (test : Text → Bool) → test [] ≡ false → Tells p (λ d. Unit {0}) → (t : Text) (h : Halt) → test t ≡ true → behind_first p t ≡ Err h → (m : TellsAt (behind_first p) G t h) × (m.front ≡ [] → ⊥)
-tell_behind p G test none tells [] h passes is = absurd (both_ways (test []) none passes)
-tell_behind {A} p G test none tells (b ∷ t) h passes is =
+-- after the first byte of a text that has one
+pub tell_beyond : {A : Type 0} (p : Text → Read A) (G : ℕ → Type 0) (test : Text → Bool) → test [] ≡ false → Tells p (λ d. Unit {0}) → (t : Text) (h : Halt) → test t ≡ true → after_first p t ≡ Err h → (m : TellsAt (after_first p) G t h) × (m.front ≡ [] → ⊥)
+tell_beyond p G test none tells [] h passes is = absurd (both_ways (test []) none passes)
+tell_beyond {A} p G test none tells (b ∷ t) h passes is =
     let m = tells t h is in
-    let at : TellsAt (behind_first p) G (b ∷ t) h = record {
+    let at : TellsAt (after_first p) G (b ∷ t) h = record {
       front = b ∷ m.front;
       split = ap (λ (u : Text). b ∷ u) m.split;
       end = m.end;
@@ -423,14 +423,14 @@ tell_behind {A} p G test none tells (b ∷ t) h passes is =
     } in
     (at, λ e. some_front b m.front e)
 
-pub digits_cond : {A : Type 0} (test : Text → Bool) (p q : Text → Read A) → ((b : ℕ) (t u : Text) → test (b ∷ t) ≡ test (b ∷ u)) → test [] ≡ false → test (120 ∷ []) ≡ false → test (49 ∷ []) ≡ false → Local p → Digits p → Digits q → Digits (λ t. cond (test t) (behind_first p t) (q t))
+pub digits_cond : {A : Type 0} (test : Text → Bool) (p q : Text → Read A) → ((b : ℕ) (t u : Text) → test (b ∷ t) ≡ test (b ∷ u)) → test [] ≡ false → test (120 ∷ []) ≡ false → test (49 ∷ []) ≡ false → Local p → Digits p → Digits q → Digits (λ t. cond (test t) (after_first p t) (q t))
 digits_cond {A} test p q by_first none letter digit local dp dq t a r u is split = go (test t) refl is
   where
     same_test : (x : Bool) (v : Text) (d : ℕ) → test t ≡ x → t ≡ v ++ r → (v ≡ [] → test (d ∷ []) ≡ x) → test (v ++ d ∷ []) ≡ x
     same_test x [] d was shape starts = starts refl
     same_test x (b ∷ v) d was shape starts = by_first b (v ++ d ∷ []) (v ++ r) ∙ ap test (sym shape) ∙ was
 
-    first : (s v : Text) → t ≡ s → t ≡ v ++ r → test s ≡ true → behind_first p s ≡ Ok (a, r) → TakesDigit (λ w. cond (test w) (behind_first p w) (q w)) a v
+    first : (s v : Text) → t ≡ s → t ≡ v ++ r → test s ≡ true → after_first p s ≡ Ok (a, r) → TakesDigit (λ w. cond (test w) (after_first p w) (q w)) a v
     first [] v shape parts was read = absurd (both_ways (test []) none was)
     first (b ∷ s) [] shape parts was read =
         let l = local s in
@@ -443,16 +443,16 @@ digits_cond {A} test p q by_first none letter digit local dp dq t a r u is split
         let to : (d : ℕ) → test ((c ∷ v) ++ d ∷ []) ≡ true = λ d. same_test true (c ∷ v) d (ap test shape ∙ was) parts (λ e. absurd (some_front c v e)) in
         lift to (dp s a r v read inner)
       where
-        lift : ((d : ℕ) → test ((c ∷ v) ++ d ∷ []) ≡ true) → TakesDigit p a v → TakesDigit (λ w. cond (test w) (behind_first p w) (q w)) a (c ∷ v)
+        lift : ((d : ℕ) → test ((c ∷ v) ++ d ∷ []) ≡ true) → TakesDigit p a v → TakesDigit (λ w. cond (test w) (after_first p w) (q w)) a (c ∷ v)
         lift to (inl l) = inl (cond-true (test _) _ _ (to 120) ∙ l.0, cond-true (test _) _ _ (to 49) ∙ l.1)
         lift to (inr (inl s)) = inr (inl (s.0, cond-true (test _) _ _ (to 120) ∙ s.1))
         lift to (inr (inr e)) = inr (inr (ap rest_of (cond-true (test _) _ _ (to 49)) ∙ e))
 
-    other : test (u ++ 120 ∷ []) ≡ false → test (u ++ 49 ∷ []) ≡ false → TakesDigit q a u → TakesDigit (λ w. cond (test w) (behind_first p w) (q w)) a u
+    other : test (u ++ 120 ∷ []) ≡ false → test (u ++ 49 ∷ []) ≡ false → TakesDigit q a u → TakesDigit (λ w. cond (test w) (after_first p w) (q w)) a u
     other to too (inl l) = inl (cond-false (test _) _ _ to ∙ l.0, cond-false (test _) _ _ too ∙ l.1)
     other to too (inr (inl s)) = inr (inl (s.0, cond-false (test _) _ _ to ∙ s.1))
     other to too (inr (inr e)) = inr (inr (ap rest_of (cond-false (test _) _ _ too) ∙ e))
 
-    go : (x : Bool) → test t ≡ x → cond x (behind_first p t) (q t) ≡ Ok (a, r) → TakesDigit (λ w. cond (test w) (behind_first p w) (q w)) a u
+    go : (x : Bool) → test t ≡ x → cond x (after_first p t) (q t) ≡ Ok (a, r) → TakesDigit (λ w. cond (test w) (after_first p w) (q w)) a u
     go true was e = first t u refl split was e
     go false was e = other (same_test false u 120 was split (λ gone. letter)) (same_test false u 49 was split (λ gone. digit)) (dq t a r u e split)

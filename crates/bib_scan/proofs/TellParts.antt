@@ -16,7 +16,7 @@ use Rattle.bib_scan.proofs.BraceLemmas.{braced_takes, quoted_takes, braced_opens
 use Rattle.bib_scan.proofs.BraceLaws.{plain_byte, braced_again, quoted_again, balanced_closes, quotes_inside}
 use Rattle.bib_scan.proofs.PartLaws.{AfterPart, name_byte_no, part_ok, part_again, name_parts, name_from, name_ok, name_again, begins_from}
 use Rattle.bib_scan.proofs.AgainLaws.{Breaks}
-use Rattle.bib_scan.proofs.LocalLaws.{rest_of, run, behind_first, run_beyond}
+use Rattle.bib_scan.proofs.LocalLaws.{rest_of, run, after_first, run_beyond}
 use Rattle.bib_scan.proofs.MendLaws.{err_is}
 use Rattle.bib_scan.proofs.MendRows.{resumes_run, resumes_name, resumes_part, x_name, inner_err, as_part, TooLong, too_long}
 use Rattle.bib_scan.proofs.TellLaws.{Past, Stopped, Leaves, Passes, Blocks, Tries, AsksDigit, IsEnd, DigitToo, TellsAt, Tells, Keeps, TakesDigit, keeps_of, digits_of}
@@ -261,7 +261,7 @@ tell_part limit G each (b ∷ t) h is =
 pub keeps_part : (limit : ℕ) → Keeps (read_part limit) Breaks
 keeps_part limit = keeps_of (read_part limit) AfterPart Breaks (resumes_part limit) (λ d ok. record { name = not_from_false _ ok.name; digit = not_from_false _ ok.digit })
 
--- what stands behind a braced or quoted part does not matter
+-- what stands after a braced or quoted part does not matter
 braced_any : (limit : ℕ) (c r : Text) → IsPart limit (Braced c) → read_part limit (part_bytes (Braced c) ++ r) ≡ Ok (Braced c, r)
 unfolding read_part
 braced_any limit c r is =

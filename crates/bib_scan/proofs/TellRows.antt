@@ -10,13 +10,13 @@ use Rattle.bib_scan.proofs.RunLaws.{ok_same, not_ok}
 use Rattle.bib_scan.proofs.RowLaws.{comma_ok}
 use Rattle.bib_scan.proofs.AgainLaws.{Breaks, EndsRow}
 use Rattle.bib_scan.proofs.UniqueLaws.{AfterRow}
-use Rattle.bib_scan.proofs.LocalLaws.{Local, rest_of, run, behind_first, local_run, local_behind, local_bind, local_cond, local_ok}
+use Rattle.bib_scan.proofs.LocalLaws.{Local, rest_of, run, after_first, local_run, local_beyond, local_bind, local_cond, local_ok}
 use Rattle.bib_scan.proofs.LocalParts.{first_is, local_part, local_name}
 use Rattle.bib_scan.proofs.LocalRows.{plain, ready, skip, local_skip, links_gap, links_by_first, links_gap_is, local_links, value_gap, value_family, value_is, local_value, local_equals, row_pieces, row_is}
 use Rattle.bib_scan.proofs.MendLaws.{err_is, Always}
 use Rattle.bib_scan.proofs.MendRows.{resumes_equals, equals_takes, name_takes, row_value, sign_value, row_sign, named_row}
 use Rattle.bib_scan.proofs.MendTrees.{resumes_row, resumes_value}
-use Rattle.bib_scan.proofs.TellLaws.{Past, Stopped, Leaves, Passes, Blocks, Tries, IsTried, the_letter, the_digit, the_sign, the_mark, the_comma, passes_tried, blocks_tried, DigitToo, TellsAt, Tells, Keeps, TakesDigit, Digits, keeps_of, digits_of, tell_bind, tell_bind_some, digits_bind, tell_same, digits_same, tell_family, digits_family, tell_cond, tell_behind, digits_cond}
+use Rattle.bib_scan.proofs.TellLaws.{Past, Stopped, Leaves, Passes, Blocks, Tries, IsTried, the_letter, the_digit, the_sign, the_mark, the_comma, passes_tried, blocks_tried, DigitToo, TellsAt, Tells, Keeps, TakesDigit, Digits, keeps_of, digits_of, tell_bind, tell_bind_some, digits_bind, tell_same, digits_same, tell_family, digits_family, tell_cond, tell_beyond, digits_cond}
 use Rattle.bib_scan.proofs.TellParts.{told, told_end, keeps_run, tell_run, tell_name, keeps_name, digits_name, tell_part, keeps_part, digits_part}
 
 -- ---- the bytes that are tried
@@ -46,7 +46,7 @@ digit_space = tried_space 49 the_digit
 pub digits_run : Digits (run is_space)
 digits_run = digits_of (run is_space) (λ d. is_space d ≡ false) (keeps_run is_space) letter_space digit_space
 
--- behind white space
+-- after white space
 pub tell_space : {A : Type 0} (p : Text → Read A) (G : ℕ → Type 0) → Local p → Tells p (λ d. (is_space d ≡ false) × G d) → Tells (λ t. run is_space t >>= λ s. p s.1) G
 tell_space p G local tells = tell_bind (run is_space) (λ s u. p u) (λ d. is_space d ≡ false) G (local_run is_space) (λ s. local) (keeps_run is_space) digits_run (tell_run is_space G) (λ s. tells)
 
@@ -78,7 +78,7 @@ close_ends d (inl is) = absurd is
 close_ends d (inr (inl is)) = subst EndsRow (sym is) (record { breaks = record { name = refl; digit = refl }; no_space = refl; no_hash = refl })
 close_ends d (inr (inr is)) = subst EndsRow (sym is) (record { breaks = record { name = refl; digit = refl }; no_space = refl; no_hash = refl })
 
--- behind `#`
+-- after `#`
 abbrev pub link_inside : ℕ → ℕ → Text → Read (Unit {0})
 link_inside limit n u = run is_space u >>= λ y. read_part limit y.1 >>= λ p. links_gap limit n p.1
 
@@ -106,10 +106,10 @@ tell_links limit (suc n) G =
     tell_space (part_links limit n) (λ d. Unit {0}) (local_part_links limit n)
     (tell_bind (read_part limit) (λ p u. links_gap limit n u) Breaks (λ d. (is_space d ≡ false) × Unit {0}) (local_part limit) (λ p. local_links limit n) (keeps_part limit) (digits_part limit) (tell_part limit (λ d. (is_space d ≡ false) × Unit {0}) (λ d ok. (tries_space ExpectedValue d ok, tt))) (λ p. tell_links limit n (λ d. Breaks d × ((is_space d ≡ false) × Unit {0})))) in
     tell_same (links_gap limit (suc n)) (links_by_first limit n) G (links_gap_is limit n)
-    (tell_space (λ u. cond (first_is (λ b. eqb b 35) u) (behind_first (link_inside limit n) u) (ready u)) G
-    (local_cond (first_is (λ b. eqb b 35)) (behind_first (link_inside limit n)) ready (λ b t u. refl) (local_behind (link_inside limit n) (local_link limit n)) (local_ok tt))
-    (tell_cond (first_is (λ b. eqb b 35)) (behind_first (link_inside limit n)) ready (λ d. (is_space d ≡ false) × G d) (λ b t u. refl) tried_hash
-    (tell_behind (link_inside limit n) (λ d. (is_space d ≡ false) × G d) (first_is (λ b. eqb b 35)) refl inner)
+    (tell_space (λ u. cond (first_is (λ b. eqb b 35) u) (after_first (link_inside limit n) u) (ready u)) G
+    (local_cond (first_is (λ b. eqb b 35)) (after_first (link_inside limit n)) ready (λ b t u. refl) (local_beyond (link_inside limit n) (local_link limit n)) (local_ok tt))
+    (tell_cond (first_is (λ b. eqb b 35)) (after_first (link_inside limit n)) ready (λ d. (is_space d ≡ false) × G d) (λ b t u. refl) tried_hash
+    (tell_beyond (link_inside limit n) (λ d. (is_space d ≡ false) × G d) (first_is (λ b. eqb b 35)) refl inner)
     (tell_ready (λ d. (is_space d ≡ false) × G d))))
 
 digits_links : (limit n : ℕ) → Digits (links_gap limit n)
@@ -118,8 +118,8 @@ digits_links limit zero = digits_space ready (local_ok tt) digits_ready
 digits_links limit (suc n) =
     let inner : Digits (link_inside limit n) = digits_space (part_links limit n) (local_part_links limit n) (digits_bind (read_part limit) (λ p u. links_gap limit n u) (local_part limit) (λ p. local_links limit n) (digits_part limit) (λ p. digits_links limit n)) in
     digits_same (links_gap limit (suc n)) (links_by_first limit n) (links_gap_is limit n)
-    (digits_space (λ u. cond (first_is (λ b. eqb b 35) u) (behind_first (link_inside limit n) u) (ready u))
-    (local_cond (first_is (λ b. eqb b 35)) (behind_first (link_inside limit n)) ready (λ b t u. refl) (local_behind (link_inside limit n) (local_link limit n)) (local_ok tt))
+    (digits_space (λ u. cond (first_is (λ b. eqb b 35) u) (after_first (link_inside limit n) u) (ready u))
+    (local_cond (first_is (λ b. eqb b 35)) (after_first (link_inside limit n)) ready (λ b t u. refl) (local_beyond (link_inside limit n) (local_link limit n)) (local_ok tt))
     (digits_cond (first_is (λ b. eqb b 35)) (link_inside limit n) ready (λ b t u. refl) refl refl refl (local_link limit n) inner digits_ready))
 
 pub tell_value : (limit : ℕ) (G : ℕ → Type 0) → ((d : ℕ) → Tries ExpectedValue d → G d) → Tells (value_gap limit) G

@@ -13,12 +13,12 @@ use Rattle.bib_scan.proofs.ValueLaws.{skip_space}
 use Rattle.bib_scan.proofs.RowLaws.{comma_ok, row_ok, assignment_inside}
 use Rattle.bib_scan.proofs.AgainLaws.{EndsRow, not_closed}
 use Rattle.bib_scan.proofs.TreeAgainLaws.{closes}
-use Rattle.bib_scan.proofs.LocalLaws.{Local, LocalAt, rest_of, run, behind_first, local_run, local_limited, local_behind, local_bind, local_cond, local_ok}
+use Rattle.bib_scan.proofs.LocalLaws.{Local, LocalAt, rest_of, run, after_first, local_run, local_limited, local_beyond, local_bind, local_cond, local_ok}
 use Rattle.bib_scan.proofs.LocalParts.{first_is}
 use Rattle.bib_scan.proofs.LocalRows.{plain, ready, value_gap, local_value, local_row, local_closing, local_comma, rows_read, after_comma, rows_by_first, rows_is, local_rows, local_all_rows, all_rows_is, definition_is, preamble_is, value_close}
 use Rattle.bib_scan.proofs.MendLaws.{err_is}
 use Rattle.bib_scan.proofs.MendTrees.{all_again, space_rows, key_rows, entry_bind}
-use Rattle.bib_scan.proofs.TellLaws.{some_or_none, tell_later, Past, Stopped, Leaves, Passes, Blocks, Tries, IsTried, the_letter, the_digit, the_sign, the_mark, the_comma, DigitToo, TellsAt, Tells, Keeps, TakesDigit, Digits, digits_of, tell_bind, tell_bind_some, digits_bind, tell_same, tell_family, tell_cond, tell_behind}
+use Rattle.bib_scan.proofs.TellLaws.{some_or_none, tell_later, Past, Stopped, Leaves, Passes, Blocks, Tries, IsTried, the_letter, the_digit, the_sign, the_mark, the_comma, DigitToo, TellsAt, Tells, Keeps, TakesDigit, Digits, digits_of, tell_bind, tell_bind_some, digits_bind, tell_same, tell_family, tell_cond, tell_beyond}
 use Rattle.bib_scan.proofs.TellParts.{told, told_end, tell_limited}
 use Rattle.bib_scan.proofs.TellRows.{tried_space, tries_space, tell_space, tell_ready, close_ends, tell_value, digits_value, keeps_value, tell_row, digits_row, keeps_row}
 
@@ -115,7 +115,7 @@ pub local_row_rows : (limit n c : ℕ) → Local (row_rows limit n c)
 local_row_rows limit n c = local_bind (plain (read_row limit)) (λ r u. rows_read limit n c u) (local_row limit) (λ r. local_rows limit n c)
 
 pub local_after : (limit n c : ℕ) → Local (after_comma limit n c)
-local_after limit n c = local_cond (first_is (λ b. eqb b c)) (behind_first ready) (row_rows limit n c) (λ b t u. refl) (local_behind ready (local_ok tt)) (local_row_rows limit n c)
+local_after limit n c = local_cond (first_is (λ b. eqb b c)) (after_first ready) (row_rows limit n c) (λ b t u. refl) (local_beyond ready (local_ok tt)) (local_row_rows limit n c)
 
 pub local_gap : (limit n c : ℕ) → Local (λ t. run is_space t >>= λ s. after_comma limit n c s.1)
 local_gap limit n c = local_bind (run is_space) (λ s u. after_comma limit n c u) (local_run is_space) (λ s. local_after limit n c)
@@ -129,10 +129,10 @@ tell_rows limit some zero c G untried each = first
     first (b ∷ t) h is = told (rows_read limit 0 c) G (b ∷ t) [] (b ∷ t) ExpectedCommaOrClose h (err_is {A = Unit {0} × Text} (stop ExpectedCommaOrClose (b ∷ t)) h _ refl is) refl (some_text b t) (λ d ok. absurd ok) (λ d ok. rows_blocks limit c d) (λ asks. inl (rows_blocks limit c 120)) (λ none. each)
 tell_rows limit some (suc n) c G untried each =
     let tell_inner : Tells (row_rows limit n c) (λ d. (is_space d ≡ false) × Unit {0}) = tell_bind_some (plain (read_row limit)) (λ r u. rows_read limit n c u) EndsRow (λ d. (is_space d ≡ false) × Unit {0}) (row_takes limit) (local_row limit) (λ r. local_rows limit n c) (keeps_row limit) (digits_row limit) (tell_row limit some (λ d. (is_space d ≡ false) × Unit {0}) (λ d ok. (tries_space ExpectedName d ok, tt))) (λ r. tell_rows limit some n c EndsRow untried close_ends) in
-    let tell_after : Tells (after_comma limit n c) (λ d. (is_space d ≡ false) × Unit {0}) = tell_cond (first_is (λ b. eqb b c)) (behind_first ready) (row_rows limit n c) (λ d. (is_space d ≡ false) × Unit {0}) (λ b t u. refl) untried (tell_behind ready (λ d. (is_space d ≡ false) × Unit {0}) (first_is (λ b. eqb b c)) refl (tell_ready (λ d. Unit {0}))) tell_inner in
+    let tell_after : Tells (after_comma limit n c) (λ d. (is_space d ≡ false) × Unit {0}) = tell_cond (first_is (λ b. eqb b c)) (after_first ready) (row_rows limit n c) (λ d. (is_space d ≡ false) × Unit {0}) (λ b t u. refl) untried (tell_beyond ready (λ d. (is_space d ≡ false) × Unit {0}) (first_is (λ b. eqb b c)) refl (tell_ready (λ d. Unit {0}))) tell_inner in
     tell_same (rows_read limit (suc n) c) (rows_by_first limit n c) G (rows_is limit n c)
-    (tell_cond (first_is (λ b. eqb b c)) (behind_first ready) (λ t. plain read_comma t >>= λ u. run is_space u.1 >>= λ s. after_comma limit n c s.1) G (λ b t u. refl) untried
-    (tell_behind ready G (first_is (λ b. eqb b c)) refl (tell_ready (λ d. Unit {0})))
+    (tell_cond (first_is (λ b. eqb b c)) (after_first ready) (λ t. plain read_comma t >>= λ u. run is_space u.1 >>= λ s. after_comma limit n c s.1) G (λ b t u. refl) untried
+    (tell_beyond ready G (first_is (λ b. eqb b c)) refl (tell_ready (λ d. Unit {0})))
     (tell_bind_some (plain read_comma) (λ u v. run is_space v >>= λ s. after_comma limit n c s.1) (λ d. Unit {0}) G comma_takes local_comma (λ u. local_gap limit n c) keeps_comma digits_comma (tell_comma G each) (λ u. tell_space (after_comma limit n c) (λ d. Unit {0}) (local_after limit n c) tell_after)))
 
 pub tell_all_rows : (limit : ℕ) (some : 0 < limit) (c : ℕ) (G : ℕ → Type 0) → Untried c → ((d : ℕ) → Tries ExpectedCommaOrClose d → G d) → Tells (plain (read_all_rows limit c)) G
@@ -186,7 +186,7 @@ close_moves limit d v h is =
     let here : after_run is_space (c ∷ v) ≡ c ∷ v = skip_space [] (c ∷ v) (All-nil (λ (x : ℕ). is_space x ≡ true)) (not_from_false _ (closes d).ends.no_space) in
     not_ok (tt, v) h (plain (read_all_rows limit c) (c ∷ v)) (ap (plain (read_all_rows limit c)) (sym here) ∙ is) (all_again limit c [] None v (c ∷ v) (closes d) (All-nil (IsRow limit)) tt refl)
 
--- behind a key at its end, the rows do not stop at once
+-- after a key at its end, the rows do not stop at once
 key_moves : (limit : ℕ) (d : Delimiter) (b : ℕ) (v : Text) (h : Halt) → goes_on_key d b ≡ false → space_rows limit (close_byte d) (b ∷ v) ≡ Err h → length h.rest ≤ length v
 key_moves limit d b v h ends is =
     elim (key_end d b ends) [

@@ -25,14 +25,14 @@ unfolding is_space is_name_byte
 closes Brace = record { ends = record { breaks = record { name = refl; digit = refl }; no_space = refl; no_hash = refl }; no_comma = refl }
 closes Paren = record { ends = record { breaks = record { name = refl; digit = refl }; no_space = refl; no_hash = refl }; no_comma = refl }
 
-delimiter_again : (d : Delimiter) → delimiter_of (open_byte d) ≡ d
+pub delimiter_again : (d : Delimiter) → delimiter_of (open_byte d) ≡ d
 delimiter_again Brace = refl
 delimiter_again Paren = refl
 
 pub closing_again : (c : ℕ) (x : Text) → read_close c (c ∷ x) ≡ Ok x
 closing_again c x = rw (closed_here c x) refl
 
--- ---- the three commands with delimiters, from behind the opening one on
+-- ---- the three commands with delimiters, given what follows the opening one
 
 abbrev pub definition_row : Definition → Row
 definition_row d = record { space_before_name = d.opening.space_behind; assignment = d.assignment }

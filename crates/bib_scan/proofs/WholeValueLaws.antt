@@ -28,7 +28,7 @@ use Rattle.bib_scan.proofs.WidenLaws.{IsLong, IsShort}
 use Rattle.bib_scan.proofs.WidenTrees.{widen_value}
 use Rattle.bib_scan.proofs.KindLaws.{GoesWrong, fault_at}
 
--- ---- a whole value, and a value with the white space behind it
+-- ---- a whole value, and a value with the white space after it
 
 abbrev valued : Text → Text → Read Text
 valued t rest = Ok (take (length t - length rest) t, rest)
@@ -59,7 +59,7 @@ gap_ok limit t s is = go (read_value_rest limit t) is
     go (Ok rest) e = last rest (ap (λ (y : Unit {0} × Text). y.1) (ok_same {A = Unit {0} × Text} (tt, after_run is_space rest) (tt, s) _ refl e))
     go (Err k) e = absurd (not_ok (tt, s) k _ refl e)
 
--- a text that is refused: its value stopped, or something stands behind
+-- a text that is refused: its value stopped, or something follows it
 pub data Refused (limit : ℕ) (t : Text) (h : Halt) : Type 0 where
   stopped : value_gap limit t ≡ Err h → Refused limit t h
   followed : (s : Text) → value_gap limit t ≡ Ok (tt, s) → expected ExpectedCommaOrClose s ≡ h → Refused limit t h
@@ -80,15 +80,15 @@ refused_by limit t h is = go (read_value_rest limit t) refl is
 
 -- ---- sound and complete
 
-none_behind : (rest x : Text) → nothing_behind rest ≡ Ok x → rest ≡ []
-none_behind [] x is = refl
-none_behind (b ∷ rest) x is = absurd (not_ok x _ _ refl is)
+none_beyond : (rest x : Text) → nothing_behind rest ≡ Ok x → rest ≡ []
+none_beyond [] x is = refl
+none_beyond (b ∷ rest) x is = absurd (not_ok x _ _ refl is)
 
 -- what is read as one value is one
 pub whole_value : (limit : ℕ) (t x : Text) → read_whole_value limit t ≡ Ok x → IsValueWithin limit t
 whole_value limit t x is =
     let one = bind_ok (read_value_rest limit t) nothing_behind x is in
-    let rest : one.0 ≡ [] = none_behind one.0 x one.2 in
+    let rest : one.0 ≡ [] = none_beyond one.0 x one.2 in
     let v = value_ok limit t (take (length t - length one.0) t, one.0) (ap (λ (m : Result Text Halt). m >>= valued t) one.1) in
     (v.0, v.1, sym (v.3 ∙ ap (λ (u : Text). u ++ one.0) v.2 ∙ ap (λ (u : Text). value_bytes v.0 ++ u) rest ∙ append-nil (value_bytes v.0)))
 

@@ -7,7 +7,7 @@ use Rattle.bib_spec.specs.Text.{Text}
 use Rattle.bib_scan.specs.LeftToRight.{Read, Halt, ◌>>=◌}
 use Rattle.bib_scan.proofs.RunLaws.{not_ok}
 use Rattle.bib_scan.proofs.UniqueLaws.{tail_same}
-use Rattle.bib_scan.proofs.LocalLaws.{rest_of, LocalAt, Local, behind_first}
+use Rattle.bib_scan.proofs.LocalLaws.{rest_of, LocalAt, Local, after_first}
 use Rattle.bib_scan.proofs.MendLaws.{err_is}
 use Rattle.bib_scan.proofs.TellLaws.{Past, past_first, past_second}
 
@@ -119,18 +119,18 @@ widen_cond {A} test p q r s by_first yes_way no_way = record {
     long t u h c v true was e fault split rest = ap rest_of (cond-true (test (u ++ c ∷ [])) _ _ (same_test t u c v (split ∙ ap (λ (w : Text). u ++ w) rest) ∙ was)) ∙ yes_way.long t u h c v e fault split rest
     long t u h c v false was e fault split rest = ap rest_of (cond-false (test (u ++ c ∷ [])) _ _ (same_test t u c v (split ∙ ap (λ (w : Text). u ++ w) rest) ∙ was)) ∙ no_way.long t u h c v e fault split rest
 
-pub widen_behind : {A : Type 0} (p q : Text → Read A) → Local p → Widens p q → Widens (behind_first p) (behind_first q)
-widen_behind {A} p q local w = record { ok = ok; same = same; long = long }
+pub widen_after : {A : Type 0} (p q : Text → Read A) → Local p → Widens p q → Widens (after_first p) (after_first q)
+widen_after {A} p q local w = record { ok = ok; same = same; long = long }
   where
-    ok : (t : Text) (x : A × Text) → behind_first p t ≡ Ok x → behind_first q t ≡ Ok x
+    ok : (t : Text) (x : A × Text) → after_first p t ≡ Ok x → after_first q t ≡ Ok x
     ok [] x is = is
     ok (b ∷ t) x is = w.ok t x is
 
-    same : (t : Text) (h : Halt) → behind_first p t ≡ Err h → IsShort h.fault → behind_first q t ≡ Err h
+    same : (t : Text) (h : Halt) → after_first p t ≡ Err h → IsShort h.fault → after_first q t ≡ Err h
     same [] h is short = is
     same (b ∷ t) h is short = w.same t h is short
 
-    long : (t u : Text) (h : Halt) (c : ℕ) (v : Text) → behind_first p t ≡ Err h → IsLong h.fault → t ≡ u ++ h.rest → h.rest ≡ c ∷ v → Past (behind_first q) u c
+    long : (t u : Text) (h : Halt) (c : ℕ) (v : Text) → after_first p t ≡ Err h → IsLong h.fault → t ≡ u ++ h.rest → h.rest ≡ c ∷ v → Past (after_first q) u c
     long [] u h c v is fault split rest = absurd (subst (λ (k : Halt). IsLong k.fault) (sym (err_is {A = A × Text} _ h _ refl is)) fault)
     long (b ∷ t) [] h c v is fault split rest =
         let l : LocalAt p t (Err h) = subst (LocalAt p t) is (local t) in

@@ -12,7 +12,7 @@ use Rattle.bib_scan.specs.LeftToRight.{Read, Halt, stop, expected, read_run, wit
 use Rattle.bib_scan.proofs.RunLaws.{not_ok, limited_ok, limited_again}
 use Rattle.bib_scan.proofs.BraceLemmas.{quoted_takes, quoted_opens, quoted_closes, quoted_ends, quoted_inside, quoted_unbalanced, quoted_nil}
 use Rattle.bib_scan.proofs.BraceLaws.{plain_byte}
-use Rattle.bib_scan.proofs.LocalLaws.{rest_of, Local, behind_first, local_behind, local_bind, local_cond, local_ok, local_expected, run, local_run, local_limited}
+use Rattle.bib_scan.proofs.LocalLaws.{rest_of, Local, after_first, local_beyond, local_bind, local_cond, local_ok, local_expected, run, local_run, local_limited}
 use Rattle.bib_scan.proofs.LocalParts.{first_is, local_braced, local_quoted, local_name, local_part, part_by_first, part_is}
 use Rattle.bib_scan.proofs.LocalRows.{plain, ready, skip, local_skip, links_gap, links_by_first, links_gap_is, local_links, value_gap, value_family, value_is, local_value, local_equals, row_pieces, row_is, local_row, local_closing, local_comma, rows_read, after_comma, rows_by_first, rows_is, local_rows, all_rows_is, local_all_rows, definition_is, value_close, preamble_is}
 use Rattle.bib_scan.proofs.MendLaws.{err_is}
@@ -22,7 +22,7 @@ use Rattle.bib_scan.proofs.TellLaws.{Past}
 use Rattle.bib_scan.proofs.TellParts.{braced_err, front_err}
 use Rattle.bib_scan.proofs.TellRows.{part_links, link_inside, local_part_links, local_link, local_row_value, local_sign_value, local_row_sign, local_named_row}
 use Rattle.bib_scan.proofs.TellTrees.{row_rows, local_after, local_gap, local_space_rows}
-use Rattle.bib_scan.proofs.WidenLaws.{IsLong, IsShort, Widens, widen_fixed, widen_never, widen_same, widen_family, widen_bind, widen_cond, widen_behind}
+use Rattle.bib_scan.proofs.WidenLaws.{IsLong, IsShort, Widens, widen_fixed, widen_never, widen_same, widen_family, widen_bind, widen_cond, widen_after}
 
 -- ---- faults that no limit makes
 
@@ -124,8 +124,8 @@ module _ (limit : ℕ) where
 
   pub widen_part : Widens (read_part limit) (read_part (suc limit))
   widen_part = widen_same (read_part limit) (read_part (suc limit)) (part_by_first limit) (part_by_first (suc limit)) (part_is limit) (part_is (suc limit))
-      (widen_cond (first_is (λ b. eqb b 123)) _ _ _ _ (λ b t u. refl) (widen_behind _ _ (local_made (λ x. Braced x) (read_braced 0) (local_braced 0)) (widen_made (λ x. Braced x) (read_braced 0) (read_braced 0) (local_braced 0) widen_braced))
-      (widen_cond (first_is (λ b. eqb b 34)) _ _ _ _ (λ b t u. refl) (widen_behind _ _ (local_made (λ x. Quoted x) (read_quoted 0) (local_quoted 0)) (widen_made (λ x. Quoted x) (read_quoted 0) (read_quoted 0) (local_quoted 0) widen_quoted))
+      (widen_cond (first_is (λ b. eqb b 123)) _ _ _ _ (λ b t u. refl) (widen_after _ _ (local_made (λ x. Braced x) (read_braced 0) (local_braced 0)) (widen_made (λ x. Braced x) (read_braced 0) (read_braced 0) (local_braced 0) widen_braced))
+      (widen_cond (first_is (λ b. eqb b 34)) _ _ _ _ (λ b t u. refl) (widen_after _ _ (local_made (λ x. Quoted x) (read_quoted 0) (local_quoted 0)) (widen_made (λ x. Quoted x) (read_quoted 0) (read_quoted 0) (local_quoted 0) widen_quoted))
       (widen_cond (first_is is_ascii_digit) _ _ _ _ (λ b t u. refl) (widen_made (λ x. Digits x) (run is_ascii_digit) (run is_ascii_digit) (local_run is_ascii_digit) (widen_run is_ascii_digit))
       (widen_cond (first_is is_name_byte) _ _ _ _ (λ b t u. refl) (widen_made (λ x. Macro x) (read_run limit is_name_byte) (read_run (suc limit) is_name_byte) (local_limited limit is_name_byte) (widen_limited is_name_byte))
       (widen_expected ExpectedValue (λ long. long))))))
@@ -138,8 +138,8 @@ module _ (limit : ℕ) where
   widen_part_links : (n : ℕ) → Widens (links_gap limit n) (links_gap (suc limit) n) → Widens (part_links limit n) (part_links (suc limit) n)
   widen_part_links n later = widen_bind (read_part limit) (read_part (suc limit)) (λ p u. links_gap limit n u) (λ p u. links_gap (suc limit) n u) (local_part limit) (λ p. local_links limit n) (λ p. local_links (suc limit) n) widen_part (λ p. later)
 
-  local_choice : (m n : ℕ) → Local (λ x. cond (first_is (λ b. eqb b 35) x) (behind_first (link_inside m n) x) (ready x))
-  local_choice m n = local_cond (first_is (λ b. eqb b 35)) (behind_first (link_inside m n)) ready (λ b t u. refl) (local_behind (link_inside m n) (local_link m n)) (local_ok tt)
+  local_choice : (m n : ℕ) → Local (λ x. cond (first_is (λ b. eqb b 35) x) (after_first (link_inside m n) x) (ready x))
+  local_choice m n = local_cond (first_is (λ b. eqb b 35)) (after_first (link_inside m n)) ready (λ b t u. refl) (local_beyond (link_inside m n) (local_link m n)) (local_ok tt)
 
   widen_links : (n : ℕ) → Widens (links_gap limit n) (links_gap (suc limit) n)
   unfolding read_links
@@ -147,7 +147,7 @@ module _ (limit : ℕ) where
   widen_links (suc n) = widen_same (links_gap limit (suc n)) (links_gap (suc limit) (suc n)) (links_by_first limit n) (links_by_first (suc limit) n) (links_gap_is limit n) (links_gap_is (suc limit) n)
       (widen_space _ _ (local_choice limit n) (local_choice (suc limit) n)
       (widen_cond (first_is (λ b. eqb b 35)) _ _ ready ready (λ b t u. refl)
-      (widen_behind _ _ (local_link limit n) (widen_space _ _ (local_part_links limit n) (local_part_links (suc limit) n) (widen_part_links n (widen_links n))))
+      (widen_after _ _ (local_link limit n) (widen_space _ _ (local_part_links limit n) (local_part_links (suc limit) n) (widen_part_links n (widen_links n))))
       (widen_ok tt)))
 
   pub widen_value : Widens (value_gap limit) (value_gap (suc limit))
@@ -185,10 +185,10 @@ module _ (limit : ℕ) where
   widen_rows zero c = widen_expected ExpectedCommaOrClose (λ long. long)
   widen_rows (suc n) c =
       let rows : Widens (row_rows limit n c) (row_rows (suc limit) n c) = widen_bind (plain (read_row limit)) (plain (read_row (suc limit))) (λ r u. rows_read limit n c u) (λ r u. rows_read (suc limit) n c u) (local_row limit) (λ r. local_rows limit n c) (λ r. local_rows (suc limit) n c) widen_row (λ r. widen_rows n c) in
-      let ready_too : Widens (behind_first ready) (behind_first ready) = widen_behind ready ready (local_ok tt) (widen_ok tt) in
-      let after : Widens (after_comma limit n c) (after_comma (suc limit) n c) = widen_cond (first_is (λ b. eqb b c)) (behind_first ready) (behind_first ready) (row_rows limit n c) (row_rows (suc limit) n c) (λ b t u. refl) ready_too rows in
+      let ready_too : Widens (after_first ready) (after_first ready) = widen_after ready ready (local_ok tt) (widen_ok tt) in
+      let after : Widens (after_comma limit n c) (after_comma (suc limit) n c) = widen_cond (first_is (λ b. eqb b c)) (after_first ready) (after_first ready) (row_rows limit n c) (row_rows (suc limit) n c) (λ b t u. refl) ready_too rows in
       widen_same (rows_read limit (suc n) c) (rows_read (suc limit) (suc n) c) (rows_by_first limit n c) (rows_by_first (suc limit) n c) (rows_is limit n c) (rows_is (suc limit) n c)
-      (widen_cond (first_is (λ b. eqb b c)) (behind_first ready) (behind_first ready) _ _ (λ b t u. refl) ready_too
+      (widen_cond (first_is (λ b. eqb b c)) (after_first ready) (after_first ready) _ _ (λ b t u. refl) ready_too
       (widen_bind (plain read_comma) (plain read_comma) (λ u v. run is_space v >>= λ s. after_comma limit n c s.1) (λ u v. run is_space v >>= λ s. after_comma (suc limit) n c s.1) local_comma (λ u. local_gap limit n c) (λ u. local_gap (suc limit) n c) widen_comma
       (λ u. widen_space (after_comma limit n c) (after_comma (suc limit) n c) (local_after limit n c) (local_after (suc limit) n c) after)))
 

@@ -44,7 +44,7 @@ kind_behind kind.Macro = kind.Comment
 kind_behind kind.Preamble = kind.Comment
 kind_behind kind.Comment = kind.Comment
 
--- the first field and those that stand in the text behind it
+-- the first field and those that stand in the text after it
 abbrev pub first_and_others : Option (Field × Text) → (Text → List Field) → List Field
 first_and_others None others = []
 first_and_others (Some x) others = x.0 ∷ others x.1
@@ -60,7 +60,7 @@ all_fields_left k total t = fields_left (length t) k total t
 
 -- ---- heads
 
--- the type name and the text behind it
+-- the type name and the text after it
 abbrev pub read_head : Text → Text × Text
 read_head [] = ([], [])
 read_head (b ∷ t) = (take_while is_type_byte (after_run is_space t), after_run is_type_byte (after_run is_space t))
@@ -73,12 +73,12 @@ kind_named t =
     else if same t (codes "preamble") then kind.Preamble
     else kind.Entry
 
--- the opening delimiter, and the text behind it and white space
+-- the opening delimiter, and the text after it and white space
 abbrev pub read_opening : Text → Delimiter × Text
 read_opening [] = (Brace, [])
 read_opening (b ∷ t) = (delimiter_of b, after_run is_space t)
 
--- the view of an item of this kind and type, from its delimiter and the text behind its opening
+-- the view of an item of this kind and type, from its delimiter and the text after its opening
 abbrev pub view_behind : Text → Text → Text → Kind → Delimiter × Text → View
 view_behind body trail type_name kind.Entry opened =
     let behind = after_run is_space (after_run (goes_on_key opened.0) opened.1) in

@@ -14,7 +14,7 @@ pub record Places : Type 0 where
 abbrev pub placed : ℕ → List Span → Places
 placed front_len items = record { front_len = front_len; items = items }
 
--- item n begins behind the front and the first n items
+-- item n begins after the front and the first n items
 abbrev pub start_of : Reading → ℕ → ℕ
 start_of db n = length db.front + length (flat_map item_bytes (take n db.items))
 

@@ -1,6 +1,6 @@
 -- No promise rests on this page: it retraces how the private functions read, from left to right, so that lemmas can
 -- lead from their code to `Reading`, which says what a text means. Each function here gives what it read and the text
--- behind it, or stops at a fault.
+-- after it, or stops at a fault.
 use Rattle.std.specs.Prelude.{ℕ, zero, suc, ◌+◌, ◌-◌, Bool, false, ◌&&◌, not, ◌==◌, nat_lt, List, [], ◌∷◌, ◌++◌, length, take, drop, codes, Option, None, Some, Result, Ok, Err, if◌then◌else◌}
 use Rattle.std.specs.List.{prefix_len, take_while}
 use Rattle.std.specs.Char.{is_ascii_digit}
@@ -24,7 +24,7 @@ abbrev pub expected : ReadingFault → Text → Halt
 expected f [] = stop Unended []
 expected f (b ∷ t) = stop f (b ∷ t)
 
--- what was read and the text behind it, or where reading stopped
+-- what was read and the text after it, or where reading stopped
 abbrev pub Read : Type 0 → Type 0
 Read A = Result (A × Text) Halt
 
@@ -37,7 +37,7 @@ abbrev pub ◌>>=◌ : {A B : Type 0} → Result A Halt → (A → Result B Halt
 abbrev pub with_front : Text → Read Text → Read Text
 with_front front read = read >>= λ x. Ok (front ++ x.0, x.1)
 
--- the text before the brace that closes depth + 1 braces, and the text behind that brace
+-- the text before the brace that closes depth + 1 braces, and the text after that brace
 unfoldable pub read_braced : ℕ → Text → Read Text
 read_braced depth [] = Err (stop Unended [])
 read_braced depth (b ∷ t) =
@@ -49,7 +49,7 @@ read_braced depth (b ∷ t) =
     closing zero later = Ok ([], t)
     closing (suc d) later = with_front (b ∷ []) later
 
--- the text before the quotation mark that ends the part, and the text behind that mark
+-- the text before the quotation mark that ends the part, and the text after that mark
 unfoldable pub read_quoted : ℕ → Text → Read Text
 read_quoted depth [] = Err (stop Unended [])
 read_quoted depth (b ∷ t) =
@@ -77,7 +77,7 @@ begins_name (b ∷ t) = is_name_byte b && not (is_ascii_digit b)
 abbrev pub read_name : ℕ → Text → Read Text
 read_name limit t = if begins_name t then read_run limit is_name_byte t else Err (expected ExpectedName t)
 
--- the text behind the equals sign
+-- the text after the equals sign
 abbrev pub read_equals : Text → Result Text Halt
 read_equals [] = Err (stop Unended [])
 read_equals (b ∷ t) = if b == equals_sign then Ok t else Err (stop ExpectedEquals (b ∷ t))
@@ -92,7 +92,7 @@ read_part limit (b ∷ t) =
     else if is_name_byte b then (read_run limit is_name_byte (b ∷ t) >>= λ x. Ok (Macro x.0, x.1))
     else Err (stop ExpectedValue (b ∷ t))
 
--- the text behind a `#` and white space, where the text begins so
+-- the text after a `#` and white space, where the text begins so
 abbrev pub past_hash : Text → Option Text
 past_hash [] = None
 past_hash (b ∷ t) = if b == hash then Some (after_run is_space t) else None
@@ -101,12 +101,12 @@ abbrev pub go_on : {B : Type 0} → B → (Text → B) → Option Text → B
 go_on end more None = end
 go_on end more (Some u) = more u
 
--- the text behind the further parts, of which there are at most so many
+-- the text after the further parts, of which there are at most so many
 unfoldable pub read_links : ℕ → ℕ → Text → Result Text Halt
 read_links limit zero t = Ok t
 read_links limit (suc n) t = go_on (Ok t) (λ u. read_part limit u >>= λ p. read_links limit n p.1) (past_hash (after_run is_space t))
 
--- the text behind a value
+-- the text after a value
 abbrev pub read_value_rest : ℕ → Text → Result Text Halt
 read_value_rest limit t = read_part limit t >>= λ first. read_links limit (length first.1) first.1
 
@@ -120,7 +120,7 @@ pub record Assigned : Type 0 where
   pub value : Text
   pub value_left : ℕ
 
--- an assignment, and the text behind it and white space
+-- an assignment, and the text after it and white space
 unfoldable pub read_assignment : ℕ → Text → Read Assigned
 read_assignment limit t = do
   named ← read_name limit t
@@ -128,25 +128,25 @@ read_assignment limit t = do
   valued ← read_value limit (after_run is_space u)
   Ok (record { name = named.0; value = valued.0; value_left = length (after_run is_space u) }, after_run is_space valued.1)
 
--- the text behind white space, an assignment and its white space
+-- the text after white space, an assignment and its white space
 unfoldable pub read_row : ℕ → Text → Result Text Halt
 read_row limit t = read_assignment limit (after_run is_space t) >>= λ x. Ok x.1
 
--- the text behind this byte, where the text begins with it
+-- the text after this byte, where the text begins with it
 abbrev pub past_byte : ℕ → Text → Option Text
 past_byte c [] = None
 past_byte c (b ∷ t) = if b == c then Some t else None
 
--- the text behind a comma
+-- the text after a comma
 abbrev pub read_comma : Text → Result Text Halt
 read_comma [] = Err (stop Unended [])
 read_comma (b ∷ t) = if b == comma then Ok t else Err (stop ExpectedCommaOrClose (b ∷ t))
 
--- the text behind the closing delimiter c
+-- the text after the closing delimiter c
 abbrev pub read_close : ℕ → Text → Result Text Halt
 read_close c t = go_on (Err (expected ExpectedCommaOrClose t)) Ok (past_byte c t)
 
--- The text behind an entry's rows, of which there are fewer than n, and its closing delimiter c.
+-- The text after an entry's rows, of which there are fewer than n, and its closing delimiter c.
 unfoldable pub read_rows : ℕ → ℕ → ℕ → Text → Result Text Halt
 read_rows limit zero c t = Err (expected ExpectedCommaOrClose t)
 read_rows limit (suc n) c t =
@@ -156,7 +156,7 @@ read_rows limit (suc n) c t =
 abbrev pub read_all_rows : ℕ → ℕ → Text → Result Text Halt
 read_all_rows limit c t = read_rows limit (length t + 1) c t
 
--- the text behind an entry, from behind its opening delimiter on
+-- the text after an entry, given what follows its opening delimiter
 unfoldable pub read_entry : ℕ → Delimiter → Text → Result Text Halt
 read_entry limit d t = do
   key ← read_run limit (goes_on_key d) (after_run is_space t)
@@ -166,15 +166,15 @@ read_entry limit d t = do
 abbrev pub delimiter_of : ℕ → Delimiter
 delimiter_of b = if b == open_brace then Brace else Paren
 
--- the text behind a definition, from behind its opening delimiter on
+-- the text after a definition, given what follows its opening delimiter
 abbrev pub read_definition : ℕ → ℕ → Text → Result Text Halt
 read_definition limit c t = read_row limit t >>= read_close c
 
--- the text behind a preamble, from behind its opening delimiter on
+-- the text after a preamble, given what follows its opening delimiter
 abbrev pub read_preamble : ℕ → ℕ → Text → Result Text Halt
 read_preamble limit c t = read_value limit (after_run is_space t) >>= λ v. read_close c (after_run is_space v.1)
 
--- the text behind the command of this type, from behind its type name and white space on
+-- the text after the command of this type, given what follows its type name and white space
 unfoldable pub read_body : ℕ → Text → Text → Result Text Halt
 read_body limit type_name [] = Err (stop Unended [])
 read_body limit type_name (b ∷ t) =
@@ -182,7 +182,7 @@ read_body limit type_name (b ∷ t) =
     else if same type_name (codes "preamble") then read_preamble limit (close_byte (delimiter_of b)) t
     else read_entry limit (delimiter_of b) t
 
--- the text behind the command that begins here
+-- the text after the command that begins here
 unfoldable pub read_command : ℕ → Text → Result Text Halt
 read_command limit [] = Err (stop Unended [])
 read_command limit (b ∷ t) =
@@ -214,7 +214,7 @@ read_commands limit total (suc n) (b ∷ t) = do
 abbrev pub read_all_commands : ℕ → Text → Result (List Span) Halt
 read_all_commands limit t = read_commands limit (length t) (length t + 1) (drop (next_command t) t)
 
--- the end of a text that is one value: white space behind a value still waits for a `#`
+-- the end of a text that is one value: white space after a value still waits for a `#`
 abbrev pub nothing_behind : Text → Result Text Halt
 nothing_behind [] = Ok []
 nothing_behind (b ∷ t) = Err (expected ExpectedCommaOrClose (after_run is_space (b ∷ t)))

@@ -8,7 +8,7 @@ use Rattle.bib_scan.specs.LeftToRight.{Halt, expected, read_part, past_hash, go_
 use Rattle.bib_scan.specs.ValueParts.{part_kind}
 use Rattle.bib_scan.specs.declared.parts.PartSpan.{PartSpan}
 
--- the text behind a `#` and white space
+-- the text after a `#` and white space
 abbrev pub read_link : Text → Result Text Halt
 read_link t = go_on (Err (expected ExpectedCommaOrClose (after_run is_space t))) Ok (past_hash (after_run is_space t))
 

@@ -32,7 +32,7 @@ kind_begun b =
     else if is_ascii_digit b then kind.Digits
     else kind.Macro
 
--- where a part lies that stands behind this text
+-- where a part lies that stands after this text
 abbrev pub span_behind : Text → tree.Part → PartSpan
 span_behind before p = record {
   kind = part_kind p;
@@ -40,7 +40,7 @@ span_behind before p = record {
   end = length before + length (part_bytes p);
 }
 
--- where the parts of links lie that stand behind this text
+-- where the parts of links lie that stand after this text
 abbrev pub spans_behind : Text → List Link → List PartSpan
 spans_behind before [] = []
 spans_behind before (l ∷ ls) =

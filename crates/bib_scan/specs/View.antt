@@ -27,7 +27,7 @@ field_behind start before a = record {
   value_at = length (before ++ a.name ++ a.space_before_equals ++ equals_sign ∷ a.space_before_value);
 }
 
--- the fields of rows with this text before them: each stands behind the rows before it
+-- the fields of rows with this text before them: each stands after the rows before it
 abbrev pub fields_behind : Text → List Row → List Field
 fields_behind before [] = []
 fields_behind before (r ∷ rows) =

@@ -16,7 +16,7 @@ use crate::run::{behind, past_space, split_type_name};
 use crate::text::{NAME_LIMIT, same_folded};
 use crate::value::split_value;
 
-/// The text behind this byte, where the text begins with it.
+/// The text after this byte, where the text begins with it.
 #[inline(always)]
 fn past_byte(byte: u8, text: &[u8]) -> Option<&[u8]>
     ensures read { option_copied result ≡ past_byte byte text.now }
@@ -28,7 +28,7 @@ fn past_byte(byte: u8, text: &[u8]) -> Option<&[u8]>
     }
 }
 
-/// The text behind a comma.
+/// The text after a comma.
 #[inline(always)]
 pub(crate) fn past_comma(text: &[u8]) -> Result<&[u8], Stop<'_>>
     ensures read { Gives (λ x. x.now) result (read_comma text.now) }
@@ -40,7 +40,7 @@ pub(crate) fn past_comma(text: &[u8]) -> Result<&[u8], Stop<'_>>
     }
 }
 
-/// The text behind the closing delimiter.
+/// The text after the closing delimiter.
 fn past_close(close: u8, text: &[u8]) -> Result<&[u8], Stop<'_>>
     ensures read { Gives (λ x. x.now) result (read_close close text.now) }
     ensures shorter { IfOk result (λ x. length x.now < length text.now) }
@@ -61,7 +61,7 @@ pub(crate) fn key_len(delimiter: Delimiter, text: &[u8]) -> usize
         .count()
 }
 
-/// A key, and the text behind it.
+/// A key, and the text after it.
 fn split_key(delimiter: Delimiter, text: &[u8]) -> Result<(&[u8], &[u8]), Stop<'_>>
     ensures read { Gives (λ x. (x.0.now, x.1.now)) result (read_run name_limit (goes_on_key (delimiter_view delimiter)) text.now) }
     ensures shorter { IfOk result (λ x. length x.1.now ≤ length text.now) }
@@ -76,7 +76,7 @@ fn split_key(delimiter: Delimiter, text: &[u8]) -> Result<(&[u8], &[u8]), Stop<'
     Ok(text.split_at(len))
 }
 
-/// The text behind an entry's rows and its closing delimiter.
+/// The text after an entry's rows and its closing delimiter.
 fn past_rows(close: u8, text: &[u8]) -> Result<&[u8], Stop<'_>>
     ensures read { Gives (λ x. x.now) result (read_all_rows name_limit close text.now) }
     ensures shorter { IfOk result (λ x. length x.now < length text.now) }
@@ -95,7 +95,7 @@ fn past_rows(close: u8, text: &[u8]) -> Result<&[u8], Stop<'_>>
     }
 }
 
-/// The text behind an entry, from behind its opening delimiter on.
+/// The text after an entry, given what follows its opening delimiter.
 #[tactic(auto, unfolding(crate::specs::LeftToRight::read_entry))]
 fn past_entry(delimiter: Delimiter, text: &[u8]) -> Result<&[u8], Stop<'_>>
     ensures read { Gives (λ x. x.now) result (read_entry name_limit (delimiter_view delimiter) text.now) }
@@ -105,7 +105,7 @@ fn past_entry(delimiter: Delimiter, text: &[u8]) -> Result<&[u8], Stop<'_>>
     past_rows(delimiter.close(), past_space(rest))
 }
 
-/// The text behind a preamble, from behind its opening delimiter on.
+/// The text after a preamble, given what follows its opening delimiter.
 fn past_preamble(close: u8, text: &[u8]) -> Result<&[u8], Stop<'_>>
     ensures read { Gives (λ x. x.now) result (read_preamble name_limit close text.now) }
     ensures shorter { IfOk result (λ x. length x.now < length text.now) }
@@ -114,7 +114,7 @@ fn past_preamble(close: u8, text: &[u8]) -> Result<&[u8], Stop<'_>>
     past_close(close, past_space(rest))
 }
 
-/// The text behind a macro definition, from behind its opening delimiter on.
+/// The text after a macro definition, given what follows its opening delimiter.
 fn past_definition(close: u8, text: &[u8]) -> Result<&[u8], Stop<'_>>
     ensures read { Gives (λ x. x.now) result (read_definition name_limit close text.now) }
     ensures shorter { IfOk result (λ x. length x.now < length text.now) }
@@ -122,7 +122,7 @@ fn past_definition(close: u8, text: &[u8]) -> Result<&[u8], Stop<'_>>
     past_close(close, past_row(text)?)
 }
 
-/// The text behind a command of this type, from its opening delimiter on.
+/// The text after a command of this type, given the text from its opening delimiter on.
 #[tactic(auto, unfolding(crate::specs::LeftToRight::read_body))]
 fn past_body<'a>(type_name: &[u8], text: &'a [u8]) -> Result<&'a [u8], Stop<'a>>
     ensures read { Gives (λ x. x.now) result (read_body name_limit type_name.now text.now) }
@@ -143,7 +143,7 @@ fn past_body<'a>(type_name: &[u8], text: &'a [u8]) -> Result<&'a [u8], Stop<'a>>
     }
 }
 
-/// The text behind the command that begins here.
+/// The text after the command that begins here.
 #[tactic(auto, unfolding(crate::specs::LeftToRight::read_command))]
 pub(crate) fn past_command(text: &[u8]) -> Result<&[u8], Stop<'_>>
     ensures read { Gives (λ x. x.now) result (read_command name_limit text.now) }

@@ -8,7 +8,7 @@ ghost use Rattle.bib_scan.specs.Code.{fault_of, halt_of};
 use std::alloc::AllocFailed;
 use thiserror::Error;
 
-/// What is wrong at the first byte at which no file goes on.
+/// What is wrong at the first byte at which no file continues.
 #[derive(Clone, Copy, Debug, PartialEq, Eq)]
 pub(crate) enum Fault {
     Unended,

@@ -85,7 +85,7 @@ impl<'a> Iterator for Fields<'a> {
     }
 }
 
-/// An assignment as the field of a row that begins at start, and the text behind it and white space.
+/// An assignment as the field of a row that begins at start, and the text after it and white space.
 #[inline(always)]
 fn split_assigned(
     body_len: usize,
@@ -107,7 +107,7 @@ fn split_assigned(
     Ok((field, rest))
 }
 
-/// A row as a field, and the text behind it.
+/// A row as a field, and the text after it.
 #[inline(always)]
 fn split_row(body_len: usize, text: &[u8]) -> Result<(FieldView<'_>, &[u8]), Stop<'_>>
     requires { length text.now ≤ body_len }
@@ -118,7 +118,7 @@ fn split_row(body_len: usize, text: &[u8]) -> Result<(FieldView<'_>, &[u8]), Sto
     split_assigned(body_len, body_len - text.len(), named)
 }
 
-/// A value as the field of a preamble, and the text behind it.
+/// A value as the field of a preamble, and the text after it.
 fn split_preamble(body_len: usize, text: &[u8]) -> Result<(FieldView<'_>, &[u8]), Stop<'_>>
     requires { length text.now ≤ body_len }
     ensures read { Gives (λ x. (field_seen x.0, x.1.now)) result (read_preamble_field body_len text.now) }
@@ -136,7 +136,7 @@ fn split_preamble(body_len: usize, text: &[u8]) -> Result<(FieldView<'_>, &[u8])
     Ok((field, rest))
 }
 
-/// The field at the front in an item of this kind, and the text behind it.
+/// The field at the front in an item of this kind, and the text after it.
 #[inline(always)]
 fn split_field(kind: Kind, body_len: usize, text: &[u8]) -> Option<(FieldView<'_>, &[u8])>
     requires { length text.now ≤ body_len }

@@ -9,7 +9,7 @@ pub fn one_reading()
     ensures { OneReading }
 {}
 
-/// A text is clean exactly where no command begins in it, read with an at-sign behind it.
+/// A text is clean exactly where no command begins in it, read with an at-sign after it.
 pub fn clean_before_sign()
     ensures { CleanBeforeSign }
 {}

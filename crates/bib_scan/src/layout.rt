@@ -6,7 +6,7 @@ use crate::run::behind;
 use crate::view::ItemView;
 use std::marker::Model;
 
-/// Where the body of an item lies: its first byte, and the first one behind it.
+/// Where the body of an item lies: its first byte, and the first one after it.
 #[derive(Clone, Copy, Debug, PartialEq, Eq)]
 pub(crate) struct Span {
     pub start: usize,

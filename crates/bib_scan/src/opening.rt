@@ -41,7 +41,7 @@ impl Delimiter {
         }
     }
 
-    /// Whether a key behind this delimiter goes on with the byte.
+    /// Whether the byte belongs to a key, in an item that this delimiter opens.
     pub fn goes_on_key(self, byte: u8) -> bool
         ensures { result ≡ goes_on_key (delimiter_view self) byte }
     {
@@ -94,7 +94,7 @@ pub(crate) fn next_command(text: &[u8]) -> usize
     text.len()
 }
 
-/// Whether the text does not go on with a type name.
+/// Whether the text does not begin with a byte of a type name.
 fn begins_without_type_byte(text: &[u8]) -> bool
     ensures { result ≡ does_not_begin_with is_type_byte text.now }
 {
@@ -111,8 +111,8 @@ fn is_clean(text: &[u8]) -> bool
     next_command(text) == text.len()
 }
 
-/// Whether the text may follow an item's body: no command begins in it, and behind a comment it does not
-/// go on with the comment's type name. (dialect)
+/// Whether the text may follow an item's body: no command begins in it, and after a comment it does not begin with a byte
+/// that would lengthen the comment's type name. (dialect)
 pub fn is_clean_trail(after_comment: bool, bytes: &[u8]) -> bool
     ensures { IsTrue result ↔ IsCleanTrail after_comment bytes.now }
 {

@@ -63,7 +63,7 @@ impl PartKind {
     }
 }
 
-/// Where a part lies in the value: its first byte, and the first one behind it.
+/// Where a part lies in the value: its first byte, and the first one after it.
 #[derive(Clone, Copy, Debug, PartialEq, Eq)]
 pub(crate) struct PartSpan {
     pub kind: PartKind,
@@ -141,7 +141,7 @@ pub fn only_part(bytes: &[u8]) -> Option<Part<'_>>
 }
 
 /// The parts of a text that is one value and nothing else. They take memory in proportion to their count.
-/// A text that is none is refused with a fault of reading (1 to 7), want of memory with 10.
+/// A text that is no value is refused with a fault of reading (1 to 7), want of memory with 10.
 pub fn read_value(alloc: Global, bytes: &[u8]) -> Result<Parts, ReadFault>
     ensures found { IfOk result (λ parts. IsPartsOf bytes.now parts) }
     // Only a text that is no value is refused with 1 to 7, at the place where it goes wrong, and told what is wrong there.
@@ -177,7 +177,7 @@ fn spans(alloc: Global, bytes: &[u8]) -> Result<Vec<PartSpan>, Refusal<'_>>
     }
 }
 
-/// The text behind `#` and white space, since no value ends here.
+/// The text after `#` and white space, since no value ends here.
 fn past_link(text: &[u8]) -> Result<&[u8], Stop<'_>>
     ensures read { Gives (λ x. x.now) result (read_link text.now) }
     ensures shorter { IfOk result (λ x. length x.now < length text.now) }

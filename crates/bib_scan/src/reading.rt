@@ -21,7 +21,7 @@ pub const FILE_LIMIT: usize = 16_777_216;
 ///
 /// One pass over the bytes, and one list that grows by two places an item. Nothing recurses, however
 /// deep braces nest. Refused with 9 at `FILE_LIMIT` where the file is longer, which is tested first; with 1 to 7 at
-/// the first byte at which no file goes on, whatever its length; with 10 where memory ran out. (btxdoc 2 and 3;
+/// the first byte at which no file continues, whatever its length; with 10 where memory ran out. (btxdoc 2 and 3;
 /// dialect)
 pub fn read(alloc: Global, bytes: &[u8]) -> Result<Layout, ReadFault>
     ensures found { IfOk result (λ layout. (length bytes.now ≤ file_limit) × IsLayoutOf bytes.now layout) }

@@ -18,7 +18,7 @@ pub(crate) struct Assigned<'a> {
     pub value_left: usize,
 }
 
-/// An assignment, and the text behind it and white space.
+/// An assignment, and the text after it and white space.
 #[inline(always)]
 #[tactic(auto, unfolding(crate::specs::LeftToRight::read_assignment))]
 pub(crate) fn split_assignment(text: &[u8]) -> Result<(Assigned<'_>, &[u8]), Stop<'_>>
@@ -37,7 +37,7 @@ pub(crate) fn split_assignment(text: &[u8]) -> Result<(Assigned<'_>, &[u8]), Sto
     Ok((assigned, past_space(rest)))
 }
 
-/// The text behind a row, from behind its comma on.
+/// The text after a row, given what follows its comma.
 #[tactic(auto, unfolding(crate::specs::LeftToRight::read_row))]
 pub(crate) fn past_row(text: &[u8]) -> Result<&[u8], Stop<'_>>
     ensures read { Gives (λ x. x.now) result (read_row name_limit text.now) }

@@ -7,7 +7,7 @@ ghost use Rattle.bib_spec.specs.Text.{is_space, is_name_byte, is_type_byte};
 
 use crate::class::{is_name_byte, is_space, is_type_byte};
 
-/// The text behind its first n bytes.
+/// The text after its first n bytes.
 #[inline(always)]
 pub(crate) fn behind(text: &[u8], n: usize) -> &[u8]
     requires { n ≤ length text.now }
@@ -25,7 +25,7 @@ fn space_len(text: &[u8]) -> usize
     text.iter().take_while(|b| is_space(**b)).count()
 }
 
-/// The text behind the white space that it begins with.
+/// The text after the white space that it begins with.
 #[inline(always)]
 pub(crate) fn past_space(text: &[u8]) -> &[u8]
     ensures rest { result.now ≡ drop (prefix_len is_space text.now) text.now }
@@ -59,7 +59,7 @@ fn type_name_len(text: &[u8]) -> usize
     text.iter().take_while(|b| is_type_byte(**b)).count()
 }
 
-/// The type name that the text begins with, and the text behind it.
+/// The type name that the text begins with, and the text after it.
 pub(crate) fn split_type_name(text: &[u8]) -> (&[u8], &[u8])
     ensures front { result.0.now ≡ take_while is_type_byte text.now }
     ensures rest { result.1.now ≡ drop (prefix_len is_type_byte text.now) text.now }

@@ -62,7 +62,7 @@ fn all_new_key_bytes(text: &[u8]) -> bool
     text.iter().all(|b| is_new_key_byte(*b))
 }
 
-/// Whether the text is none of `comment`, `string` and `preamble`, which are no entry's types. (btxdoc 2.1)
+/// Whether the text is neither `comment` nor `string` nor `preamble`, which no entry has as its type. (btxdoc 2.1)
 fn is_no_keyword(text: &[u8]) -> bool
     ensures { result ≡ is_no_keyword text.now }
 {

@@ -23,7 +23,7 @@ pub enum Part<'a> {
     Macro(&'a [u8]),
 }
 
-/// The content of a braced part, whose text begins behind its brace, and the text behind it.
+/// The content of a braced part, whose text begins after its brace, and the text after it.
 fn split_braced(text: &[u8]) -> Result<(&[u8], &[u8]), Stop<'_>>
     ensures read { Gives (λ x. (x.0.now, x.1.now)) result (read_braced 0 text.now) }
     ensures shorter { IfOk result (λ x. length x.1.now < length text.now) }
@@ -47,7 +47,7 @@ fn split_braced(text: &[u8]) -> Result<(&[u8], &[u8]), Stop<'_>>
     })
 }
 
-/// The content of a quoted part, whose text begins behind its quotation mark, and the text behind it.
+/// The content of a quoted part, whose text begins after its quotation mark, and the text after it.
 fn split_quoted(text: &[u8]) -> Result<(&[u8], &[u8]), Stop<'_>>
     ensures read { Gives (λ x. (x.0.now, x.1.now)) result (read_quoted 0 text.now) }
     ensures shorter { IfOk result (λ x. length x.1.now < length text.now) }
@@ -81,7 +81,7 @@ fn split_quoted(text: &[u8]) -> Result<(&[u8], &[u8]), Stop<'_>>
     })
 }
 
-/// A run of name bytes, which may not be longer than a name, and the text behind it.
+/// A run of name bytes, which may not be longer than a name, and the text after it.
 #[inline(always)]
 fn split_name_run(text: &[u8]) -> Result<(&[u8], &[u8]), Stop<'_>>
     ensures read { Gives (λ x. (x.0.now, x.1.now)) result (read_run name_limit is_name_byte text.now) }
@@ -108,7 +108,7 @@ fn begins_name(text: &[u8]) -> bool
     }
 }
 
-/// A field or macro name, and the text behind it.
+/// A field or macro name, and the text after it.
 #[inline(always)]
 pub(crate) fn split_name(text: &[u8]) -> Result<(&[u8], &[u8]), Stop<'_>>
     ensures read { Gives (λ x. (x.0.now, x.1.now)) result (read_name name_limit text.now) }
@@ -121,7 +121,7 @@ pub(crate) fn split_name(text: &[u8]) -> Result<(&[u8], &[u8]), Stop<'_>>
     }
 }
 
-/// The text behind an equals sign.
+/// The text after an equals sign.
 #[inline(always)]
 pub(crate) fn past_equals(text: &[u8]) -> Result<&[u8], Stop<'_>>
     ensures read { Gives (λ x. x.now) result (read_equals text.now) }
@@ -133,7 +133,7 @@ pub(crate) fn past_equals(text: &[u8]) -> Result<&[u8], Stop<'_>>
     }
 }
 
-/// A part, and the text behind it.
+/// A part, and the text after it.
 #[tactic(auto, unfolding(crate::specs::LeftToRight::read_part))]
 pub(crate) fn split_part(text: &[u8]) -> Result<(Part<'_>, &[u8]), Stop<'_>>
     ensures read { Gives (λ x. (part_view x.0, x.1.now)) result (read_part name_limit text.now) }
@@ -160,7 +160,7 @@ pub(crate) fn split_part(text: &[u8]) -> Result<(Part<'_>, &[u8]), Stop<'_>>
     }
 }
 
-/// The text behind `#` and white space, where the text goes on so, white space aside.
+/// The text after a `#` and white space, if a `#` comes next, white space aside.
 #[inline(always)]
 pub(crate) fn past_hash(text: &[u8]) -> Option<&[u8]>
     ensures read { option_copied result ≡ past_hash (after_run is_space text.now) }
@@ -172,7 +172,7 @@ pub(crate) fn past_hash(text: &[u8]) -> Option<&[u8]>
     }
 }
 
-/// The bytes of a value, and the text behind it.
+/// The bytes of a value, and the text after it.
 #[inline(always)]
 pub(crate) fn split_value(text: &[u8]) -> Result<(&[u8], &[u8]), Stop<'_>>
     ensures read { Gives (λ x. (x.0.now, x.1.now)) result (read_value name_limit text.now) }

@@ -40,7 +40,7 @@ impl Kind {
         }
     }
 
-    /// Which kind of item has the fields behind the first: only an entry has more than one.
+    /// Which kind of item has the fields after the first: only an entry has more than one.
     pub(crate) fn behind_field(self) -> Self
         ensures { result ≡ kind_behind self }
     {
@@ -142,7 +142,7 @@ impl<'a> ItemView<'a> {
         self.trail
     }
 
-    /// The word behind the at-sign, as it stands.
+    /// The word after the at-sign, as it stands.
     pub fn type_name(&self) -> &'a [u8]
         ensures { result.now ≡ self.now.type_name }
     {
@@ -180,7 +180,7 @@ impl<'a> ItemView<'a> {
     }
 }
 
-/// The type name of a body, and the text behind it.
+/// The type name of a body, and the text after it.
 fn split_head(body: &[u8]) -> (&[u8], &[u8])
     ensures parts { (result.0.now, result.1.now) ≡ read_head body.now }
     ensures within { length result.1.now ≤ length body.now }
@@ -191,7 +191,7 @@ fn split_head(body: &[u8]) -> (&[u8], &[u8])
     }
 }
 
-/// The opening delimiter, and the text behind it and white space.
+/// The opening delimiter, and the text after it and white space.
 fn split_opening(text: &[u8]) -> (Delimiter, &[u8])
     ensures parts { (delimiter_view result.0, result.1.now) ≡ read_opening text.now }
     ensures within { length result.1.now ≤ length text.now }

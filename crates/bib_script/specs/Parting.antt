@@ -1,16 +1,10 @@
 -- Texts between bytes that part them.
 use Rattle.std.specs.Prelude.{ℕ, ◌==◌, if◌then◌else◌, List, [], ◌∷◌}
-use Rattle.bib_spec.specs.Bytes.{line_feed}
+use Rattle.bib_spec.specs.Bytes.{tab, line_feed, carriage_return}
 use Rattle.bib_spec.specs.Text.{Text}
 use Rattle.bib_spec.specs.Texts.{is_empty, onto_first}
 
-abbrev pub tab : ℕ
-tab = 9
-
-abbrev pub carriage_return : ℕ
-carriage_return = 13
-
--- the texts before, between and behind the bytes that are this one; they may be empty
+-- the texts before, between and after the bytes that are this one; they may be empty
 abbrev pub parted : ℕ → Text → List Text
 parted byte [] = [] ∷ []
 parted byte (b ∷ t) = if b == byte then [] ∷ parted byte t else onto_first b (parted byte t)
@@ -25,7 +19,7 @@ without_return [] = []
 without_return (b ∷ []) = if b == carriage_return then [] else b ∷ []
 without_return (b ∷ c ∷ t) = b ∷ without_return (c ∷ t)
 
--- Each text before a line feed is a line, but for a carriage return at its end; what stands behind the last one is a
+-- Each text before a line feed is a line, but for a carriage return at its end; what stands after the last one is a
 -- line as it is, unless it is empty.
 abbrev pub as_lines : List Text → List Text
 as_lines [] = []

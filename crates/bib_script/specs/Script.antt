@@ -42,10 +42,10 @@ drop_of _ = None
 abbrev pub new_entry : Text → Text → List (Text × Text) → NewEntry
 new_entry kind_name key fields = record { kind_name = kind_name; key = key; fields = fields }
 
--- `add PLACE TYPE KEY FIELD VALUE ..`
+-- `add POSITION TYPE KEY FIELD VALUE ..`
 abbrev pub add_of : List Text → Option Edit
-add_of (place ∷ kind_name ∷ key ∷ words) =
-    option_and_then (λ n. option_map (λ fields. AddEntry n (new_entry kind_name key fields)) (fields_of words)) (number_of place)
+add_of (position ∷ kind_name ∷ key ∷ words) =
+    option_and_then (λ n. option_map (λ fields. AddEntry n (new_entry kind_name key fields)) (fields_of words)) (number_of position)
 add_of _ = None
 
 -- `remove KEY`
@@ -53,9 +53,9 @@ abbrev pub remove_of : List Text → Option Edit
 remove_of (key ∷ []) = Some (RemoveEntry key)
 remove_of _ = None
 
--- `move KEY PLACE`
+-- `move KEY POSITION`
 abbrev pub move_of : List Text → Option Edit
-move_of (key ∷ place ∷ []) = option_map (MoveEntry key) (number_of place)
+move_of (key ∷ position ∷ []) = option_map (MoveEntry key) (number_of position)
 move_of _ = None
 
 -- `rename-key FROM TO`
@@ -83,7 +83,7 @@ abbrev pub regenerate_of : List Text → Option Edit
 regenerate_of [] = Some RegenerateKeys
 regenerate_of _ = None
 
--- the edit of keys or macros that a verb and the words behind it say
+-- the edit of keys or macros that a verb and the words after it say
 abbrev pub renaming_of : Text → List Text → Option Edit
 renaming_of verb words =
     if bytes_eq verb (codes "rename-key") then rename_key_of words

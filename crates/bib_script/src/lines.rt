@@ -2,8 +2,8 @@
 
 ghost use Rattle.std.specs.Prelude.{◌≡◌, ◌≤◌, ◌<◌, ◌==◌, ◌∷◌, not, length, map, IfOk};
 ghost use Rattle.std.specs.List.{prefix_len};
-ghost use Rattle.bib_spec.specs.Bytes.{line_feed};
-ghost use Rattle.bib_script.specs.Parting.{tab, words_of, without_return, lines_of};
+ghost use Rattle.bib_spec.specs.Bytes.{tab, line_feed};
+ghost use Rattle.bib_script.specs.Parting.{words_of, without_return, lines_of};
 
 use bib_scan::Seq;
 use std::alloc::{AllocError, Global};
@@ -50,7 +50,7 @@ fn without_return(line: &[u8]) -> &[u8]
     }
 }
 
-/// The first line of a text that is not empty, and the text behind its line feed.
+/// The first line of a text that is not empty, and the text after its line feed.
 pub(crate) fn split_line(text: &[u8]) -> (&[u8], &[u8])
     requires { 0 < length text.now }
     ensures lines { lines_of text.now ≡ result.0.now ∷ lines_of result.1.now }

@@ -35,14 +35,14 @@ fn drop_of(alloc: Global, words: &[&[u8]]) -> Result<Option<Edit>, AllocError>
     }))
 }
 
-/// `add PLACE TYPE KEY FIELD VALUE ..`
+/// `add POSITION TYPE KEY FIELD VALUE ..`
 fn add_of(alloc: Global, words: &[&[u8]]) -> Result<Option<Edit>, AllocError>
     ensures { IfOk result (λ edit. edit ≡ add_of (map (λ w. w.now) words.now)) }
 {
-    let [place, kind_name, key, fields @ ..] = words else {
+    let [position, kind_name, key, fields @ ..] = words else {
         return Ok(None);
     };
-    let Some(place) = number_of(place) else {
+    let Some(position) = number_of(position) else {
         return Ok(None);
     };
     let Some(fields) = fields_of(alloc, fields)? else {
@@ -53,7 +53,7 @@ fn add_of(alloc: Global, words: &[&[u8]]) -> Result<Option<Edit>, AllocError>
         key: copied(alloc, key)?,
         fields,
     };
-    Ok(Some(Edit::AddEntry { place, entry }))
+    Ok(Some(Edit::AddEntry { position, entry }))
 }
 
 /// `remove KEY`
@@ -68,19 +68,19 @@ fn remove_of(alloc: Global, words: &[&[u8]]) -> Result<Option<Edit>, AllocError>
     }))
 }
 
-/// `move KEY PLACE`
+/// `move KEY POSITION`
 fn move_of(alloc: Global, words: &[&[u8]]) -> Result<Option<Edit>, AllocError>
     ensures { IfOk result (λ edit. edit ≡ move_of (map (λ w. w.now) words.now)) }
 {
-    let [key, place] = words else {
+    let [key, position] = words else {
         return Ok(None);
     };
-    let Some(place) = number_of(place) else {
+    let Some(position) = number_of(position) else {
         return Ok(None);
     };
     Ok(Some(Edit::MoveEntry {
         key: copied(alloc, key)?,
-        place,
+        position,
     }))
 }
 
@@ -146,7 +146,7 @@ fn regenerate_of(words: &[&[u8]]) -> Option<Edit>
     }
 }
 
-/// The edit of keys or macros that a verb and the words behind it say.
+/// The edit of keys or macros that a verb and the words after it say.
 fn renaming_of(alloc: Global, verb: &[u8], words: &[&[u8]]) -> Result<Option<Edit>, AllocError>
     ensures { IfOk result (λ edit. edit ≡ renaming_of verb.now (map (λ w. w.now) words.now)) }
 {

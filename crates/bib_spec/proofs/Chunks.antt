@@ -4,7 +4,7 @@ use Rattle.std.proofs.lemmas.List.{drop_at}
 use Rattle.std.specs.List.{AllByRecursion, between}
 use Rattle.bib_spec.specs.Text.{Text}
 use Rattle.bib_spec.specs.Pieces.{Piece, end_of, Stands, AscendFrom, applied_from, Chunk, Kept, Replaced, old_of, new_of, pieces_from, chunks_fit, chunks_lead, pieces_are_chunks, BeginFrom}
-use Rattle.bib_spec.proofs.PieceLemmas.{begin_earlier, applied_from-begin, between-front, drop-place, drop_to, length-between, stands_behind}
+use Rattle.bib_spec.proofs.PieceLemmas.{begin_earlier, applied_from-begin, between-front, drop-place, drop_to, length-between, stands_after}
 
 -- ---- the pieces of chunks
 
@@ -22,7 +22,7 @@ ascend_chunks at [] = tt
 ascend_chunks at (Kept text ∷ chunks) = ascend_more at (at + length text) (pieces_from (at + length text) chunks) (omega arith) (ascend_chunks (at + length text) chunks)
 ascend_chunks at (Replaced old new ∷ chunks) = (omega arith, ascend_chunks (at + length old) chunks)
 
--- the pieces of chunks stand behind what comes before the chunks
+-- the pieces of chunks stand after what comes before the chunks
 stand_chunks : (front : Text) (chunks : List Chunk) → AllByRecursion (Stands (front ++ old_of chunks)) (pieces_from (length front) chunks)
 stand_chunks front [] = tt
 stand_chunks front (Kept text ∷ chunks) =
@@ -30,7 +30,7 @@ stand_chunks front (Kept text ∷ chunks) =
     (subst (λ (n : ℕ). AllByRecursion (Stands ((front ++ text) ++ old_of chunks)) (pieces_from n chunks)) (length-append front text)
     (stand_chunks (front ++ text) chunks))
 stand_chunks front (Replaced old new ∷ chunks) = (
-  stands_behind front (old_of chunks) (record { place = length front; old = old; new = new }) refl,
+  stands_after front (old_of chunks) (record { place = length front; old = old; new = new }) refl,
   subst (λ (t : Text). AllByRecursion (Stands t) (pieces_from (length front + length old) chunks)) (append_assoc front old (old_of chunks))
       (subst (λ (n : ℕ). AllByRecursion (Stands ((front ++ old) ++ old_of chunks)) (pieces_from n chunks)) (length-append front old)
       (stand_chunks (front ++ old) chunks)),

@@ -23,9 +23,9 @@ drop-place text p s =
     ∙ ap (λ front. front ++ drop (length p.old) (drop p.place text)) s.there
     ∙ ap (λ rest. p.old ++ rest) (drop-drop (length p.old) p.place text)
 
--- a piece stands behind a text as long as its place, where its old bytes come next
-pub stands_behind : (front rest : Text) (p : Piece) → length front ≡ p.place → Stands (front ++ (p.old ++ rest)) p
-stands_behind front rest p h = record {
+-- a piece stands after a text as long as its place, where its old bytes come next
+pub stands_after : (front rest : Text) (p : Piece) → length front ≡ p.place → Stands (front ++ (p.old ++ rest)) p
+stands_after front rest p h = record {
   inside = omega (arith, length-append front (p.old ++ rest), length-append p.old rest);
   there = ap (take (length p.old)) (drop_at front (p.old ++ rest) p.place h) ∙ take_at p.old rest (length p.old) refl;
 }
@@ -46,7 +46,7 @@ between-split at mid to text h k =
     ∙ sym (take-add (mid - at) (to - mid) (drop at text))
     ∙ ap (λ n. take n (drop at text)) whole
 
--- what stands behind a front
+-- what stands after a front
 pub between-front : (front text rest : Text) → between (length front) (length front + length text) (front ++ (text ++ rest)) ≡ text
 between-front front text rest =
     let long : length front + length text - length front ≡ length text = omega arith in

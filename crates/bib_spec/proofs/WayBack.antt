@@ -4,9 +4,9 @@ use Rattle.std.proofs.lemmas.List.{take_at, drop_at}
 use Rattle.std.specs.List.{AllByRecursion, between}
 use Rattle.bib_spec.specs.Text.{Text}
 use Rattle.bib_spec.specs.Pieces.{Piece, end_of, Stands, AscendFrom, applied_from, reversed_from, reversed_pieces_fit, reversed_pieces_lead_back, reversed_twice, first_moved_behind, two_entries, IsMovedAndBack}
-use Rattle.bib_spec.proofs.PieceLemmas.{drop_to, length-between, drop-place, stands_behind}
+use Rattle.bib_spec.proofs.PieceLemmas.{drop_to, length-between, drop-place, stands_after}
 
--- the new text, cut behind the first piece's new bytes
+-- the new text, cut after the first piece's new bytes
 regroup : (front gap new rest : Text) → front ++ (gap ++ new ++ rest) ≡ (front ++ gap ++ new) ++ rest
 regroup front gap new rest = simp append_assoc
 
@@ -29,7 +29,7 @@ stand_back at (p ∷ ps) text front a s =
     let here : length (front ++ g) ≡ length front + (p.place - at) = omega (arith, length-append front g) in
     let all : length (front ++ g ++ p.new) ≡ length front + (p.place - at) + length p.new = omega (arith, length-append (front ++ g) p.new) in (
       subst (λ (t : Text). Stands t (record { place = length front + (p.place - at); old = p.new; new = p.old })) (sym (regroup_before front g p.new rest))
-          (stands_behind (front ++ g) rest (record { place = length front + (p.place - at); old = p.new; new = p.old }) here),
+          (stands_after (front ++ g) rest (record { place = length front + (p.place - at); old = p.new; new = p.old }) here),
       subst (λ (t : Text). AllByRecursion (Stands t) (reversed_from (end_of p) (length front + (p.place - at) + length p.new) ps)) (sym (regroup front g p.new rest))
           (subst (λ (n : ℕ). AllByRecursion (Stands ((front ++ g ++ p.new) ++ rest)) (reversed_from (end_of p) n ps)) all
           (stand_back (end_of p) ps text (front ++ g ++ p.new) a.1 s.1)),

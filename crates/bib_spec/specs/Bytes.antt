@@ -1,6 +1,8 @@
 -- The bytes that the grammar names, and its limits.
 use Rattle.std.specs.Prelude.{ℕ}
 
+-- ---- bytes by name
+
 abbrev pub tab : ℕ
 tab = 9
 
@@ -28,6 +30,7 @@ close_paren = 41
 abbrev pub comma : ℕ
 comma = 44
 
+-- the digit `1`
 abbrev pub digit_one : ℕ
 digit_one = 49
 
@@ -37,6 +40,7 @@ equals_sign = 61
 abbrev pub at_sign : ℕ
 at_sign = 64
 
+-- the letter `x`
 abbrev pub letter_x : ℕ
 letter_x = 120
 
@@ -46,8 +50,11 @@ open_brace = 123
 abbrev pub close_brace : ℕ
 close_brace = 125
 
+-- the control character DEL
 abbrev pub delete : ℕ
 delete = 127
+
+-- ---- limits
 
 -- the longest name or key, in bytes (dialect)
 abbrev pub name_limit : ℕ

@@ -9,8 +9,8 @@ abbrev pub opens_body : Text → Bool
 opens_body [] = false
 opens_body (b ∷ rest) = b == open_brace || b == open_paren
 
--- A command begins here: an at-sign and, white space aside, a type name that is `comment` or is
--- followed, white space aside, by an opening delimiter. Every other at-sign is ordinary text. (dialect)
+-- A command begins here: an at-sign and a type name, and after it an opening delimiter, unless the type name is `comment`.
+-- White space may stand between them. Every other at-sign is ordinary text. (dialect)
 unfoldable pub begins_command : Text → Bool
 begins_command [] = false
 begins_command (b ∷ after) =
@@ -23,8 +23,8 @@ begins_command (b ∷ after) =
 abbrev pub IsClean : Text → Type 0
 IsClean t = (p : ℕ) → begins_command (drop p t) ≡ false
 
--- The text behind an item, which may be a comment: it is clean, and behind a comment it does not go on with
--- the comment's type name. (dialect)
+-- The text after an item is clean, and after a comment it does not begin with a byte that would lengthen the comment's type
+-- name. (dialect)
 pub record IsCleanTrail (after_comment : Bool) (t : Text) : Type 0 where
   pub clean : IsClean t
   pub ends_name : after_comment ≡ true → does_not_begin_with is_type_byte t ≡ true

@@ -6,7 +6,7 @@ use Rattle.bib_spec.specs.Text.{Text}
 use Rattle.bib_spec.specs.Clean.{IsClean, IsCleanTrail}
 use Rattle.bib_spec.specs.Tree.{Tree, Value, tree_bytes, value_bytes, is_comment, IsTree, IsValue}
 
--- an item: a tree, and its trail, which is the text behind it
+-- an item: a tree, and its trail, which is the text after it up to the next item
 pub record Item : Type 0 where
   pub tree : Tree
   pub trail : Text
@@ -16,31 +16,34 @@ pub record Reading : Type 0 where
   pub front : Text
   pub items : List Item
 
+-- the bytes of an item, with its trail
 abbrev pub item_bytes : Item → Text
 item_bytes i = tree_bytes i.tree ++ i.trail
 
--- the file: the front, and tree and trail of each item, joined
+-- the file: the front, and then each item with its trail
 abbrev pub bytes_of : Reading → Text
 bytes_of db = db.front ++ flat_map item_bytes db.items
 
+-- a tree of the grammar, and a text that may follow it
 pub record IsItem (limit : ℕ) (i : Item) : Type 0 where
   pub tree : IsTree limit i.tree
   pub trail : IsCleanTrail (is_comment i.tree) i.trail
 
--- db is what the file says, with names and keys of at most so many bytes
+-- the database is the file taken apart, with names and keys of at most so many bytes
 pub record ReadsWithin (limit : ℕ) (file : Text) (db : Reading) : Type 0 where
   pub bytes : bytes_of db ≡ file
   pub front : IsClean db.front
   pub items : All (IsItem limit) db.items
 
--- db is what the file says
+-- the database is the file taken apart
 abbrev pub Reads : Text → Reading → Type 0
 Reads = ReadsWithin name_limit
 
--- the text is a file, with names and keys of at most so many bytes
+-- the text can be taken apart, with names and keys of at most so many bytes
 abbrev pub HasReadingWithin : ℕ → Text → Type 0
 HasReadingWithin limit t = (db : Reading) × ReadsWithin limit t db
 
+-- the text can be taken apart
 abbrev pub HasReading : Text → Type 0
 HasReading = HasReadingWithin name_limit
 
@@ -48,11 +51,12 @@ HasReading = HasReadingWithin name_limit
 abbrev pub IsValueWithin : ℕ → Text → Type 0
 IsValueWithin limit t = (v : Value) × IsValue limit v × (value_bytes v ≡ t)
 
--- some bytes can follow that make such a text
+-- some bytes can follow so that it becomes such a text
 abbrev pub IsViable : (Text → Type 0) → Text → Type 0
 IsViable IsSuch t = (more : Text) × IsSuch (t ++ more)
 
--- The text is none such. Up to the place it can go on to one, and with the byte at the place, if there is one, it can't.
+-- The text is not of this kind, and at the place that becomes certain: what stands before the place can still become such a
+-- text, but with the byte at the place it no longer can.
 pub record IsHopeless (IsSuch : Text → Type 0) (t : Text) (place : ℕ) : Type 0 where
   pub fails : IsSuch t → ⊥
   pub within : place ≤ length t

@@ -20,18 +20,22 @@ pub record EntryTexts : Type 0 where
   pub key : Text
   pub fields : List Field
 
+-- a row as a field, under these macros
 abbrev pub field_of : Macros → Row → Field
 field_of macros row = record { name = row.assignment.name; raw = raw_text macros row.assignment.value }
 
+-- an entry of the grammar as its raw texts, under these macros
 abbrev pub texts_of : Macros → Entry → EntryTexts
 texts_of macros e = record { kind = e.opening.head.type_name; key = e.key; fields = map (field_of macros) e.rows }
 
+-- the entry that an item is, or nothing for other items
 abbrev pub entry_in : Macros → Tree → List EntryTexts
 entry_in macros (EntryTree e) = texts_of macros e ∷ []
 entry_in macros (CommentTree h) = []
 entry_in macros (DefinitionTree d) = []
 entry_in macros (PreambleTree p) = []
 
+-- the raw text of a preamble, or nothing for other items
 abbrev pub preamble_in : Macros → Tree → List Text
 preamble_in macros (PreambleTree p) = raw_text macros p.value ∷ []
 preamble_in macros (CommentTree h) = []
@@ -48,6 +52,7 @@ preambles_of db = gathered preamble_in months db.items
 
 -- ---- fields
 
+-- the name of the field that names a parent (btxdoc 2.1)
 abbrev pub crossref : Text
 crossref = codes "crossref"
 
@@ -55,30 +60,31 @@ crossref = codes "crossref"
 abbrev pub has_name : Text → Field → Bool
 has_name name field = same field.name name
 
--- the first field of each name: later ones of that name count for nothing (dialect)
+-- the first field of each name; later fields with that name do not count (dialect)
 abbrev pub effective : List Field → List Field
 effective [] = []
 effective (field ∷ fields) = field ∷ filter (λ other. not (has_name field.name other)) (effective fields)
 
--- the field text of the first `crossref`
+-- the field text of an entry's first `crossref` field, if it has one
 abbrev pub crossref_text : EntryTexts → Option Text
 crossref_text entry = option_map (λ field. field_text field.raw) (find (has_name crossref) entry.fields)
 
 -- ---- keys and crossrefs
 
--- the text names the key: it is the key, which is not empty (btxdoc 3.2; folded: dialect)
+-- the text names the key: the two are the same, and not empty (btxdoc 3.2; folded: dialect)
 abbrev pub is_named : Text → Text → Bool
 is_named text key = not (is_empty key) && same key text
 
--- the number of the first key that the text names
+-- the number of the first key that the text names, if any
 abbrev pub first_named : Text → List Text → Option ℕ
 first_named text [] = None
 first_named text (key ∷ keys) = if is_named text key then Some 0 else option_map suc (first_named text keys)
 
+-- the keys of the entries, in order
 abbrev pub keys_of : List EntryTexts → List Text
 keys_of entries = map (λ entry. entry.key) entries
 
--- the entry that look-ups find for a key: the first that has it (dialect)
+-- the number of the entry that a key finds: the first that has it (dialect)
 abbrev pub entry_named : List EntryTexts → Text → Option ℕ
 entry_named entries text = first_named text (keys_of entries)
 
@@ -86,14 +92,15 @@ entry_named entries text = first_named text (keys_of entries)
 abbrev pub is_repeated : List EntryTexts → ℕ → Bool
 is_repeated entries n = option_map_or (λ entry. list_any (is_named entry.key) (keys_of (take n entries))) (slice_get entries n) false
 
--- the entry that an entry's crossref names
+-- the number of the entry that an entry's crossref names, if any
 abbrev pub target_of : List EntryTexts → EntryTexts → Option ℕ
 target_of entries entry = option_and_then (entry_named entries) (crossref_text entry)
 
--- the target of entry n: the entry that its crossref names, before or behind it (btxdoc 2.1; dialect)
+-- the target of entry n: the entry that its crossref names, wherever it stands in the file (btxdoc 2.1; dialect)
 abbrev pub target : List EntryTexts → ℕ → Option ℕ
 target entries n = option_and_then (target_of entries) (slice_get entries n)
 
+-- m, unless it is n
 abbrev pub other_than : ℕ → ℕ → Option ℕ
 other_than n m = if m == n then None else Some m
 
@@ -101,11 +108,11 @@ other_than n m = if m == n then None else Some m
 abbrev pub parent : List EntryTexts → ℕ → Option ℕ
 parent entries n = option_and_then (other_than n) (target entries n)
 
--- a crossref text that names no entry
+-- the entry's crossref text, if it names no entry
 abbrev pub dangling_text : List EntryTexts → EntryTexts → Option Text
 dangling_text entries entry = if is_none (target_of entries entry) then crossref_text entry else None
 
--- the crossref texts that name no entry
+-- all crossref texts that name no entry, in file order
 abbrev pub dangling_texts : List EntryTexts → List Text
 dangling_texts entries = filter_map (dangling_text entries) entries
 
@@ -115,40 +122,42 @@ dangling_texts entries = filter_map (dangling_text entries) entries
 abbrev pub RecordField : Type 0
 RecordField = Text × Text
 
--- what a style is given of an entry (btxhak 5.1)
+-- what a bibliography style gets of an entry: its type, key and fields (btxhak 5.1)
 pub record Record : Type 0 where
   pub kind_name : Text
   pub key : Text
   pub fields : List RecordField
 
+-- a field as a record has it
 abbrev pub record_field : Field → RecordField
 record_field field = (folded field.name, field_text field.raw)
 
--- an entry's effective fields, but for `crossref`
+-- an entry's own fields for its record: the effective ones, without `crossref`
 abbrev pub own_fields : EntryTexts → List RecordField
 own_fields entry = map record_field (filter (λ field. not (has_name crossref field)) (effective entry.fields))
 
--- the fields whose names the first list lacks
+-- those of the second list's fields whose names the first list does not have
 abbrev pub missing : List RecordField → List RecordField → List RecordField
 missing own fields = filter (λ field. not (list_any (λ other. same other.0 field.0) own)) fields
 
--- the deepest chain of parents that can be asked for (dialect)
+-- the longest chain of parents that can be asked for (dialect)
 abbrev pub depth_limit : ℕ
 depth_limit = 8
 
--- one parent, as BibTeX has it (btxdoc 2.1)
+-- entries inherit from their parents alone, as in BibTeX (btxdoc 2.1)
 abbrev pub default_depth : ℕ
 default_depth = 1
 
+-- a depth that can be asked for
 pub record IsDepth (depth : ℕ) : Type 0 where
   pub least : 1 ≤ depth
   pub most : depth ≤ depth_limit
 
--- the entry, unless it was visited
+-- the entry's number, unless it was visited
 abbrev pub unvisited : List ℕ → ℕ → Option ℕ
 unvisited visited m = if list_any (λ v. v == m) visited then None else Some m
 
--- the parent, its parent and so on, at most `depth` of them, up to one that was visited
+-- the parent, its parent and so on: at most `depth` of them, and none that was visited before
 abbrev pub ancestors_from : (ℕ → Option ℕ) → ℕ → List ℕ → ℕ → List ℕ
 ancestors_from parents zero visited n = []
 ancestors_from parents (suc depth) visited n =
@@ -158,15 +167,16 @@ ancestors_from parents (suc depth) visited n =
 abbrev pub ancestors : List EntryTexts → ℕ → ℕ → List ℕ
 ancestors entries depth n = ancestors_from (parent entries) depth (n ∷ []) n
 
+-- the own fields of entry n
 abbrev pub fields_at : List EntryTexts → ℕ → List RecordField
 fields_at entries n = option_map_or own_fields (slice_get entries n) []
 
--- the fields, and of each of these entries in turn those that are still missing (btxdoc 2.1)
+-- the own fields, and then from each of these entries in turn the fields that are still missing (btxdoc 2.1)
 abbrev pub with_inherited : List EntryTexts → List RecordField → List ℕ → List RecordField
 with_inherited entries own [] = own
 with_inherited entries own (n ∷ ns) = with_inherited entries (own ++ missing own (fields_at entries n)) ns
 
--- the record of entry n at this depth: the type in lower case, the key as it stands, and own and inherited fields
+-- the record of entry n at this depth: its type in lower case, its key as it stands, its own fields and the inherited ones
 abbrev pub record_of : ℕ → List EntryTexts → ℕ → EntryTexts → Record
 record_of depth entries n entry = record {
   kind_name = folded entry.kind;
@@ -180,15 +190,16 @@ expanded depth entries n = option_map (record_of depth entries n) (slice_get ent
 
 -- ---- cited lists
 
+-- the numbers of all entries
 abbrev pub numbers_of : List EntryTexts → List ℕ
 numbers_of entries = range_with_len 0 (length entries)
 
--- each number once, at its first place
+-- each number once, where it first stands in the list
 abbrev pub once : List ℕ → List ℕ
 once [] = []
 once (n ∷ ns) = n ∷ filter (λ m. not (m == n)) (once ns)
 
--- the entries that the keys name, each at its first citation
+-- the entries that the keys name, each once, in the order of first citation
 abbrev pub cited_by_key : List EntryTexts → List Text → List ℕ
 cited_by_key entries keys = once (filter_map (entry_named entries) keys)
 
@@ -196,21 +207,22 @@ cited_by_key entries keys = once (filter_map (entry_named entries) keys)
 abbrev pub is_parent_of : List EntryTexts → ℕ → ℕ → Bool
 is_parent_of entries m n = option_map_or (λ p. p == m) (parent entries n) false
 
--- the listed entries, and then the others that are the parent of at least min of them, in file order (btxdoc 2.1; dialect)
+-- the listed entries, and then, in file order, the other entries that are the parent of at least `min` of them
+-- (btxdoc 2.1; dialect)
 abbrev pub with_parents : List EntryTexts → ℕ → List ℕ → List ℕ
 with_parents entries min listed =
     listed ++ filter (λ m. not (list_any (λ n. n == m) listed) && nat_le min (count_by (is_parent_of entries m) listed)) (numbers_of entries)
 
--- the list is `*` alone
+-- the list is one key, `*`
 abbrev pub cites_all : List Text → Bool
 cites_all [] = false
 cites_all (key ∷ []) = bytes_eq key (codes "*")
 cites_all (key ∷ other ∷ keys) = false
 
--- the cited list of keys; `*` alone cites all entries, in file order (btxdoc 2.1; dialect)
+-- the cited list of these keys; the one key `*` cites all entries, in file order (btxdoc 2.1; dialect)
 abbrev pub listed : List EntryTexts → List Text → ℕ → List ℕ
 listed entries keys min = if cites_all keys then numbers_of entries else with_parents entries min (cited_by_key entries keys)
 
--- the places of the keys that find no entry; `*` alone has none
+-- the positions, in the list, of the keys that find no entry; for the one key `*` there are none
 abbrev pub unknown : List EntryTexts → List Text → List ℕ
 unknown entries keys = if cites_all keys then [] else map (λ p. p.0) (filter (λ p. is_none (entry_named entries p.1)) (enumerate_from 0 keys))

@@ -1,11 +1,12 @@
 -- A text is a list of bytes. Its bytes fall into classes, and names, keys and balanced texts are made of them.
--- (All numbers above 127 are alike to reading, so nothing here asks whether a number is a byte.)
+-- (Reading treats all numbers above 127 alike, so no definition here asks whether a number is a byte.)
 use Rattle.std.specs.Prelude.{ℕ, ◌≡◌, ◌<◌, ◌≤◌, Bool, true, ◌&&◌, ◌||◌, not, ◌==◌, nat_lt, nat_le, List, [], ◌∷◌, length, take, drop, slice_index, count_by, map, codes}
 use Rattle.std.specs.List.{prefix_len, list_all, list_any}
 use Rattle.std.specs.Char.{is_ascii_digit, to_ascii_lowercase}
 use Rattle.std.specs.Str.{bytes_eq}
 use Rattle.bib_spec.specs.Bytes.{tab, line_feed, carriage_return, space, quote, at_sign, open_brace, close_brace, delete, name_limit}
 
+-- a list of bytes
 abbrev pub Text : Type 0
 Text = List ℕ
 
@@ -19,7 +20,7 @@ is_space b = b == space || b == tab || b == line_feed || b == carriage_return
 unfoldable pub is_name_byte : ℕ → Bool
 is_name_byte b = nat_lt space b && not (list_any (λ c. c == b) (delete ∷ codes "\"#%'(),={}"))
 
--- a byte of a type name: one of a name other than the at-sign (dialect)
+-- a byte of a type name: a byte of a name, but not an at-sign (dialect)
 abbrev pub is_type_byte : ℕ → Bool
 is_type_byte b = is_name_byte b && not (b == at_sign)
 
@@ -34,7 +35,7 @@ abbrev pub does_not_begin_with : (ℕ → Bool) → Text → Bool
 does_not_begin_with test [] = true
 does_not_begin_with test (b ∷ rest) = not (test b)
 
--- the text behind its longest front of such bytes
+-- the text after as many bytes of this class as it begins with
 abbrev pub after_run : (ℕ → Bool) → Text → Text
 after_run test t = drop (prefix_len test t) t
 

@@ -23,7 +23,7 @@ pub record Value : Type 0 where
   pub first : Part
   pub links : List Link
 
--- `name = value`, and the white space behind it
+-- `name = value`, and the white space after it
 pub record Assignment : Type 0 where
   pub name : Text
   pub space_before_equals : Text
@@ -45,7 +45,7 @@ pub record Head : Type 0 where
   pub space_before_type : Text
   pub type_name : Text
 
--- a head, an opening delimiter, and the white space behind it
+-- a head, an opening delimiter, and the white space after it
 pub record Opening : Type 0 where
   pub head : Head
   pub space_before_delimiter : Text
@@ -63,7 +63,7 @@ pub record Preamble : Type 0 where
   pub value : Value
   pub space_behind : Text
 
--- `@type{key, name = value, ..}`; a last comma may stand before the close, with white space behind it (btxdoc 3)
+-- `@type{key, name = value, ..}`; a last comma may stand before the close, with white space after it (btxdoc 3)
 pub record Entry : Type 0 where
   pub opening : Opening
   pub key : Text
@@ -71,7 +71,7 @@ pub record Entry : Type 0 where
   pub rows : List Row
   pub last_comma : Option Text
 
--- A comment is its head alone: what follows is the text behind it. (dialect)
+-- One of the four kinds of item. A comment is its head alone: what follows is text between items. (dialect)
 pub data Tree : Type 0 where
   CommentTree : Head → Tree
   DefinitionTree : Definition → Tree
@@ -80,64 +80,78 @@ pub data Tree : Type 0 where
 
 -- ---- the bytes of a tree
 
+-- a part as it stands in the file, with its braces or quotation marks
 abbrev pub part_bytes : Part → Text
 part_bytes (Braced t) = open_brace ∷ t ++ close_brace ∷ []
 part_bytes (Quoted t) = quote ∷ t ++ quote ∷ []
 part_bytes (Digits t) = t
 part_bytes (Macro t) = t
 
+-- `#` and its part, with the white space before each
 abbrev pub link_bytes : Link → Text
 link_bytes l = l.space_before_hash ++ hash ∷ l.space_behind_hash ++ part_bytes l.part
 
--- from the first byte of the first part to the last of the last
+-- a value, from the first byte of its first part to the last byte of its last part
 abbrev pub value_bytes : Value → Text
 value_bytes v = part_bytes v.first ++ flat_map link_bytes v.links
 
+-- the name, the equals sign and the value, with the white space before the equals sign, before the value and after it
 abbrev pub assignment_bytes : Assignment → Text
 assignment_bytes a =
     a.name ++ a.space_before_equals ++ equals_sign ∷ a.space_before_value ++ value_bytes a.value ++ a.space_behind
 
+-- the comma, the white space before the name, and the assignment
 abbrev pub row_bytes : Row → Text
 row_bytes r = comma ∷ r.space_before_name ++ assignment_bytes r.assignment
 
+-- the byte that opens an item
 abbrev pub open_byte : Delimiter → ℕ
 open_byte Brace = open_brace
 open_byte Paren = open_paren
 
+-- the byte that closes it
 abbrev pub close_byte : Delimiter → ℕ
 close_byte Brace = close_brace
 close_byte Paren = close_paren
 
+-- the at-sign, white space and the type name
 abbrev pub head_bytes : Head → Text
 head_bytes h = at_sign ∷ h.space_before_type ++ h.type_name
 
+-- the head, white space, the delimiter and the white space after it
 abbrev pub opening_bytes : Opening → Text
 opening_bytes o = head_bytes o.head ++ o.space_before_delimiter ++ open_byte o.delimiter ∷ o.space_behind
 
+-- a macro definition, from its at-sign to its close
 abbrev pub definition_bytes : Definition → Text
 definition_bytes d = opening_bytes d.opening ++ assignment_bytes d.assignment ++ close_byte d.opening.delimiter ∷ []
 
+-- a preamble, from its at-sign to its close
 abbrev pub preamble_bytes : Preamble → Text
 preamble_bytes p = opening_bytes p.opening ++ value_bytes p.value ++ p.space_behind ++ close_byte p.opening.delimiter ∷ []
 
+-- the last comma with the white space after it, if there is one
 abbrev pub last_comma_bytes : Option Text → Text
 last_comma_bytes None = []
 last_comma_bytes (Some space_behind) = comma ∷ space_behind
 
--- the bytes behind the key
+-- the bytes of an entry after its key
 abbrev pub behind_key_bytes : Entry → Text
 behind_key_bytes e =
     e.space_behind_key ++ flat_map row_bytes e.rows ++ last_comma_bytes e.last_comma ++ close_byte e.opening.delimiter ∷ []
 
+-- an entry, from its at-sign to its close
 abbrev pub entry_bytes : Entry → Text
 entry_bytes e = opening_bytes e.opening ++ e.key ++ behind_key_bytes e
 
+-- the bytes of an item's body
 abbrev pub tree_bytes : Tree → Text
 tree_bytes (CommentTree h) = head_bytes h
 tree_bytes (DefinitionTree d) = definition_bytes d
 tree_bytes (PreambleTree p) = preamble_bytes p
 tree_bytes (EntryTree e) = entry_bytes e
 
+-- the item is a comment
 abbrev pub is_comment : Tree → Bool
 is_comment (CommentTree h) = true
 is_comment (DefinitionTree d) = false
@@ -150,23 +164,26 @@ is_comment (EntryTree e) = false
 abbrev pub IsSpace : Text → Type 0
 IsSpace t = AllPass is_space t
 
--- Braces balance in braced and in quoted parts, a quotation mark inside braces does not end a quoted one, and a
--- backslash protects nothing. (dialect)
+-- A part of a value. The braces of braced and of quoted parts match; inside braces a quotation mark does not end a quoted
+-- part; a backslash protects nothing. (dialect)
 abbrev pub IsPart : ℕ → Part → Type 0
 IsPart limit (Braced t) = IsBalanced t
 IsPart limit (Quoted t) = IsBalanced t × QuotesAreBraced t
 IsPart limit (Digits t) = (0 < length t) × AllPass is_ascii_digit t
 IsPart limit (Macro t) = IsTrue (is_name_within limit t)
 
+-- only white space stands around the `#`, and what follows is a part
 pub record IsLink (limit : ℕ) (l : Link) : Type 0 where
   pub space_before_hash : IsSpace l.space_before_hash
   pub space_behind_hash : IsSpace l.space_behind_hash
   pub part : IsPart limit l.part
 
+-- each of its parts is one
 pub record IsValue (limit : ℕ) (v : Value) : Type 0 where
   pub first : IsPart limit v.first
   pub links : All (IsLink limit) v.links
 
+-- a name and a value, and only white space around the equals sign and after the value
 pub record IsAssignment (limit : ℕ) (a : Assignment) : Type 0 where
   pub name : IsTrue (is_name_within limit a.name)
   pub space_before_equals : IsSpace a.space_before_equals
@@ -174,36 +191,42 @@ pub record IsAssignment (limit : ℕ) (a : Assignment) : Type 0 where
   pub value : IsValue limit a.value
   pub space_behind : IsSpace a.space_behind
 
+-- only white space stands between the comma and the assignment
 pub record IsRow (limit : ℕ) (r : Row) : Type 0 where
   pub space_before_name : IsSpace r.space_before_name
   pub assignment : IsAssignment limit r.assignment
 
+-- only white space stands between the at-sign and the type name
 pub record IsHead (h : Head) : Type 0 where
   pub space_before_type : IsSpace h.space_before_type
   pub type_name : IsTrue (is_type_name h.type_name)
 
+-- a head, and only white space around the delimiter
 pub record IsOpening (o : Opening) : Type 0 where
   pub head : IsHead o.head
   pub space_before_delimiter : IsSpace o.space_before_delimiter
   pub space_behind : IsSpace o.space_behind
 
+-- a macro definition: its type name is `string`
 pub record IsDefinition (limit : ℕ) (d : Definition) : Type 0 where
   pub opening : IsOpening d.opening
   pub type_name : IsTrue (same d.opening.head.type_name (codes "string"))
   pub assignment : IsAssignment limit d.assignment
 
+-- a preamble: its type name is `preamble`
 pub record IsPreamble (limit : ℕ) (p : Preamble) : Type 0 where
   pub opening : IsOpening p.opening
   pub type_name : IsTrue (same p.opening.head.type_name (codes "preamble"))
   pub value : IsValue limit p.value
   pub space_behind : IsSpace p.space_behind
 
--- A key goes on with this byte: up to white space or a comma, and behind a brace up to the closing brace. (dialect)
+-- The byte belongs to the key. A key ends before white space and before a comma, and in an item that a brace opens before a
+-- closing brace. (dialect)
 abbrev pub goes_on_key : Delimiter → ℕ → Bool
 goes_on_key Brace b = not (is_space b || b == comma || b == close_brace)
 goes_on_key Paren b = not (is_space b || b == comma)
 
--- the word is none of `comment`, `string` and `preamble`
+-- the word is neither `comment` nor `string` nor `preamble`
 abbrev pub is_no_keyword : Text → Bool
 is_no_keyword t = not (same t (codes "comment") || same t (codes "string") || same t (codes "preamble"))
 
@@ -211,16 +234,18 @@ is_no_keyword t = not (same t (codes "comment") || same t (codes "string") || sa
 abbrev pub is_type : Text → Bool
 is_type t = is_type_name t && is_no_keyword t
 
+-- only white space follows the last comma, if there is one
 abbrev pub IsLastComma : Option Text → Type 0
 IsLastComma None = ⊤
 IsLastComma (Some space_behind) = IsSpace space_behind
 
+-- an entry: its type name is no keyword, and its key has at most so many bytes
 pub record IsEntry (limit : ℕ) (e : Entry) : Type 0 where
   pub opening : IsOpening e.opening
   pub type_name : IsTrue (is_no_keyword e.opening.head.type_name)
   pub key : AllPass (goes_on_key e.opening.delimiter) e.key
   pub key_len : length e.key ≤ limit
-  -- The key runs as far as it can: so a `)` directly behind it would be a byte of it.
+  -- the key is as long as it can be: in an item that a parenthesis opens, a `)` directly after the key would belong to it
   pub key_ends : IsTrue (does_not_begin_with (goes_on_key e.opening.delimiter) (behind_key_bytes e))
   pub space_behind_key : IsSpace e.space_behind_key
   -- white space beside an empty key stands before it
@@ -233,6 +258,7 @@ pub record IsComment (h : Head) : Type 0 where
   pub head : IsHead h
   pub type_name : IsTrue (same h.type_name (codes "comment"))
 
+-- a tree of the grammar, with names and keys of at most so many bytes
 abbrev pub IsTree : ℕ → Tree → Type 0
 IsTree limit (CommentTree h) = IsComment h
 IsTree limit (DefinitionTree d) = IsDefinition limit d

@@ -15,7 +15,7 @@ use Rattle.bib_store.specs.Windows.{IsWindow, IsWhole, Serve, front_before, byte
 use Rattle.bib_store.proofs.Shifts.{fit-behind, applied-behind, fit_behind_nothing}
 use Rattle.bib_store.proofs.WindowLaws.{file-around}
 
--- the window is the file, with nothing before it and nothing behind
+-- the window is the file, with nothing before it and nothing after it
 pub record IsAll (front : Text) (items : List Item) (w : Window) : Type 0 where
   pub before : bytes_before w front items ≡ []
   pub within : bytes_within w front items ≡ file_of front items

@@ -65,7 +65,7 @@ left_out_behind listed x n = ap not (among_behind listed x n ∙ ap (λ b. is_am
     at false true = refl
     at false false = refl
 
--- the numbers from i on that are not listed stand behind the listed ones
+-- the numbers from i on that are not listed stand after the listed ones
 pub record IsListing (numbers listed : List ℕ) (marks : List Bool) (i : ℕ) : Type 0 where
   pub so_far : listed ++ filter (left_out listed) (once (drop i numbers)) ≡ once numbers
   pub marked : AreMarks listed marks
@@ -251,7 +251,7 @@ count_small entries listed counts i p h le within =
     let long = length-take-le i listed le in
     omega (arith, is, few, long)
 
--- ---- the parents behind the list
+-- ---- the parents after the list
 
 pub added_more : (p : ℕ → Bool) (listed all : List ℕ) (n : ℕ) → all ≡ listed ++ filter p (range_with_len 0 n) → p n ≡ true → all ++ n ∷ [] ≡ listed ++ filter p (range_with_len 0 (n + 1))
 added_more p listed all n h e =

@@ -117,7 +117,7 @@ free_other fields field other taken = at (same other.name field.name) refl
     at true e = ap not (taken_alike fields other.name field.name e ∙ taken)
     at false e = refl
 
--- free behind a field is free, and of another name
+-- free after a field is free, and of another name
 free_behind : (fields : List RecordField) (field other : Field) → free (fields ++ record_field field ∷ []) other ≡ (other_name field other && free fields other)
 free_behind fields field other =
     ap not (taken_behind fields field.name (field_text field.raw) other.name)

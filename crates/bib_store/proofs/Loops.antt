@@ -1,4 +1,4 @@
--- What the loops over pieces keep, and how each goes on.
+-- What the loops over pieces keep, and how each continues.
 use Rattle.std.proofs.Common.{◌≡◌, ℕ, ◌+◌, ◌-◌, ◌^◌, ◌≤◌, ◌<◌, min, List, [], ◌∷◌, ◌++◌, length, take, drop, get_or, sym, ◌∙◌, ap, subst, arith, refl, append_assoc, sum_by}
 use Rattle.std.proofs.lemmas.List.{drop_more, drop_all, append-nil}
 use Rattle.std.proofs.lemmas.List.Sums.{sum_by-cons}
@@ -19,7 +19,7 @@ pub record FitFrom (at end : ℕ) (ps : List Piece) (bytes : Text) : Type 0 wher
   pub ascending : AscendFrom end (all_moved_back at ps)
   pub standing : AllByRecursion (Stands bytes) (all_moved_back at ps)
 
--- what a fitting piece and those behind it say
+-- what a fitting piece and those after it say
 pub record NextFits (at end : ℕ) (p : Piece) (ps : List Piece) (bytes : Text) : Type 0 where
   pub begins : at ≤ p.place
   pub below : end ≤ p.place - at
@@ -72,7 +72,7 @@ applied_more at ps bytes out end i p w h e =
 pub applied_all : (at : ℕ) (ps : List Piece) (bytes out : Text) (end i : ℕ) → IsApplied at ps bytes out end i → length ps ≤ i → out ++ drop end bytes ≡ applied (all_moved_back at ps) bytes
 applied_all at ps bytes out end i w h = sym (ap (λ qs. out ++ applied_from end (all_moved_back at qs) bytes) (drop_all i ps h)) ∙ w.so_far
 
--- all fit exactly where those from i on fit behind this place
+-- all fit exactly where those from i on fit after this place
 pub record IsFitting (at : ℕ) (ps : List Piece) (bytes : Text) (end i : ℕ) : Type 0 where
   pub whole : FitFrom at end (drop i ps) bytes → FitBehind at ps bytes
   pub rest : FitBehind at ps bytes → FitFrom at end (drop i ps) bytes

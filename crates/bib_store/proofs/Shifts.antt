@@ -7,7 +7,7 @@ use Rattle.bib_spec.specs.Pieces.{Piece, end_of, Stands, AscendFrom, Fit, BeginF
 use Rattle.bib_spec.proofs.PieceLemmas.{drop-place, stands_before, applied_from-begin}
 use Rattle.bib_store.specs.Shifting.{moved_back, all_moved_back, FitBehind}
 
--- from a place of the bytes on, the text is what the bytes are from there, and what is behind them
+-- from a place of the bytes on, the text is what the bytes are from there, and what follows them
 drop-behind : (before bytes behind : Text) (at n : ℕ) → length before ≡ at → n ≤ length bytes → drop (at + n) (before ++ (bytes ++ behind)) ≡ drop n bytes ++ behind
 drop-behind before bytes behind at n e h =
     sym (drop-drop n at (before ++ (bytes ++ behind)))

@@ -30,7 +30,7 @@ stored-joined w db inner items k =
     (sym (take-map stored w.from db.items) ∙ ap (take w.from) (sym k))
     (map-append stored inner.items (drop w.to db.items) ∙ ap (λ l. all_stored inner.items ++ l) (sym (drop-map stored w.to db.items) ∙ ap (drop w.to) (sym k)))
 
--- the file is what stands before the window, the text in it, and what stands behind
+-- the file is what stands before the window, the text in it, and what stands after it
 front_joined : (b : Bool) (old new x y z : Text) → (b ≡ true → x ≡ []) → (b ≡ false → new ≡ []) → front_after b old new ++ (x ++ (y ++ z)) ≡ (front_before b old ++ x) ++ ((new ++ y) ++ z)
 front_joined true old new x y z e f =
     ap (λ l. new ++ (l ++ (y ++ z))) (e refl) ∙ sym (append_assoc new y z) ∙ ap (λ l. l ++ ((new ++ y) ++ z)) (sym (e refl))

@@ -19,6 +19,6 @@ AreCounts entries listed counts = (n : ℕ) → n < length counts → slice_inde
 abbrev pub is_added : List Bool → List ℕ → ℕ → ℕ → Bool
 is_added marks counts min n = not (slice_index_or marks n false) && nat_le min (slice_index_or counts n 0)
 
--- the list, and behind it those that are added
+-- the list, and after it those that are added
 abbrev pub with_added : List Bool → List ℕ → ℕ → List ℕ → List ℕ
 with_added marks counts min listed = listed ++ filter (is_added marks counts min) (range_with_len 0 (length marks))

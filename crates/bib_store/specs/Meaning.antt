@@ -19,7 +19,7 @@ OfReading file P = (db : Reading) → Reads file db → P db
 abbrev pub IsItemNumber : Text → ℕ → Type 0
 IsItemNumber file n = OfReading file (λ db. n < length db.items)
 
--- an item with this number, or the end behind the last
+-- an item with this number, or the end after the last
 abbrev pub IsItemPlace : Text → ℕ → Type 0
 IsItemPlace file n = OfReading file (λ db. n ≤ length db.items)
 

@@ -6,14 +6,10 @@ use Rattle.bib_spec.specs.Reading.{Reading}
 use Rattle.bib_spec.specs.Texts.{Opens}
 use Rattle.bib_items.specs.declared.list.Item.{Item}
 use Rattle.bib_store.specs.declared.tables.Tables.{Tables}
-use Rattle.bib_items.specs.Items.{all_stored}
+use Rattle.bib_items.specs.Items.{kept_bytes, all_stored}
 use Rattle.bib_store.specs.Beside.{AreTables}
 
--- an item's bytes
-abbrev pub kept_bytes : Item → Text
-kept_bytes i = i.body ++ i.trail
-
--- the file that a front and the items behind it are
+-- the file that a front and the items after it are
 abbrev pub file_of : Text → List Item → Text
 file_of front items = front ++ flat_map kept_bytes items
 

@@ -39,7 +39,7 @@ bytes_before w front items = file_of (front_before w.with_front front) (take w.f
 abbrev pub bytes_within : Window → Text → List Item → Text
 bytes_within w front items = file_of (front_within w.with_front front) (between w.from w.to items)
 
--- what stands behind it
+-- what stands after it
 abbrev pub bytes_behind : Window → List Item → Text
 bytes_behind w items = flat_map kept_bytes (drop w.to items)
 

@@ -49,7 +49,7 @@ fn once(alloc: Global, numbers: &[usize], marks: &mut [bool]) -> Result<Vec<usiz
     Ok(listed)
 }
 
-/// The list, and behind it in their order the numbers that are not marked and whose count is at least `min`.
+/// The list, and after it in their order the numbers that are not marked and whose count is at least `min`.
 fn with_added(
     listed: Vec<usize>,
     marks: &[bool],
@@ -68,7 +68,7 @@ fn with_added(
     Ok(all)
 }
 
-/// The entries that keys find, in the order of the keys, and the places of the keys that find none.
+/// The entries that keys find, in the order of the keys, and the positions of the keys that find none.
 #[derive(Drop)]
 struct Found {
     numbers: Vec<usize>,
@@ -83,9 +83,9 @@ impl<L: ItemList> Database<L> {
     ghost use Rattle.bib_store.specs.Citing.{AreCounts};
     ghost use Rattle.bib_items.specs.declared.fault.StoreFault.TheVariants.{Memory};
 
-    /// The cited list of these keys: the entries that they find, each at its first citation, and behind them in file
+    /// The cited list of these keys: the entries that they find, each at its first citation, and after them in file
     /// order the others that are the parent of at least `min` of those; an added parent cites no parent of its own.
-    /// `*` alone cites all entries, in file order. Beside it stand the places, from 0, of the keys that find no entry.
+    /// `*` alone cites all entries, in file order. Beside it stand the positions, from 0, of the keys that find no entry.
     /// It takes time and memory in the number of keys and of entries. The one refusal is want of memory. (btxdoc 2.1;
     /// dialect)
     pub fn cited(&self, keys: &[Text], min: u32) -> Result<Cited, StoreFault>
@@ -126,7 +126,7 @@ impl<L: ItemList> Database<L> {
         Ok(Found { numbers, unknown })
     }
 
-    /// Each of these entries once, and behind them the parents of at least `min` of them.
+    /// Each of these entries once, and after them the parents of at least `min` of them.
     fn with_parents(&self, numbers: &[usize], min: u32) -> Result<Vec<usize>, StoreFault>
         requires { OfReading self.now (λ db. All (λ n. n < length (entries_of db)) numbers.now) }
         ensures listed { IfOk result (λ all. OfReading self.now (λ db. all.items ≡ with_parents (entries_of db) min (once numbers.now))) }

@@ -7,7 +7,7 @@ ghost use Rattle.bib_store.specs.Stored.{file_of};
 use bib_items::ItemList;
 use std::alloc::{AllocError, Global};
 
-/// The front and the items behind it, in memory for their bytes alone.
+/// The front and the items after it, in memory for their bytes alone.
 pub(crate) fn join<L: ItemList>(
     alloc: Global,
     front: &[u8],

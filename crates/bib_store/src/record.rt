@@ -10,7 +10,7 @@ pub struct Expanded {
     pub parent: Option<usize>,
 }
 
-/// The cited list of keys: the numbers of the entries listed, and the places of the keys that find no entry.
+/// The cited list of keys: the numbers of the entries listed, and the positions of the keys that find no entry.
 #[derive(Debug, Drop)]
 pub struct Cited {
     pub listed: Seq<usize>,

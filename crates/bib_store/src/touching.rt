@@ -11,7 +11,7 @@ use crate::window::Window;
 use bib_data::Piece;
 use bib_items::ItemList;
 
-/// The item that holds the byte before this place of the file, behind a front of this length; where the file ends
+/// The item that holds the byte before this place of the file, after a front of this length; where the file ends
 /// before it, how many items there are.
 fn holder<L: ItemList>(front_len: usize, file_len: usize, items: &L, place: usize) -> usize
     requires len { file_len ≡ front_len + length (flat_map kept_bytes (L.items items.now)) }

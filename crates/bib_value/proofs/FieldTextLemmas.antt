@@ -6,7 +6,7 @@ use Rattle.bib_spec.specs.Bytes.{space}
 use Rattle.bib_spec.specs.Text.{Text, is_space}
 use Rattle.bib_spec.specs.Texts.{is_empty, words, onto_first, field_text}
 
--- What the bytes add to a field text that was begun or not, with white space behind it or not.
+-- What the bytes add to a field text that was begun or not, with white space after it or not.
 abbrev pub more_text : Bool → Bool → Text → Text
 more_text apart begun [] = []
 more_text apart begun (b ∷ t) = if is_space b then more_text true begun t else (if apart && begun then space ∷ b ∷ more_text false true t else b ∷ more_text false true t)
@@ -15,9 +15,9 @@ abbrev filled : List Text → List Text
 filled ws = filter (λ word. not (is_empty word)) ws
 
 -- words, each with a space before it
-abbrev behind_word : List Text → Text
-behind_word [] = []
-behind_word (w ∷ ws) = space ∷ join_with_byte space (w ∷ ws)
+abbrev after_word : List Text → Text
+after_word [] = []
+after_word (w ∷ ws) = space ∷ join_with_byte space (w ∷ ws)
 
 abbrev first_word : List Text → Text
 first_word [] = []
@@ -27,16 +27,16 @@ abbrev other_words : List Text → List Text
 other_words [] = []
 other_words (w ∷ ws) = ws
 
-join-word : (w : Text) (ws : List Text) → join_with_byte space (w ∷ ws) ≡ w ++ behind_word ws
+join-word : (w : Text) (ws : List Text) → join_with_byte space (w ∷ ws) ≡ w ++ after_word ws
 join-word w [] = sym (append-nil w)
 join-word w (x ∷ xs) = refl
 
 record MoreText (t : Text) : Type 0 where
-  inside : more_text false true t ≡ first_word (words t) ++ behind_word (filled (other_words (words t)))
-  behind : more_text true true t ≡ behind_word (filled (words t))
+  inside : more_text false true t ≡ first_word (words t) ++ after_word (filled (other_words (words t)))
+  behind : more_text true true t ≡ after_word (filled (words t))
   before : (apart : Bool) → more_text apart false t ≡ join_with_byte space (filled (words t))
 
-onto : (b : ℕ) (u : Text) (ws : List Text) → u ≡ first_word ws ++ behind_word (filled (other_words ws)) → (b ∷ u ≡ first_word (onto_first b ws) ++ behind_word (filled (other_words (onto_first b ws)))) × (space ∷ b ∷ u ≡ behind_word (filled (onto_first b ws))) × (b ∷ u ≡ join_with_byte space (filled (onto_first b ws)))
+onto : (b : ℕ) (u : Text) (ws : List Text) → u ≡ first_word ws ++ after_word (filled (other_words ws)) → (b ∷ u ≡ first_word (onto_first b ws) ++ after_word (filled (other_words (onto_first b ws)))) × (space ∷ b ∷ u ≡ after_word (filled (onto_first b ws))) × (b ∷ u ≡ join_with_byte space (filled (onto_first b ws)))
 onto b u [] h = (ap (λ (x : Text). b ∷ x) h, ap (λ (x : Text). space ∷ b ∷ x) h, ap (λ (x : Text). b ∷ x) h)
 onto b u (w ∷ ws) h =
     let e : b ∷ u ≡ join_with_byte space ((b ∷ w) ∷ filled ws) = ap (λ (x : Text). b ∷ x) h ∙ sym (join-word (b ∷ w) (filled ws)) in
@@ -72,7 +72,7 @@ more_text-all t = (more t).before false
 abbrev pub is_begun : Text → Bool
 is_begun t = not (is_empty t)
 
--- the text is what the bytes before the rest say, with white space behind it or not
+-- the text is what the bytes before the rest say, with white space after it or not
 pub record InText (text : Text) (apart : Bool) (rest whole : Text) : Type 0 where
   pub joined : text ++ more_text apart (is_begun text) rest ≡ field_text whole
 

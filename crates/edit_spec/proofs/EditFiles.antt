@@ -160,7 +160,7 @@ module _ (test : Tree → Bool) (change : Item → List Item → List Chunk) whe
       ∙ sym (ap items_bytes (cond-false (test item.tree) (becomes (item ∷ items)) (item ∷ from_first test becomes items) e)))
       (cases_Bool (test item.tree))
 
--- a body, and all behind it
+-- a body, and all after it
 rest-read : (b : Bool) (body : List Chunk) (item : Item) (items : List Item) (bytes : Text) → read b body ≡ bytes → read b (body_and_rest body item items) ≡ (bytes ++ item.trail) ++ items_bytes items
 rest-read b body item items bytes e =
     read-append b body (Kept item.trail ∷ kept_items items) ∙ ap₂ (λ x y. x ++ (item.trail ++ y)) e (items-kept b items) ∙ sym (append_assoc bytes item.trail (items_bytes items))

@@ -1,4 +1,4 @@
--- InlineMacro: the definition goes, each use behind it says its text itself, and every text stays.
+-- InlineMacro: the definition goes, each use after it says its text itself, and every text stays.
 use Rattle.std.proofs.Common.{◌≡◌, ℕ, zero, suc, true, false, cond, List, [], ◌∷◌, ◌++◌, Option, Some, None, unwrap_or, length, ⊎_elim, refl, sym, ◌∙◌, ap, count_by, arith}
 use Rattle.std.specs.Str.{bytes_eq}
 use Rattle.std.proofs.lemmas.Bool.{cases_Bool, cond-true, cond-false, false_from_ne_true, false≢true, both_ways, or_parts, or_from, or_cases}
@@ -48,7 +48,7 @@ module _ (name held : Text) where
     (λ x p. ap (λ v. cond (bytes_eq (folded x) (folded defined)) o v) (agree.1 x p)),
   )
 
-  -- behind the definition, and with it left out
+  -- after the definition, and with it left out
   pub begins : (m : Macros) (tree : Tree) → defines name tree ≡ true → held ≡ unwrap_or (macros_after m tree (folded name)) [] → Agree (macros_after m tree) m
   begins m (CommentTree c) e is = absurd (false≢true e)
   begins m (PreambleTree p) e is = absurd (false≢true e)
@@ -72,12 +72,12 @@ module _ (name held : Text) where
         uncounted items (sym (count-no (λ item. defines name item.tree) item items none) ∙ h),
       )
 
-  none_behind : (items : List Item) → count items ≡ 0 → (n : ℕ) → is_behind name items n ≡ false
-  none_behind items h zero = refl
-  none_behind [] h (suc n) = refl
-  none_behind (item ∷ items) h (suc n) =
+  none_beyond : (items : List Item) → count items ≡ 0 → (n : ℕ) → is_behind name items n ≡ false
+  none_beyond items h zero = refl
+  none_beyond [] h (suc n) = refl
+  none_beyond (item ∷ items) h (suc n) =
       let none : defines name item.tree ≡ false = false_from_ne_true (defines name item.tree) (λ e. let c = count-yes (λ item. defines name item.tree) item items e in absurd (omega (arith, c, h))) in
-      or_from (defines name item.tree) (is_behind name items n) none (none_behind items (sym (count-no (λ item. defines name item.tree) item items none) ∙ h) n)
+      or_from (defines name item.tree) (is_behind name items n) none (none_beyond items (sym (count-no (λ item. defines name item.tree) item items none) ∙ h) n)
 
   pub rest_uncounted : (item : Item) (items : List Item) → count (item ∷ items) ≡ 1 → defines name item.tree ≡ true → count items ≡ 0
   rest_uncounted item items h e = let c = count-yes (λ item. defines name item.tree) item items e in omega (arith, c, h)
@@ -89,7 +89,7 @@ module _ (name held : Text) where
   -- so it is what the one definition gives
   pub held_here : (m : Macros) (item : Item) (items : List Item) → count (item ∷ items) ≡ 1 → IsHeld m (item ∷ items) → defines name item.tree ≡ true → held ≡ unwrap_or (macros_after m item.tree (folded name)) []
   held_here m item items h is e =
-      is ∙ ap (λ o. unwrap_or o []) (undefined name (macros_after m item.tree) items (length items) (none_behind items (rest_uncounted item items h e) (length items)))
+      is ∙ ap (λ o. unwrap_or o []) (undefined name (macros_after m item.tree) items (length items) (none_beyond items (rest_uncounted item items h e) (length items)))
 
   -- what is left once the first definition is taken out of the items, its uses being replaced
   abbrev pub left : Text → List Item → Reading
@@ -152,7 +152,7 @@ module _ (name held : Text) where
   pub preambles_inlined : (m : Macros) (front : Text) (items : List Item) → count items ≡ 1 → IsHeld m items → gathered preamble_in m (left front items).items ≡ gathered preamble_in m items
   preambles_inlined = gathered_inlined preamble_in (preamble_same leaving (use_inlined name held) IsAny IsOther Agree gives stays) preamble_quiet
 
-  -- up to the definition the macros are what they were; behind it every other name, with item numbers one less
+  -- up to the definition the macros are what they were; after it every other name, with item numbers one less
   pub at_inlined : (m : Macros) (front : Text) (items : List Item) → count items ≡ 1 → IsHeld m items → (k : ℕ) →
       (is_behind name items k ≡ false → macros_at m (left front items).items k ≡ macros_at m items k)
       × (is_behind name items (suc k) ≡ true → (x : Text) → same x name ≡ false → macros_at m (left front items).items k (folded x) ≡ macros_at m items (suc k) (folded x))

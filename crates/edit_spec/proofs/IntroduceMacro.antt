@@ -43,7 +43,7 @@ module _ (name held : Text) where
     (λ x p. ap (λ v. cond (bytes_eq (folded x) (folded defined)) o v) (agree.1 x p)),
   )
 
-  -- behind the new definition
+  -- after the new definition
   abbrev pub behind : Macros → Macros
   behind m = macros_after m (DefinitionTree (definition_of name held))
 

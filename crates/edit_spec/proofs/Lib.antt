@@ -1,27 +1,32 @@
+-- ---- histories and steps
 pub mod HistoryLemmas
 pub mod StepLemmas
+-- ---- entries whose keys change
 pub mod Fields
 pub mod Rekeyed
 pub mod CitedLists
 pub mod RenameKey
 pub mod Regenerate
+-- ---- macros that change
 pub mod Simulation
 pub mod InUse
-pub mod RenameMacro
-pub mod IntroduceMacro
 pub mod Seen
-pub mod InlineMacro
-pub mod MacroLaws
 pub mod Balanced
+pub mod RenameMacro
+pub mod InlineMacro
+pub mod IntroduceMacro
+pub mod MacroLaws
+-- ---- entries that come and go
 pub mod OneMore
 pub mod OtherEntries
-pub mod AddedBehind
+pub mod AddedAfter
+-- ---- items that an edit leaves
 pub mod KeptTrees
 pub mod UntouchedItems
-pub mod ExampleFacts
-pub mod AcceptedExamples
+-- ---- the files of an edit, in chunks
 pub mod TreeChunks
 pub mod EditFiles
+-- ---- what an edit makes is a file, edit by edit
 pub mod Unrefuted
 pub mod WrittenRows
 pub mod EditedItems
@@ -33,3 +38,6 @@ pub mod RekeyedEntries
 pub mod ChangedParts
 pub mod MadeKeyLengths
 pub mod EditedReads
+-- ---- examples
+pub mod ExampleFacts
+pub mod AcceptedExamples

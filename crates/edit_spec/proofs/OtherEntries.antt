@@ -162,14 +162,14 @@ remove_entry-keeps_others key_base db key accepted =
 -- ---- adding
 
 -- an entry put in before an item
-added_behind : (m : Macros) (place : ℕ) (item : Item) (e : Entry) (tree : Tree) (items : List Item) → item.tree ≡ EntryTree e →
+added_after : (m : Macros) (place : ℕ) (item : Item) (e : Entry) (tree : Tree) (items : List Item) → item.tree ≡ EntryTree e →
     IsOneMore (length (gathered entry_in (macros_after m tree) (take place items))) e.key (gathered entry_in (macros_after m tree) items) (gathered entry_in (macros_after m tree) (insert items place item)) →
     (trail : Text) → let first : Item = record { tree = tree; trail = trail } in
     IsOneMore (length (gathered entry_in m (first ∷ take place items))) e.key (gathered entry_in m (first ∷ items)) (gathered entry_in m (first ∷ insert items place item))
-added_behind m place item e (CommentTree h) items is rest trail = rest
-added_behind m place item e (DefinitionTree d) items is rest trail = rest
-added_behind m place item e (PreambleTree p) items is rest trail = rest
-added_behind m place item e (EntryTree other) items is rest trail =
+added_after m place item e (CommentTree h) items is rest trail = rest
+added_after m place item e (DefinitionTree d) items is rest trail = rest
+added_after m place item e (PreambleTree p) items is rest trail = rest
+added_after m place item e (EntryTree other) items is rest trail =
     record { added = rest.added; has_key = rest.has_key; within = suc-le-suc rest.within; is = ap (λ l. texts_of m other ∷ l) rest.is }
 
 added_at : (m : Macros) (place : ℕ) (item : Item) (e : Entry) (items : List Item) → item.tree ≡ EntryTree e → place ≤ length items →
@@ -182,7 +182,7 @@ added_at m zero item e items is h = record {
 }
 added_at m (suc place) item e [] is h = absurd (not-suc-le-zero h)
 added_at m (suc place) item e (first ∷ items) is h =
-    added_behind m place item e first.tree items is (added_at (macros_after m first.tree) place item e items is (le_of_suc-le-suc h)) first.trail
+    added_after m place item e first.tree items is (added_at (macros_after m first.tree) place item e items is (le_of_suc-le-suc h)) first.trail
 
 preambles_added : (m : Macros) (place : ℕ) (item : Item) (e : Entry) (items : List Item) → item.tree ≡ EntryTree e →
     gathered preamble_in m (insert items place item) ≡ gathered preamble_in m items

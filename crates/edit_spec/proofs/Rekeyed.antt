@@ -12,7 +12,7 @@ use Rattle.edit_spec.specs.Laws.{record_with_key}
 use Rattle.bib_spec.proofs.Keys.{option_cases, keys_with, AreFresh, first_kept, first_new, first_none}
 use Rattle.edit_spec.proofs.Fields.{crossref_to, crossref_to-map, text-with_text, own_fields-crossref_to}
 
--- an entry as it reads behind the edit, and all of them
+-- an entry as it reads after the edit, and all of them
 abbrev pub entry_with : List EntryTexts → (ℕ → Option Text) → ℕ → EntryTexts → EntryTexts
 entry_with entries new n entry = record entry { key = unwrap_or (new n) entry.key; fields = crossref_to (option_and_then new (target entries n)) entry.fields }
 

@@ -1,4 +1,4 @@
--- RenameMacro: every text stays, and behind the definition the new name stands for what the old one stood for.
+-- RenameMacro: every text stays, and after the definition the new name stands for what the old one stood for.
 use Rattle.std.proofs.Common.{◌≡◌, ℕ, zero, suc, true, false, cond, ◌||◌, List, [], ◌∷◌, ◌++◌, Option, Some, None, unwrap_or, ⊎_elim, refl, sym, ◌∙◌, ap, ap₂}
 use Rattle.std.specs.Str.{bytes_eq}
 use Rattle.std.proofs.lemmas.Bool.{cases_Bool, cond-true, cond-false, cond_both, false_from_ne_true, false≢true, both_ways, or_parts, or_cases}
@@ -126,7 +126,7 @@ module _ (from to : Text) where
   preambles_renamed m items h =
       gathered_renamed preamble_in (preamble_same (name_renamed from to) (use_renamed from to) IsFreePart IsFree Agree gives stays) preamble_quiet m items h
 
-  -- up to the definition the macros are what they were, and behind it they agree
+  -- up to the definition the macros are what they were, and after it they agree
   pub at_renamed : (m : Macros) (items : List Item) → InItems IsFreePart IsFree items → (k : ℕ) →
       (is_behind from items k ≡ false → macros_at m (macro_renamed items) k ≡ macros_at m items k)
       × (is_behind from items k ≡ true → Agree (macros_at m items k) (macros_at m (macro_renamed items) k))

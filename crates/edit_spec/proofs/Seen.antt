@@ -31,10 +31,10 @@ module _ (name : Text) where
       let both = or_parts (defines name item.tree) (is_behind name items n) e in
       undefined (macros_after m item.tree) items n both.1 ∙ after_other m item.tree both.0
 
-  none_behind : (items : List Item) (n : ℕ) → ((j : ℕ) (item : Item) → j < n → slice_get items j ≡ Some item → defines name item.tree ≡ false) → is_behind name items n ≡ false
-  none_behind items zero h = refl
-  none_behind [] (suc n) h = refl
-  none_behind (item ∷ items) (suc n) h = or_from (defines name item.tree) (is_behind name items n) (h zero item (zero-lt-suc n) refl) (none_behind items n (λ j other lt at. h (suc j) other (suc-le-suc lt) at))
+  none_beyond : (items : List Item) (n : ℕ) → ((j : ℕ) (item : Item) → j < n → slice_get items j ≡ Some item → defines name item.tree ≡ false) → is_behind name items n ≡ false
+  none_beyond items zero h = refl
+  none_beyond [] (suc n) h = refl
+  none_beyond (item ∷ items) (suc n) h = or_from (defines name item.tree) (is_behind name items n) (h zero item (zero-lt-suc n) refl) (none_beyond items n (λ j other lt at. h (suc j) other (suc-le-suc lt) at))
 
   last : (m : Macros) (items : List Item) (k n : ℕ) (item : Item) (d : Definition) → slice_get items k ≡ Some item → item.tree ≡ DefinitionTree d → same d.assignment.name name ≡ true → k < n →
       ((j : ℕ) (other : Item) → k < j → j < n → slice_get items j ≡ Some other → defines name other.tree ≡ false) →
@@ -42,7 +42,7 @@ module _ (name : Text) where
   last m [] k n item d at is e lt none = absurd (none-some item at)
   last m (first ∷ items) k zero item d at is e lt none = absurd (not-suc-le-zero lt)
   last m (first ∷ items) zero (suc n) item d at is e lt none =
-      undefined (macros_after m first.tree) items n (none_behind items n (λ j other lt at. none (suc j) other (zero-lt-suc j) (suc-le-suc lt) at))
+      undefined (macros_after m first.tree) items n (none_beyond items n (λ j other lt at. none (suc j) other (zero-lt-suc j) (suc-le-suc lt) at))
       ∙ ap (λ (tree : Tree). macros_after m tree (folded name)) (ap (λ (i : Item). i.tree) (same_Some first item at) ∙ is)
       ∙ after_defined m d e
   last m (first ∷ items) (suc k) (suc n) item d at is e lt none =

@@ -55,7 +55,7 @@ steps-lead-back step old new l = (
 pub leads_from : (step : Step) (old : Text) → IsOpenable old → IsAllowed step old → Leads step old (applied step old)
 leads_from step old f a = record { fit = a.fit; made = refl; old_is_file = f; new_is_file = a.made }
 
--- a step that leads on goes behind those that lead to where it begins
+-- a step that leads on goes after those that lead to where it begins
 lead_to_made : (steps : List Step) (step : Step) (old new : Text) → LeadTo steps old → Leads step old new → LeadTo (steps ++ step ∷ []) new
 lead_to_made steps step old new w l =
     let back : before step new ≡ old = before-made step old new l in

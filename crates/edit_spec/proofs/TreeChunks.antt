@@ -61,7 +61,7 @@ entry_regroup o k s r l c = simp append_assoc
 row_regroup : (c n x y v s : Text) → c ++ (n ++ x ++ y ++ v ++ s) ≡ (c ++ (n ++ (x ++ y))) ++ (v ++ s)
 row_regroup c n x y v s = simp append_assoc
 
--- a row is what stands before its value, the value, and what stands behind it
+-- a row is what stands before its value, the value, and what stands after it
 pub row-parts : (row : Row) → row_bytes row ≡ row_start row ++ (value_bytes row.assignment.value ++ row.assignment.space_behind)
 row-parts row = row_regroup (comma ∷ row.space_before_name) row.assignment.name row.assignment.space_before_equals (equals_sign ∷ row.assignment.space_before_value) (value_bytes row.assignment.value) row.assignment.space_behind
 

@@ -1,4 +1,4 @@
--- The items that an edit leaves stand in the new file with their trees, and behind their trails that of a neighbour that goes.
+-- The items that an edit leaves stand in the new file with their trees, and after their trails that of a neighbour that goes.
 use Rattle.std.proofs.Common.{◌≡◌, ◌≢◌, ◌||◌, ◌&&◌, ◌==◌, ℕ, zero, suc, ◌+◌, ◌-◌, ◌<◌, ◌≤◌, Bool, true, false, List, [], ◌∷◌, ◌++◌, Option, Some, None, is_some, unwrap_or, if◌then◌else◌, option_map, option_and_then, insert, find, map, slice_get, length, take, count_by, ⊎_elim, refl, sym, ◌∙◌, ap, ap₂, subst, arith, append-nil, add-zero, eqb-true, eq-eqb, ne_eqb, zero-lt-suc, suc-le-suc, le_of_suc-le-suc}
 use Rattle.std.specs.List.{list_any}
 use Rattle.std.specs.Option.{option_map_or}
@@ -9,7 +9,7 @@ use Rattle.bib_spec.specs.Tree.{Part, Braced, Quoted, Digits, Macro, Entry, Tree
 use Rattle.bib_spec.specs.Reading.{Item, Reading}
 use Rattle.bib_spec.specs.Texts.{Macros, months, macros_after, gathered}
 use Rattle.bib_spec.specs.Records.{EntryTexts, Record, entry_in, entries_of, keys_of, is_named, entry_named, target}
-use Rattle.edit_spec.specs.Edits.{SetField, DropField, AddEntry, RemoveEntry, MoveEntry, RenameKey, RenameMacro, InlineMacro, IntroduceMacro, RegenerateKeys, AddMany, NotFound, Ambiguous, BadPosition, IsAccepted, edited, leaving, item_with, items_with, defines, uses, holds, any_part, is_entry, from_first, with_first_tree, without_first, of_entry, entry_with_field, entry_without_field, in_line, item_of, with_item, remove_entry, next_number, tree_with_keys, item_with_keys, items_with_keys, with_crossref, key_for, name_renamed, use_renamed, use_inlined, uses_inlined, text_of_macro, part_introduced, introduced, holders, last_place}
+use Rattle.edit_spec.specs.Edits.{SetField, DropField, AddEntry, RemoveEntry, MoveEntry, RenameKey, RenameMacro, InlineMacro, IntroduceMacro, RegenerateKeys, AddMany, NotFound, Ambiguous, BadPosition, IsAccepted, edited, leaving, item_with, items_with, defines, uses, holds, any_part, is_entry, from_first, with_first_tree, without_first, of_entry, entry_with_field, entry_without_field, in_line, item_of, with_item, remove_entry, next_number, tree_with_keys, item_with_keys, items_with_keys, with_crossref, key_for, name_renamed, use_renamed, use_inlined, uses_inlined, text_of_macro, part_introduced, introduced, holders, last_position}
 use Rattle.bib_spec.specs.MadeKeys.{new_keys}
 use Rattle.edit_spec.specs.Laws.{is_behind, is_reached}
 use Rattle.edit_spec.specs.OtherLaws.{number_with_one_more, number_with_one_less, entries_before, passes, number_of_first, is_first, is_any_entry, is_or_names, is_changed, gained, StandsAt, KeepsItems, untouched_items_stay, moved_entry_stays}
@@ -19,7 +19,7 @@ use Rattle.bib_spec.proofs.Keys.{option_cases}
 use Rattle.bib_spec.proofs.Accepted.{there_once}
 use Rattle.edit_spec.proofs.RenameKey.{only}
 use Rattle.edit_spec.proofs.OneMore.{slice_get-insert, slice_get-insert_same, within}
-use Rattle.edit_spec.proofs.AddedBehind.{slice_get-append}
+use Rattle.edit_spec.proofs.AddedAfter.{slice_get-append}
 use Rattle.edit_spec.proofs.KeptTrees.{IsNameLeft, leaving-leaves, tree-left}
 
 -- ---- numbers
@@ -230,7 +230,7 @@ gained_front test front (first ∷ items) = by_test (test first.tree)
     by_test true = ap (λ t. front ++ t) (sym (cond-true (zero == zero) first.trail [] (eq-eqb zero zero refl)))
     by_test false = sym (append-nil front) ∙ ap (λ t. front ++ t) (sym (cond-false (suc (number_of_first test items) == 0) first.trail [] (suc-zero (number_of_first test items))))
 
--- behind its place nothing more is gained
+-- after its place nothing more is gained
 gained-after : (items : List Item) (i n : ℕ) → (i == n) ≡ false → gained (λ n. i == n) items n ≡ []
 gained-after items i n e = cond-false (i == n) (option_map_or (λ item. item.trail) (slice_get items n) []) [] e
 
@@ -432,7 +432,7 @@ move_of key_base db key place accepted = ⊎_elim
     (λ none. absurd (accepted NotFound (none_found key months db.items none)))
     (λ some.
     let named = only key (keys_of (entries_of db)) (there_once (holders key db) (accepted NotFound) (accepted Ambiguous)) in
-    let last : last_place db (MoveEntry key place) ≡ length db.items - 1 = ap (λ o. if is_some o then length db.items - 1 else length db.items) named.1 in
+    let last : last_position db (MoveEntry key place) ≡ length db.items - 1 = ap (λ o. if is_some o then length db.items - 1 else length db.items) named.1 in
     let high = accepted BadPosition in
     let fewer = length-removed (is_entry key) db.front db.items some.0 some.1 in
     record { moved = some.0; found = some.1; within = omega (arith, last, high, fewer) })

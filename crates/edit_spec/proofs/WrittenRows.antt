@@ -1,4 +1,4 @@
--- What an edit writes has the grammar's form: white space, rows, and what stands behind a key.
+-- What an edit writes has the grammar's form: white space, rows, and what stands after a key.
 use Rattle.std.proofs.Common.{◌≡◌, ℕ, ◌≤◌, ◌==◌, nat_lt, nat_le, true, false, not, ◌||◌, ◌&&◌, List, [], ◌∷◌, ◌++◌, Option, Some, None, length, codes, All, refl, sym, ap, true≢false, ne_eqb, arith}
 use Rattle.std.specs.List.{flat_map, list_any, list_all, AllPass, AllByRecursion}
 use Rattle.std.specs.Str.{bytes_eq}
@@ -29,9 +29,9 @@ row_space : IsSpace (codes "\n  ")
 unfolding is_space
 row_space = All-from_recursion (λ b. is_space b ≡ true) (codes "\n  ") (refl, (refl, (refl, tt)))
 
--- ---- behind a key
+-- ---- after a key
 
--- the bytes behind a key end it
+-- the bytes after a key end it
 abbrev pub EndsKey : Delimiter → Text → List Row → Option Text → Type 0
 EndsKey d space rows last =
     does_not_begin_with (goes_on_key d) (space ++ flat_map row_bytes rows ++ last_comma_bytes last ++ close_byte d ∷ []) ≡ true
@@ -53,7 +53,7 @@ brace_ends : not (goes_on_key Brace close_brace) ≡ true
 unfolding is_space
 brace_ends = refl
 
--- without rows the closing parenthesis may not stand directly behind the key
+-- without rows the closing parenthesis may not stand directly after the key
 pub ends_without_rows : (d : Delimiter) (space : Text) (last : Option Text) → IsSpace space →
     bytes_eq (space ++ flat_map row_bytes [] ++ last_comma_bytes last ++ close_byte d ∷ []) (close_paren ∷ []) ≡ false → EndsKey d space [] last
 ends_without_rows d [] (Some behind) h differs = comma_ends d
@@ -63,7 +63,7 @@ ends_without_rows d (b ∷ space) last h differs = space_ends d b (All-head (λ 
 
 -- ---- rows
 
--- white space and the rows behind it
+-- white space and the rows after it
 pub record AreRows (spaced : Text × List Row) : Type 0 where
   pub space : IsSpace spaced.0
   pub rows : All (IsRow name_limit) spaced.1
@@ -106,7 +106,7 @@ new_row-is name value behind n v s = record {
 pub not_empty : (key : Text) → is_empty key ≡ false → key ≡ [] → ⊥
 not_empty key h e = both_ways (is_empty key) h (ap is_empty e)
 
--- an entry with another key, other white space behind it, and other rows
+-- an entry with another key, other white space after it, and other rows
 pub entry-is : (e : Entry) (key space : Text) (rows : List Row) → IsEntry name_limit e → AllPass (goes_on_key e.opening.delimiter) key → length key ≤ name_limit →
     (key ≡ [] → space ≡ []) → AreRows (space, rows) → EndsKey e.opening.delimiter space rows e.last_comma →
     IsEntry name_limit (record e { key = key; space_behind_key = space; rows = rows })

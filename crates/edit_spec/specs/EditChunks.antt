@@ -14,36 +14,41 @@ use Rattle.edit_spec.specs.Edits.{NewEntry, Edit, SetField, DropField, AddEntry,
 
 -- ---- trees
 
--- a stretch that a change leaves or replaces; it is replaced also where its new bytes are the old ones
+-- a stretch that a change leaves or replaces; one that gets the bytes that it had counts as replaced
 abbrev pub token : Text → Option Text → Chunk
 token old None = Kept old
 token old (Some new) = Replaced old new
 
+-- a part as a stretch that the change leaves or replaces
 abbrev pub part_token : (Part → Option Part) → Part → Chunk
 part_token parts part = token (part_bytes part) (option_map part_bytes (parts part))
 
+-- a link in chunks
 abbrev pub link_chunks : (Part → Option Part) → Link → List Chunk
 link_chunks parts l = Kept (l.space_before_hash ++ hash ∷ l.space_behind_hash) ∷ part_token parts l.part ∷ []
 
+-- a value in chunks
 abbrev pub value_chunks : (Part → Option Part) → Value → List Chunk
 value_chunks parts v = part_token parts v.first ∷ flat_map (link_chunks parts) v.links
 
+-- an assignment in chunks
 abbrev pub assignment_chunks : (Text → Option Text) → (Part → Option Part) → Assignment → List Chunk
 assignment_chunks names parts a =
     token a.name (names a.name) ∷ Kept (a.space_before_equals ++ equals_sign ∷ a.space_before_value) ∷ (value_chunks parts a.value ++ Kept a.space_behind ∷ [])
 
+-- a row in chunks
 abbrev pub row_chunks : (Part → Option Part) → Row → List Chunk
 row_chunks parts row = Kept (comma ∷ row.space_before_name) ∷ assignment_chunks leaving parts row.assignment
 
--- the bytes of an entry behind its rows
+-- the bytes of an entry after its rows
 abbrev pub behind_rows : Entry → Text
 behind_rows e = last_comma_bytes e.last_comma ++ close_byte e.opening.delimiter ∷ []
 
--- an entry with its key, and what stands between that and the end of the rows, in chunks
+-- an entry in chunks, given that of its key and those from there to the end of the rows
 abbrev pub entry_chunks : Chunk → List Chunk → Entry → List Chunk
 entry_chunks key rows e = Kept (opening_bytes e.opening) ∷ key ∷ (rows ++ Kept (behind_rows e) ∷ [])
 
--- a tree with its defined name and its parts replaced, where they are
+-- a tree in chunks, where these changes replace the name that it defines and its parts
 abbrev pub tree_chunks : (Text → Option Text) → (Part → Option Part) → Tree → List Chunk
 tree_chunks names parts (CommentTree h) = Kept (head_bytes h) ∷ []
 tree_chunks names parts (DefinitionTree d) =
@@ -52,25 +57,29 @@ tree_chunks names parts (PreambleTree p) =
     Kept (opening_bytes p.opening) ∷ (value_chunks parts p.value ++ Kept (p.space_behind ++ close_byte p.opening.delimiter ∷ []) ∷ [])
 tree_chunks names parts (EntryTree e) = entry_chunks (Kept e.key) (Kept e.space_behind_key ∷ flat_map (row_chunks parts) e.rows) e
 
+-- an item in chunks
 abbrev pub item_chunks : (Text → Option Text) → (Part → Option Part) → Item → List Chunk
 item_chunks names parts item = tree_chunks names parts item.tree ++ Kept item.trail ∷ []
 
+-- items in chunks, one after another
 abbrev pub items_chunks : (Text → Option Text) → (Part → Option Part) → List Item → List Chunk
 items_chunks names parts items = flat_map (item_chunks names parts) items
 
 -- ---- items
 
+-- an item that is kept, with its trail
 abbrev pub kept_item : Item → Chunk
 kept_item item = Kept (item_bytes item)
 
+-- items that are kept
 abbrev pub kept_items : List Item → List Chunk
 kept_items items = map kept_item items
 
--- an item's body, and all behind it
+-- an item with its body in these chunks, and then its trail and the items after it, kept
 abbrev pub body_and_rest : List Chunk → Item → List Item → List Chunk
 body_and_rest body item items = body ++ (Kept item.trail ∷ kept_items items)
 
--- the items kept up to the first that passes the test; from it on they are as said, of the item and those behind it
+-- the items kept up to the first that passes the test, and from it on as this function says of it and the items after it
 abbrev pub chunks_from_first : (Tree → Bool) → (Item → List Item → List Chunk) → List Item → List Chunk
 chunks_from_first test change [] = []
 chunks_from_first test change (item ∷ items) =
@@ -80,11 +89,12 @@ chunks_from_first test change (item ∷ items) =
 abbrev pub without_body : Item → List Item → List Chunk
 without_body item items = body_and_rest (Replaced (tree_bytes item.tree) [] ∷ []) item items
 
+-- the body of an entry in the chunks that this function gives; other items are kept
 abbrev pub entry_body : (Entry → List Chunk) → Tree → List Chunk
 entry_body change (EntryTree e) = change e
 entry_body change other = Kept (tree_bytes other) ∷ []
 
--- an entry as said, and the rest kept
+-- an entry in the chunks that this function gives, and all after it kept
 abbrev pub entry_as : (Entry → List Chunk) → Item → List Item → List Chunk
 entry_as change item items = body_and_rest (entry_body change item.tree) item items
 
@@ -120,15 +130,18 @@ field_dropped name before (row ∷ rows) =
 
 -- ---- keys
 
+-- the rows in chunks, where the first crossref names the new key of its target, if that gets one
 abbrev pub crossref_chunks : Option Text → List Row → List Chunk
 crossref_chunks None rows = kept_rows rows
 crossref_chunks (Some key) rows = value_replaced crossref (in_braces key) rows
 
+-- entry n in chunks, with its new key and its target's
 abbrev pub tree_key_chunks : (ℕ → Option Text) → List EntryTexts → ℕ → Tree → List Chunk
 tree_key_chunks new entries n (EntryTree e) =
     entry_chunks (token e.key (new n)) (Kept e.space_behind_key ∷ crossref_chunks (option_and_then new (target entries n)) e.rows) e
 tree_key_chunks new entries n other = Kept (tree_bytes other) ∷ []
 
+-- an item in chunks, with the new keys, if the next entry has the number n
 abbrev pub item_key_chunks : (ℕ → Option Text) → List EntryTexts → ℕ → Item → List Chunk
 item_key_chunks new entries n item = tree_key_chunks new entries n item.tree ++ Kept item.trail ∷ []
 
@@ -139,8 +152,8 @@ key_chunks new db =
 
 -- ---- a removal and an insertion
 
--- The items, each as a list of chunks, where the body of the first that passes the test goes: what stays of it belongs to
--- the text before, which is given by itself.
+-- One list of chunks for each remaining item, where the body of the first that passes the test goes. What is left of the
+-- removed item joins the list before it, or stands in `.0` if it was the first.
 abbrev pub groups_without : (Tree → Bool) → List Item → List Chunk × List (List Chunk)
 groups_without test [] = ([], [])
 groups_without test (item ∷ items) =
@@ -149,18 +162,19 @@ groups_without test (item ∷ items) =
     then (Replaced (tree_bytes item.tree) [] ∷ Kept item.trail ∷ [], map (λ kept. kept_item kept ∷ []) items)
     else ([], (kept_item item ∷ rest.0) ∷ rest.1)
 
+-- an item that is put in
 abbrev pub inserted : Item → List Chunk
 inserted item = Replaced [] (item_bytes item) ∷ []
 
--- the entry goes, and stands before this item of what remains
+-- the entry is taken out, and put in at this position of what remains
 abbrev pub moved : Text → ℕ → List Item → Item → List Chunk
-moved key place items item =
+moved key position items item =
     let groups = groups_without (is_entry key) items in
-    groups.0 ++ flat_map (λ chunks. chunks) (insert groups.1 place (inserted (in_line item.tree)))
+    groups.0 ++ flat_map (λ chunks. chunks) (insert groups.1 position (inserted (in_line item.tree)))
 
 -- ---- edits
 
--- the bytes that are put behind the last item, if there are new entries
+-- the bytes that are put after the last item, if there are new entries
 abbrev pub appended : List NewEntry → List Chunk
 appended [] = []
 appended (new ∷ news) = Replaced [] (flat_map item_bytes (map item_of (new ∷ news))) ∷ []
@@ -171,10 +185,10 @@ changed_items key_base db (SetField key name value) =
     chunks_from_first (is_entry key) (entry_as (λ e. entry_chunks (Kept e.key) (field_set name value e.space_behind_key e.rows) e)) db.items
 changed_items key_base db (DropField key name) =
     chunks_from_first (is_entry key) (entry_as (λ e. entry_chunks (Kept e.key) (field_dropped name e.space_behind_key e.rows) e)) db.items
-changed_items key_base db (AddEntry place new) = kept_items (take place db.items) ++ (inserted (item_of new) ++ kept_items (drop place db.items))
+changed_items key_base db (AddEntry position new) = kept_items (take position db.items) ++ (inserted (item_of new) ++ kept_items (drop position db.items))
 changed_items key_base db (RemoveEntry key) = chunks_from_first (is_entry key) without_body db.items
-changed_items key_base db (MoveEntry key place) =
-    option_map_or (moved key place db.items) (find (λ item. is_entry key item.tree) db.items) (kept_items db.items)
+changed_items key_base db (MoveEntry key position) =
+    option_map_or (moved key position db.items) (find (λ item. is_entry key item.tree) db.items) (kept_items db.items)
 changed_items key_base db (RenameKey from to) = key_chunks (key_for (entry_named (entries_of db) from) to) db
 changed_items key_base db (RenameMacro from to) =
     chunks_from_first (defines from) (λ item items. items_chunks (name_renamed from to) (use_renamed from to) (item ∷ items)) db.items

@@ -41,34 +41,38 @@ pub data Edit : Type 0 where
   IntroduceMacro : Text → Text → Edit
   -- all entries get made keys, from their records at this depth
   RegenerateKeys : ℕ → Edit
-  -- each entry in turn stands behind the last item
+  -- the entries stand after the last item, in this order
   AddMany : List NewEntry → Edit
 
--- The value is what the bytes say, if they say one, and else anything that has these bytes: an edit is asked for with
--- bytes, and whether they are a value is judged with everything else.
+-- The value has these bytes, and it is one of the grammar if any value with these bytes is: an edit is asked for with bytes,
+-- and whether they are a value is judged with everything else.
 pub record Spells (t : Text) (v : Value) : Type 0 where
   pub bytes : value_bytes v ≡ t
   pub value : IsValueWithin name_limit t → IsValue name_limit v
 
 -- ---- changes of names and parts
 
--- what a change makes of a thing: it leaves most
+-- what a change makes of a thing: where it gives nothing new, the thing stays
 abbrev pub changed : {X : Type 0} → (X → Option X) → X → X
 changed change x = unwrap_or (change x) x
 
+-- a link with its part changed
 abbrev pub link_with : (Part → Option Part) → Link → Link
 link_with parts l = record l { part = changed parts l.part }
 
+-- a value with its parts changed
 abbrev pub value_with : (Part → Option Part) → Value → Value
 value_with parts v = record v { first = changed parts v.first; links = map (link_with parts) v.links }
 
+-- an assignment with the parts of its value changed
 abbrev pub assignment_with : (Part → Option Part) → Assignment → Assignment
 assignment_with parts a = record a { value = value_with parts a.value }
 
+-- a row with the parts of its value changed
 abbrev pub row_with : (Part → Option Part) → Row → Row
 row_with parts row = record row { assignment = assignment_with parts row.assignment }
 
--- a tree with its defined name and its parts changed
+-- a tree with these changes of the name that it defines and of its parts
 abbrev pub tree_with : (Text → Option Text) → (Part → Option Part) → Tree → Tree
 tree_with names parts (CommentTree h) = CommentTree h
 tree_with names parts (DefinitionTree d) =
@@ -77,9 +81,11 @@ tree_with names parts (DefinitionTree d) =
 tree_with names parts (PreambleTree p) = PreambleTree (record p { value = value_with parts p.value })
 tree_with names parts (EntryTree e) = EntryTree (record e { rows = map (row_with parts) e.rows })
 
+-- an item with these changes of its tree
 abbrev pub item_with : (Text → Option Text) → (Part → Option Part) → Item → Item
 item_with names parts item = record item { tree = tree_with names parts item.tree }
 
+-- the items, each with these changes
 abbrev pub items_with : (Text → Option Text) → (Part → Option Part) → List Item → List Item
 items_with names parts items = map (item_with names parts) items
 
@@ -128,16 +134,17 @@ is_entry key (PreambleTree p) = false
 
 -- ---- the first item that passes a test
 
--- the items as they are up to the first that passes the test, and changed from it on
+-- the items, changed from the first that passes the test on
 abbrev pub from_first : (Tree → Bool) → (List Item → List Item) → List Item → List Item
 from_first test change [] = []
 from_first test change (item ∷ items) = if test item.tree then change (item ∷ items) else item ∷ from_first test change items
 
+-- the items, with the tree of the first changed
 abbrev pub with_first_tree : (Tree → Tree) → List Item → List Item
 with_first_tree change [] = []
 with_first_tree change (item ∷ items) = record item { tree = change item.tree } ∷ items
 
--- Without the first item that passes the test: its body goes, and its trail joins the text before it.
+-- the front and the items without the first that passes the test: its body goes, and its trail joins the text before it
 abbrev pub without_first : (Tree → Bool) → Text → List Item → Reading
 without_first test front [] = record { front = front; items = [] }
 without_first test front (item ∷ items) =
@@ -148,45 +155,50 @@ without_first test front (item ∷ items) =
 
 -- ---- fields
 
--- a row as an edit writes it: a line of its own, before this white space
+-- a row as an edit writes it: in a line of its own, with this white space after it
 abbrev pub new_row : Text → Value → Text → Row
 new_row name value behind = record {
   space_before_name = codes "\n  ";
   assignment = record { name = name; space_before_equals = codes " "; space_before_value = codes " "; value = value; space_behind = behind };
 }
 
+-- a row with this white space after it
 abbrev pub row_before : Text → Row → Row
 row_before space row = record row { assignment = record row.assignment { space_behind = space } }
 
+-- a row with another value
 abbrev pub row_to : Value → Row → Row
 row_to value row = record row { assignment = record row.assignment { value = value } }
 
--- The white space before the rows, and the rows, of which the first of this name has the value; where there is none,
--- a new row stands directly behind the last value, or behind the key.
+-- The white space before the rows, and the rows, after the field is set: the first row of this name has the value; where there
+-- is none, a new row stands directly after the last value, or after the key.
 abbrev pub with_field : Text → Value → Text → List Row → Text × List Row
 with_field name value before [] = ([], new_row name value before ∷ [])
 with_field name value before (row ∷ rows) =
     let rest = with_field name value row.assignment.space_behind rows in
     if same row.assignment.name name then (before, row_to value row ∷ rows) else (before, row_before rest.0 row ∷ rest.1)
 
--- The white space before the rows, and the rows without the first of this name: what goes is its comma up to the end of
--- its value, so the white space behind it joins that before it.
+-- The white space before the rows, and the rows without the first of this name: it goes from its comma to the end of its value,
+-- and the white space after it joins that before it.
 abbrev pub without_field : Text → Text → List Row → Text × List Row
 without_field name before [] = (before, [])
 without_field name before (row ∷ rows) =
     let rest = without_field name row.assignment.space_behind rows in
     if same row.assignment.name name then (before ++ row.assignment.space_behind, rows) else (before, row_before rest.0 row ∷ rest.1)
 
+-- an entry with this white space before its rows, and these rows
 abbrev pub entry_with_rows : Text × List Row → Entry → Entry
 entry_with_rows rows e = record e { space_behind_key = rows.0; rows = rows.1 }
 
+-- an entry with the field set
 abbrev pub entry_with_field : Text → Value → Entry → Entry
 entry_with_field name value e = entry_with_rows (with_field name value e.space_behind_key e.rows) e
 
+-- an entry without the field
 abbrev pub entry_without_field : Text → Entry → Entry
 entry_without_field name e = entry_with_rows (without_field name e.space_behind_key e.rows) e
 
--- a change of entries, as one of trees
+-- a change of entries, as a change of trees that leaves other items alone
 abbrev pub of_entry : (Entry → Entry) → Tree → Tree
 of_entry change (EntryTree e) = EntryTree (change e)
 of_entry change (CommentTree h) = CommentTree h
@@ -197,17 +209,21 @@ of_entry change (PreambleTree p) = PreambleTree p
 abbrev pub with_entry : Text → (Entry → Entry) → Reading → Reading
 with_entry key change db = record db { items = from_first (is_entry key) (with_first_tree (of_entry change)) db.items }
 
+-- the field of this entry has this value
 abbrev pub set_field : Text → Text → Value → Reading → Reading
 set_field key name value db = with_entry key (entry_with_field name value) db
 
+-- this entry has no such field
 abbrev pub drop_field : Text → Text → Reading → Reading
 drop_field key name db = with_entry key (entry_without_field name) db
 
 -- ---- entries
 
+-- the end of a line
 abbrev pub line_end : Text
 line_end = codes "\n"
 
+-- the rows of a new entry: the last is followed by a line's end, before the closing brace
 abbrev pub new_rows : List (Text × Value) → List Row
 new_rows [] = []
 new_rows (field ∷ []) = new_row field.0 field.1 line_end ∷ []
@@ -232,27 +248,34 @@ entry_of new = record {
 abbrev pub in_line : Tree → Item
 in_line tree = record { tree = tree; trail = line_end }
 
+-- a new entry as an item
 abbrev pub item_of : NewEntry → Item
 item_of new = in_line (EntryTree (entry_of new))
 
+-- the item put in at this position
 abbrev pub with_item : ℕ → Item → Reading → Reading
-with_item place item db = record db { items = insert db.items place item }
+with_item position item db = record db { items = insert db.items position item }
 
+-- the new entry at this position
 abbrev pub add_entry : ℕ → NewEntry → Reading → Reading
-add_entry place new db = with_item place (item_of new) db
+add_entry position new db = with_item position (item_of new) db
 
+-- the new entries after the last item
 abbrev pub add_many : List NewEntry → Reading → Reading
 add_many news db = record db { items = db.items ++ map item_of news }
 
+-- without the entry that the key names
 abbrev pub remove_entry : Text → Reading → Reading
 remove_entry key db = without_first (is_entry key) db.front db.items
 
+-- the entry that the key names taken out, and put in at this position of what remains
 abbrev pub move_entry : Text → ℕ → Reading → Reading
-move_entry key place db =
-    option_map_or (λ item. with_item place (in_line item.tree) (remove_entry key db)) (find (λ item. is_entry key item.tree) db.items) db
+move_entry key position db =
+    option_map_or (λ item. with_item position (in_line item.tree) (remove_entry key db)) (find (λ item. is_entry key item.tree) db.items) db
 
 -- ---- keys
 
+-- a value that is one part in braces
 abbrev pub in_braces : Text → Value
 in_braces t = record { first = Braced t; links = [] }
 
@@ -261,19 +284,19 @@ abbrev pub with_value : Text → Value → List Row → List Row
 with_value name value [] = []
 with_value name value (row ∷ rows) = if same row.assignment.name name then row_to value row ∷ rows else row ∷ with_value name value rows
 
--- the rows, where the effective crossref names its target by a new key, if the target gets one
+-- the rows, with the first crossref naming its target by the new key, if the target gets one
 abbrev pub with_crossref : Option Text → List Row → List Row
 with_crossref None rows = rows
 with_crossref (Some key) rows = with_value crossref (in_braces key) rows
 
--- the number of the next entry, behind a tree
+-- the number of the next entry, after this item
 abbrev pub next_number : ℕ → Tree → ℕ
 next_number n (EntryTree e) = suc n
 next_number n (CommentTree h) = n
 next_number n (DefinitionTree d) = n
 next_number n (PreambleTree p) = n
 
--- entry n with its new key, and its crossref by its target's new key, where there are such
+-- entry n with its new key, if it gets one, and with its crossref naming the new key of its target, if that gets one
 abbrev pub tree_with_keys : (ℕ → Option Text) → List EntryTexts → ℕ → Tree → Tree
 tree_with_keys new entries n (EntryTree e) =
     EntryTree (record e { key = unwrap_or (new n) e.key; rows = with_crossref (option_and_then new (target entries n)) e.rows })
@@ -281,59 +304,65 @@ tree_with_keys new entries n (CommentTree h) = CommentTree h
 tree_with_keys new entries n (DefinitionTree d) = DefinitionTree d
 tree_with_keys new entries n (PreambleTree p) = PreambleTree p
 
+-- an item with its new key and crossref, if the next entry has the number n
 abbrev pub item_with_keys : (ℕ → Option Text) → List EntryTexts → ℕ → Item → Item
 item_with_keys new entries n item = record item { tree = tree_with_keys new entries n item.tree }
 
--- the items with their new keys, where the first entry among them has the number n
+-- the items with their new keys, if the first entry among them has the number n
 abbrev pub items_with_keys : (ℕ → Option Text) → List EntryTexts → ℕ → List Item → List Item
 items_with_keys new entries n items = scan (λ n item. next_number n item.tree) (item_with_keys new entries) n items
 
--- all entries with their new keys at once: entry n gets the key `new n`, where it gets one
+-- all entries with their new keys, given at once: entry n gets the key `new n`, if that is one
 abbrev pub with_keys : (ℕ → Option Text) → Reading → Reading
 with_keys new db = record db { items = items_with_keys new (entries_of db) 0 db.items }
 
--- the new key of the one entry that gets one
+-- new keys where one entry alone gets one
 abbrev pub key_for : Option ℕ → Text → ℕ → Option Text
 key_for None to n = None
 key_for (Some m) to n = if m == n then Some to else None
 
+-- the entry that the key `from` names has the key `to`
 abbrev pub rename_key : Text → Text → Reading → Reading
 rename_key from to db = with_keys (key_for (entry_named (entries_of db) from) to) db
 
+-- every entry has its made key
 abbrev pub regenerate_keys : (Record → Text) → ℕ → Reading → Reading
 regenerate_keys key_base depth db = with_keys (slice_get (new_keys key_base depth (entries_of db))) db
 
 -- ---- macros
 
+-- the change of a defined name: `from` becomes `to`
 abbrev pub name_renamed : Text → Text → Text → Option Text
 name_renamed from to name = if same name from then Some to else None
 
+-- the change of a part: a use of `from` becomes a use of `to`
 abbrev pub use_renamed : Text → Text → Part → Option Part
 use_renamed from to (Macro name) = if same name from then Some (Macro to) else None
 use_renamed from to (Braced t) = None
 use_renamed from to (Quoted t) = None
 use_renamed from to (Digits t) = None
 
--- from its definition on the macro has the new name: a use before it means a month, or nothing
+-- the macro has its new name from its definition on: a use before that means a month, or nothing
 abbrev pub rename_macro : Text → Text → Reading → Reading
 rename_macro from to db = record db { items = from_first (defines from) (items_with (name_renamed from to) (use_renamed from to)) db.items }
 
+-- the change of a part: a use of the macro becomes the text in braces
 abbrev pub use_inlined : Text → Text → Part → Option Part
 use_inlined name text (Macro used) = if same used name then Some (Braced text) else None
 use_inlined name text (Braced t) = None
 use_inlined name text (Quoted t) = None
 use_inlined name text (Digits t) = None
 
--- the items behind the first with each use of the macro replaced by the text in braces
+-- the items, with each use of the macro after the first item replaced by the text in braces
 abbrev pub uses_inlined : Text → Text → List Item → List Item
 uses_inlined name text [] = []
 uses_inlined name text (item ∷ items) = item ∷ items_with leaving (use_inlined name text) items
 
--- what the macro stands for behind its definition, or nothing
+-- what the macro stands for at the end of the file, or nothing
 abbrev pub text_of_macro : Text → Reading → Text
 text_of_macro name db = unwrap_or (seen db (length db.items) name) []
 
--- the uses behind the definition are replaced, and the definition goes
+-- the uses after the definition are replaced, and the definition goes
 abbrev pub inline_macro : Text → Reading → Reading
 inline_macro name db =
     without_first (defines name) db.front (from_first (defines name) (uses_inlined name (text_of_macro name db)) db.items)
@@ -350,10 +379,11 @@ definition_of name text = record {
   assignment = record { name = name; space_before_equals = codes " "; space_before_value = codes " "; value = in_braces text; space_behind = [] };
 }
 
+-- the change of a part: a part that is the text becomes a use of the macro
 abbrev pub part_introduced : Text → Text → Part → Option Part
 part_introduced name text part = if holds text part then Some (Macro name) else None
 
--- a definition, and behind it each part that is the text as a use of it
+-- a definition of the text, and after it the items, with each part that is the text made a use
 abbrev pub introduced : Text → Text → List Item → List Item
 introduced name text items = in_line (DefinitionTree (definition_of name text)) ∷ items_with leaving (part_introduced name text) items
 
@@ -363,13 +393,13 @@ introduce_macro name text db = record db { items = from_first (any_part (holds t
 
 -- ---- what an edit makes
 
--- The database after an edit. Made keys begin with `key_base` of the records.
+-- the database after an edit; a made key begins with what `key_base` makes of the record
 abbrev pub edited : (Record → Text) → Reading → Edit → Reading
 edited key_base db (SetField key name value) = set_field key name value db
 edited key_base db (DropField key name) = drop_field key name db
-edited key_base db (AddEntry place new) = add_entry place new db
+edited key_base db (AddEntry position new) = add_entry position new db
 edited key_base db (RemoveEntry key) = remove_entry key db
-edited key_base db (MoveEntry key place) = move_entry key place db
+edited key_base db (MoveEntry key position) = move_entry key position db
 edited key_base db (RenameKey from to) = rename_key from to db
 edited key_base db (RenameMacro from to) = rename_macro from to db
 edited key_base db (InlineMacro name) = inline_macro name db
@@ -381,14 +411,16 @@ edited key_base db (AddMany news) = add_many news db
 
 -- its new keys
 abbrev pub given_keys : Edit → List Text
-given_keys (AddEntry place new) = new.key ∷ []
+given_keys (AddEntry position new) = new.key ∷ []
 given_keys (AddMany news) = map (λ new. new.key) news
 given_keys (RenameKey from to) = to ∷ []
 given_keys other = []
 
+-- the names of a new entry's fields
 abbrev pub field_names : NewEntry → List Text
 field_names new = map (λ field. field.0) new.fields
 
+-- the values of a new entry's fields
 abbrev pub field_values : NewEntry → List Value
 field_values new = map (λ field. field.1) new.fields
 
@@ -396,7 +428,7 @@ field_values new = map (λ field. field.1) new.fields
 abbrev pub given_names : Edit → List Text
 given_names (SetField key name value) = name ∷ []
 given_names (DropField key name) = name ∷ []
-given_names (AddEntry place new) = field_names new
+given_names (AddEntry position new) = field_names new
 given_names (AddMany news) = flat_map field_names news
 given_names (RenameMacro from to) = from ∷ to ∷ []
 given_names (InlineMacro name) = name ∷ []
@@ -405,14 +437,14 @@ given_names other = []
 
 -- its types of entries
 abbrev pub given_types : Edit → List Text
-given_types (AddEntry place new) = new.kind_name ∷ []
+given_types (AddEntry position new) = new.kind_name ∷ []
 given_types (AddMany news) = map (λ new. new.kind_name) news
 given_types other = []
 
 -- its values; a text that is introduced stands in braces
 abbrev pub given_values : Edit → List Value
 given_values (SetField key name value) = value ∷ []
-given_values (AddEntry place new) = field_values new
+given_values (AddEntry position new) = field_values new
 given_values (AddMany news) = flat_map field_values news
 given_values (IntroduceMacro name text) = in_braces text ∷ []
 given_values other = []
@@ -423,7 +455,7 @@ given_values other = []
 abbrev pub holders : Text → Reading → ℕ
 holders key db = count_by (is_named key) (keys_of (entries_of db))
 
--- how many fields of this name the entry has that the key names
+-- how many fields of this name are in the entry that the key names
 abbrev pub fields_named : Text → Text → Reading → ℕ
 fields_named key name db =
     option_map_or (λ entry. count_by (has_name name) entry.fields) (option_and_then (slice_get (entries_of db)) (entry_named (entries_of db) key)) 0
@@ -432,12 +464,12 @@ fields_named key name db =
 abbrev pub definitions : Text → Reading → ℕ
 definitions name db = count_by (λ item. defines name item.tree) db.items
 
--- the highest place before which an item can stand; a moved item is not counted
-abbrev pub last_place : Reading → Edit → ℕ
-last_place db (MoveEntry key place) = if is_some (entry_named (entries_of db) key) then length db.items - 1 else length db.items
-last_place db other = length db.items
+-- the highest position at which an item can be put; a moved item is not counted
+abbrev pub last_position : Reading → Edit → ℕ
+last_position db (MoveEntry key position) = if is_some (entry_named (entries_of db) key) then length db.items - 1 else length db.items
+last_position db other = length db.items
 
--- some key stands for an earlier one too, folded
+-- two of the names are the same, folded
 abbrev pub has_same : List Text → Bool
 has_same [] = false
 has_same (name ∷ names) = list_any (same name) names || has_same names
@@ -446,15 +478,16 @@ has_same (name ∷ names) = list_any (same name) names || has_same names
 abbrev pub IsReferred : Text → List EntryTexts → Type 0
 IsReferred key entries = (n m : ℕ) × (entry_named entries key ≡ Some m) × (parent entries n ≡ Some m)
 
--- no command begins in the text between the items
+-- no command begins in the text before, between or after the items
 pub record HasCleanTexts (db : Reading) : Type 0 where
   pub front : IsClean db.front
   pub trails : All (λ item. IsCleanTrail (is_comment item.tree) item.trail) db.items
 
--- the closing parenthesis stands directly behind the key, so that it would be a byte of it
+-- nothing but a closing parenthesis follows the key, so it would belong to the key
 abbrev pub ends_in_key : Entry → Bool
 ends_in_key e = bytes_eq (behind_key_bytes e) (close_paren ∷ [])
 
+-- the item is such an entry
 abbrev pub tree_ends_in_key : Tree → Bool
 tree_ends_in_key (EntryTree e) = ends_in_key e
 tree_ends_in_key other = false
@@ -480,6 +513,7 @@ rank WouldMerge = 9
 rank FileTooLong = 10
 rank TextTooLong = 11
 
+-- the number of the reason
 abbrev pub edit_fault_number : EditFault → ℕ
 edit_fault_number BadKey = 31
 edit_fault_number BadName = 32
@@ -494,18 +528,18 @@ edit_fault_number WouldMerge = 40
 edit_fault_number FileTooLong = 9
 edit_fault_number TextTooLong = 8
 
--- the place that the edit names is too high
-abbrev pub IsPlaceTooHigh : Reading → Edit → Type 0
-IsPlaceTooHigh db (AddEntry place new) = last_place db (AddEntry place new) < place
-IsPlaceTooHigh db (MoveEntry key place) = last_place db (MoveEntry key place) < place
-IsPlaceTooHigh db other = ⊥
+-- the position that the edit names is too high
+abbrev pub IsPositionTooHigh : Reading → Edit → Type 0
+IsPositionTooHigh db (AddEntry position new) = last_position db (AddEntry position new) < position
+IsPositionTooHigh db (MoveEntry key position) = last_position db (MoveEntry key position) < position
+IsPositionTooHigh db other = ⊥
 
 -- what the edit addresses is not there; an empty key never is, and a month alone is no definition
 abbrev pub IsMissing : Reading → Edit → Type 0
 IsMissing db (SetField key name value) = holders key db ≡ 0
 IsMissing db (DropField key name) = fields_named key name db ≡ 0
 IsMissing db (RemoveEntry key) = holders key db ≡ 0
-IsMissing db (MoveEntry key place) = holders key db ≡ 0
+IsMissing db (MoveEntry key position) = holders key db ≡ 0
 IsMissing db (RenameKey from to) = holders from db ≡ 0
 IsMissing db (RenameMacro from to) = definitions from db ≡ 0
 IsMissing db (InlineMacro name) = definitions name db ≡ 0
@@ -516,9 +550,9 @@ IsMissing db other = ⊥
 abbrev pub IsAmbiguous : Reading → Edit → Type 0
 IsAmbiguous db (SetField key name value) = (1 < holders key db) ⊎ (1 < fields_named key name db)
 IsAmbiguous db (DropField key name) = (1 < holders key db) ⊎ (1 < fields_named key name db)
-IsAmbiguous db (AddEntry place new) = has_same (field_names new) ≡ true
+IsAmbiguous db (AddEntry position new) = has_same (field_names new) ≡ true
 IsAmbiguous db (RemoveEntry key) = 1 < holders key db
-IsAmbiguous db (MoveEntry key place) = 1 < holders key db
+IsAmbiguous db (MoveEntry key position) = 1 < holders key db
 IsAmbiguous db (RenameKey from to) = 1 < holders from db
 IsAmbiguous db (RenameMacro from to) = 1 < definitions from db
 IsAmbiguous db (InlineMacro name) = 1 < definitions name db
@@ -528,7 +562,7 @@ IsAmbiguous db other = ⊥
 -- The new key is another entry's, or another new entry's, or the text of a dangling crossref; that last only for a key
 -- that is renamed, since an added entry may be what the crossref was waiting for.
 abbrev pub IsKeyInUse : Reading → Edit → Type 0
-IsKeyInUse db (AddEntry place new) = list_any (same new.key) (keys_of (entries_of db)) ≡ true
+IsKeyInUse db (AddEntry position new) = list_any (same new.key) (keys_of (entries_of db)) ≡ true
 IsKeyInUse db (AddMany news) =
     (has_same (map (λ new. new.key) news) || list_any (λ new. list_any (same new.key) (keys_of (entries_of db))) news) ≡ true
 IsKeyInUse db (RenameKey from to) =
@@ -541,13 +575,13 @@ IsNameInUse db (RenameMacro from to) = (not (same to from) && is_in_use to db.it
 IsNameInUse db (IntroduceMacro name text) = is_in_use name db.items ≡ true
 IsNameInUse db other = ⊥
 
--- The text that a removal joins would begin a command or go on with a comment's type name; or a key would go on with
--- the closing parenthesis.
+-- The text that a removal joins would begin a command, or lengthen a comment's type name; or a closing parenthesis would
+-- become part of a key.
 abbrev pub MergesText : Reading → Edit → Type 0
 MergesText db (DropField key name) =
     option_map_or (λ item. tree_ends_in_key item.tree) (find (λ item. is_entry key item.tree) (drop_field key name db).items) false ≡ true
 MergesText db (RemoveEntry key) = HasCleanTexts (remove_entry key db) → ⊥
-MergesText db (MoveEntry key place) = HasCleanTexts (remove_entry key db) → ⊥
+MergesText db (MoveEntry key position) = HasCleanTexts (remove_entry key db) → ⊥
 MergesText db (InlineMacro name) = HasCleanTexts (inline_macro name db) → ⊥
 MergesText db other = ⊥
 
@@ -556,7 +590,7 @@ abbrev pub Refuses : (Record → Text) → EditFault → Reading → Edit → Ty
 Refuses key_base BadKey db e = list_all is_new_key (given_keys e) ≡ false
 Refuses key_base BadName db e = (list_all is_name (given_names e) && list_all is_type (given_types e)) ≡ false
 Refuses key_base BadValue db e = All (IsValue name_limit) (given_values e) → ⊥
-Refuses key_base BadPosition db e = IsPlaceTooHigh db e
+Refuses key_base BadPosition db e = IsPositionTooHigh db e
 Refuses key_base NotFound db e = IsMissing db e
 Refuses key_base Ambiguous db e = IsAmbiguous db e
 Refuses key_base KeyInUse db e = IsKeyInUse db e

@@ -45,7 +45,7 @@ opened delimiter kind = record {
   space_behind = [];
 }
 
--- `@kind{key, ..}`, and the text behind it
+-- `@kind{key, ..}`, and the text after it
 abbrev pub entry : Text → Text → List Row → Text → Item
 entry kind key rows trail = record {
   tree = EntryTree (record { opening = opened Brace kind; key = key; space_behind_key = []; rows = rows; last_comma = None });
@@ -130,7 +130,7 @@ overridden_month = file (
     }
     ∷ misc (codes "a") (spaced (codes "month") (only (Macro (codes "jan"))) ∷ []) ∷ [])
 
--- in its own definition a macro gives nothing, and is renamed like every use behind it
+-- in its own definition a macro gives nothing, and is renamed there like every use after it
 pub record MonthIsOverridden : Type 0 where
   pub bytes : bytes_of overridden_month ≡ codes "@string{jan = jan # { x}}@misc{a, month = jan}"
   pub text : texts_at 1 overridden_month 0 ≡ codes "x" ∷ []
@@ -232,7 +232,7 @@ in_parentheses space = file (record {
   trail = [];
 } ∷ [])
 
--- a new field stands behind the last value; a dropped one takes its comma along
+-- a new field stands after the last value; a dropped one takes its comma along
 pub record FieldIsSetAndDropped : Type 0 where
   pub bytes : bytes_of one_field ≡ codes "@misc{a, t = 1,}"
   pub set : file_after one_field (SetField (codes "a") (codes "y") (only (Braced (codes "2")))) ≡ codes "@misc{a, t = 1,\n  y = {2},}"
@@ -288,7 +288,7 @@ comment_before = file (
     record { tree = CommentTree (record { space_before_type = []; type_name = codes "comment" }); trail = [] }
     ∷ entry (codes "misc") (codes "k") [] (codes "s") ∷ [])
 
--- the text that a removal joins may become a command, or go on with a comment's name
+-- the text that a removal joins may become a command, or lengthen a comment's name
 pub record JoinedTextStaysText : Type 0 where
   pub address : bytes_of address_before ≡ codes "a@foo \n@misc{k}{b"
   pub no_command : Refuses author_year WouldMerge address_before (RemoveEntry (codes "k"))
@@ -298,7 +298,7 @@ pub record JoinedTextStaysText : Type 0 where
 abbrev pub texts_between : Reading
 texts_between = record { front = codes "abc"; items = entry (codes "misc") (codes "k") [] (codes "s") ∷ entry (codes "misc") (codes "l") [] (codes "t") ∷ [] }
 
--- the text behind a removed item joins the text before it: the front, or another item's trail
+-- the text after a removed item joins the text before it: the front, or another item's trail
 pub record TrailJoinsTextBefore : Type 0 where
   pub bytes : bytes_of texts_between ≡ codes "abc@misc{k}s@misc{l}t"
   pub first : file_after texts_between (RemoveEntry (codes "k")) ≡ codes "abcs@misc{l}t"
@@ -479,7 +479,7 @@ pub record AddedKeyTakesChildren : Type 0 where
   pub after : parent (entries_of (edited author_year family (AddEntry 0 capital_a))) 2 ≡ Some 0
   pub after_fields : fields_of 1 (edited author_year family (AddEntry 0 capital_a)) 2 ≡ []
 
--- a moved entry does not stand at a place that is too high
+-- a moved entry does not stand at a position that is too high
 pub record HighPlaceIsNotReached : Type 0 where
   pub refused : Refuses author_year BadPosition two_lines (MoveEntry (codes "a") 2)
   pub after : slice_get (edited author_year two_lines (MoveEntry (codes "a") 2)).items 2 ≡ None

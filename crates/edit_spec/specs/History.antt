@@ -2,24 +2,24 @@
 use Rattle.std.specs.Prelude.{ℕ, ◌≡◌, ◌≢◌, zero, suc, List, [], ◌∷◌, ◌++◌, length}
 use Rattle.bib_spec.specs.Text.{Text}
 
--- whole files: those that can be gone back to, from the oldest; the present one; those that can be gone on to, from the next
+-- whole files: those before the present one, from the oldest; the present one; those after it, from the next
 pub record History : Type 0 where
   pub past : List Text
   pub present : Text
   pub future : List Text
 
--- the present goes to the end of the past, this file into its place, and there is no future
+-- the present file moves to the end of the past, this file takes its place, and the future is emptied
 pub record Edits (file : Text) (old new : History) : Type 0 where
   pub past : new.past ≡ old.past ++ old.present ∷ []
   pub present : new.present ≡ file
   pub future : new.future ≡ []
 
--- the present goes to the front of the future, and the last of the past into its place
+-- the present file moves to the front of the future, and the last of the past takes its place
 pub record Undoes (old new : History) : Type 0 where
   pub past : old.past ≡ new.past ++ new.present ∷ []
   pub future : new.future ≡ old.present ∷ old.future
 
--- the present goes to the end of the past, and the first of the future into its place
+-- the present file moves to the end of the past, and the first of the future takes its place
 pub record Redoes (old new : History) : Type 0 where
   pub past : new.past ≡ old.past ++ old.present ∷ []
   pub future : old.future ≡ new.present ∷ new.future

@@ -13,22 +13,22 @@ use Rattle.edit_spec.specs.EditChunks.{chunks, pieces_of}
 
 -- ---- macros
 
--- item n stands behind a definition of the name
+-- item n stands after a definition of the name
 abbrev pub is_behind : Text → List Item → ℕ → Bool
 is_behind name items n = list_any (λ item. defines name item.tree) (take n items)
 
--- item n is, or stands behind, one that passes the test
+-- item n passes the test, or stands after an item that does
 abbrev pub is_reached : (Tree → Bool) → List Item → ℕ → Bool
 is_reached test items n = list_any (λ item. test item.tree) (take (suc n) items)
 
--- Behind a definition of the name, as long as none follows, the name stands for what that definition says where it stands.
+-- After a definition of the name, and up to the next one, the name stands for what that definition says where it stands.
 abbrev pub sees_last_definition : Type 0
 sees_last_definition = (db : Reading) (name : Text) (k n : ℕ) (item : Item) (d : Definition) →
     slice_get db.items k ≡ Some item → item.tree ≡ DefinitionTree d → same d.assignment.name name ≡ true → k < n →
     ((j : ℕ) (other : Item) → k < j → j < n → slice_get db.items j ≡ Some other → defines name other.tree ≡ false) →
     seen db n name ≡ Some (raw_text (macros_in (macros_at months db.items k) (DefinitionTree d)) d.assignment.value)
 
--- Before any definition of the name it is a month's, or stands for nothing.
+-- Before the first definition of a name it stands for a month, if it is a month's, or else for nothing.
 abbrev pub sees_months : Type 0
 sees_months = (db : Reading) (name : Text) (n : ℕ) → is_behind name db.items n ≡ false → seen db n name ≡ months (folded name)
 
@@ -43,10 +43,11 @@ abbrev pub record_with_key : Option Text → Record → Record
 record_with_key None r = r
 record_with_key (Some key) r = record r { key = key }
 
+-- no entry gets a new key
 abbrev pub no_new_key : ℕ → Option Text
 no_new_key n = None
 
--- Each entry's record at every depth, but for its new key, each parent and each preamble are what they were.
+-- Each entry's record, at every depth, is what it was, but for its new key; each parent and each preamble is what it was.
 pub record KeepsEntries (new_key : ℕ → Option Text) (old new : Reading) : Type 0 where
   pub count : length (entries_of new) ≡ length (entries_of old)
   pub records : (depth n : ℕ) → expanded depth (entries_of new) n ≡ option_map (record_with_key (new_key n)) (expanded depth (entries_of old) n)
@@ -64,10 +65,11 @@ KeepsMacros old new = (n : ℕ) (name : Text) → seen new n name ≡ seen old n
 
 -- ---- renaming keys
 
--- each key of a list as its entry is named in the new database, and as it stands where it names none
+-- a key of a list as its entry is called in the new database; a key that names no entry stays as it is
 abbrev pub renamed_key : List EntryTexts → List EntryTexts → Text → Text
 renamed_key old new key = unwrap_or (option_and_then (slice_get (keys_of new)) (entry_named old key)) key
 
+-- a list of keys as their entries are called in the new database
 abbrev pub renamed_keys : Reading → Reading → List Text → List Text
 renamed_keys old new keys = map (renamed_key (entries_of old) (entries_of new)) keys
 
@@ -112,7 +114,7 @@ regenerating_again_changes_nothing = (key_base : Record → Text) → IsKeyBase 
 
 -- ---- renaming macros
 
--- Behind the definition the new name stands for what the old one stood for. A change of case alone changes nothing.
+-- After the definition the new name stands for what the old one stood for. A change of case alone changes nothing.
 pub record SeesRenamed (from to : Text) (old new : Reading) : Type 0 where
   pub other : (n : ℕ) (name : Text) → same name from ≡ false → same name to ≡ false → seen new n name ≡ seen old n name
   pub before : (n : ℕ) (name : Text) → is_behind from old.items n ≡ false → seen new n name ≡ seen old n name
@@ -125,7 +127,8 @@ rename_macro_keeps = (key_base : Record → Text) (db : Reading) (from to : Text
     let new : Reading = edited key_base db (RenameMacro from to) in
     KeepsEntries no_new_key db new × KeepsCitations db new × SeesRenamed from to db new
 
--- Up to the definition all names stand for what they did, and behind it all others do, where each item's number is one less.
+-- Before the definition all names stand for what they did. After it, where each item's number is one less, all other names
+-- do.
 pub record SeesInlined (name : Text) (old new : Reading) : Type 0 where
   pub before : (n : ℕ) (other : Text) → is_behind name old.items n ≡ false → seen new n other ≡ seen old n other
   pub behind : (n : ℕ) (other : Text) → is_behind name old.items (suc n) ≡ true → same other name ≡ false → seen new n other ≡ seen old (suc n) other
@@ -137,7 +140,7 @@ inline_macro_keeps = (key_base : Record → Text) (db : Reading) (name : Text) �
     KeepsEntries no_new_key db new × KeepsCitations db new × SeesInlined name db new
 
 -- Before the first item that holds the text all names stand for what they did. From it on, where each item's number is one
--- more, all others do, and the name stands for the text.
+-- more, all other names do, and the new name stands for the text.
 pub record SeesIntroduced (name text : Text) (old new : Reading) : Type 0 where
   pub before : (n : ℕ) (other : Text) → is_reached (any_part (holds text)) old.items n ≡ false → seen new n other ≡ seen old n other
   pub behind : (n : ℕ) (other : Text) → is_reached (any_part (holds text)) old.items n ≡ true → same other name ≡ false → seen new (suc n) other ≡ seen old n other
@@ -151,7 +154,7 @@ introduce_macro_keeps = (key_base : Record → Text) (db : Reading) (name text :
 
 -- ---- pieces
 
--- What an edit leaves and replaces is the file; what it leaves and puts in place is the file of what it makes.
+-- The chunks of an edit are the file before it, and the file of the database that it makes.
 abbrev pub chunks_are_files : Type 0
 chunks_are_files = (key_base : Record → Text) (db : Reading) (e : Edit) →
     (old_of (chunks key_base db e) ≡ bytes_of db) × (new_of (chunks key_base db e) ≡ bytes_of (edited key_base db e))

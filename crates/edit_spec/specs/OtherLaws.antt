@@ -11,21 +11,21 @@ use Rattle.edit_spec.specs.Laws.{is_behind, is_reached}
 
 -- ---- numbers
 
--- the number that n gets when another is put in before the one with the number i
+-- the number that n gets when something is put in at number i
 abbrev pub number_with_one_more : ℕ → ℕ → ℕ
 number_with_one_more zero n = suc n
 number_with_one_more (suc i) zero = zero
 number_with_one_more (suc i) (suc n) = suc (number_with_one_more i n)
 
--- the number that n gets when the one with the number i goes
+-- the number that n gets when what has the number i is taken out
 abbrev pub number_with_one_less : ℕ → ℕ → ℕ
 number_with_one_less i zero = zero
 number_with_one_less zero (suc n) = n
 number_with_one_less (suc i) (suc n) = suc (number_with_one_less i n)
 
--- how many entries stand before an item
+-- how many entries stand before the item at this position
 abbrev pub entries_before : ℕ → Reading → ℕ
-entries_before place db = length (entries_of (record db { items = take place db.items }))
+entries_before position db = length (entries_of (record db { items = take position db.items }))
 
 -- ---- other entries
 
@@ -37,12 +37,12 @@ pub record KeepsOthers (number : ℕ → ℕ) (added : ℕ) (fewer more : Readin
   pub parents : (n : ℕ) → n < length (entries_of fewer) → parent (entries_of more) (number n) ≡ option_map number (parent (entries_of fewer) n)
   pub preambles : preambles_of more ≡ preambles_of fewer
 
--- Removing an entry keeps every other entry's record and parent; the entries behind it have numbers that are one less.
+-- Removing an entry keeps every other entry's record and parent; the entries after it have numbers that are one less.
 abbrev pub remove_entry_keeps_others : Type 0
 remove_entry_keeps_others = (key_base : Record → Text) (db : Reading) (key : Text) → IsAccepted key_base db (RemoveEntry key) →
     (i : ℕ) × (entry_named (entries_of db) key ≡ Some i) × KeepsOthers (number_with_one_more i) 1 (edited key_base db (RemoveEntry key)) db
 
--- A dangling crossref waits for the key: its text is that key, folded. An entry with the key then is its target.
+-- A dangling crossref waits for the key: its text is that key, folded, so an entry with the key would be its target.
 abbrev pub is_awaited : Reading → Text → Bool
 is_awaited db key = list_any (same key) (dangling_texts (entries_of db))
 
@@ -50,12 +50,12 @@ is_awaited db key = list_any (same key) (dangling_texts (entries_of db))
 abbrev pub NoneAwaited : Reading → Edit → Type 0
 NoneAwaited db e = list_any (is_awaited db) (given_keys e) ≡ false
 
--- Adding an entry that no dangling crossref waits for keeps every old entry's record and parent; the entries behind it have
+-- Adding an entry that no dangling crossref waits for keeps every old entry's record and parent; the entries after it have
 -- numbers that are one more.
 abbrev pub add_entry_keeps_others : Type 0
-add_entry_keeps_others = (key_base : Record → Text) (db : Reading) (place : ℕ) (new : NewEntry) →
-    IsAccepted key_base db (AddEntry place new) → NoneAwaited db (AddEntry place new) →
-    KeepsOthers (number_with_one_more (entries_before place db)) 1 db (edited key_base db (AddEntry place new))
+add_entry_keeps_others = (key_base : Record → Text) (db : Reading) (position : ℕ) (new : NewEntry) →
+    IsAccepted key_base db (AddEntry position new) → NoneAwaited db (AddEntry position new) →
+    KeepsOthers (number_with_one_more (entries_before position db)) 1 db (edited key_base db (AddEntry position new))
 
 -- each entry has the number that it had
 abbrev pub same_number : ℕ → ℕ
@@ -85,10 +85,11 @@ is_first test items n = number_of_first test items == n
 -- the edit takes item n away, or moves it
 abbrev pub is_gone : Reading → Edit → ℕ → Bool
 is_gone db (RemoveEntry key) n = is_first (is_entry key) db.items n
-is_gone db (MoveEntry key place) n = is_first (is_entry key) db.items n
+is_gone db (MoveEntry key position) n = is_first (is_entry key) db.items n
 is_gone db (InlineMacro name) n = is_first (defines name) db.items n
 is_gone db other n = false
 
+-- the item is an entry
 abbrev pub is_any_entry : Tree → Bool
 is_any_entry (EntryTree e) = true
 is_any_entry other = false
@@ -110,16 +111,16 @@ is_changed db (IntroduceMacro name text) n = passes (any_part (holds text)) db.i
 is_changed db (RegenerateKeys depth) n = passes is_any_entry db.items n
 is_changed db other n = false
 
--- where item n stands afterwards, if it is not taken away
+-- the number of item n afterwards, if it is not taken away
 abbrev pub new_number : Reading → Edit → ℕ → ℕ
-new_number db (AddEntry place entry) n = number_with_one_more place n
+new_number db (AddEntry position entry) n = number_with_one_more position n
 new_number db (RemoveEntry key) n = number_with_one_less (number_of_first (is_entry key) db.items) n
-new_number db (MoveEntry key place) n = number_with_one_more place (number_with_one_less (number_of_first (is_entry key) db.items) n)
+new_number db (MoveEntry key position) n = number_with_one_more position (number_with_one_less (number_of_first (is_entry key) db.items) n)
 new_number db (InlineMacro name) n = number_with_one_less (number_of_first (defines name) db.items) n
 new_number db (IntroduceMacro name text) n = number_with_one_more (number_of_first (any_part (holds text)) db.items) n
 new_number db other n = n
 
--- the trail of item n, where that item goes
+-- the trail of item n if the edit takes that item away, else nothing
 abbrev pub gained : (ℕ → Bool) → List Item → ℕ → Text
 gained gone items n = if gone n then option_map_or (λ item. item.trail) (slice_get items n) [] else []
 
@@ -130,8 +131,8 @@ pub record StandsAt (items : List Item) (n : ℕ) (is_changed : Bool) (old : Tre
   pub trail_is : item.trail ≡ trail
   pub tree_is : is_changed ≡ false → item.tree ≡ old
 
--- Each item that does not go stands where it is said to, in the order that they had, with its tree unless that is changed,
--- and with its trail, behind which there is the trail of a neighbour that goes; and so it is with the front.
+-- Each item that is not taken away stands at its new number, in the old order, with its tree unless that is changed, and with
+-- its trail; the trail of an item that goes joins the trail before it, or the front.
 pub record KeepsItems (gone changed : ℕ → Bool) (number : ℕ → ℕ) (old new : Reading) : Type 0 where
   pub front : new.front ≡ old.front ++ gained gone old.items 0
   pub items : (n : ℕ) (item : Item) → gone n ≡ false → slice_get old.items n ≡ Some item
@@ -145,5 +146,5 @@ untouched_items_stay = (key_base : Record → Text) (db : Reading) (e : Edit) �
 
 -- A moved entry keeps its body, and stands in a line of its own.
 abbrev pub moved_entry_stays : Type 0
-moved_entry_stays = (key_base : Record → Text) (db : Reading) (key : Text) (place : ℕ) → IsAccepted key_base db (MoveEntry key place) →
-    (item : Item) × (find (λ item. is_entry key item.tree) db.items ≡ Some item) × (slice_get (edited key_base db (MoveEntry key place)).items place ≡ Some (in_line item.tree))
+moved_entry_stays = (key_base : Record → Text) (db : Reading) (key : Text) (position : ℕ) → IsAccepted key_base db (MoveEntry key position) →
+    (item : Item) × (find (λ item. is_entry key item.tree) db.items ≡ Some item) × (slice_get (edited key_base db (MoveEntry key position)).items position ≡ Some (in_line item.tree))

@@ -57,6 +57,7 @@ piece_text p =
 unfoldable pub step_text : Step → Text
 step_text step = decimal (length step) ++ line_feed ∷ flat_map piece_text step
 
+-- how long that text is, in bytes
 unfoldable pub step_text_len : Step → ℕ
 step_text_len step = length (step_text step)
 
@@ -97,12 +98,12 @@ pub record AreSteps (past future : List Step) : Type 0 where
 
 -- ---- steps that belong to a file
 
--- the step's pieces fit the file, and lead to one
+-- the step's pieces fit the file, and lead to a file that opens
 pub record IsAllowed (step : Step) (file : Text) : Type 0 where
   pub fit : Fit step file
   pub made : IsOpenable (applied step file)
 
--- the step's pieces fit the one file and make the other
+-- the step's pieces fit the old file and make the new one, and both open
 pub record Leads (step : Step) (old new : Text) : Type 0 where
   pub fit : Fit step old
   pub made : applied step old ≡ new
@@ -119,12 +120,12 @@ abbrev pub LeadOn : List Step → Text → Type 0
 LeadOn [] file = Unit {0}
 LeadOn (step ∷ steps) file = Leads step file (applied step file) × LeadOn steps (applied step file)
 
--- back through the past and on through the future, each step's pieces fit and each file reached is one
+-- back through the past and on through the future, each step's pieces fit, and each file that is reached opens
 pub record BelongTo (past future : List Step) (file : Text) : Type 0 where
   pub back : LeadTo past file
   pub on : LeadOn future file
 
--- the present is a file, and the steps belong to it and can be written
+-- the present file opens, and the steps belong to it and can be written
 pub record IsSound (kept : KeptSteps) : Type 0 where
   pub present : IsOpenable kept.present
   pub belong : BelongTo kept.past kept.future kept.present
@@ -132,19 +133,19 @@ pub record IsSound (kept : KeptSteps) : Type 0 where
 
 -- ---- moves
 
--- the step is made and goes to the end of the past, and there is no future
+-- the step is made and moves to the end of the past, and the future is emptied
 pub record Adds (step : Step) (old new : KeptSteps) : Type 0 where
   pub past : new.past ≡ old.past ++ step ∷ []
   pub present : new.present ≡ applied step old.present
   pub future : new.future ≡ []
 
--- the last step of the past is taken back and goes to the front of the future
+-- the last step of the past is taken back and moves to the front of the future
 pub record GoesBack (step : Step) (old new : KeptSteps) : Type 0 where
   pub past : old.past ≡ new.past ++ step ∷ []
   pub present : new.present ≡ before step old.present
   pub future : new.future ≡ step ∷ old.future
 
--- the first step of the future is made and goes to the end of the past
+-- the first step of the future is made and moves to the end of the past
 pub record GoesOn (step : Step) (old new : KeptSteps) : Type 0 where
   pub past : new.past ≡ old.past ++ step ∷ []
   pub present : new.present ≡ applied step old.present
@@ -162,7 +163,7 @@ abbrev pub going_back_undoes : Type 0
 going_back_undoes = (step : Step) (old new : KeptSteps) → IsSound old
     → GoesBack step old new → IsSound new × Undoes (history_of old) (history_of new)
 
--- Going on by a step is a redo of the history, and what is kept stays sound.
+-- Going forward by a step is a redo of the history, and what is kept stays sound.
 abbrev pub going_on_redoes : Type 0
 going_on_redoes = (step : Step) (old new : KeptSteps) → IsSound old
     → GoesOn step old new → IsSound new × Redoes (history_of old) (history_of new)

@@ -7,7 +7,7 @@ pub fn a_macro_is_read_where_it_stands()
     ensures { MacroIsReadWhereItStands }
 {}
 
-/// In its own definition a macro gives nothing, and is renamed like every use behind it.
+/// In its own definition a macro gives nothing, and is renamed like every use after it.
 pub fn a_month_is_overridden()
     ensures { MonthIsOverridden }
 {}
@@ -32,7 +32,7 @@ pub fn texts_are_joined()
     ensures { TextsAreJoined }
 {}
 
-/// A new field stands behind the last value; a dropped one takes its comma along.
+/// A new field stands after the last value; a dropped one takes its comma along.
 pub fn a_field_is_set_and_dropped()
     ensures { FieldIsSetAndDropped }
 {}
@@ -52,7 +52,7 @@ pub fn joined_text_stays_text()
     ensures { JoinedTextStaysText }
 {}
 
-/// The text behind a removed item joins the text before it.
+/// The text after a removed item joins the text before it.
 pub fn a_trail_joins_the_text_before()
     ensures { TrailJoinsTextBefore }
 {}
@@ -123,7 +123,7 @@ pub fn an_added_key_takes_children()
 {}
 
 /// Without its condition, a moved entry does not stand at the place that was asked for.
-pub fn a_high_place_is_not_reached()
+pub fn a_high_position_is_not_reached()
     ensures { HighPlaceIsNotReached }
 {}
 

@@ -14,7 +14,7 @@ mod untouched_items;
 pub use edits::{an_accepted_edit_makes_a_file_that_opens, chunks_of_an_edit_are_the_files};
 pub use examples::{
     a_crossref_of_parts_is_renamed, a_dangling_crossref_finds_a_key, a_field_is_set_and_dropped,
-    a_high_place_is_not_reached, a_key_base_is_needed, a_key_in_use_takes_children,
+    a_high_position_is_not_reached, a_key_base_is_needed, a_key_in_use_takes_children,
     a_key_with_spaces_loses_children, a_macro_defined_twice_has_two_texts,
     a_macro_is_inlined_as_text, a_macro_is_read_where_it_stands, a_month_is_overridden,
     a_name_in_use_gives_text, a_parent_is_cited_with_its_children, a_record_inherits_along_a_chain,

@@ -47,7 +47,7 @@ fn a_move_is_two_pieces(rt: HostRuntime) -> Result<(), Fail> {
     let alloc = rt.alloc();
     let edit = Edit::MoveEntry {
         key: text(alloc, b"a")?,
-        place: 1,
+        position: 1,
     };
     let pieces = planned(alloc, b"@misc{a}\n@misc{b}\n", &edit)?;
     assert_eq!(rt; pieces.as_slice().len(), 2);

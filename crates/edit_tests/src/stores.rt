@@ -52,7 +52,7 @@ fn is_text(found: Option<Text>, text: &[u8]) -> bool {
 }
 
 #[test]
-fn a_macro_is_seen_behind_its_definition(rt: HostRuntime) -> Result<(), Fail> {
+fn a_macro_is_seen_after_its_definition(rt: HostRuntime) -> Result<(), Fail> {
     let alloc = rt.alloc();
     let file = b"@string{p={A}}@misc{a,t=p}@string{p={B}}@misc{b,t=p}";
     assert!(rt; macro_text(alloc, file, 0, b"p")?.is_none());

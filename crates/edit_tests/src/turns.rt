@@ -49,7 +49,7 @@ pub fn add_many(alloc: Global, lines: &[u8]) -> Result<Edit, AllocError> {
     let mut entries = Vec::new(alloc);
     for request in script.requests.into_vec() {
         match request {
-            Request::Edit(Edit::AddEntry { place: _, entry }) => entries.push(entry)?,
+            Request::Edit(Edit::AddEntry { position: _, entry }) => entries.push(entry)?,
             _other => {}
         }
     }

@@ -20,7 +20,7 @@ fn body(text: &[u8], n: usize) -> &[u8] {
     text.split_at(n % (text.len() + 1)).0
 }
 
-/// Whether both lists have the same items at the same places.
+/// Whether both lists have the same items in the same order.
 fn is_same(paged: &Paged, flat: &Flat) -> bool {
     if paged.count() != flat.count() {
         return false;
@@ -46,7 +46,7 @@ fn is_paged(paged: &Paged) -> bool {
     sum == paged.count()
 }
 
-/// Puts so many items into both lists, at places that look random.
+/// Puts so many items into both lists, at positions that look random.
 fn fill(
     paged: &mut Paged,
     flat: &mut Flat,

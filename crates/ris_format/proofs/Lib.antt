@@ -1,21 +1,25 @@
+-- ---- texts and lists
 pub mod Neat
 pub mod Trims
 pub mod Values
+pub mod Levels
+pub mod SliceLemmas
+pub mod ListLaws
+pub mod OrderLaws
+-- ---- dates, keywords and pages
 pub mod DateLaws
 pub mod KeywordLaws
 pub mod PageLaws
-pub mod Levels
+-- ---- names
 pub mod PartLaws
 pub mod NameScans
-pub mod ListLaws
-pub mod PeopleLaws
 pub mod PieceSteps
 pub mod TakenApart
-pub mod SliceLemmas
+pub mod OpaqueValues
+pub mod PeopleLaws
+-- ---- lines and records
 pub mod LineLaws
 pub mod SectionLaws
-pub mod OrderLaws
 pub mod MappingLaw
-pub mod OpaqueValues
 pub mod FitLaws
 pub mod GivenLaws

@@ -1,10 +1,13 @@
+-- ---- lines
+pub mod LineLemmas
+pub mod LineEnds
+pub mod TagLemmas
+pub mod JoinLemmas
+pub mod ToldLemmas
 pub mod FitLemmas
+-- ---- what lines say
+pub mod MeaningLemmas
+pub mod MeaningLaws
+-- ---- texts that are written
 pub mod WriteLemmas
 pub mod TextLaws
-pub mod MeaningLaws
-pub mod MeaningLemmas
-pub mod ToldLemmas
-pub mod JoinLemmas
-pub mod LineLemmas
-pub mod TagLemmas
-pub mod LineEnds

@@ -116,7 +116,7 @@ fn add_parent(
     Ok(())
 }
 
-/// The lines of the keys at these places.
+/// The lines of the keys at these positions.
 fn add_unknown(out: &mut Vec<u8>, keys: &[Text], places: &[usize]) -> Result<(), AllocError>
     requires { ArePlaces keys.now places.now }
     ensures { OnOk result (out.new.items ≡ out.old.items ++ flat_map (unknown_line keys.now) places.now) }

@@ -73,7 +73,7 @@ fn applied_line(alloc: Global, done: usize) -> Result<Text, AllocError>
     Ok(Text::from_vec(line.into_bytes()))
 }
 
-/// Why a script stopped behind so many edits, if it did.
+/// Why a script stopped after so many edits, if it did.
 fn stop_line(
     alloc: Global,
     script: &Script,

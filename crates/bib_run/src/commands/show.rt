@@ -5,7 +5,7 @@ ghost use Rattle.std.specs.List.{flat_map};
 ghost use Rattle.bib_spec.specs.Records.{entries_of};
 ghost use Rattle.bib_store.specs.Meaning.{OfReading, IsEntryNumber};
 ghost use Rattle.bib_run.specs.Opened.{AnswersFile};
-ghost use Rattle.bib_run.specs.Show.{head_line, field_line, record_lines, shown, show_answer};
+ghost use Rattle.bib_run.specs.Show.{head_line, shown_field, record_lines, shown, show_answer};
 
 use crate::answers::{Answer, done, no_such_entry, unread};
 use crate::opening::open;
@@ -67,7 +67,7 @@ fn add_head(out: &mut Vec<u8>, kind_name: &[u8], key: &[u8]) -> Result<(), Alloc
 }
 
 fn add_fields(out: &mut Vec<u8>, fields: &[(Text, Text)]) -> Result<(), AllocError>
-    ensures { OnOk result (out.new.items ≡ out.old.items ++ flat_map field_line fields.now) }
+    ensures { OnOk result (out.new.items ≡ out.old.items ++ flat_map shown_field fields.now) }
 {
     for field in fields {
         add_field(out, field.0.as_slice(), field.1.as_slice())?;
@@ -76,7 +76,7 @@ fn add_fields(out: &mut Vec<u8>, fields: &[(Text, Text)]) -> Result<(), AllocErr
 }
 
 fn add_field(out: &mut Vec<u8>, name: &[u8], text: &[u8]) -> Result<(), AllocError>
-    ensures { OnOk result (out.new.items ≡ out.old.items ++ field_line (name.now, text.now)) }
+    ensures { OnOk result (out.new.items ≡ out.old.items ++ shown_field (name.now, text.now)) }
 {
     out.extend_from_slice(name)?;
     out.extend_from_slice(b" = ")?;

@@ -1,7 +1,7 @@
 use Rattle.std.proofs.Common.{rules, [], map, append-nil, sym, ap, ◌∙◌}
 use Rattle.std.specs.Borrow.{Bor}
 use Rattle.bib_spec.specs.Text.{Text}
-use Rattle.bib_script.specs.Parting.{tab}
+use Rattle.bib_spec.specs.Bytes.{tab}
 use Rattle.bib_script.proofs.PartedLemmas.{parted_more, parted_end, words_more}
 use Rattle.bib_script.proofs.lines.words_of.Goals as goal
 

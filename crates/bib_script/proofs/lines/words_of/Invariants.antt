@@ -1,5 +1,6 @@
 use Rattle.std.proofs.Common.{◌≡◌, ◌++◌, length, map}
-use Rattle.bib_script.specs.Parting.{tab, parted}
+use Rattle.bib_spec.specs.Bytes.{tab}
+use Rattle.bib_script.specs.Parting.{parted}
 use Rattle.bib_script.proofs.lines.words_of.Given as goal
 
 abbrev pub invariant-part : goal.invariant-part

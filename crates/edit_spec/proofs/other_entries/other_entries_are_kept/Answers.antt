@@ -1,5 +1,5 @@
 use Rattle.edit_spec.proofs.OtherEntries.{remove_entry-keeps_others, add_entry-keeps_others}
-use Rattle.edit_spec.proofs.AddedBehind.{add_many-keeps_others}
+use Rattle.edit_spec.proofs.AddedAfter.{add_many-keeps_others}
 use Rattle.edit_spec.proofs.other_entries.other_entries_are_kept.Goals as goal
 
 pub returns-clause-removed : goal.returns-clause-removed

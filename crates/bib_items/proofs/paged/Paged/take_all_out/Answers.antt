@@ -1,6 +1,6 @@
 use Rattle.std.proofs.Common.{◌≤◌, length, remove, ◌∙◌, ap, arith}
 use Rattle.bib_pages.specs.Pages.{joined}
-use Rattle.bib_items.proofs.Filled.{remove-behind, length-gone}
+use Rattle.bib_items.proofs.Filled.{remove-after, length-gone}
 use Rattle.bib_items.proofs.paged.Paged.take_all_out.Goals as goal
 
 pub take_out-requires : goal.take_out-requires
@@ -13,4 +13,4 @@ pub out-preserved : goal.out-preserved
 out-preserved c =
     let ordered : c.args.from ≤ c.args.to = c.requires.ordered in
     let within : c.args.from ≤ length (joined c.args.self.now) = omega (arith, c.requires.within) in
-    c.take_out.ensures ∙ ap (λ xs. remove xs c.args.from) c.out.invariant ∙ remove-behind (joined c.args.self.now) c.args.from c.out.done within
+    c.take_out.ensures ∙ ap (λ xs. remove xs c.args.from) c.out.invariant ∙ remove-after (joined c.args.self.now) c.args.from c.out.done within

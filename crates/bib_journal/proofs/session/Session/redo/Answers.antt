@@ -13,21 +13,21 @@ go_on-requires g c =
     let top : Some c.as_slice.result.now ≡ slice_get c.self.inside.undone.items (length c.self.inside.undone.items - 1) = cc (c.in-Some.ensures.value) in
     next_is_allowed c.self.inside.past.items c.self.inside.undone.items c.as_slice.result.now _ c.self.invariant.sound top
 
-moves : (g : Over) (c : goal.After-put g)
+moves : (g : Over) (c : goal.After-push_within_capacity g)
     → Moves MakesAgain (kept c.self.inside.past.items c.self.inside.database (reverse c.self.inside.undone.items))
-    (kept c.put.new.items.items c.go_on.new.db (reverse c.pop.new.self.items))
+    (kept c.push_within_capacity.new.items.items c.go_on.new.db (reverse c.pop.new.self.items))
 moves g c =
     let top : Some c.as_slice.result.now ≡ slice_get c.self.inside.undone.items (length c.self.inside.undone.items - 1) = cc (c.in-Some.ensures.value) in
     let split : c.self.inside.undone.items ≡ c.pop.new.self.items ++ c.in-Some-pop.step ∷ [] = c.in-Some-pop.ensures.items in
     let made : c.go_on.new.db ≡ applied c.in-Some-pop.step c.self.inside.database =
     c.in_ok-go_on.ensures.ok ∙ ap (λ (s : Step). applied s c.self.inside.database) (last-popped _ _ _ _ top split) in
-    let pushed : c.put.new.items.items ≡ c.self.inside.past.items ++ c.in-Some-pop.step ∷ [] = cc (c.in_ok-reserve.ensures.items) in
+    let pushed : c.push_within_capacity.new.items.items ≡ c.self.inside.past.items ++ c.in-Some-pop.step ∷ [] = cc (c.in_ok-reserve.ensures.items) in
     made_again _ _ _ _ c.in-Some-pop.step _ _ c.self.invariant.sound split made pushed
 
 pub invariant_of-self-2 : goal.invariant_of-self-2
 invariant_of-self-2 g c = record {
   sound = (moves g c).sound;
-  counted = counted_again c.self.inside.past.items c.put.new.items.items c.in-Some-pop.step c.self.inside.past_len c.step_text_len.result c.self.invariant.counted (cc (c.step_text_len.ensures)) (cc (c.in_ok-reserve.ensures.items)) (omega (arith, (moves g c).sound.steps.short));
+  counted = counted_again c.self.inside.past.items c.push_within_capacity.new.items.items c.in-Some-pop.step c.self.inside.past_len c.step_text_len.result c.self.invariant.counted (cc (c.step_text_len.ensures)) (cc (c.in_ok-reserve.ensures.items)) (omega (arith, (moves g c).sound.steps.short));
 }
 
 pub returns-clause-again : goal.returns-clause-again

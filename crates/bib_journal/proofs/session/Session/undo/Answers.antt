@@ -12,15 +12,15 @@ go_back-requires g c =
     let top : Some c.as_slice.result.now ≡ slice_get c.self.inside.past.items (length c.self.inside.past.items - 1) = cc (c.in-Some.ensures.value) in
     last_leads c.self.inside.past.items (reverse c.self.inside.undone.items) c.as_slice.result.now _ c.self.invariant.sound top
 
-moves : (g : Over) (c : goal.After-put g)
+moves : (g : Over) (c : goal.After-push_within_capacity g)
     → Moves TakesBack (kept c.self.inside.past.items c.self.inside.database (reverse c.self.inside.undone.items))
-    (kept c.pop.new.self.items c.go_back.new.db (reverse c.put.new.items.items))
+    (kept c.pop.new.self.items c.go_back.new.db (reverse c.push_within_capacity.new.items.items))
 moves g c =
     let top : Some c.as_slice.result.now ≡ slice_get c.self.inside.past.items (length c.self.inside.past.items - 1) = cc (c.in-Some.ensures.value) in
     let split : c.self.inside.past.items ≡ c.pop.new.self.items ++ c.in-Some-pop.step ∷ [] = c.in-Some-pop.ensures.items in
     let made : c.go_back.new.db ≡ before c.in-Some-pop.step c.self.inside.database =
     c.in_ok-go_back.ensures.ok ∙ ap (λ (s : Step). before s c.self.inside.database) (last-popped _ _ _ _ top split) in
-    let pushed : c.put.new.items.items ≡ c.self.inside.undone.items ++ c.in-Some-pop.step ∷ [] = cc (c.in_ok-reserve.ensures.items) in
+    let pushed : c.push_within_capacity.new.items.items ≡ c.self.inside.undone.items ++ c.in-Some-pop.step ∷ [] = cc (c.in_ok-reserve.ensures.items) in
     taken_back _ _ _ _ c.in-Some-pop.step _ _ c.self.invariant.sound split made pushed
 
 pub invariant_of-self-2 : goal.invariant_of-self-2

@@ -1,5 +1,5 @@
 use Rattle.bib_spec.specs.Records.{entries_of}
-use Rattle.bib_run.proofs.EntryNumbers.{named_within}
+use Rattle.bib_store.proofs.Parents.{named_within}
 use Rattle.bib_run.proofs.commands.names.names.Goals as goal
 
 pub entry_answer-requires : goal.entry_answer-requires

@@ -1,6 +1,7 @@
 use Rattle.std.proofs.Common.{◌≡◌, Some, sym, ◌∙◌}
 use Rattle.bib_spec.specs.Records.{entries_of, parent}
-use Rattle.bib_run.proofs.EntryNumbers.{parent_within, entry_key}
+use Rattle.bib_store.proofs.Parents.{parent_within}
+use Rattle.bib_run.proofs.EntryNumbers.{entry_key}
 use Rattle.bib_run.proofs.Shown.{shown_with}
 use Rattle.bib_run.proofs.commands.show.entry_text.Goals as goal
 

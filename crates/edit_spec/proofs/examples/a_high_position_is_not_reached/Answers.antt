@@ -1,7 +1,7 @@
 use Rattle.std.proofs.Common.{refl, arith}
 use Rattle.bib_spec.specs.Texts.{months, field_text}
 use Rattle.bib_spec.specs.Text.{is_space, is_name_byte, is_new_key_byte, is_name_within, is_new_key}
-use Rattle.edit_spec.proofs.examples.a_high_place_is_not_reached.Goals as goal
+use Rattle.edit_spec.proofs.examples.a_high_position_is_not_reached.Goals as goal
 
 pub returns : goal.returns
 unfolding months field_text is_space is_name_byte is_new_key_byte is_name_within is_new_key

@@ -1,4 +1,4 @@
--- Adding many entries: they stand behind the last one, and no old entry's crossref names them.
+-- Adding many entries: they stand after the last one, and no old entry's crossref names them.
 use Rattle.std.proofs.Common.{◌≡◌, ℕ, zero, suc, ◌+◌, ◌<◌, ◌==◌, ◌||◌, false, cond, List, [], ◌∷◌, ◌++◌, Option, Some, None, option_map, option_and_then, slice_get, length, map, ⊎_elim, refl, sym, ◌∙◌, ap, subst, append_assoc, length-append, arith, le_of_suc-le-suc, not-suc-le-zero}
 use Rattle.std.specs.List.{list_any, AllByRecursion}
 use Rattle.std.specs.Option.{option_map_or}
@@ -116,7 +116,7 @@ module _ (entries more : List EntryTexts)
 
 -- ---- the new entries
 
--- the entries with others behind the last item
+-- the entries with others after the last item
 appended : (m : Macros) (items : List Item) (news : List NewEntry) →
     (more : List EntryTexts) × (gathered entry_in m (items ++ map item_of news) ≡ gathered entry_in m items ++ more) × (keys_of more ≡ map (λ new. new.key) news)
 appended m [] [] = ([], refl, refl)
