@@ -3,3 +3,4 @@ pub mod Cuts
 pub mod PageSizes
 pub mod Walks
 pub mod PageNumbers
+pub mod Gathered

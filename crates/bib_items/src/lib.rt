@@ -3,6 +3,7 @@
 #![tactic(auto)]
 
 mod fault;
+mod filling;
 mod firsts;
 mod flat;
 mod list;

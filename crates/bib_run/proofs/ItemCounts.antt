@@ -49,15 +49,18 @@ number_within db n item within at is =
     let few = passing_within (λ i. is_entry_tree i.tree) db.items (n + 1) in
     omega (arith, one, few, count_of_entries db)
 
--- ---- how many entries stand before the next item
+-- ---- the counts before the next item
 
-module _ (db : Reading) (n : ℕ) (told : Bool) (entries : ℕ) (within : n < length db.items) (tells : Tells (λ item. is_entry_tree item.tree) db.items n told) (before : entries ≡ entries_before db n) where
-  pub entries_more : told ≡ true → entries + 1 ≡ entries_before db (n + 1)
-  entries_more is =
-      let more = passing_more (λ item. is_entry_tree item.tree) db.items n told within tells ∙ ap (λ (b : Bool). entries_before db n + cond b 1 0) is in
-      omega (arith, more, before)
+pub entries_counted : (db : Reading) (n : ℕ) (told : Bool) (entries : ℕ) → n < length db.items → Tells (λ item. is_entry_tree item.tree) db.items n told → entries ≡ entries_before db n
+    → entries + cond told 1 0 ≡ entries_before db (n + 1)
+entries_counted db n told entries within tells before =
+    ap (λ (k : ℕ). k + cond told 1 0) before ∙ sym (passing_more (λ item. is_entry_tree item.tree) db.items n told within tells)
 
-  pub entries_same : told ≡ false → entries ≡ entries_before db (n + 1)
-  entries_same is =
-      let more = passing_more (λ item. is_entry_tree item.tree) db.items n told within tells ∙ ap (λ (b : Bool). entries_before db n + cond b 1 0) is in
-      omega (arith, more, before)
+pub items_counted : (test : Item → Bool) (items : List Item) (n : ℕ) (told : Bool) (count : ℕ) → n < length items → Tells test items n told → count ≡ count_by test (take n items)
+    → count + cond told 1 0 ≡ count_by test (take (n + 1) items)
+items_counted test items n told count within tells before =
+    ap (λ (k : ℕ). k + cond told 1 0) before ∙ sym (counted_more test items n told within tells)
+
+pub counted_small : (told : Bool) (count n : ℕ) → count ≤ n → count + cond told 1 0 ≤ n + 1
+counted_small true count n small = omega (arith, small)
+counted_small false count n small = omega (arith, small)

@@ -124,7 +124,8 @@ impl<L: ItemList> Database<L> {
         requires { IsItemNumber self.now n }
         ensures { OfReading self.now (λ db. (i : Item) → slice_get db.items n ≡ Some i → result ≡ view_of i) }
     {
-        ItemView::of(self.items.body(n), self.items.trail(n))
+        let (body, trail) = self.items.texts(n);
+        ItemView::of(body, trail)
     }
 
     /// Where item `n` begins in the file, or where the file ends: a place in bytes.

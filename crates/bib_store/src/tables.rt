@@ -69,11 +69,11 @@ impl Tables {
         let mut start = front_len;
         'walk: for n in 0..items.count() - (to - from) {
             let k = kept_number(n, from, to);
-            let body = items.body(k);
+            let (body, trail) = items.texts(k);
             if let Err(fault) = tables.add(alloc, n, body) {
                 return Err(fault.in_file(start));
             }
-            start = behind(start, body, items.trail(k));
+            start = behind(start, body, trail);
         }
         tables.file_len = file_len;
         Ok(tables)

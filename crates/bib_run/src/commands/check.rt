@@ -1,15 +1,15 @@
 //! `check`: what is in a file, and what is wrong with it.
 
-ghost use Rattle.std.specs.Prelude.{◌≡◌, ◌++◌, length, IfOk, OnOk};
+ghost use Rattle.std.specs.Prelude.{◌≡◌, ◌+◌, ◌<◌, ◌^◌, if◌then◌else◌, IfOk};
 ghost use Rattle.bib_spec.specs.Tree.{is_comment};
-ghost use Rattle.bib_spec.specs.Records.{entries_of, preambles_of};
 ghost use Rattle.bib_store.specs.Meaning.{OfReading};
 ghost use Rattle.bib_run.specs.Opened.{AnswersFile};
 ghost use Rattle.bib_run.specs.Check.{is_definition, count_items, count_lines, all_reports, check_answer};
 
 use crate::answers::{Answer, done, unread};
-use crate::commands::kinds::{count_kind, is_same_kind};
+use crate::commands::kinds::is_same_kind;
 use crate::commands::reporting::add_item_reports;
+use crate::commands::seen_names::SeenNames;
 use crate::opening::open;
 use bib_scan::{Kind, Text};
 use bib_store::{Database, Paged};
@@ -28,30 +28,20 @@ pub fn answer_check(alloc: Global, file: Vec<u8>) -> Result<Answer, AllocError>
 fn check(alloc: Global, db: &Database<Paged>) -> Result<Answer, AllocError>
     ensures { IfOk result (λ answer. OfReading db.now (λ r. answer ≡ check_answer r)) }
 {
-    let mut out = count_text(alloc, db)?;
-    add_reports(alloc, &mut out, db)?;
+    let found = look_through(alloc, db)?;
+    let mut out = write_counts(
+        alloc,
+        db.item_count(),
+        db.entry_count(),
+        found.definitions,
+        db.preamble_count(),
+        found.comments,
+    )?;
+    out.extend_from_slice(found.reports.as_slice())?;
     Ok(done(alloc, Text::from_vec(out)))
 }
 
 /// How many items, entries, macro definitions, preambles and comments there are.
-fn count_text(alloc: Global, db: &Database<Paged>) -> Result<Vec<u8>, AllocError>
-    ensures { IfOk result (λ text. OfReading db.now (λ r. text.items ≡ count_lines (length r.items) (length (entries_of r))
-        (count_items is_definition r) (length (preambles_of r)) (count_items is_comment r))) }
-{
-    let entries = db.entry_count();
-    let definitions = count_kind(db, Kind::Macro);
-    let preambles = db.preamble_count();
-    let comments = count_kind(db, Kind::Comment);
-    write_counts(
-        alloc,
-        db.item_count(),
-        entries,
-        definitions,
-        preambles,
-        comments,
-    )
-}
-
 fn write_counts(
     alloc: Global,
     items: usize,
@@ -69,17 +59,43 @@ fn write_counts(
     Ok(text.into_bytes())
 }
 
-/// The reports on all items, in order.
-fn add_reports(alloc: Global, out: &mut Vec<u8>, db: &Database<Paged>) -> Result<(), AllocError>
-    ensures { OnOk result (OfReading db.now (λ r. out.new.items ≡ out.old.items ++ all_reports r)) }
+/// What is found in one pass over the items: the reports on them in order, and how many are definitions and comments.
+#[derive(Drop)]
+struct Found {
+    reports: Vec<u8>,
+    definitions: usize,
+    comments: usize,
+}
+
+fn look_through(alloc: Global, db: &Database<Paged>) -> Result<Found, AllocError>
+    ensures reports { IfOk result (λ found. OfReading db.now (λ r. found.reports.items ≡ all_reports r)) }
+    ensures definitions { IfOk result (λ found. OfReading db.now (λ r. found.definitions ≡ count_items is_definition r)) }
+    ensures comments { IfOk result (λ found. OfReading db.now (λ r. found.comments ≡ count_items is_comment r)) }
 {
+    let mut reports = Vec::new(alloc);
+    let mut names = SeenNames::new(alloc);
     let mut entries: usize = 0;
+    let mut definitions: usize = 0;
+    let mut comments: usize = 0;
     'items: for n in 0..db.item_count() {
         let item = db.item(n);
-        add_item_reports(alloc, out, db, n, &item, entries)?;
-        if is_same_kind(item.kind(), Kind::Entry) {
-            entries += 1;
-        }
+        add_item_reports(alloc, &mut reports, db, n, &item, entries, &mut names)?;
+        let kind = item.kind();
+        entries = counted(entries, is_same_kind(kind, Kind::Entry));
+        definitions = counted(definitions, is_same_kind(kind, Kind::Macro));
+        comments = counted(comments, is_same_kind(kind, Kind::Comment));
     }
-    Ok(())
+    Ok(Found {
+        reports,
+        definitions,
+        comments,
+    })
+}
+
+/// The count, with one more where this is one.
+fn counted(count: usize, is_one: bool) -> usize
+    requires { count + 1 < 2 ^ 64 }
+    ensures { result ≡ count + (if is_one then 1 else 0) }
+{
+    if is_one { count + 1 } else { count }
 }

@@ -22,13 +22,15 @@ use bib_value::MacroTable;
 use std::alloc::{AllocError, Global};
 
 /// The reports on item `n`, which is seen so, and before which there are so many entries. It takes time in the item's length.
-pub fn add_item_reports(
+/// `names` lends its memory for the names of the fields.
+pub fn add_item_reports<'a>(
     alloc: Global,
     out: &mut Vec<u8>,
     db: &Database<Paged>,
     n: usize,
-    item: &ItemView<'_>,
+    item: &ItemView<'a>,
     entries: usize,
+    names: &mut SeenNames<'a>,
 ) -> Result<(), AllocError>
     requires item { IsItemNumber db.now n }
     requires seen { OfReading db.now (λ r. Views r n item.now) }
@@ -38,11 +40,11 @@ pub fn add_item_reports(
     db.opens();
     let macros = db.macros_at(n);
     if !is_same_kind(item.kind(), Kind::Entry) {
-        add_field_reports(alloc, out, item, &macros)?;
+        add_field_reports(alloc, out, item, &macros, names)?;
         return Ok(());
     }
     add_repeated(out, db.is_repeated(entries), item.key())?;
-    add_field_reports(alloc, out, item, &macros)?;
+    add_field_reports(alloc, out, item, &macros, names)?;
     add_crossref(
         out,
         item.key(),
@@ -56,20 +58,21 @@ pub fn add_item_reports(
 // ---- fields
 
 /// The reports on an item's fields: on each, that an earlier one has its name, and on the macros that it uses.
-fn add_field_reports<M: MacroTable>(
+fn add_field_reports<'a, M: MacroTable>(
     alloc: Global,
     out: &mut Vec<u8>,
-    item: &ItemView<'_>,
+    item: &ItemView<'a>,
     macros: &M,
+    earlier: &mut SeenNames<'a>,
 ) -> Result<(), AllocError>
     requires { AreSound item.now.fields }
     ensures { OnOk result ((values : List Assigned) → AreFieldsOf values item.now.fields
         → out.new.items ≡ out.old.items ++ field_reports (defined_in item.now.kind) (M.macros macros.now) item.now.key [] values) }
 {
-    let mut earlier = SeenNames::new(alloc);
+    earlier.clear();
     let mut fields = item.fields();
     'fields: while let Some(field) = fields.next() {
-        add_extra(out, &earlier, item.key(), field.name)?;
+        add_extra(out, earlier, item.key(), field.name)?;
         add_uses(
             alloc,
             out,

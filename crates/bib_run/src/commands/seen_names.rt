@@ -35,6 +35,14 @@ impl<'a> SeenNames<'a> {
         }
     }
 
+    /// Forgets all names. It keeps the memory for the first ones.
+    pub fn clear(&mut self)
+        ensures { HaveSeen self.new [] }
+    {
+        self.few.clear();
+        self.others = None;
+    }
+
     /// Whether the name was seen.
     pub fn has(&self, name: &[u8]) -> bool
         ensures { (names : List Text) → HaveSeen self.now names → result ≡ list_any (same name.now) names }

@@ -15,10 +15,10 @@ fill-preserved c =
     let low : c.fill.k < length c.args.layout.now.items = omega (arith, c.fill-test.true, c.len-k-end.ensures.count) in
     let long = begun_len old now c.args.at c.fill.k c.args.text.now c.args.layout.now c.requires.at_within c.requires.layout (omega (arith, low)) c.fill.invariant in
     let at : c.count-in-fill.result - (c.count.result - c.args.at) ≡ c.args.at + c.fill.k = omega (arith, c.count.ensures, c.count-in-fill.ensures, long, c.requires.at_within) in
-    let more = begun_more old now c.args.at c.fill.k c.args.text.now c.body.result.now c.trail.result.now c.args.layout.now c.item-item.result c.requires.at_within c.requires.layout low c.fill.invariant
-    c.item-item.ensures c.body.ensures c.trail.ensures in
+    let more = begun_more old now c.args.at c.fill.k c.args.text.now c.body-body.result.now c.trail-trail.result.now c.args.layout.now c.requires.at_within c.requires.layout low c.fill.invariant
+    c.body-body.ensures c.trail-trail.ensures in
     subst (λ (l : List Item). IsBegun old l c.args.at (c.fill.k + 1) c.args.text.now)
-    (sym (c.in_default.ensures.ok ∙ ap (λ (m : ℕ). insert now m (item c.body.result.now c.trail.result.now)) at)) more
+    (sym (c.in_default.ensures.ok ∙ ap (λ (m : ℕ). insert now m (item c.body-body.result.now c.trail-trail.result.now)) at)) more
 
 pub returns-in-Err-clause-err : goal.returns-in-Err-clause-err
 returns-in-Err-clause-err c =

@@ -8,8 +8,8 @@ walk-init g c = record {
   ends = c.new-tables.ensures.ends;
 }
 
-pub trail-requires : goal.trail-requires
-trail-requires g c =
+pub texts-requires : goal.texts-requires
+texts-requires g c =
     kept_inside c.args.from c.args.to (length (g.L.ItemList.items c.args.items.now)) c.walk.n c.kept_number-k.result c.requires.order c.requires.within c.kept_number-k.ensures
     (omega (arith, c.walk-test.true, c.count.ensures))
 
@@ -19,7 +19,7 @@ walk-preserved g c =
     let low : c.walk.n < length all - (c.args.to - c.args.from) = omega (arith, c.walk-test.true, c.count.ensures) in
     record {
       walked = walk_more c.args.front_len c.args.from c.args.to all c.walk.n c.kept_number-k.result c.walk.start c.requires.order c.requires.within c.kept_number-k.ensures low
-          c.body-body.result.now c.trail.result.now c.walk.tables c.add.new.self c.behind-start.result c.body-body.ensures c.trail.ensures c.behind-start.ensures
+          c.texts.result.0.now c.texts.result.1.now c.walk.tables c.add.new.self c.behind-start.result c.texts.ensures.body c.texts.ensures.trail c.behind-start.ensures
           c.in_default.ensures.step c.walk.invariant.walked;
       ends = c.in_default.ensures.ends;
     }
@@ -35,7 +35,7 @@ returns-in-Err-clause-fault g c =
     inr (
       told.0,
       walk_over c.args.front_len c.args.from c.args.to all c.walk.n c.kept_number-k.result c.walk.start c.requires.order c.requires.within c.kept_number-k.ensures low
-          c.body-body.result.now c.walk.tables long.0 c.in_file.result.place c.body-body.ensures told.1 (c.in-Err.ensures.too_long long.0 long.1) c.walk.invariant.walked,
+          c.texts.result.0.now c.walk.tables long.0 c.in_file.result.place c.texts.ensures.body told.1 (c.in-Err.ensures.too_long long.0 long.1) c.walk.invariant.walked,
     ))
     (fault_cases c.in-Err.fault)
 

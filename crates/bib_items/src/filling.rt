@@ -1,0 +1,30 @@
+//! Pages made of a text that is read.
+
+ghost use Rattle.std.specs.Prelude.{◌≡◌, IfOk};
+ghost use Rattle.bib_spec.specs.Reading.{Reading, Reads};
+ghost use Rattle.bib_scan.specs.Layout.{IsLayoutOf};
+ghost use Rattle.bib_pages.specs.Pages.{joined};
+ghost use Rattle.bib_items.specs.Items.{all_stored};
+ghost use Rattle.bib_items.specs.Pages.{ArePages};
+
+use crate::page::Page;
+use crate::places::PAGE_LIMIT;
+use bib_scan::Layout;
+use std::alloc::{AllocError, Global};
+
+/// The items of a text that is read, in pages of which all but the last are full. They take memory for the bytes once.
+pub(crate) fn pages_of(alloc: Global, text: &[u8], layout: &Layout) -> Result<Vec<Page>, AllocError>
+    requires { IsLayoutOf text.now layout.now }
+    ensures items { IfOk result (λ pages. (db : Reading) → Reads text.now db → joined pages.items ≡ all_stored db.items) }
+    ensures pages { IfOk result (λ pages. ArePages pages.items) }
+{
+    let count = layout.len();
+    let mut pages = Vec::with_capacity(alloc, count.div_ceil(PAGE_LIMIT))?;
+    let mut from = 0;
+    'fill: while from < count {
+        let to = count.min(from.saturating_add(PAGE_LIMIT));
+        pages.push(Page::of(alloc, text, layout, from, to)?)?;
+        from = to;
+    }
+    Ok(pages)
+}
