@@ -13,11 +13,7 @@ use bib_scan::Layout;
 use std::alloc::{AllocError, Global};
 
 /// The items of a text that is read, in pages of which all but the last are full. They take memory for the bytes once.
-pub(crate) fn pages_of(
-    alloc: Global,
-    text: &[u8],
-    layout: &Layout,
-) -> Result<Vec<Page>, AllocError>
+pub(crate) fn pages_of(alloc: Global, text: &[u8], layout: &Layout) -> Result<Vec<Page>, AllocError>
     requires { IsLayoutOf text.now layout.now }
     ensures items { IfOk result (λ pages. (db : Reading) → Reads text.now db → joined pages.items ≡ all_stored db.items) }
     ensures pages { IfOk result (λ pages. ArePages pages.items) }
