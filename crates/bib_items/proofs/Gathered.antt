@@ -12,7 +12,7 @@ use Rattle.bib_scan.specs.Layout.{Places, IsLayoutOf}
 use Rattle.bib_items.specs.declared.list.Item.{Item}
 use Rattle.bib_items.specs.declared.span.Span.{Span}
 use Rattle.bib_items.specs.Items.{item, stored, all_stored}
-use Rattle.bib_items.specs.Spans.{total, cut}
+use Rattle.bib_items.specs.Spans.{cut}
 use Rattle.bib_items.specs.Pages.{page_limit, IsPage, ArePages}
 use Rattle.bib_pages.specs.Pages.{joined}
 use Rattle.bib_pages.proofs.Paging.{all_append, joined-append}

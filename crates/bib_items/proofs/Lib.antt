@@ -4,3 +4,4 @@ pub mod PageSizes
 pub mod Walks
 pub mod PageNumbers
 pub mod Gathered
+pub mod WholePages

@@ -10,6 +10,7 @@ mod list;
 mod page;
 mod paged;
 mod places;
+mod seams;
 mod span;
 
 pub use fault::StoreFault;

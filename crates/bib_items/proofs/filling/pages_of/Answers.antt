@@ -1,4 +1,4 @@
-use Rattle.std.proofs.Common.{◌≡◌, ◌++◌, ◌+◌, ◌<◌, ◌≤◌, ◌∷◌, [], List, length, subst, sym, arith}
+use Rattle.std.proofs.Common.{◌+◌, ◌<◌, ◌≤◌, List, length, subst, sym, arith}
 use Rattle.bib_items.specs.declared.list.Item.{Item}
 use Rattle.bib_items.proofs.Gathered.{IsFilledTo, filled_page, filled_whole}
 use Rattle.bib_items.proofs.filling.pages_of.Goals as goal

@@ -1,4 +1,4 @@
-use Rattle.std.proofs.Common.{◌-◌, length}
+use Rattle.std.proofs.Common.{◌-◌}
 use Rattle.bib_items.proofs.Gathered.{IsFilledTo}
 use Rattle.bib_items.proofs.filling.pages_of.Given as goal
 

@@ -1,4 +1,4 @@
-use Rattle.std.proofs.Common.{◌≡◌, ◌++◌, ◌+◌, ◌<◌, ◌∷◌, [], ℕ, List, length, subst₂, sym, ◌∙◌, ap, ap₂, arith}
+use Rattle.std.proofs.Common.{◌≡◌, ◌++◌, ◌+◌, ◌<◌, ℕ, List, length, subst₂, sym, ◌∙◌, ap, arith}
 use Rattle.bib_items.specs.declared.span.Span.{Span}
 use Rattle.bib_items.proofs.Gathered.{IsGathered, gathered_more}
 use Rattle.bib_items.proofs.page.Page.of.Goals as goal

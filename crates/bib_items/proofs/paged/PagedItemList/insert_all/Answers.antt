@@ -27,7 +27,7 @@ returns-in-Err-clause-err c =
     let low : c.fill.k < length c.args.layout.now.items = omega (arith, c.fill-test.true, c.len-k-end.ensures.count) in
     let long = begun_len old now c.args.at c.fill.k c.args.text.now c.args.layout.now c.requires.at_within c.requires.layout (omega (arith, low)) c.fill.invariant in
     let at : c.count-in-fill.result - (c.count.result - c.args.at) ≡ c.args.at + c.fill.k = omega (arith, c.count.ensures, c.count-in-fill.ensures, long, c.requires.at_within) in
-    ap joined c.settle.ensures
+    ap joined c.settle-in-Err.ensures
     ∙ c.take_all_out.ensures
     ∙ ap (λ (l : List Item). without_range c.args.at (c.count-in-fill.result - (c.count.result - c.args.at)) l) c.in-Err.ensures.err
     ∙ ap (λ (m : ℕ). without_range c.args.at m now) at

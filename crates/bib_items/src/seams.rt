@@ -1,0 +1,130 @@
+//! Pages that come and go whole.
+
+ghost use Rattle.std.specs.Prelude.{◌≡◌, ◌+◌, ◌≤◌, ◌<◌, ◌++◌, length, take, drop, OnOk, OnErr, IfOk};
+ghost use Rattle.bib_pages.specs.Pages.{joined, page_at, parted_at};
+ghost use Rattle.bib_items.specs.Items.{without_range};
+ghost use Rattle.bib_items.specs.Pages.{ArePages, IsPaged, IsSeam};
+
+use crate::page::Page;
+use crate::places::{locate, part, take_away};
+use std::alloc::{AllocError, Global};
+
+/// How many pages have the items before number `n`. A page that has one of them and others becomes two.
+fn seam(alloc: Global, pages: &mut Vec<Page>, count: usize, n: usize) -> Result<usize, AllocError>
+    requires paged { IsPaged pages.old.items count }
+    requires within { n ≤ count }
+    ensures seam { IfOk result (λ p. IsSeam pages.new.items n p) }
+    ensures same { joined pages.new.items ≡ joined pages.old.items }
+    ensures pages { ArePages pages.new.items }
+{
+    if n == count {
+        return Ok(pages.len());
+    }
+    let (p, k) = locate(pages, n);
+    if k == 0 {
+        return Ok(p);
+    }
+    part(alloc, pages, p, k)?;
+    Ok(p + 1)
+}
+
+/// Puts pages before page `p`, or at the end.
+fn put_pages(pages: &mut Vec<Page>, p: usize, new: Vec<Page>) -> Result<(), AllocError>
+    requires { p ≤ length pages.old.items }
+    ensures ok { OnOk result (pages.new.items ≡ take p pages.old.items ++ (new.items ++ drop p pages.old.items)) }
+    ensures err { OnErr result (pages.new.items ≡ pages.old.items) }
+{
+    let mut new = new;
+    let added = new.len();
+    pages.append(&mut new)?;
+    pages[p..].rotate_right(added);
+    Ok(())
+}
+
+/// Takes pages away, from one number up to another. It asks for no memory.
+fn take_pages(pages: &mut Vec<Page>, p: usize, q: usize)
+    requires ordered { p ≤ q }
+    requires within { q ≤ length pages.old.items }
+    ensures { pages.new.items ≡ take p pages.old.items ++ drop q pages.old.items }
+{
+    let gone = q - p;
+    pages[p..].rotate_left(gone);
+    let left = pages.len() - gone;
+    pages.truncate(left);
+}
+
+/// Puts new pages before item `n`, or at the end. It takes a few steps for each page.
+pub(crate) fn put_all(
+    alloc: Global,
+    pages: &mut Vec<Page>,
+    count: usize,
+    n: usize,
+    new: Vec<Page>,
+) -> Result<(), AllocError>
+    requires paged { IsPaged pages.old.items count }
+    requires within { n ≤ count }
+    requires new { ArePages new.items }
+    ensures ok { OnOk result (joined pages.new.items ≡ take n (joined pages.old.items) ++ (joined new.items ++ drop n (joined pages.old.items))) }
+    ensures err { OnErr result (joined pages.new.items ≡ joined pages.old.items) }
+    ensures pages { ArePages pages.new.items }
+{
+    let p = seam(alloc, pages, count, n)?;
+    put_pages(pages, p, new)
+}
+
+/// The number of the page up to which the pages from number `p` on have no more than `most` items together, and how many
+/// items these have.
+fn whole_pages(pages: &[Page], p: usize, most: usize) -> (usize, usize)
+    requires { p ≤ length pages.now }
+    ensures ordered { p ≤ result.0 }
+    ensures within { result.0 ≤ length pages.now }
+    ensures most { result.1 ≤ most }
+    ensures items { length (joined (take p pages.now)) + result.1 ≡ length (joined (take result.0 pages.now)) }
+{
+    let mut items = 0;
+    'pass: for q in p..pages.len() {
+        let len = pages[q].len();
+        if most - items < len {
+            return (q, items);
+        }
+        items += len;
+    }
+    (pages.len(), items)
+}
+
+/// Takes away the pages that begin with item `n` and have no more than `most` items together; where there are none, item
+/// `n` alone. It says how many items went, and asks for no memory.
+fn take_some(pages: &mut Vec<Page>, n: usize, most: usize) -> usize
+    requires some { 0 < most }
+    requires within { n + most ≤ length (joined pages.old.items) }
+    requires pages { ArePages pages.old.items }
+    ensures some { 0 < result }
+    ensures most { result ≤ most }
+    ensures list { joined pages.new.items ≡ without_range n (n + result) (joined pages.old.items) }
+    ensures pages { ArePages pages.new.items }
+{
+    let (p, k) = locate(pages, n);
+    if k == 0 {
+        let (q, items) = whole_pages(pages, p, most);
+        if items > 0 {
+            take_pages(pages, p, q);
+            return items;
+        }
+    }
+    take_away(pages, n);
+    1
+}
+
+/// Takes the items away from one number up to another. It takes a few steps for each page, and asks for no memory.
+pub(crate) fn take_range(pages: &mut Vec<Page>, from: usize, to: usize)
+    requires ordered { from ≤ to }
+    requires within { to ≤ length (joined pages.old.items) }
+    requires pages { ArePages pages.old.items }
+    ensures list { joined pages.new.items ≡ without_range from to (joined pages.old.items) }
+    ensures pages { ArePages pages.new.items }
+{
+    let mut left = to - from;
+    'out: while left > 0 {
+        left -= take_some(pages, from, left);
+    }
+}
