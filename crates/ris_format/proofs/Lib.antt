@@ -19,3 +19,4 @@ pub mod MappingLaw
 pub mod OpaqueValues
 pub mod FitLaws
 pub mod GivenLaws
+pub mod RisFields
