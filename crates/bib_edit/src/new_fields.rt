@@ -12,7 +12,7 @@ ghost use Rattle.bib_edit.specs.declared.fault.EditFault.TheVariants.{Memory};
 
 use crate::fault::EditFault;
 use crate::limits::is_text_too_long;
-use crate::values::value_parts;
+use crate::values::{judge_value, value_parts};
 use bib_scan::{Text, is_name, only_part, same_folded};
 use bib_store::{Database, ItemList};
 use bib_value::{FoldedMap, RAW_LIMIT, part_text};
@@ -36,7 +36,7 @@ pub(crate) fn judge_values(alloc: Global, fields: &[(Text, Text)]) -> Result<(),
     ensures refused { IfErr result (IsFieldFault fields.now) }
 {
     for field in fields {
-        value_parts(alloc, field.1.as_slice())?;
+        judge_value(alloc, field.1.as_slice())?;
     }
     Ok(())
 }

@@ -42,7 +42,7 @@ text_kept : (fields : Fields) (name : Text) → is_sought name ≡ true → text
 text_kept fields name is =
     ap (λ (o : Option RecordField). option_map_or (λ field. field.1) o [])
     (find_filtered (is_filled name) (λ f. is_sought f.0) fields
-        (λ f filled. ap is_sought ((bytes_eq-Decides f.0 name).0 (and_parts (bytes_eq f.0 name) (has_bytes f.1) filled).0) ∙ is))
+    (λ f filled. ap is_sought ((bytes_eq-Decides f.0 name).0 (and_parts (bytes_eq f.0 name) (has_bytes f.1) filled).0) ∙ is))
 
 publisher_kept : (kind : Kind) → is_sought (publisher_field kind) ≡ true
 publisher_kept Article = refl
