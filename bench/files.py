@@ -1,4 +1,4 @@
-"""Large `.bib` files made by rule: item n is a function of n, so that each run measures the same bytes."""
+"""Large `.bib` and RIS files made by rule: item n is a function of n, so that each run measures the same bytes."""
 
 NAMES = ["Knuth, Donald E.", "Leslie Lamport", "de la Fontaine, Jean", "King, Jr, Martin Luther", "{Barnes and Noble}",
          "Charles Louis Xavier Joseph de la Vall{\\'e}e Poussin", "Per Brinch Hansen", "Wirth, Niklaus", "G{\\\"o}del, Kurt"]
@@ -125,3 +125,54 @@ def sets(count):
     """A script of so many edits: each sets the year of an article in a file of 5,000,000 bytes."""
     keys = [n for n in range(15000) if n % 97 and n % 50 and n % 31 and n % 11 and n % 3]
     return b"".join(b"set\tkey%d\tyear\t{%d}\n" % (keys[n % len(keys)], 1500 + n % 500) for n in range(count))
+
+
+RIS_NAMES = ["Knuth, Donald E.", "Lamport, Leslie", "de la Fontaine, Jean", "King, Martin Luther, Jr", "{Barnes and Noble}",
+             "de la Vall{\\'e}e Poussin, Charles Louis Xavier Joseph", "Hansen, Per Brinch", "Wirth, Niklaus", "G{\\\"o}del, Kurt"]
+
+
+def ris_people_of(n):
+    return "".join("AU  - %s\n" % RIS_NAMES[(n + 4 * k) % len(RIS_NAMES)] for k in range(n % 4 + 1))
+
+
+def ris_article(n):
+    return ("TY  - JOUR\n%sTI  - %s\nJF  - Communications %d, series %d\nPY  - %d/%02d//\nSP  - %d\nEP  - %d\n"
+            "N1  - See \\cite{key%d}, 50\\%% of it\nID  - key%d\nER  - \n"
+            % (ris_people_of(n), text_of(n, 9), n % 97, n % 7, 1950 + n % 75, n % 12 + 1, n, n + 12, n // 2, n))
+
+
+def ris_paper(n):
+    return ("TY  - CONF\n%sTI  - %s\nT2  - %s\nPY  - %d///\nAB  - %s.\nKW  - %s\nKW  - %s\nID  - key%d\nER  - \n"
+            % (ris_people_of(n), text_of(n, 7), text_of(n + 1, 5), 1950 + n % 75, text_of(n + 3, 40), WORDS[n % 4], WORDS[n % 9 + 3], n))
+
+
+def ris_records(size):
+    """RIS records with an ID each, of at most `size` bytes, short of it by less than a record."""
+    records, length, n = [], 0, 0
+    while True:
+        text = (ris_paper(n) if n % 3 == 0 else ris_article(n)).encode()
+        if length + len(text) > size:
+            return b"".join(records)
+        records.append(text)
+        length += len(text)
+        n += 1
+
+
+def ris_authors(count):
+    """One RIS record of so many authors."""
+    return b"TY  - JOUR\n" + b"".join(b"AU  - %05d\n" % n for n in range(count)) + b"ID  - k\nER  - \n"
+
+
+def authors(count):
+    """One entry of so many authors."""
+    return b"@article{k, author = {%s}}\n" % b" and ".join(b"%05d" % n for n in range(count))
+
+
+def ris_lines(count):
+    """One RIS record with one value, of 16 bytes in each of so many lines."""
+    return b"TY  - JOUR\nAB  - begins\n" + b"".join(b"continues %05d\n" % (n % 100000) for n in range(count)) + b"ID  - k\nER  - \n"
+
+
+def ris_one_key(count):
+    """So many RIS records without an ID, which all want one and the same key."""
+    return b"".join(b"TY  - JOUR\nAU  - Knuth, Donald\nTI  - %d\nPY  - 1984///\nER  - \n" % n for n in range(count))

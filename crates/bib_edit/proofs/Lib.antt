@@ -51,6 +51,7 @@ pub mod DanglingTexts
 pub mod PieceLengths
 pub mod RekeyedTexts
 pub mod RenamedKeys
+pub mod BracedTexts
 pub mod CandidateLengths
 pub mod FirstFree
 pub mod TakenLists

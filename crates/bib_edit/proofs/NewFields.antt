@@ -1,13 +1,14 @@
 -- The fields of an entry to be added, judged one after another.
-use Rattle.std.proofs.Common.{◌≡◌, ℕ, ◌+◌, ◌<◌, ◌≤◌, ◌==◌, Bool, true, false, ◌&&◌, nat_lt, nat_le, List, [], ◌∷◌, ◌++◌, Some, slice_get, get_or, length, take, drop, ⊎_elim, refl, sym, ◌∙◌, ap, ap₂, subst, arith, append-nil, take-append-drop}
-use Rattle.std.specs.List.{list_all}
+use Rattle.std.proofs.Common.{◌≡◌, ℕ, ◌+◌, ◌<◌, ◌≤◌, ◌==◌, Bool, true, false, ◌&&◌, ◌||◌, nat_lt, nat_le, List, [], ◌∷◌, ◌++◌, Some, slice_get, get_or, length, take, drop, ⊎_elim, refl, sym, ◌∙◌, ap, ap₂, subst, arith, append-nil, take-append-drop}
+use Rattle.std.specs.List.{list_all, list_any}
 use Rattle.std.proofs.lemmas.Bool.{cases_Bool, and_parts, both_ways, eqb-true, eqb-false, leb-true}
 use Rattle.std.proofs.lemmas.Option.{slice_get_read, same_Some}
 use Rattle.std.proofs.lemmas.List.{take_all, map-append}
 use Rattle.std.proofs.lemmas.List.Concat.{flat_map-append}
 use Rattle.bib_spec.specs.Bytes.{name_limit}
-use Rattle.bib_spec.specs.Text.{Text, is_name, is_name_within, does_not_begin_with}
+use Rattle.bib_spec.specs.Text.{Text, same, is_name, is_name_within, does_not_begin_with}
 use Rattle.bib_spec.specs.Reading.{Reading, IsValueWithin}
+use Rattle.edit_spec.specs.Edits.{has_same}
 use Rattle.bib_edit.specs.NewEntries.{names_of, HaveValuesTo, HaveValues, IsFieldFault, IsLong, AreShortTo, field_line, lines_of}
 use Rattle.bib_edit.specs.declared.fault.EditFault.{EditFault}
 use Rattle.bib_edit.specs.declared.fault.EditFault.TheVariants.{BadKey, BadName, BadValue, BadPosition, NotFound, Ambiguous, KeyInUse, NameInUse, Referred, WouldMerge, FileTooLong, TextTooLong, Memory}
@@ -66,6 +67,17 @@ name-short t h =
     let three = and_parts (nat_lt 0 (length t) && nat_le (length t) name_limit && does_not_begin_with _ t) (list_all _ t) h in
     let two = and_parts (nat_lt 0 (length t) && nat_le (length t) name_limit) (does_not_begin_with _ t) three.0 in
     leb-true (length t) name_limit (and_parts (nat_lt 0 (length t)) (nat_le (length t) name_limit) two.0).1
+
+any-names : (test : Text → Bool) (fields : List (Text × Text)) → list_any test (names_of fields) ≡ list_any (λ field. test field.0) fields
+any-names test [] = refl
+any-names test (field ∷ fields) = ap (λ b. test field.0 || b) (any-names test fields)
+
+-- the first name is compared with those after it
+pub same-first : (fields others : List (Text × Text)) (first : Text × Text) (name : Text) (found : Bool) → fields ≡ first ∷ others → name ≡ first.0 →
+    list_any (λ field. same name field.0) others ≡ found → has_same (names_of fields) ≡ (found || has_same (names_of others))
+same-first fields others first name found is named h =
+    ap (λ (fs : List (Text × Text)). has_same (names_of fs)) is
+    ∙ ap (λ b. b || has_same (names_of others)) (any-names (same first.0) others ∙ ap (λ (t : Text). list_any (λ field. same t field.0) others) (sym named) ∙ h)
 
 -- ---- values
 

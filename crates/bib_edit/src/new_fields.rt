@@ -1,19 +1,21 @@
 //! The fields of an entry to be added, and how they are judged.
 
 ghost use Rattle.std.specs.Prelude.{◌≡◌, length, IfOk, IfErr, OnOk, IsTrue};
-ghost use Rattle.std.specs.List.{list_all};
-ghost use Rattle.bib_spec.specs.Text.{is_name};
+ghost use Rattle.std.specs.List.{list_all, list_any};
+ghost use Rattle.bib_spec.specs.Bytes.{name_limit};
+ghost use Rattle.bib_spec.specs.Text.{is_name, same};
+ghost use Rattle.bib_spec.specs.Reading.{IsValueWithin};
 ghost use Rattle.edit_spec.specs.Edits.{has_same};
 ghost use Rattle.bib_store.specs.Meaning.{OfReading, IsItemPlace};
-ghost use Rattle.bib_edit.specs.NewEntries.{names_of, HaveValues, IsFieldFault, IsAnyLong};
+ghost use Rattle.bib_edit.specs.NewEntries.{names_of, HaveValues, IsFieldFault, IsLong, IsAnyLong};
 ghost use Rattle.bib_edit.specs.declared.fault.EditFault.TheVariants.{Memory};
 
 use crate::fault::EditFault;
 use crate::limits::is_text_too_long;
-use crate::values::value_parts;
-use bib_scan::{Text, is_name};
+use crate::values::{judge_value, value_parts};
+use bib_scan::{Text, is_name, only_part, same_folded};
 use bib_store::{Database, ItemList};
-use bib_value::FoldedMap;
+use bib_value::{FoldedMap, RAW_LIMIT, part_text};
 use std::alloc::{AllocError, Global};
 
 /// Whether each field's name is one.
@@ -34,16 +36,45 @@ pub(crate) fn judge_values(alloc: Global, fields: &[(Text, Text)]) -> Result<(),
     ensures refused { IfErr result (IsFieldFault fields.now) }
 {
     for field in fields {
-        value_parts(alloc, field.1.as_slice())?;
+        judge_value(alloc, field.1.as_slice())?;
     }
     Ok(())
 }
 
-/// Whether a name stands for an earlier one too, folded. It takes memory for the names.
+/// How many names are compared each with each: a map of them would cost more.
+const FEW: usize = 16;
+
+/// Whether one of the fields has this name, folded.
+fn has_name(fields: &[(Text, Text)], name: &[u8]) -> bool
+    ensures { result ≡ list_any (λ field. same name.now field.0) fields.now }
+{
+    fields
+        .iter()
+        .any(|field| same_folded(name, field.0.as_slice()))
+}
+
+/// Whether a name stands for an earlier one too, folded: each is compared with those after it.
+fn has_same_among(fields: &[(Text, Text)]) -> bool
+    ensures { result ≡ has_same (names_of fields.now) }
+{
+    let mut rest = fields;
+    'fields: while let Some((first, others)) = rest.split_first() {
+        if has_name(others, first.0.as_slice()) {
+            return true;
+        }
+        rest = others;
+    }
+    false
+}
+
+/// Whether a name stands for an earlier one too, folded. It takes memory for the names, where they are many.
 pub(crate) fn has_same_name(alloc: Global, fields: &[(Text, Text)]) -> Result<bool, AllocError>
     requires { IsTrue (list_all is_name (names_of fields.now)) }
     ensures { IfOk result (λ same. same ≡ has_same (names_of fields.now)) }
 {
+    if fields.len() <= FEW {
+        return Ok(has_same_among(fields));
+    }
     let mut seen = FoldedMap::new(alloc);
     for field in fields {
         let name = field.0.as_slice();
@@ -53,6 +84,26 @@ pub(crate) fn has_same_name(alloc: Global, fields: &[(Text, Text)]) -> Result<bo
         seen.insert(name, true)?;
     }
     Ok(false)
+}
+
+/// Whether the raw text of a value would be too long before item `n`. Most values have one part, and are not taken
+/// apart: no memory is asked for.
+fn is_long<L: ItemList>(
+    alloc: Global,
+    db: &Database<L>,
+    n: usize,
+    value: &[u8],
+) -> Result<bool, EditFault>
+    requires place { IsItemPlace db.now n }
+    requires value { IsValueWithin name_limit value.now }
+    ensures long { IfOk result (λ long. OfReading db.now (λ r. IsLong long r n value.now)) }
+    ensures only { IfErr result (λ fault. fault ≡ Memory) }
+{
+    if let Some(part) = only_part(value) {
+        return Ok(part_text(part, &db.macros_at(n), None).len() > RAW_LIMIT as usize);
+    }
+    let parts = value_parts(alloc, value)?;
+    Ok(is_text_too_long(db, n, &parts, value))
 }
 
 /// Whether the raw text of a field would be too long before item `n`. Each field has a value.
@@ -68,9 +119,7 @@ pub(crate) fn is_any_long<L: ItemList>(
     ensures only { IfErr result (λ fault. fault ≡ Memory) }
 {
     for field in fields {
-        let value = field.1.as_slice();
-        let parts = value_parts(alloc, value)?;
-        if is_text_too_long(db, n, &parts, value) {
+        if is_long(alloc, db, n, field.1.as_slice())? {
             return Ok(true);
         }
     }

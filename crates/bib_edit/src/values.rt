@@ -1,11 +1,13 @@
 //! Values that are given as bytes.
 
-ghost use Rattle.std.specs.Prelude.{IfOk, IfErr};
+ghost use Rattle.std.specs.Prelude.{◌≡◌, ◌++◌, ◌∷◌, [], IfOk, IfErr, IfSome, OnOk, IsTrue};
+ghost use Rattle.bib_spec.specs.Bytes.{open_brace, close_brace, name_limit};
+ghost use Rattle.bib_spec.specs.Reading.{IsValueWithin};
 ghost use Rattle.bib_scan.specs.ValueParts.{IsPartsOf};
 ghost use Rattle.bib_edit.specs.Judging.{IsNoValue};
 
 use crate::fault::EditFault;
-use bib_scan::{Parts, read_value};
+use bib_scan::{Parts, is_balanced, read_value};
 use std::alloc::Global;
 
 /// The number of the fault of reading that is want of memory.
@@ -21,4 +23,36 @@ pub(crate) fn value_parts(alloc: Global, text: &[u8]) -> Result<Parts, EditFault
         Err(fault) if fault.kind == WANT_OF_MEMORY => Err(EditFault::Memory),
         Err(_) => Err(EditFault::BadValue),
     }
+}
+
+/// What stands between the braces at the two ends of a text, if they are there.
+fn inside_braces(text: &[u8]) -> Option<&[u8]>
+    ensures { IfSome result (λ inside. text.now ≡ open_brace ∷ (inside.now ++ close_brace ∷ [])) }
+{
+    match text {
+        [b'{', inside @ .., b'}'] => Some(inside),
+        _ => None,
+    }
+}
+
+/// Whether the text is a value of one part, in braces.
+fn is_braced(text: &[u8]) -> bool
+    ensures { IsTrue result → IsValueWithin name_limit text.now }
+{
+    match inside_braces(text) {
+        Some(inside) => is_balanced(inside),
+        None => false,
+    }
+}
+
+/// Refuses a text that is no value. One that stands in braces is not taken apart: no memory is asked for.
+pub(crate) fn judge_value(alloc: Global, text: &[u8]) -> Result<(), EditFault>
+    ensures value { OnOk result (IsValueWithin name_limit text.now) }
+    ensures refused { IfErr result (IsNoValue text.now) }
+{
+    if is_braced(text) {
+        return Ok(());
+    }
+    value_parts(alloc, text)?;
+    Ok(())
 }

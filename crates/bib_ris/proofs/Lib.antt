@@ -1,4 +1,5 @@
 pub mod EntriesRis
+pub mod RisFields
 pub mod GivenKeys
 pub mod KeyedRecords
 pub mod DraftSteps

@@ -1,37 +1,39 @@
 //! Entries of a file as RIS.
 
-ghost use Rattle.std.specs.Prelude.{◌≡◌, ◌<◌, ◌++◌, [], length, All, IfOk, IfErr, OnOk};
+ghost use Rattle.std.specs.Prelude.{◌≡◌, ◌<◌, ◌++◌, [], length, map, All, IfOk, IfErr, OnOk};
 ghost use Rattle.std.specs.Option.{option_map_or};
 ghost use Rattle.bib_spec.specs.Records.{entries_of, default_depth, expanded};
 ghost use Rattle.bib_store.specs.Meaning.{OfReading, IsEntryNumber};
 ghost use Rattle.ris_text.specs.Writing.{record_text};
-ghost use Rattle.ris_format.specs.Mapping.{ris};
+ghost use Rattle.ris_format.specs.Mapping.{ris, ris_names};
 ghost use Rattle.ris_format.specs.declared.fault.MappingFault.TheVariants.{Memory};
 ghost use Rattle.bib_ris.specs.Export.{entries_ris};
 
 use bib_scan::{Seq, Text};
 use bib_store::{Database, ItemList};
-use ris_format::{MappingFault, given_records_fit, ris_of};
+use ris_format::{MappingFault, given_records_fit, ris_names, ris_of};
 use ris_text::write_record;
 use std::alloc::Global;
 
-/// Puts the RIS text of entry `n`, with what it inherits, after a text.
+/// Puts the RIS text of entry `n`, with what it inherits, after a text. Of its fields those with these names are gathered.
 fn add_entry<L: ItemList>(
     alloc: Global,
     text: &mut Vec<u8>,
     db: &Database<L>,
+    names: &[&[u8]],
     n: usize,
 ) -> Result<(), MappingFault>
-    requires { IsEntryNumber db.now n }
+    requires number { IsEntryNumber db.now n }
+    requires names { map (λ name. name.now) names.now ≡ ris_names }
     ensures text { OnOk result (OfReading db.now (λ r. text.new.items ≡ text.old.items ++ option_map_or (λ entry. record_text (ris entry)) (expanded default_depth (entries_of r) n) [])) }
     ensures memory { IfErr result (λ fault. fault ≡ Memory) }
 {
     db.opens();
     given_records_fit();
-    let Ok(expanded) = db.expanded(n) else {
+    let Ok(entry) = db.expanded_with(n, names) else {
         return Err(MappingFault::Memory);
     };
-    let record = ris_of(alloc, &expanded.rec)?;
+    let record = ris_of(alloc, &entry)?;
     write_record(text, &record)?;
     Ok(())
 }
@@ -47,9 +49,10 @@ pub fn entries_ris<L: ItemList>(
     ensures text { IfOk result (λ text. OfReading db.now (λ r. text ≡ entries_ris (entries_of r) list.now)) }
     ensures memory { IfErr result (λ fault. fault ≡ Memory) }
 {
+    let names = ris_names();
     let mut text = Vec::new(alloc);
     'entries: for n in list {
-        add_entry(alloc, &mut text, db, *n)?;
+        add_entry(alloc, &mut text, db, &names, *n)?;
     }
     Ok(Seq::from_vec(text))
 }

@@ -1,4 +1,5 @@
 pub mod Entries
 pub mod FieldTextLemmas
 pub mod MonthLemmas
+pub mod NeatTexts
 pub mod RawLemmas

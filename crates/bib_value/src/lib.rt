@@ -14,5 +14,5 @@ pub use fault::ValueFault;
 pub use folded_map::FoldedMap;
 pub use months::month;
 pub use raw::{RAW_LIMIT, part_text, raw_len, raw_text};
-pub use spacing::field_text;
+pub use spacing::{field_text, is_neat};
 pub use table::{MacroTable, Macros};

@@ -25,13 +25,15 @@ use Rattle.ris_text.specs.Writing.{ends_line, fits_line, is_well_formed_line, is
 use Rattle.ris_format.specs.declared.kinds.Kind.{Kind}
 use Rattle.ris_format.specs.declared.kinds.Kind.TheVariants.{Article, Book, Incollection, Inproceedings, Phdthesis, Techreport, Unpublished, Misc}
 use Rattle.ris_format.specs.Kinds.{ris_type, publisher_field, serial_field, is_article, kind_of_entry}
-use Rattle.ris_format.specs.Lines.{has_bytes, single, line, Tagged, tagged_lines, lines_of, neat}
+use Rattle.bib_value.specs.Spacing.{neat}
+use Rattle.ris_format.specs.Lines.{has_bytes, single, line, Tagged, tagged_lines, lines_of}
 use Rattle.ris_format.specs.People.{words_end, part_text, family, Person, person, with_comma, ris_name, is_somebody, taken_apart, is_broken, is_refused, written_person, written_name, written_people}
 use Rattle.ris_format.specs.Dates.{Month, months, has_slash, names_month, written_year, written_month, date_value, written_date}
 use Rattle.ris_format.specs.Pages.{is_no_hyphen, before_dash, has_dash, before_cut, after_cut, is_margin, page, are_two, written_start, written_end}
 use Rattle.ris_format.specs.Mapping.{Fields, is_filled, text_of, written, ris}
 use Rattle.ris_format.specs.Fitting.{has_own_text, SpacedRecordsFit}
-use Rattle.ris_format.proofs.Neat.{neat-space, neat-word, neat-append, neat-slice, neat-field_text}
+use Rattle.bib_value.proofs.NeatTexts.{neat-space, neat-word}
+use Rattle.ris_format.proofs.Neat.{neat-append, neat-slice, neat-field_text}
 use Rattle.ris_format.proofs.Trims.{neat-cut, trimmed-neat}
 use Rattle.ris_format.proofs.Values.{are_neat, single-neat, are_neat-append}
 use Rattle.ris_format.proofs.DateLaws.{IsMonth, each_month}

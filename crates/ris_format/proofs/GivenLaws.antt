@@ -14,9 +14,11 @@ use Rattle.bib_spec.specs.Texts.{Macros, months, macros_after, gathered, field_t
 use Rattle.bib_spec.specs.Records.{Field, EntryTexts, texts_of, entry_in, entries_of, effective, has_name, crossref, RecordField, Record, record_field, own_fields, missing, fields_at, with_inherited, ancestors, record_of, expanded}
 use Rattle.bib_spec.proofs.Names.{true-eq}
 use Rattle.bib_value.proofs.FieldTextLemmas.{more_text, more_text-all}
-use Rattle.ris_format.specs.Lines.{has_bytes, neat}
+use Rattle.bib_value.specs.Spacing.{neat}
+use Rattle.ris_format.specs.Lines.{has_bytes}
 use Rattle.ris_format.specs.Fitting.{has_own_text, is_spaced, GivenRecordsFit}
-use Rattle.ris_format.proofs.Neat.{field_text-neat, neat-whole}
+use Rattle.bib_value.proofs.NeatTexts.{field_text-neat}
+use Rattle.ris_format.proofs.Neat.{neat-whole}
 use Rattle.ris_format.proofs.FitLaws.{spaced_records_fit}
 
 -- ---- field texts

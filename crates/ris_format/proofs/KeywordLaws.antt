@@ -6,7 +6,8 @@ use Rattle.std.proofs.lemmas.Bool.{cases_Bool, cond-true, cond-false}
 use Rattle.bib_spec.specs.Text.{Text, is_space}
 use Rattle.bib_spec.proofs.Names.{eq-true}
 use Rattle.bib_trim.specs.Trimming.{trimmed}
-use Rattle.ris_format.specs.Lines.{has_bytes, neat}
+use Rattle.bib_value.specs.Spacing.{neat}
+use Rattle.ris_format.specs.Lines.{has_bytes}
 use Rattle.ris_format.specs.Pieces.{with_front}
 use Rattle.ris_format.specs.Keywords.{is_comma_byte, written_keywords, read_keywords, are_plain_keywords}
 use Rattle.ris_format.proofs.Trims.{neat-cut}

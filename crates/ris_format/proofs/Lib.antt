@@ -23,3 +23,4 @@ pub mod SectionLaws
 pub mod MappingLaw
 pub mod FitLaws
 pub mod GivenLaws
+pub mod RisFields

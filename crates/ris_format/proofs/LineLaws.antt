@@ -8,8 +8,10 @@ use Rattle.std.proofs.lemmas.List.{map-append}
 use Rattle.std.proofs.lemmas.List.Elements.{filter-append}
 use Rattle.bib_spec.specs.Text.{Text}
 use Rattle.ris_text.specs.declared.records.RisLine.{RisLine}
-use Rattle.ris_format.specs.Lines.{has_bytes, line, Tagged, tagged_lines, lines_of, spaced, read_lines, has_tag, values_at, neat, are_neat_lines}
-use Rattle.ris_format.proofs.Neat.{field_text-neat, neat-has_bytes}
+use Rattle.bib_value.specs.Spacing.{neat}
+use Rattle.ris_format.specs.Lines.{has_bytes, line, Tagged, tagged_lines, lines_of, spaced, read_lines, has_tag, values_at, are_neat_lines}
+use Rattle.bib_value.proofs.NeatTexts.{field_text-neat}
+use Rattle.ris_format.proofs.Neat.{neat-has_bytes}
 use Rattle.ris_format.proofs.Values.{are_neat}
 
 -- ---- neat values are read as they stand

@@ -10,7 +10,8 @@ use Rattle.bib_spec.specs.Text.{Text, is_space, after_run, same, opened_before, 
 use Rattle.bib_trim.specs.Trimming.{trimmed}
 use Rattle.bib_names.specs.Places.{is_level, places_from, between, Stretch, stretch}
 use Rattle.bib_names.specs.NameList.{is_and, is_cut, cuts, names_of}
-use Rattle.ris_format.specs.Lines.{has_bytes, neat}
+use Rattle.bib_value.specs.Spacing.{neat}
+use Rattle.ris_format.specs.Lines.{has_bytes}
 use Rattle.ris_format.proofs.Trims.{cut_out, neat-cut}
 use Rattle.ris_format.proofs.Levels.{opens, closes, count-append, count-cons, count-before_run, count-after_run, space-no_brace, IsWithin, level-within, byte-within, balanced-within, level_at, cut_off, take-sum}
 use Rattle.ris_format.proofs.PartLaws.{none-in}

@@ -12,14 +12,16 @@ use Rattle.ris_text.specs.declared.records.RisLine.{RisLine}
 use Rattle.ris_format.specs.declared.kinds.Kind.{Kind}
 use Rattle.ris_format.specs.declared.kinds.Kind.TheVariants.{Article, Book, Incollection, Inproceedings, Phdthesis, Techreport, Unpublished, Misc}
 use Rattle.ris_format.specs.Kinds.{kinds, entry_type, ris_type, publisher_field, serial_field, is_article, is_entry_type, kind_of_entry, kind_of_ris}
-use Rattle.ris_format.specs.Lines.{has_bytes, single, Tagged, tagged, lines_of, read_lines, values_at, value_at, or_else, neat}
+use Rattle.bib_value.specs.Spacing.{neat}
+use Rattle.ris_format.specs.Lines.{has_bytes, single, Tagged, tagged, lines_of, read_lines, values_at, value_at, or_else}
 use Rattle.ris_format.specs.People.{written_people, read_people}
 use Rattle.ris_format.specs.Dates.{has_slash, written_date, read_year, read_month}
 use Rattle.ris_format.specs.Pages.{written_start, written_end, read_pages}
 use Rattle.ris_format.specs.Keywords.{written_keywords, read_keywords}
 use Rattle.ris_format.specs.Mapping.{Fields, field, text_of, booktitle_text, later_names, field_names, written_fields, read_journal, read_fields, is_carried, is_dropped, record_in}
 use Rattle.ris_format.specs.Profile.{are_in_order, has_form, is_plain_field, ProfileIsKept}
-use Rattle.ris_format.proofs.Neat.{neat-field_text, neat-word}
+use Rattle.bib_value.proofs.NeatTexts.{neat-word}
+use Rattle.ris_format.proofs.Neat.{neat-field_text}
 use Rattle.ris_format.proofs.Levels.{space-no_brace}
 use Rattle.ris_format.proofs.Values.{first, are_neat, single-neat, first-single}
 use Rattle.ris_format.proofs.DateLaws.{DateIsKept, date_kept, month-written}

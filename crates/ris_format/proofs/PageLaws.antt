@@ -5,7 +5,8 @@ use Rattle.std.proofs.lemmas.Bool.{cases_Bool, cond-true, cond-false, and_parts,
 use Rattle.std.proofs.lemmas.List.{drop_all}
 use Rattle.bib_spec.specs.Text.{Text, is_space}
 use Rattle.bib_spec.proofs.Names.{eq-true}
-use Rattle.ris_format.specs.Lines.{has_bytes, neat}
+use Rattle.bib_value.specs.Spacing.{neat}
+use Rattle.ris_format.specs.Lines.{has_bytes}
 use Rattle.ris_format.specs.Pages.{is_no_hyphen, begins_with_hyphen, before_dash, has_dash, before_cut, after_cut, is_margin, page, are_two, written_start, written_end, read_pages, is_plain_page, are_plain_pages}
 use Rattle.ris_format.proofs.Trims.{neat-cut}
 use Rattle.ris_format.proofs.Values.{first, are_neat}

@@ -16,9 +16,11 @@ use Rattle.bib_names.specs.Name.{commas, parts_of}
 use Rattle.bib_names.specs.Label.{balances}
 use Rattle.bib_names.specs.declared.name.Name.{Name}
 use Rattle.bib_names.proofs.BalanceLaws.{IsBalanced-from_test, balances-is}
-use Rattle.ris_format.specs.Lines.{has_bytes, neat}
+use Rattle.bib_value.specs.Spacing.{neat}
+use Rattle.ris_format.specs.Lines.{has_bytes}
 use Rattle.ris_format.specs.People.{Person, person, with_comma, ris_name, is_somebody, taken_apart, is_broken, is_refused, written_person, written_name, written_people, name_pieces, in_braces, or_braces, bib_name, person_of, is_opaque, read_name, name_list, read_people, is_plain_person, is_plain_name, are_plain_names}
-use Rattle.ris_format.proofs.Neat.{neat-append, neat-word, neat-gap, neat-slice}
+use Rattle.bib_value.proofs.NeatTexts.{neat-word, neat-gap}
+use Rattle.ris_format.proofs.Neat.{neat-append, neat-slice}
 use Rattle.ris_format.proofs.Trims.{trimmed-neat, after_run-yes}
 use Rattle.ris_format.proofs.Values.{are_neat}
 use Rattle.ris_format.proofs.Levels.{opens, closes, count-append}

@@ -1,10 +1,10 @@
 -- Lines of a RIS record by their tags, and what is found in them.
-use Rattle.std.specs.Prelude.{Bool, true, false, not, ◌&&◌, ◌==◌, List, [], ◌∷◌, map, filter, slice_index_or, if◌then◌else◌}
+use Rattle.std.specs.Prelude.{Bool, true, not, List, [], ◌∷◌, map, filter, slice_index_or, if◌then◌else◌}
 use Rattle.std.specs.List.{flat_map, list_all, list_any}
 use Rattle.std.specs.Str.{bytes_eq}
-use Rattle.bib_spec.specs.Bytes.{space}
-use Rattle.bib_spec.specs.Text.{Text, is_space}
+use Rattle.bib_spec.specs.Text.{Text}
 use Rattle.bib_spec.specs.Texts.{is_empty, field_text}
+use Rattle.bib_value.specs.Spacing.{neat}
 use Rattle.ris_text.specs.declared.records.RisLine.{RisLine}
 
 abbrev pub has_bytes : Text → Bool
@@ -13,11 +13,6 @@ has_bytes text = not (is_empty text)
 -- the text alone, or nothing where it is empty
 abbrev pub single : Text → List Text
 single text = if is_empty text then [] else text ∷ []
-
--- words with one space between each two, and none at the end; a word has to begin here where the text stands apart
-abbrev pub neat : Bool → Text → Bool
-neat apart [] = not apart
-neat apart (b ∷ t) = if is_space b then b == space && (not apart && neat true t) else neat false t
 
 -- ---- writing
 

@@ -47,6 +47,13 @@ field_names kind =
     codes "author" ∷ codes "editor" ∷ codes "title"
     ∷ (if is_article kind then [] else codes "booktitle" ∷ []) ++ later_names kind
 
+-- the fields that a record of some kind can have
+abbrev pub ris_names : List Text
+ris_names =
+    codes "author" ∷ codes "editor" ∷ codes "title" ∷ codes "booktitle" ∷ codes "series" ∷ codes "journal" ∷ codes "year" ∷ codes "month"
+    ∷ codes "volume" ∷ codes "number" ∷ codes "pages" ∷ codes "publisher" ∷ codes "school" ∷ codes "institution" ∷ codes "address"
+    ∷ codes "issn" ∷ codes "isbn" ∷ codes "url" ∷ codes "doi" ∷ codes "abstract" ∷ codes "note" ∷ codes "keywords" ∷ []
+
 -- ---- writing: the values of these fields by their tags, in order
 
 abbrev pub written_names : Fields → List Tagged

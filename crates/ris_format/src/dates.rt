@@ -94,7 +94,9 @@ fn written_month(text: &[u8]) -> &'static [u8]
 fn date_value(alloc: Global, year: &[u8], digits: &[u8]) -> Result<Text, AllocError>
     ensures { IfOk result (λ t. t ≡ date_value year.now digits.now) }
 {
-    let mut value = Vec::from_slice(alloc, year)?;
+    let len = year.len().saturating_add(digits.len()).saturating_add(3);
+    let mut value = Vec::with_capacity(alloc, len)?;
+    value.extend_from_slice(year)?;
     value.extend_from_slice(b"/")?;
     value.extend_from_slice(digits)?;
     value.extend_from_slice(b"//")?;

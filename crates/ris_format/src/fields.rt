@@ -1,7 +1,7 @@
 //! Fields of a record by their names.
 
 ghost use Rattle.std.specs.Prelude.{◌≡◌, ◌++◌, ◌∷◌, [], OnOk, IfOk, filter, map};
-ghost use Rattle.ris_format.specs.Mapping.{is_filled, has_text, text_of, field, later_names, field_names};
+ghost use Rattle.ris_format.specs.Mapping.{is_filled, has_text, text_of, field, later_names, field_names, ris_names};
 
 use crate::kinds::{Kind, is};
 use crate::text::{copy, has_bytes};
@@ -74,6 +74,37 @@ fn later_names(kind: Kind) -> [&'static [u8]; 15]
         kind.publisher_field(),
         b"address",
         kind.serial_field(),
+        b"url",
+        b"doi",
+        b"abstract",
+        b"note",
+        b"keywords",
+    ]
+}
+
+/// The names of the fields that RIS records are made of, of whatever kind: whoever gathers fields for them needs no
+/// others.
+pub fn ris_names() -> [&'static [u8]; 22]
+    ensures { map (λ n. n.now) result ≡ ris_names }
+{
+    [
+        b"author",
+        b"editor",
+        b"title",
+        b"booktitle",
+        b"series",
+        b"journal",
+        b"year",
+        b"month",
+        b"volume",
+        b"number",
+        b"pages",
+        b"publisher",
+        b"school",
+        b"institution",
+        b"address",
+        b"issn",
+        b"isbn",
         b"url",
         b"doi",
         b"abstract",

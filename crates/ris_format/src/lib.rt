@@ -19,6 +19,7 @@ mod text;
 mod to_record;
 
 pub use fault::MappingFault;
+pub use fields::ris_names;
 pub use from_record::{ris_of, to_ris};
 pub use laws::{a_record_of_the_profile_is_kept, given_records_fit};
 pub use new_entry::to_entry;

@@ -1,13 +1,12 @@
 //! Lines of a RIS record by their tags.
 
-ghost use Rattle.std.specs.Prelude.{◌≡◌, ◌++◌, ◌∷◌, [], true, OnOk, IfOk, map};
-ghost use Rattle.ris_format.specs.Lines.{neat, are_neat_lines, spaced, line, single, read_lines, has_tag, values_at, value_at, or_else};
+ghost use Rattle.std.specs.Prelude.{◌≡◌, ◌++◌, ◌∷◌, [], OnOk, IfOk, map};
+ghost use Rattle.ris_format.specs.Lines.{are_neat_lines, spaced, line, single, read_lines, has_tag, values_at, value_at, or_else};
 
 use crate::kinds::is;
 use crate::text::{copy, has_bytes};
 use bib_scan::Text;
-use bib_trim::is_space;
-use bib_value::field_text;
+use bib_value::{field_text, is_neat};
 use ris_text::RisLine;
 use std::alloc::{AllocError, Global};
 
@@ -39,25 +38,7 @@ pub(crate) fn push_single(
     Ok(())
 }
 
-/// Whether the text is words with one space between each two, and none at its ends.
-fn is_neat(text: &[u8]) -> bool
-    ensures { result ≡ neat true text.now }
-{
-    let mut apart = true;
-    'bytes: for byte in text {
-        if is_space(*byte) {
-            if apart || *byte != b' ' {
-                return false;
-            }
-            apart = true;
-        } else {
-            apart = false;
-        }
-    }
-    !apart
-}
-
-/// Whether each value is so.
+/// Whether each value is words with one space between each two, and none at its ends.
 pub(crate) fn are_neat_lines(lines: &[RisLine]) -> bool
     ensures { result ≡ are_neat_lines lines.now }
 {

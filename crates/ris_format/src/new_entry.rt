@@ -42,7 +42,7 @@ pub fn to_entry(alloc: Global, entry: &Record) -> Result<NewEntry, MappingFault>
     if !are_balanced(entry) {
         return Err(MappingFault::UnbalancedText);
     }
-    let mut fields = Vec::new(alloc);
+    let mut fields = Vec::with_capacity(alloc, entry.fields.as_slice().len())?;
     for field in entry.fields.as_slice() {
         fields.push(value_field(alloc, field)?)?;
     }

@@ -214,6 +214,7 @@ fn push_names(
 }
 
 /// Puts a line for each name of a list after the others, none where the list is refused.
+#[tactic(auto, using(crate::proofs::TakenApart::written_listed))]
 pub(crate) fn push_people(
     alloc: Global,
     lines: &mut Vec<RisLine>,
@@ -222,9 +223,6 @@ pub(crate) fn push_people(
 ) -> Result<(), AllocError>
     ensures { OnOk result (lines.new.items ≡ lines.old.items ++ map (line tag) (written_people list.now)) }
 {
-    if !balances(list) {
-        return Ok(());
-    }
     push_names(alloc, lines, tag, listed_names(alloc, list)?.as_slice())
 }
 

@@ -48,7 +48,9 @@ pub(crate) fn copy(alloc: Global, text: &[u8]) -> Result<Text, AllocError>
 pub(crate) fn with_comma(alloc: Global, text: &[u8], more: &[u8]) -> Result<Text, AllocError>
     ensures { IfOk result (λ t. t ≡ with_comma text.now more.now) }
 {
-    let mut out = Vec::from_slice(alloc, text)?;
+    let len = text.len().saturating_add(more.len()).saturating_add(2);
+    let mut out = Vec::with_capacity(alloc, len)?;
+    out.extend_from_slice(text)?;
     out.extend_from_slice(b", ")?;
     out.extend_from_slice(more)?;
     Ok(Seq::from_vec(out))

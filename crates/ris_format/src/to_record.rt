@@ -149,7 +149,7 @@ fn read_fields(
 ) -> Result<Vec<(Text, Text)>, AllocError>
     ensures { IfOk result (λ fields. fields.items ≡ filter has_text (read_fields kind lines.now)) }
 {
-    let mut fields = Vec::new(alloc);
+    let mut fields = Vec::with_capacity(alloc, lines.len())?;
     push_names(alloc, &mut fields, lines)?;
     push_booktitle(alloc, &mut fields, kind, lines)?;
     push_titles(alloc, &mut fields, kind, lines)?;

@@ -11,5 +11,5 @@ returns c =
     let names = read_names lines in
     six_lists names (read_booktitle kind lines) (read_titles kind lines) (read_numbers lines) (read_publishers kind lines) (read_notes lines)
     c.push_names.new.fields.items c.push_booktitle.new.fields.items c.push_titles.new.fields.items c.push_numbers.new.fields.items c.push_publishers.new.fields.items c.push_notes.new.fields.items
-    (c.in_ok-push_names.ensures ∙ ap (λ (fs : Fields). fs ++ filter has_text names) c.new-fields.ensures.items)
+    (c.in_ok-push_names.ensures ∙ ap (λ (fs : Fields). fs ++ filter has_text names) c.in_ok-fields.ensures.items)
     c.in_ok-push_booktitle.ensures c.in_ok-push_titles.ensures c.in_ok-push_numbers.ensures c.in_ok-push_publishers.ensures c.in_ok-push_notes.ensures

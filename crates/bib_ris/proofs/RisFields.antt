@@ -1,0 +1,12 @@
+-- RIS records are made of some fields alone.
+use Rattle.std.proofs.Common.{◌≡◌, ◌∙◌, Option, None, Some, option_map, refl, sym, ap}
+use Rattle.std.proofs.lemmas.Option.{same_Some, none-some}
+use Rattle.bib_spec.specs.Records.{Record}
+use Rattle.bib_store.specs.Choosing.{with_chosen}
+use Rattle.ris_format.specs.Mapping.{ris_names, ris}
+use Rattle.ris_format.proofs.RisFields.{ris_sought}
+
+-- the RIS record of what was gathered is that of the record of which it was chosen
+pub ris_gathered : (o : Option Record) (gathered : Record) → option_map (with_chosen ris_names) o ≡ Some gathered → (entry : Record) × ((o ≡ Some entry) × (ris gathered ≡ ris entry))
+ris_gathered None gathered is = absurd (none-some gathered is)
+ris_gathered (Some entry) gathered is = (entry, (refl, ap ris (sym (same_Some (with_chosen ris_names entry) gathered is)) ∙ ris_sought entry))

@@ -1,0 +1,9 @@
+-- Texts that are their own field texts.
+use Rattle.std.specs.Prelude.{Bool, not, ◌&&◌, ◌==◌, true, false, [], ◌∷◌, if◌then◌else◌}
+use Rattle.bib_spec.specs.Bytes.{space}
+use Rattle.bib_spec.specs.Text.{Text, is_space}
+
+-- words with one space between each two, and none at the end; a word has to begin here where the text stands apart
+abbrev pub neat : Bool → Text → Bool
+neat apart [] = not apart
+neat apart (b ∷ t) = if is_space b then b == space && (not apart && neat true t) else neat false t

@@ -1,0 +1,114 @@
+-- RIS records are made of some fields alone.
+use Rattle.std.proofs.Common.{◌≡◌, ◌∙◌, Bool, true, false, cond, List, [], ◌∷◌, ◌++◌, filter, Option, Some, codes, refl, ap}
+use Rattle.std.specs.Prelude.{if◌then◌else◌}
+use Rattle.std.specs.List.{find, list_any}
+use Rattle.std.specs.Option.{option_map_or}
+use Rattle.std.proofs.lemmas.Bool.{false≢true, and_parts}
+use Rattle.std.proofs.lemmas.Slice.Eq.{bytes_eq-Decides}
+use Rattle.std.specs.Str.{bytes_eq}
+use Rattle.bib_spec.specs.Text.{Text, same}
+use Rattle.bib_spec.specs.Records.{Record, RecordField}
+use Rattle.ris_format.specs.declared.kinds.Kind.{Kind}
+use Rattle.ris_format.specs.declared.kinds.Kind.TheVariants.{Article, Book, Incollection, Inproceedings, Phdthesis, Techreport, Unpublished, Misc}
+use Rattle.ris_format.specs.Kinds.{ris_type, kind_of_entry, is_article, publisher_field, serial_field}
+use Rattle.ris_format.specs.Lines.{has_bytes, single, Tagged, tagged, lines_of}
+use Rattle.ris_format.specs.People.{written_people}
+use Rattle.ris_format.specs.Dates.{written_date}
+use Rattle.ris_format.specs.Pages.{written_start, written_end}
+use Rattle.ris_format.specs.Keywords.{written_keywords}
+use Rattle.ris_format.specs.Mapping.{Fields, is_filled, text_of, ris_names, written_names, written_titles, written_numbers, written_publishers, written_notes, written_fields, ris}
+
+-- what is sought first is not filtered out
+pub find_filtered : {X : Type 0} (seek keep : X → Bool) (xs : List X) → ((x : X) → seek x ≡ true → keep x ≡ true) → find seek (filter keep xs) ≡ find seek xs
+find_filtered seek keep [] kept = refl
+find_filtered {X} seek keep (x ∷ xs) kept = at (keep x) (seek x) refl (kept x) (find_filtered seek keep xs kept)
+  where
+    at : (k s : Bool) → seek x ≡ s → (s ≡ true → k ≡ true) → find seek (filter keep xs) ≡ find seek xs
+        → find seek (cond k (x ∷ filter keep xs) (filter keep xs)) ≡ cond s (Some x) (find seek xs)
+    at true s is kept later = ap (λ b. cond b (Some x) (find seek (filter keep xs))) is ∙ ap (cond s (Some x)) later
+    at false true is kept later = absurd (false≢true (kept refl))
+    at false false is kept later = later
+
+-- the name is one of a field that a record of some kind can have, whatever its case
+abbrev is_sought : Text → Bool
+is_sought name = list_any (same name) ris_names
+
+-- the fields that have such names
+abbrev pub sought : Fields → Fields
+sought fields = filter (λ f. is_sought f.0) fields
+
+-- the text of a field of one of the names
+text_kept : (fields : Fields) (name : Text) → is_sought name ≡ true → text_of (sought fields) name ≡ text_of fields name
+text_kept fields name is =
+    ap (λ (o : Option RecordField). option_map_or (λ field. field.1) o [])
+    (find_filtered (is_filled name) (λ f. is_sought f.0) fields
+    (λ f filled. ap is_sought ((bytes_eq-Decides f.0 name).0 (and_parts (bytes_eq f.0 name) (has_bytes f.1) filled).0) ∙ is))
+
+publisher_kept : (kind : Kind) → is_sought (publisher_field kind) ≡ true
+publisher_kept Article = refl
+publisher_kept Book = refl
+publisher_kept Incollection = refl
+publisher_kept Inproceedings = refl
+publisher_kept Phdthesis = refl
+publisher_kept Techreport = refl
+publisher_kept Unpublished = refl
+publisher_kept Misc = refl
+
+serial_kept : (kind : Kind) → is_sought (serial_field kind) ≡ true
+serial_kept Article = refl
+serial_kept Book = refl
+serial_kept Incollection = refl
+serial_kept Inproceedings = refl
+serial_kept Phdthesis = refl
+serial_kept Techreport = refl
+serial_kept Unpublished = refl
+serial_kept Misc = refl
+
+names_kept : (fields : Fields) → written_names (sought fields) ≡ written_names fields
+names_kept fields = λ i.
+    tagged (codes "AU") (written_people (text_kept fields (codes "author") refl i))
+    ∷ tagged (codes "A2") (written_people (text_kept fields (codes "editor") refl i))
+    ∷ []
+
+titles_kept : (kind : Kind) (fields : Fields) → written_titles kind (sought fields) ≡ written_titles kind fields
+titles_kept kind fields = λ i.
+    tagged (codes "TI") (single (text_kept fields (codes "title") refl i))
+    ∷ tagged (codes "T2") (single (if is_article kind then [] else text_kept fields (codes "booktitle") refl i))
+    ∷ tagged (codes "T3") (single (text_kept fields (codes "series") refl i))
+    ∷ tagged (codes "JF") (single (text_kept fields (codes "journal") refl i))
+    ∷ []
+
+numbers_kept : (fields : Fields) → written_numbers (sought fields) ≡ written_numbers fields
+numbers_kept fields = λ i.
+    tagged (codes "PY") (written_date (text_kept fields (codes "year") refl i) (text_kept fields (codes "month") refl i))
+    ∷ tagged (codes "VL") (single (text_kept fields (codes "volume") refl i))
+    ∷ tagged (codes "IS") (single (text_kept fields (codes "number") refl i))
+    ∷ tagged (codes "SP") (written_start (text_kept fields (codes "pages") refl i))
+    ∷ tagged (codes "EP") (written_end (text_kept fields (codes "pages") refl i))
+    ∷ []
+
+publishers_kept : (kind : Kind) (fields : Fields) → written_publishers kind (sought fields) ≡ written_publishers kind fields
+publishers_kept kind fields = λ i.
+    tagged (codes "PB") (single (text_kept fields (publisher_field kind) (publisher_kept kind) i))
+    ∷ tagged (codes "CY") (single (text_kept fields (codes "address") refl i))
+    ∷ tagged (codes "SN") (single (text_kept fields (serial_field kind) (serial_kept kind) i))
+    ∷ []
+
+notes_kept : (fields : Fields) → written_notes (sought fields) ≡ written_notes fields
+notes_kept fields = λ i.
+    tagged (codes "UR") (single (text_kept fields (codes "url") refl i))
+    ∷ tagged (codes "DO") (single (text_kept fields (codes "doi") refl i))
+    ∷ tagged (codes "AB") (single (text_kept fields (codes "abstract") refl i))
+    ∷ tagged (codes "N1") (single (text_kept fields (codes "note") refl i))
+    ∷ tagged (codes "KW") (written_keywords (text_kept fields (codes "keywords") refl i))
+    ∷ []
+
+fields_kept : (kind : Kind) (fields : Fields) → written_fields kind (sought fields) ≡ written_fields kind fields
+fields_kept kind fields = λ i.
+    names_kept fields i ++ (titles_kept kind fields i ++ (numbers_kept fields i ++ (publishers_kept kind fields i ++ notes_kept fields i)))
+
+-- the RIS record is that of the whole record
+pub ris_sought : (entry : Record) → ris (record entry { fields = sought entry.fields }) ≡ ris entry
+ris_sought entry =
+    let kind = kind_of_entry entry.kind_name in
+    ap (λ (groups : List Tagged). record { kind_name = ris_type kind; lines = lines_of (groups ++ (tagged (codes "ID") (single entry.key) ∷ [])) }) (fields_kept kind entry.fields)
