@@ -1,15 +1,17 @@
 """Want of memory in the libraries: on worked examples each request of each public call is refused in turn.
 
 The examples stand in `library/*.txt`. These are sources of a program in Rattle that is run before any proof, and so no crate
-of the repository. `rt try` refuses the request of one number in each process. So there is a run for each request of each row,
-which spends as many requests first as make that one the row's.
+of the repository. `rt try` builds it so that the request of one number is refused in each process. So there is a run for each
+request of each row, which spends as many requests first as make that one the row's.
 """
 
+import glob
 import os
 import re
 import shutil
 import subprocess
 import tempfile
+import time
 
 from report import Seen
 
@@ -59,22 +61,21 @@ DECLARED = re.compile(
     r"|^ *(?P<pub>pub )?fn (?P<call>\w+)(?:<[^>]*>)?\([^)]*\) -> (?:io::)?Result<",
     re.M,
 )
-RESULT = re.compile(r"^== (\w+)-(\d+)-(\d+)\n((?:.*\n)*?)case=\S+ (.*)\n", re.M)
+# What `rt try` is to run itself: it takes some time, so that the program can be given a second name before it is taken away.
+LONG_RUN = ("values", "4", "0")
 
 
 def tried(report, _program):
     if not shutil.which(os.environ.get("RT", "rt")):
         print("there is no Rattle toolchain, so the libraries are not tried without memory")
         return
-    said = run_all()
-    endings = {
-        (subject, int(row), int(request)): lines.split("\n")[0] if "status=0 " in status else lines + status
-        for subject, row, request, lines, status in RESULT.findall(said)
-    }
+    with tempfile.TemporaryDirectory(prefix="bibkeep-library-") as room:
+        program, said = built(room)
+        endings = {run: ending_of(program, *run) for run in all_runs()} if program else {}
     runs = {}
     for subject, row, most in rows():
         for request in range(1, most + 1):
-            ending = endings.get((subject, row, request), "was not run:\n" + said[-2000:])
+            ending = endings.get((subject, row, request), "was not built:\n" + said[-2000:])
             where = f"{subject}, row {row}, request {request}"
             if ending.startswith("refused "):
                 runs.setdefault(ending.split()[1], []).append(Seen("refused, and answered when called again"))
@@ -156,27 +157,43 @@ def declared(text):
             yield owner + line["call"]
 
 
-def run_all():
-    """What `rt try` says of the runs, in a copy of the repository's sources."""
-    with tempfile.TemporaryDirectory(prefix="bibkeep-library-") as room:
-        skip = shutil.ignore_patterns("out", "must-fail")
-        shutil.copytree(os.path.join(ROOT, "crates"), os.path.join(room, "crates"), ignore=skip)
-        shutil.copy(os.path.join(ROOT, "HANDLES"), room)
-        with open(os.path.join(ROOT, "crates.txt"), encoding="utf-8") as crates:
-            listed = crates.read()
-        with open(os.path.join(room, "crates.txt"), "w", encoding="utf-8") as crates:
-            crates.write(f"{listed}\n{CRATE}: {STANDS_ON}\n")
-        folder, cases = os.path.join(room, "crates", CRATE), os.path.join(room, "cases")
-        os.makedirs(os.path.join(folder, "src"))
-        for name in os.listdir(os.path.join(HERE, "library")):
-            path = os.path.join(HERE, "library", name)
-            shutil.copy(path, os.path.join(folder, "src", name.replace(".txt", ".rt")))
-        os.mkdir(cases)
-        for run in all_runs():
-            lay_run(cases, *run)
-        words = [os.environ.get("RT", "rt"), "try", "--fail-alloc", str(REFUSED), "--cases", cases]
-        ran = subprocess.run(words, cwd=folder, stdout=subprocess.PIPE, stderr=subprocess.STDOUT, text=True)
-        return ran.stdout
+def built(room):
+    """The path of the program, if it can be built from a copy of the repository's sources, and what `rt try` says."""
+    folder, temporary, program = (os.path.join(room, name) for name in (f"crates/{CRATE}", "temporary", "program"))
+    lay_sources(room, folder)
+    os.mkdir(temporary)
+    words = [os.environ.get("RT", "rt"), "try", "--fail-alloc", str(REFUSED), "--", *LONG_RUN]
+    with open(os.path.join(room, "said"), "w+", encoding="utf-8") as said:
+        environment = {**os.environ, "TMPDIR": temporary}
+        trying = subprocess.Popen(words, cwd=folder, env=environment, stdout=said, stderr=subprocess.STDOUT)
+        while trying.poll() is None:
+            time.sleep(0.02)
+            for path in glob.glob(f"{temporary}/*/*/program") + glob.glob(f"{temporary}/*/program"):
+                if not os.path.exists(program):
+                    os.link(path, program)
+        said.seek(0)
+        return os.path.exists(program) and program, said.read()
+
+
+def lay_sources(room, folder):
+    skip = shutil.ignore_patterns("out", "must-fail")
+    shutil.copytree(os.path.join(ROOT, "crates"), os.path.join(room, "crates"), ignore=skip)
+    shutil.copy(os.path.join(ROOT, "HANDLES"), room)
+    with open(os.path.join(ROOT, "crates.txt"), encoding="utf-8") as crates:
+        listed = crates.read()
+    with open(os.path.join(room, "crates.txt"), "w", encoding="utf-8") as crates:
+        crates.write(f"{listed}\n{CRATE}: {STANDS_ON}\n")
+    os.makedirs(os.path.join(folder, "src"))
+    for name in os.listdir(os.path.join(HERE, "library")):
+        path = os.path.join(HERE, "library", name)
+        shutil.copy(path, os.path.join(folder, "src", name.replace(".txt", ".rt")))
+
+
+def ending_of(program, subject, row, request):
+    """What a run says, or that it ended otherwise."""
+    words = [program, subject, str(row), str(REFUSED - STARTING - request)]
+    ran = subprocess.run(words, stdin=subprocess.DEVNULL, capture_output=True, text=True, timeout=60)
+    return ran.stdout.rstrip() if ran.returncode == 0 else f"{ran.stdout}{ran.stderr}status {ran.returncode}"
 
 
 def all_runs():
@@ -188,11 +205,3 @@ def all_runs():
     for row in range(QUIET_ROWS):
         yield QUIET, row, LATE
         yield SET_UP, row, LATE
-
-
-def lay_run(folder, subject, row, request):
-    """A run has no input, and three words."""
-    path = os.path.join(folder, f"{subject}-{row}-{request}")
-    for name, content in ((path, ""), (f"{path}.args", f"{subject}\n{row}\n{REFUSED - STARTING - request}\n")):
-        with open(name, "w", encoding="utf-8") as file:
-            file.write(content)
