@@ -95,6 +95,14 @@ def full_disks(program, case):
             yield with_trouble(program, case, "write fault", unstored, on=name, full=room)
 
 
+def interrupted_disks(program, case):
+    """The writes of the new file and of the new journal are interrupted, which is borne however often it comes."""
+    for name, content in ((NEW_FILE, case.new_file), (NEW_JOURNAL, case.new_journal)):
+        for place in sorted({0, len(content) // 2}) if content else []:
+            trouble = {"on": name, "piece": 1, "after": place, "interrupted": 10 * BORNE}
+            yield with_trouble(program, case, "answered", answer_of(case, met=True), **trouble)
+
+
 def failing_calls(program, case):
     """Every call of a run fails in turn."""
     wanted = endings_with_a_failing_call(case)
@@ -193,6 +201,7 @@ KINDS = {
     "a write fails, or takes none": failing_writes,
     "writes are interrupted": interrupted_writes,
     "the disk takes so many bytes": full_disks,
+    "writes to the disk are interrupted": interrupted_disks,
     "one call fails": failing_calls,
     "one call fails, and the journal is a link": failing_calls_beside_a_link,
     "killed before a call": killed,

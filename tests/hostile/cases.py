@@ -71,17 +71,42 @@ def doubled(count):
     return b"".join(macros)
 
 
-def edited(file, script, pieces, new_file, journal_before=None, past=()):
-    """An edit of one line, in a journal after these steps."""
+def stored(command, output, file, given, pieces, new_file, journal_before=None, past=()):
+    """A change of the file by one step, in a journal after these steps."""
     return Case(
-        words=("edit", FILE),
+        words=(command, FILE),
         file=file,
         journal=journal_before,
-        input=script,
+        input=given,
         reads=(FILE, INPUT) if journal_before is None else (FILE, JOURNAL, INPUT),
-        output=b"applied 1\n",
+        output=output,
         new_file=new_file,
         new_journal=journal(new_file, [*past, pieces]),
+    )
+
+
+def edited(file, script, pieces, new_file, journal_before=None, past=()):
+    """An edit of one line."""
+    return stored("edit", b"applied 1\n", file, script, pieces, new_file, journal_before, past)
+
+
+def imported(file, text, counts, entries, journal_before=None, past=()):
+    """Entries added to the end of a file by a RIS text."""
+    pieces = [(len(file), b"", entries)] if entries else []
+    output = b"added %d skipped %d\n" % counts
+    return stored("import", output, file, text, pieces, file + entries, journal_before, past)
+
+
+def unimported(file, text, refusal, journal_before=None):
+    """A RIS text that adds nothing to a file."""
+    return Case(
+        words=("import", FILE),
+        file=file,
+        journal=journal_before,
+        input=text,
+        reads=(FILE, INPUT) if journal_before is None else (FILE, JOURNAL, INPUT),
+        status=1,
+        message=b"bibkeep: %s\n" % refusal,
     )
 
 
@@ -107,6 +132,23 @@ REMOVAL = [(3, b"@misc{k}", b"")]
 WITH_ENTRY = b"abc@misc{k}"
 REMOVED = journal(b"abc", past=[REMOVAL])
 TAKEN_BACK = journal(WITH_ENTRY, future=[REMOVAL])
+KING = (
+    b"@article{k1, author = {King, Jr, Martin Luther and de la Fontaine, Jean}, title = {On Things}, journal = {J}, "
+    b"year = 1984, month = may, pages = {10--20}}"
+)
+KING_RIS = (
+    b"TY  - JOUR\nAU  - King, Martin Luther, Jr\nAU  - de la Fontaine, Jean\nTI  - On Things\nJF  - J\n"
+    b"PY  - 1984/05//\nSP  - 10\nEP  - 20\nID  - k1\nER  - \n"
+)
+KING_ADDED = (
+    b"@article{k1,\n  author = {King, Jr, Martin Luther and de la Fontaine, Jean},\n  title = {On Things},\n"
+    b"  journal = {J},\n  year = {1984},\n  month = {May},\n  pages = {10--20}\n}\n"
+)
+# lines of another program: a mark, CR LF, a tag that is not known, a value in two lines
+LONG_ONE = b"\xef\xbb\xbfTY  - JOUR\r\nXX  - q\r\nTI  - A\r\n  long one\r\n\r\nER  -\r\n"
+FIRST = b"@article{anon,\n  title = {A long one}\n}\n"
+SECOND = b"@article{anona,\n  title = {A long one}\n}\n"
+FIRST_ADDED = [(0, b"", FIRST)]
 
 READING = [
     Case(("cat", FILE), ROW, output=ROW),
@@ -127,6 +169,14 @@ READING = [
     Case(("cite", FILE, "--min-crossrefs", "3", "c1", "zz", "c2", "C1"), PARENTS, output=b"c1\nc2\n? zz\n"),
     Case(("labels", FILE, "Lam86", "knu84"), BOOKS, output=b"Knu84\tLam86\nLam86\tKnu84\n"),
     Case(("names", FILE, "Lam86", "{f. }{vv~}{ll}"), BOOKS, output=b"D.~E. Knuth\n"),
+    Case(("ris", FILE, "k1"), KING, output=KING_RIS),
+    Case(
+        ("ris", FILE, "*"),
+        FIRST + SECOND,
+        output=b"TY  - JOUR\nTI  - A long one\nID  - anon\nER  - \n"
+        b"TY  - JOUR\nTI  - A long one\nID  - anona\nER  - \n",
+    ),
+    Case(("ris", FILE, "k1", "zz"), KING, status=1, message=b"bibkeep: 11 NoSuchEntry\n"),
 ]
 
 EDITING = [
@@ -200,6 +250,21 @@ EDITING = [
     ),
 ]
 
+IMPORTING = [
+    imported(b"", LONG_ONE, (1, 1), FIRST),
+    imported(FIRST, LONG_ONE, (1, 1), SECOND, journal(FIRST, [FIRST_ADDED]), past=[FIRST_ADDED]),
+    imported(b"abc", KING_RIS, (1, 0), KING_ADDED),
+    # a text without records is a step without pieces
+    imported(b"abc", b"", (0, 0), b"", journal_before=REMOVED, past=[REMOVAL]),
+    unimported(b"", b"AU  - x\n", b"61 NoStart at 0"),
+    unimported(b"abc", b"TY  - BOOK\n", b"62 NoEnd at 11"),
+    unimported(b"abc", b"TY  -\nER  -\n", b"63 EmptyType at 0"),
+    unimported(b"abc", b"TY  - BOOK\nTI  - a}b\nER  - \n", b"64 UnbalancedText"),
+    unimported(b"", b"TY  - GEN\nID  - x\nER  - \nTY  - GEN\nID  - x\nER  - \n", b"37 KeyInUse"),
+    unimported(b"@misc{X}", b"TY  - GEN\nID  - x\nER  - \n", b"37 KeyInUse", journal(b"@misc{X}", [[(0, b"", b"@misc{X}")]])),
+    unimported(b"abd", LONG_ONE, b"54 JournalMismatch", REMOVED),
+]
+
 TURNING = [
     Case(
         ("undo", FILE),
@@ -240,6 +305,14 @@ TURNING = [
         message=b"bibkeep: 52 NothingToRedo\n",
     ),
     Case(("log", FILE), b"abc", REMOVED, reads=(FILE, JOURNAL), output=b"done 1 8 0\n"),
+    Case(("log", FILE), WITH_ENTRY, TAKEN_BACK, reads=(FILE, JOURNAL), output=b"undone 1 8 0\n"),
+    Case(
+        ("log", FILE),
+        b"abc",
+        journal(b"abc", past=[REMOVAL, []]),
+        reads=(FILE, JOURNAL),
+        output=b"done 1 8 0\ndone 0 0 0\n",
+    ),
     Case(
         ("log", FILE),
         b"abd",
@@ -252,4 +325,4 @@ TURNING = [
     Case(("forget", FILE), b"abc", b"no journal", new_journal=journal(b"abc")),
 ]
 
-CASES = READING + EDITING + TURNING
+CASES = READING + EDITING + IMPORTING + TURNING

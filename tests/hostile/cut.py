@@ -5,7 +5,8 @@ import os
 import resource
 import subprocess
 
-from cases import BOOKS, CONFERENCE, FIELD, FILE, INPUT, JOURNAL, PARENTS, REGENERATED, REPORTS, ROW, TWO, Case, doubled
+from cases import BOOKS, CONFERENCE, FIELD, FILE, FIRST, INPUT, JOURNAL, KING, KING_ADDED, KING_RIS, LONG_ONE, PARENTS
+from cases import REGENERATED, REPORTS, ROW, SECOND, TWO, Case, doubled, imported, unimported
 from program import Left, answer_of, seen
 
 # Files that can be read, from worked examples.
@@ -17,7 +18,10 @@ ACCEPTED = [
     b"@misc{a, t = 1,\n  y = {2},}",
     b"@misc{a,}",
     b"@misc{a, t = 1,\n  w = {4},}",
+    b"@misc{a, t = 1,\n  y = {2},\n  z = {3},}",
     b"@string{jan = jan # { x}}@misc{a, month = jan}",
+    b"@string{j = j # { x}}@misc{a, month = j}",
+    b"@string{JAN = JAN # { x}}@misc{a, month = JAN}",
     BOOKS,
     REGENERATED,
     b'@string{m = "a" # {"}}@misc{k, t = m # 1}',
@@ -30,13 +34,14 @@ ACCEPTED = [
     b"@misc(a )",
     PARENTS,
     b"abc@misc{k}",
-    b"@article{k1, author = {King, Jr, Martin Luther and de la Fontaine, Jean}, title = {On Things}, journal = {J}, "
-    b"year = 1984, month = may, pages = {10--20}}",
+    KING,
     b"@misc{,year=1999}@misc{x,year=1999}@misc{c,year=2000,crossref={anon99A}}",
     b"@misc{anon99,year=1999}@misc{anon99b,year=1999}@misc{anon00,year=2000,crossref={anon99A}}",
     TWO,
     b"@misc{a}\n@book{c,\n  title = {T}\n}\n@misc{b}\n",
     b"\n@misc{b}\n@misc{a}\n",
+    b"@misc{A}\n@misc{b}\n",
+    b"@misc{a}\n@misc{b}\n@misc{c}\n",
     b'@misc{a, t = {x} # "x"}',
     b"@string{m = {x}}\n@misc{a, t = m # m}",
     b'@preamble{"a" # { b}}',
@@ -48,8 +53,15 @@ ACCEPTED = [
     b"@string{p={a}}@misc{a}@misc{b}@misc{c,crossref=p}",
     b"@misc{a}x@misc{b}}}",
     b"@misc{a,x={x@misc{b}}}",
-    b"@article{anon,\n  title = {A long one}\n}\n",
+    FIRST,
+    FIRST + SECOND,
+    KING_ADDED,
 ]
+
+
+# RIS texts of one record, each with its entry and the lines that are skipped.
+RIS_TEXTS = [(KING_RIS, KING_ADDED, 0), (LONG_ONE, FIRST, 1)]
+MARK = b"\xef\xbb\xbf"
 
 
 def nested(depth):
@@ -78,22 +90,25 @@ READERS = [
     ("cite", FILE, "a"),
     ("labels", FILE, "a"),
     ("names", FILE, "a", "{ll}"),
+    ("ris", FILE, "a"),
     ("forget", FILE),
 ]
-WITH_JOURNAL = [("edit", FILE), ("undo", FILE), ("redo", FILE), ("log", FILE)]
+WITH_JOURNAL = [("edit", FILE), ("import", FILE), ("undo", FILE), ("redo", FILE), ("log", FILE)]
 
 
 def tried(report, program):
     for file in [*ACCEPTED, doubled(20)]:
         for command in ("cat", "check"):
             report.tried("a file is cut at each byte", command, cut(program, command, file))
+    for text, entry, skipped in RIS_TEXTS:
+        report.tried("a RIS text is cut at each byte", "import", cut_ris(program, text, entry, skipped))
     for case in DEEP:
         report.tried("deep braces and long texts, on a small stack", case.command, on_a_small_stack(program, case))
     for words in READERS + WITH_JOURNAL:
         report.tried("a file never ends", words[0], endless(program, words, FILE, FILE_TOO_LONG))
     for words in WITH_JOURNAL:
         report.tried("a journal never ends", words[0], endless(program, words, JOURNAL, JOURNAL_WITHOUT_LINE))
-    for words in [("cat",), ("edit", FILE)]:
+    for words in [("cat",), ("edit", FILE), ("import", FILE)]:
         report.tried("an input never ends", words[0], endless(program, words, INPUT, FILE_TOO_LONG))
 
 
@@ -105,6 +120,20 @@ def cut(program, command, file):
         unended = Left(1, b"", b"bibkeep: 1 Unended at %d\n" % size, prefix, None)
         read = Left(0, prefix if command == "cat" else left.output, b"", prefix, None)
         yield seen(left, {"read": read, "ended too early": unended}, f"{command} of {prefix!r}")
+
+
+def cut_ris(program, text, entry, skipped):
+    """Before the record begins there is a line of no tag, or none; and until it ends the text has ended too early."""
+    begun, ended = (text.index(tag) + len(tag) for tag in (b"TY  -", b"ER  -"))
+    for size in range(len(text)):
+        prefix = text[:size]
+        if size < begun:
+            ending, case = "no record", imported(b"abc", prefix, (0, prefix not in (b"", MARK)), b"")
+        elif size < ended:
+            ending, case = "ended too early", unimported(b"abc", prefix, b"62 NoEnd at %d" % size)
+        else:
+            ending, case = "read", imported(b"abc", prefix, (1, skipped), entry)
+        yield seen(program.try_case(case), {ending: answer_of(case)}, f"import of {prefix!r}")
 
 
 def on_a_small_stack(program, case):
@@ -119,10 +148,10 @@ def endless(program, words, source, message):
     """A run over a device that never ends, and one over a pipe."""
     for give in (zeros, ever_more):
         program.clear()
-        program.lay(FILE, b"abc")
+        program.lay(FILE, FIELD)
         with give(program, source) as given:
             left = program.run(words, given)
-        refused = Left(1, b"", message, None if source == FILE else b"abc", None)
+        refused = Left(1, b"", message, None if source == FILE else FIELD, None)
         yield seen(left, {"refused": refused}, f"{words}, {source} without end")
 
 

@@ -1,15 +1,17 @@
 """Want of memory in the libraries: on worked examples each request of each public call is refused in turn.
 
-The examples stand in `library/*.txt`. These are sources in Rattle that are run before any proof, and so no crate of the
-repository. `rt try` refuses the request of one number in each process. So there is a test for each request of each row, which
-spends as many requests first as make that one the row's.
+The examples stand in `library/*.txt`. These are sources of a program in Rattle that is run before any proof, and so no crate
+of the repository. `rt try` builds it so that the request of one number is refused in each process. So there is a run for each
+request of each row, which spends as many requests first as make that one the row's.
 """
 
+import glob
 import os
 import re
 import shutil
 import subprocess
 import tempfile
+import time
 
 from report import Seen
 
@@ -18,94 +20,188 @@ HERE = os.path.dirname(os.path.abspath(__file__))
 ROOT = os.path.dirname(os.path.dirname(HERE))
 CRATE = "refusals"
 STANDS_ON = (
-    "bib_scan bib_data bib_value bib_items bib_store bib_names bib_edit bib_journal journal_format bib_script ris_text ris_format"
+    "bib_scan bib_data bib_value bib_order bib_index bib_entries bib_items bib_store bib_names bib_edit bib_journal "
+    "journal_format bib_script ris_text ris_format bib_ris bib_taps"
 )
-# The number of the request that is refused.
+# The number of the request that is refused, and how many the program makes before it spends any.
 REFUSED = 200
-# The rows that are tried, by subject; each makes fewer requests than is stated here.
+STARTING = 7
+# The rows, by subject, each with a number that its requests stay below; 0: it is left out, since it is tried over pages.
 ROWS = {
-    "files": dict.fromkeys(range(9), 3),
-    "parts": dict.fromkeys(range(7), 3),
-    "values": {0: 3, 1: 12, 2: 22, 3: 70},
-    "flat_lists": {0: 11, 1: 75},
-    "paged_lists": {0: 9, 1: 20},
-    "flat_stores": {6: 84, 9: 40},
-    "paged_stores": {0: 33, 1: 12, 2: 56, 3: 40, 4: 3, 5: 57, 6: 84, 7: 90, 8: 99, 9: 41, 10: 8},
-    "names": {0: 11, 1: 9, 2: 14, 3: 16, 4: 15, 5: 51, 6: 31, 7: 29, 8: 47, 9: 17, 10: 3, 11: 3, 12: 87},
-    "flat_edits": {0: 45, 4: 91, 11: 82, 12: 58},
-    "paged_edits": {0: 45, 1: 42, 2: 90, 3: 60, 4: 81, 5: 52, 6: 133, 7: 144, 8: 138, 9: 107, 10: 173, 11: 81, 12: 58},
-    "plans": {4: 22, 5: 34, 6: 23, 7: 30, 9: 22, 10: 25, 12: 25, 13: 22, 14: 27, 15: 45, 16: 34, 17: 35},
-    "journals": {0: 35, 1: 90, 2: 12, 3: 9, 4: 12, 5: 17, 6: 3, 7: 3},
-    "references": {0: 22, 1: 129, 2: 75, 3: 3, 4: 3, 5: 3},
+    "files": [3, 3, 3, 3, 3, 3, 3, 3, 2],
+    "parts": [3, 4, 3, 3, 2, 2, 3],
+    "values": [3, 12, 22, 40, 35],
+    "indexes": [3, 10, 40, 16, 22, 4, 7],
+    "flat_lists": [11, 73],
+    "paged_lists": [9, 20],
+    "flat_stores": [32, 10, 58, 42, 3, 57, 85, 91, 100, 38, 8],
+    "paged_stores": [33, 12, 56, 40, 3, 58, 85, 91, 100, 39, 8],
+    "names": [11, 9, 14, 16, 15, 50, 30, 28, 46, 17, 3, 3, 85],
+    "flat_edits": [45, 0, 0, 0, 72, 0, 91, 0, 0, 0, 0, 0, 0, 0, 0, 81, 58, 140],
+    "paged_edits": [45, 42, 69, 56, 62, 46, 88, 144, 138, 108, 151, 151, 160, 98, 56, 80, 58, 135],
+    "plans": [23, 24, 24, 22, 22, 34, 23, 30, 22, 22, 24, 23, 23, 23, 36, 23, 23, 25, 23, 27, 45, 34, 74],
+    "journals": [35, 81, 11, 8, 11, 16, 3, 2],
+    "references": [19, 139, 65, 2, 3, 2, 74, 36, 54, 82, 16, 17, 16, 31],
 }
 
-TEST = """
-#[test]
-fn {subject}_{row}_{request}(rt: HostRuntime) -> Result<(), Fail> {{
-    try_row(&rt, "{subject}", {row}, {spent})
-}}
-"""
-RESULT = re.compile(r"^test tests::(\w+)_(\d+)_(\d+) \.\.\. (\w+)\n((?:    .*\n)*)", re.M)
+# So many rows have calls that take no memory: each is run with them, and up to them.
+QUIET = "quiet"
+SET_UP = "set_up"
+QUIET_ROWS = 16
+# The calls with a result that take no memory.
+WITHOUT_MEMORY = {"Database::find", "Macros::months"}
+# A request that comes after all of a row, and one that comes before the first.
+LATE = REFUSED - STARTING - 1
+BEFORE_THE_FIRST = ("files", 0, 0)
+TOO_EARLY = "wrong: the request that is refused comes too early"
+# What a library hands out, and where a type begins and ends its calls, of which each has a result.
+HANDED_OUT = re.compile(r"^pub use ([^;]*);", re.M)
+DECLARED = re.compile(
+    r"^(?:impl(?:<[^>]*>)? |pub trait )(?P<owner>\w+)|^(?P<end>})"
+    r"|^ *(?P<pub>pub )?fn (?P<call>\w+)(?:<[^>]*>)?\([^)]*\) -> (?:io::)?Result<",
+    re.M,
+)
+# What `rt try` is to run itself: it takes some time, so that the program can be given a second name before it is taken away.
+LONG_RUN = ("values", "4", "0")
 
 
 def tried(report, _program):
     if not shutil.which(os.environ.get("RT", "rt")):
         print("there is no Rattle toolchain, so the libraries are not tried without memory")
         return
-    said = run_tests()
-    runs, last = {}, {}
-    for subject, row, request, status, lines in RESULT.findall(said):
-        ending = lines.strip()
-        where = f"{subject}, row {row}, request {request}"
-        if status != "ok":
-            runs.setdefault(subject, []).append(Seen("wrong", f"{where}: {ending}"))
-        elif ending.startswith("refused "):
-            runs.setdefault(ending.split()[1], []).append(Seen("refused, and answered when called again"))
-        elif ending == "made do":
-            runs.setdefault(subject, []).append(Seen("answered with less memory"))
-        if int(request) == ROWS[subject][int(row)]:
-            last[subject, int(row)] = ending
+    with tempfile.TemporaryDirectory(prefix="bibkeep-library-") as room:
+        program, said = built(room)
+        endings = {run: ending_of(program, *run) for run in all_runs()} if program else {}
+    runs = {}
+    for subject, row, most in rows():
+        for request in range(1, most + 1):
+            ending = endings.get((subject, row, request), "was not built:\n" + said[-2000:])
+            where = f"{subject}, row {row}, request {request}"
+            if ending.startswith("refused "):
+                runs.setdefault(ending.split()[1], []).append(Seen("refused, and answered when called again"))
+            elif ending == "made do":
+                runs.setdefault(subject, []).append(Seen("answered with less memory"))
+            elif ending != "elsewhere" and not ending.startswith("not reached"):
+                runs.setdefault(subject, []).append(Seen("wrong", f"{where}: {ending}"))
     for call, seen in runs.items():
         report.tried(KIND, call, seen)
-    report.tried("each row is tried to its end", "all rows", ends_of(last, said))
+    report.tried("each row is tried to its end", "all rows", ends_of(endings))
+    report.tried("calls that take no memory", "all rows", quiet_ends(endings))
+    report.tried("each public call that takes memory is refused some", "all calls", calls_refused(runs))
 
 
-def ends_of(last, said):
-    """A row is tried to its end where its last run meets no refusal."""
-    for subject, rows in ROWS.items():
-        for row, most in rows.items():
-            ending = last.get((subject, row), "was not run:\n" + said[-2000:])
-            if ending.startswith("not reached"):
-                yield Seen("no refusal")
-            else:
-                yield Seen("wrong", f"{subject}, row {row}, which makes fewer than {most} requests, {ending}")
+def rows():
+    """The rows that are tried, with their subjects and the number that their requests stay below."""
+    for subject, numbers in ROWS.items():
+        for row, most in enumerate(numbers):
+            if most:
+                yield subject, row, most
 
 
-def run_tests():
-    """What `rt try` says of the tests, in a copy of the repository's sources."""
-    with tempfile.TemporaryDirectory(prefix="bibkeep-library-") as room:
-        skip = shutil.ignore_patterns("out", "must-fail")
-        shutil.copytree(os.path.join(ROOT, "crates"), os.path.join(room, "crates"), ignore=skip)
-        shutil.copy(os.path.join(ROOT, "HANDLES"), room)
-        with open(os.path.join(ROOT, "crates.txt"), encoding="utf-8") as crates:
-            listed = crates.read()
-        with open(os.path.join(room, "crates.txt"), "w", encoding="utf-8") as crates:
-            crates.write(f"{listed}\n{CRATE}: {STANDS_ON}\n")
-        folder = os.path.join(room, "crates", CRATE)
-        os.makedirs(os.path.join(folder, "src"))
-        for name in os.listdir(os.path.join(HERE, "library")):
-            source = os.path.join(HERE, "library", name)
-            shutil.copy(source, os.path.join(folder, "src", name.replace(".txt", ".rt")))
-        with open(os.path.join(folder, "src/tests.rt"), "w", encoding="utf-8") as tests:
-            tests.write("".join(sources_of_tests()))
-        words = [os.environ.get("RT", "rt"), "try", "--test", "--fail-alloc", str(REFUSED)]
-        ran = subprocess.run(words, cwd=folder, stdout=subprocess.PIPE, stderr=subprocess.STDOUT, text=True)
-        return ran.stdout
+def ends_of(endings):
+    """A row is tried from its first request, before which one comes too early, to its end, where none is refused."""
+    for subject, row, most in rows():
+        ending = endings.get((subject, row, most), "was not run")
+        if ending.startswith("not reached"):
+            yield Seen("no refusal")
+        else:
+            yield Seen("wrong", f"{subject}, row {row}, which makes fewer than {most} requests, {ending}")
+    before = endings.get(BEFORE_THE_FIRST)
+    yield Seen("too early") if before == TOO_EARLY else Seen("wrong", f"the request before the first one: {before}")
 
 
-def sources_of_tests():
-    yield "//! A test for each request of each row.\n\nuse crate::rows::try_row;\nuse std::test::Fail;\n"
-    for subject, rows in ROWS.items():
-        for row, most in rows.items():
-            for request in range(1, most + 1):
-                yield TEST.format(subject=subject, row=row, request=request, spent=REFUSED - request)
+def quiet_ends(endings):
+    """As many requests are made with such calls as without them."""
+    for row in range(QUIET_ROWS):
+        ended, set_up = (endings.get((subject, row, LATE)) for subject in (QUIET, SET_UP))
+        if ended and ended.startswith("not reached") and ended == set_up:
+            yield Seen("no request")
+        else:
+            yield Seen("wrong", f"{QUIET}, row {row}: {ended}, and set up alone: {set_up}")
+
+
+def calls_refused(refused):
+    """Whether each call that the sources declare was refused a request of its own in some run."""
+    for call in sorted(set(calls_that_take_memory())):
+        if call in refused:
+            yield Seen("refused")
+        else:
+            yield Seen("wrong", f"{call} was refused no request")
+
+
+def calls_that_take_memory():
+    """The calls with a result that a library hands out, but for those that take no memory."""
+    for crate in STANDS_ON.split():
+        sources = os.path.join(ROOT, "crates", crate, "src")
+        handed_out = set(re.findall(r"\w+", " ".join(HANDED_OUT.findall(source(sources, "lib.rt")))))
+        for name in os.listdir(sources):
+            for call in declared(source(sources, name)):
+                if call.split("::")[0] in handed_out and call not in WITHOUT_MEMORY:
+                    yield call
+
+
+def source(folder, name):
+    with open(os.path.join(folder, name), encoding="utf-8") as file:
+        return file.read()
+
+
+def declared(text):
+    """The calls with a result that a source declares, each with its type or trait."""
+    owner = ""
+    for line in DECLARED.finditer(text):
+        if line["owner"]:
+            owner = f"{line['owner']}::"
+        elif line["end"]:
+            owner = ""
+        elif owner == "ItemList::" or line["pub"]:
+            yield owner + line["call"]
+
+
+def built(room):
+    """The path of the program, if it can be built from a copy of the repository's sources, and what `rt try` says."""
+    folder, temporary, program = (os.path.join(room, name) for name in (f"crates/{CRATE}", "temporary", "program"))
+    lay_sources(room, folder)
+    os.mkdir(temporary)
+    words = [os.environ.get("RT", "rt"), "try", "--fail-alloc", str(REFUSED), "--", *LONG_RUN]
+    with open(os.path.join(room, "said"), "w+", encoding="utf-8") as said:
+        environment = {**os.environ, "TMPDIR": temporary}
+        trying = subprocess.Popen(words, cwd=folder, env=environment, stdout=said, stderr=subprocess.STDOUT)
+        while trying.poll() is None:
+            time.sleep(0.02)
+            for path in glob.glob(f"{temporary}/*/*/program") + glob.glob(f"{temporary}/*/program"):
+                if not os.path.exists(program):
+                    os.link(path, program)
+        said.seek(0)
+        return os.path.exists(program) and program, said.read()
+
+
+def lay_sources(room, folder):
+    skip = shutil.ignore_patterns("out", "must-fail")
+    shutil.copytree(os.path.join(ROOT, "crates"), os.path.join(room, "crates"), ignore=skip)
+    shutil.copy(os.path.join(ROOT, "HANDLES"), room)
+    with open(os.path.join(ROOT, "crates.txt"), encoding="utf-8") as crates:
+        listed = crates.read()
+    with open(os.path.join(room, "crates.txt"), "w", encoding="utf-8") as crates:
+        crates.write(f"{listed}\n{CRATE}: {STANDS_ON}\n")
+    os.makedirs(os.path.join(folder, "src"))
+    for name in os.listdir(os.path.join(HERE, "library")):
+        path = os.path.join(HERE, "library", name)
+        shutil.copy(path, os.path.join(folder, "src", name.replace(".txt", ".rt")))
+
+
+def ending_of(program, subject, row, request):
+    """What a run says, or that it ended otherwise."""
+    words = [program, subject, str(row), str(REFUSED - STARTING - request)]
+    ran = subprocess.run(words, stdin=subprocess.DEVNULL, capture_output=True, text=True, timeout=60)
+    return ran.stdout.rstrip() if ran.returncode == 0 else f"{ran.stdout}{ran.stderr}status {ran.returncode}"
+
+
+def all_runs():
+    """Subject, row and the number of the row's request that is refused."""
+    yield BEFORE_THE_FIRST
+    for subject, row, most in rows():
+        for request in range(1, most + 1):
+            yield subject, row, request
+    for row in range(QUIET_ROWS):
+        yield QUIET, row, LATE
+        yield SET_UP, row, LATE

@@ -140,12 +140,13 @@ def read_only_folder(program, case):
 
 
 def full_disk(program, case):
-    """A disk of so many pages has room for the old files, for the new file too, or for all of them."""
+    """A disk of so many pages has room for the old files, for the new file too, or for all of them; an empty file has none."""
     if not case.stores():
         return
-    old = sum(content is not None for content in (case.file, case.journal))
-    new = sum(content is not None for content in (case.new_file, case.new_journal))
-    for pages in range(old, old + new):
+    old = sum(bool(content) for content in (case.file, case.journal))
+    new = sum(bool(content) for content in (case.new_file, case.new_journal))
+    # a disk of no pages would be one without a limit
+    for pages in range(max(1, old), old + new):
         left = on_a_disk(program, case, f"size={PAGE * pages}")
         yield seen(left, {"write fault": unstored(case)}, f"{case.name}, on {pages} pages")
     left = on_a_disk(program, case, f"size={PAGE * (old + new)}")
