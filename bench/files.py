@@ -108,7 +108,8 @@ def adds(count):
 
 def moves(count):
     """A script of so many edits: each moves an article to a place among the first 5,000 items."""
-    return b"".join(b"move\tkey%d\t%d\n" % (n, n * 53 % 5000) for n in articles(count))
+    keys = articles(5000)
+    return b"".join(b"move\tkey%d\t%d\n" % (keys[n % len(keys)], n * 53 % 5000) for n in range(count))
 
 
 def removes(count):
@@ -122,8 +123,8 @@ def renames(count):
 
 
 def sets(count):
-    """A script of so many edits: each sets the year of an article in a file of 5,000,000 bytes."""
-    keys = [n for n in range(15000) if n % 97 and n % 50 and n % 31 and n % 11 and n % 3]
+    """A script of so many edits: each sets the year of an article."""
+    keys = articles(5000)
     return b"".join(b"set\tkey%d\tyear\t{%d}\n" % (keys[n % len(keys)], 1500 + n % 500) for n in range(count))
 
 
@@ -176,3 +177,102 @@ def ris_lines(count):
 def ris_one_key(count):
     """So many RIS records without an ID, which all want one and the same key."""
     return b"".join(b"TY  - JOUR\nAU  - Knuth, Donald\nTI  - %d\nPY  - 1984///\nER  - \n" % n for n in range(count))
+
+
+def many_sets(count):
+    """A script of so many edits, each of which sets the same field."""
+    return b"".join(b"set\tk0\tt\t{%d}\n" % n for n in range(count))
+
+
+def all_kinds(count):
+    """A script of so many edits of all kinds but those that look at the whole file, which are one in a thousand."""
+    lines, keys = [], articles(count // 8 + 1)
+    for n in range(count):
+        key = keys[n // 8]
+        if n % 1000 == 999:
+            macro_name = "%s%d" % (MACROS[97 * (n // 1000) % len(MACROS)], 97 * (n // 1000))
+            lines.append("rename-macro\t%s\tother-%d" % (macro_name, n))
+            continue
+        lines.append([
+            "set\tkey%d\tyear\t{%d}" % (key, 1500 + n % 500),
+            "set\tkey%d\turn\t{u%d}" % (key, n),
+            "drop\tkey%d\tnote" % key,
+            "move\tkey%d\t%d" % (key, n * 53 % 5000),
+            "add\t%d\tmisc\tnew%d\ttitle\t{Added %d}" % (n * 37 % 5000, n, n),
+            "rename-key\tkey%d\tother%d" % (key, key),
+            "add\t%d\tmisc\tgone%d" % (n * 37 % 5000, n),
+            "remove\tgone%d" % (n - 1),
+        ][n % 8])
+    return "".join(line + "\n" for line in lines).encode()
+
+
+def entries(count):
+    """So many entries of a short text each."""
+    return b"".join(b"@a{k%d}" % n for n in range(count))
+
+
+def entries_with_a_field(count):
+    return b"".join(b"@misc{k%d, t = 1}\n" % n for n in range(count))
+
+
+def entries_of_one_key(count):
+    return b"@a{k}" * count
+
+
+def comments(count):
+    return b"@comment{}" * count
+
+
+def fields(count):
+    """An entry of so many fields."""
+    return b"@a{k" + b"".join(b",f%d=1" % n for n in range(count)) + b"}"
+
+
+def children(count):
+    """So many entries of one parent, which comes last."""
+    return b"".join(b"@a{k%d,crossref={p}}" % n for n in range(count)) + b"@a{p,t=1}"
+
+
+def at_signs(count):
+    return b"@" * count
+
+
+def one_base(count):
+    """So many entries whose made keys have one base."""
+    return b"".join(b"@misc{k%d, author = {Knuth, Donald}, year = 1984}\n" % n for n in range(count))
+
+
+def great():
+    """A macro whose text is long, and so many uses that all of them would be gigabytes."""
+    return b"@string{m = {%s}}\n" % (b"x" * 1000000) + b"".join(b"@misc{k%d, t = m}\n" % n for n in range(20000))
+
+
+# Kinds of files that are all one kind: a name, the name of the file, the rule, how many.
+KINDS = (
+    ("a million entries", "entries", entries, 1000000),
+    ("a million entries of one key", "one key", entries_of_one_key, 1000000),
+    ("1.5 million comments", "comments", comments, 1500000),
+    ("an entry of 700,000 fields", "fields", fields, 700000),
+    ("300,000 entries of one parent", "children", children, 300000),
+    ("a chain of 300,000 definitions", "chain", chained_macros, 300000),
+    ("16,000,000 at-signs", "at-signs", at_signs, 16000000),
+)
+OF_ONE_KIND = [(name, file) for name, file, _, _ in KINDS]
+# What stands in each file by rule.
+CONTENTS = {
+    "4.bib": lambda: database(4000000),
+    "16.bib": lambda: database(16000000),
+    "library 4": lambda: library(4000000),
+    "library 8": lambda: library(8000000),
+    "library 16": lambda: library(16000000),
+    "use 100": lambda: one_macro(100000),
+    "base 50": lambda: one_base(50000),
+    "base 100": lambda: one_base(100000),
+    "great": great,
+    "authors 50000": lambda: authors(50000),
+    "authors 100000": lambda: authors(100000),
+    "small": lambda: entries_with_a_field(100),
+    "empty": lambda: b"",
+    **{"%s whole" % file: lambda rule=rule, count=count: rule(count) for _, file, rule, count in KINDS},
+    **{"%s half" % file: lambda rule=rule, count=count: rule(count // 2) for _, file, rule, count in KINDS},
+}
