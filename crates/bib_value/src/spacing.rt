@@ -23,15 +23,18 @@ fn is_space(byte: u8) -> bool
 pub fn is_neat(text: &[u8]) -> bool
     ensures { result ≡ neat true text.now }
 {
-    let mut neat = true;
     let mut apart = true;
-    // No byte ends the loop, so that many are tested at once.
     'bytes: for byte in text {
-        let space = is_space(*byte);
-        neat = neat && !(space && (apart || *byte != b' '));
-        apart = space;
+        if is_space(*byte) {
+            if apart || *byte != b' ' {
+                return false;
+            }
+            apart = true;
+        } else {
+            apart = false;
+        }
     }
-    neat && !apart
+    !apart
 }
 
 /// The text with each run of white space as one space, and none at the ends. It takes memory for the text, and time in

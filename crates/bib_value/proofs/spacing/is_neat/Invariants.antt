@@ -1,6 +1,6 @@
-use Rattle.std.proofs.Common.{◌≡◌, ◌&&◌, true, drop}
+use Rattle.std.proofs.Common.{◌≡◌, true, drop}
 use Rattle.bib_value.specs.Spacing.{neat}
 use Rattle.bib_value.proofs.spacing.is_neat.Given as goal
 
 abbrev pub invariant-bytes : goal.invariant-bytes
-invariant-bytes l = (l.neat && neat l.apart (drop l.byte-index l.text)) ≡ neat true l.text
+invariant-bytes l = neat l.apart (drop l.byte-index l.text) ≡ neat true l.text
