@@ -57,3 +57,4 @@ pub mod TakenLists
 pub mod EntryCounts
 pub mod MadeKeyLists
 pub mod Regenerated
+pub mod Referrers
