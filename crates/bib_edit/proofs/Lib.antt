@@ -58,3 +58,4 @@ pub mod EntryCounts
 pub mod MadeKeyLists
 pub mod Regenerated
 pub mod Referrers
+pub mod EntryPieces
