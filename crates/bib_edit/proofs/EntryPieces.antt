@@ -16,7 +16,7 @@ use Rattle.bib_spec.proofs.Keys.{option_cases}
 use Rattle.bib_scan.specs.View.{View, view_of}
 use Rattle.bib_scan.specs.Layout.{start_of}
 use Rattle.bib_entries.specs.EntryTable.{refers, referrers}
-use Rattle.bib_entries.proofs.Tables.{numbers_from, first_is as first_number, first_is_not}
+use Rattle.bib_entries.proofs.Tables.{numbers_from, numbered_first, numbered_later}
 use Rattle.bib_store.specs.Meaning.{is_entry_tree, entry_items, entry_numbers}
 use Rattle.bib_store.specs.Tables.{crossrefs_of}
 use Rattle.bib_store.proofs.EntryItems.{length-entry_items, length-entry_numbers, entry_at, entry_stands}
@@ -31,14 +31,14 @@ use Rattle.bib_edit.proofs.Referrers.{numbers-ascend, none-after, target-referre
 module _ {X : Type 0} (passes : X → Bool) where
   -- what passes has the number of those before it, and stands behind as many that pass as there are
   number-of : (b : ℕ) (before : List X) (x : X) (xs : List X) → passes x ≡ true → slice_get (numbers_from passes b (before ++ x ∷ xs)) (length (filter passes before)) ≡ Some (b + length before)
-  number-of b [] x xs t = ap (λ (l : List ℕ). slice_get l 0) (first_number passes b x xs t) ∙ ap Some (zeroth b)
+  number-of b [] x xs t = ap (λ (l : List ℕ). slice_get l 0) (numbered_first passes b x xs t) ∙ ap Some (zeroth b)
     where
       zeroth : (b : ℕ) → b ≡ b + 0
       zeroth b = omega arith
   number-of b (y ∷ before) x xs t = ⊎_elim
-      (λ s. ap₂ (λ (l : List ℕ) (fs : List X). slice_get l (length fs)) (first_number passes b y (before ++ x ∷ xs) s) (cond-true (passes y) (y ∷ filter passes before) (filter passes before) s)
+      (λ s. ap₂ (λ (l : List ℕ) (fs : List X). slice_get l (length fs)) (numbered_first passes b y (before ++ x ∷ xs) s) (cond-true (passes y) (y ∷ filter passes before) (filter passes before) s)
       ∙ number-of (b + 1) before x xs t ∙ ap Some (next b (length before)))
-      (λ s. ap₂ (λ (l : List ℕ) (fs : List X). slice_get l (length fs)) (first_is_not passes b y (before ++ x ∷ xs) s) (cond-false (passes y) (y ∷ filter passes before) (filter passes before) s)
+      (λ s. ap₂ (λ (l : List ℕ) (fs : List X). slice_get l (length fs)) (numbered_later passes b y (before ++ x ∷ xs) s) (cond-false (passes y) (y ∷ filter passes before) (filter passes before) s)
       ∙ number-of (b + 1) before x xs t ∙ ap Some (next b (length before)))
       (cases_Bool (passes y))
     where
@@ -61,8 +61,8 @@ module _ {X : Type 0} (passes : X → Bool) where
 few-numbers : {X : Type 0} (passes : X → Bool) (b : ℕ) (xs : List X) → length (numbers_from passes b xs) ≤ length xs
 few-numbers passes b [] = omega arith
 few-numbers passes b (x ∷ xs) = ⊎_elim
-    (λ t. let rest = few-numbers passes (b + 1) xs in let is = ap (length {A = ℕ}) (first_number passes b x xs t) in omega (arith, rest, is))
-    (λ t. let rest = few-numbers passes (b + 1) xs in let is = ap (length {A = ℕ}) (first_is_not passes b x xs t) in omega (arith, rest, is))
+    (λ t. let rest = few-numbers passes (b + 1) xs in let is = ap (length {A = ℕ}) (numbered_first passes b x xs t) in omega (arith, rest, is))
+    (λ t. let rest = few-numbers passes (b + 1) xs in let is = ap (length {A = ℕ}) (numbered_later passes b x xs t) in omega (arith, rest, is))
     (cases_Bool (passes x))
 
 stands-after : {X : Type 0} (before : List X) (x : X) (xs : List X) → slice_get (before ++ x ∷ xs) (length before) ≡ Some x
@@ -73,6 +73,57 @@ taken-before : {X : Type 0} (before : List X) (xs : List X) → take (length bef
 taken-before [] xs = refl
 taken-before {X} (y ∷ before) xs = ap (λ (l : List X). y ∷ l) (taken-before before xs)
 
+-- ---- those that refer to a key
+
+module _ (db : Reading) (key : Text) where
+  abbrev refs : List ℕ
+  refs = referrers key (crossrefs_of db)
+
+  -- one that refers before another is before it
+  sooner : (j k n m : ℕ) → j < k → RefersAt db key j n → RefersAt db key k m → n < m
+  sooner j k n m lt e f = numbers-ascend (refers key) 0 (crossrefs_of db) j k n m lt e f
+
+  -- those from number k on are not before entry n, where number k is not
+  all-behind : (k n : ℕ) → ((m : ℕ) → RefersAt db key k m → n ≤ m) → (j m : ℕ) → k ≤ j → RefersAt db key j m → n ≤ m
+  all-behind k n first j m le at = ⊎_elim
+      (λ none. absurd (none-some m (sym (none-after refs k j le none) ∙ at)))
+      (λ some. ⊎_elim
+      (λ lt. let low = first some.0 some.1 in let after = sooner k j some.0 m lt some.1 at in omega (arith, low, after))
+      (λ ge. let same : j ≡ k = omega (arith, le, ge) in first m (ap (slice_get refs) (sym same) ∙ at))
+      (cases_lt k j))
+      (option_cases (slice_get refs k))
+
+  pub none-passed : ArePassed db key 0 0
+  none-passed = record { before = λ j m lt at. absurd (omega (arith, lt)); behind = λ j m le at. omega arith }
+
+  pub behind-with : (k n : ℕ) → ArePassed db key k n → RefersAt db key k n → ArePassed db key (k + 1) (n + 1)
+  behind-with k n passed at = record {
+    before = λ j m lt there. ⊎_elim
+        (λ few. let before = passed.before j m few there in omega (arith, before))
+        (λ many. let same : j ≡ k = omega (arith, lt, many) in let is : m ≡ n = same_Some m n (sym there ∙ ap (slice_get refs) same ∙ at) in omega (arith, is))
+        (cases_lt j k);
+    behind = λ j m le there. (let later = sooner k j n m (omega (arith, le)) at there in omega (arith, later));
+  }
+
+  pub behind-without : (k n : ℕ) → ArePassed db key k n → (RefersAt db key k n → ⊥) → ArePassed db key k (n + 1)
+  behind-without k n passed other = record {
+    before = λ j m lt there. (let before = passed.before j m lt there in omega (arith, before));
+    behind = all-behind k (n + 1) (λ m at.
+        let low = passed.behind k m (omega arith) at in
+        omega (arith, low, (λ (same : m ≡ n). other (subst (λ (x : ℕ). RefersAt db key k x) same at))));
+  }
+
+  -- no more refer than there are entries
+  pub refers-within : (j m : ℕ) → RefersAt db key j m → j < length (entries_of db)
+  refers-within j m at =
+      let within = slice_get_within refs j m at in
+      let few = few-numbers (refers key) 0 (crossrefs_of db) in
+      let all = length-map (entries_of db) crossref_text in
+      omega (arith, within, few, all)
+
+  few-refer : (j m : ℕ) → length (entries_of db) ≤ j → RefersAt db key j m → ⊥
+  few-refer j m le at = let within = refers-within j m at in omega (arith, le, within)
+
 -- ---- all entries
 
 module _ (new : NewKeys) (db : Reading) where
@@ -80,13 +131,10 @@ module _ (new : NewKeys) (db : Reading) where
   count = length (entries_of db)
 
   pub behind-next : (n : ℕ) → n < count → pieces_behind new db n ≡ pieces_at new db n ++ pieces_behind new db (n + 1)
-  behind-next n lt = ap (λ (k : ℕ). flat_map (pieces_at new db) (range_with_len n k)) (one_more n count lt) ∙ ap (λ (m : ℕ). pieces_at new db n ++ flat_map (pieces_at new db) (range_with_len m (count - (n + 1)))) (next n)
+  behind-next n lt = ap (λ (k : ℕ). flat_map (pieces_at new db) (range_with_len n k)) (one_more n count lt)
     where
       one_more : (n k : ℕ) → n < k → k - n ≡ suc (k - (n + 1))
       one_more n k lt = omega (arith, lt)
-
-      next : (n : ℕ) → suc n ≡ n + 1
-      next n = omega arith
 
   pub behind-last : (n : ℕ) → count ≤ n → pieces_behind new db n ≡ []
   behind-last n le = ap (λ (k : ℕ). flat_map (pieces_at new db) (range_with_len n k)) (none n count le)
@@ -197,34 +245,14 @@ module _ (new : NewKeys) (db : Reading) where
       let long = ap (λ (x : Item). length (item_bytes x)) it.1 in
       record { entry = it.0; trail = e.0.trail; is = seen e.0 e.1.listed ∙ ap view_of it.1; within = omega (arith, ends, long, short, at) }
 
-  -- ---- those that refer to a key
+  -- ---- up to those that refer to a key
 
   module _ (key : Text) where
-    abbrev refs : List ℕ
-    refs = referrers key (crossrefs_of db)
-
-    -- one that refers before another is before it
-    sooner : (j k n m : ℕ) → j < k → RefersAt db key j n → RefersAt db key k m → n < m
-    sooner j k n m lt e f = numbers-ascend (refers key) 0 (crossrefs_of db) j k n m lt e f
-
-    -- those from number k on are not before entry n, where number k is not
-    all-behind : (k n : ℕ) → ((m : ℕ) → RefersAt db key k m → n ≤ m) → (j m : ℕ) → k ≤ j → RefersAt db key j m → n ≤ m
-    all-behind k n first j m le at = ⊎_elim
-        (λ none. absurd (none-some m (sym (none-after refs k j le none) ∙ at)))
-        (λ some. ⊎_elim
-        (λ lt. let low = first some.0 some.1 in let after = sooner k j some.0 m lt some.1 at in omega (arith, low, after))
-        (λ ge. let same : j ≡ k = omega (arith, le, ge) in first m (ap (slice_get refs) (sym same) ∙ at))
-        (cases_lt k j))
-        (option_cases (slice_get refs k))
-
-    pub none-passed : ArePassed db key 0 0
-    none-passed = record { before = λ j m lt at. absurd (omega (arith, lt)); behind = λ j m le at. omega arith }
-
     -- entries up to the next that refers, or to the end, are passed
     pub pieces-to : (k a b : ℕ) (done : List Piece) → a ≤ b → b ≤ count → AreQuiet new db key a b → HavePieces new db key k a done → ((m : ℕ) → RefersAt db key k m → b ≤ m) → HavePieces new db key k b done
     pieces-to k a b done le high quiet have first =
         let passed = have.passed in
-        let behind = all-behind k b first in
+        let behind = all-behind db key k b first in
         record {
           pieces = ap (λ ps. done ++ ps) (sym (skip-to a b le high (λ n low lt. quiet n low lt (λ j at. ⊎_elim
               (λ few. let before = passed.before j n few at in omega (arith, before, low))
@@ -233,31 +261,14 @@ module _ (new : NewKeys) (db : Reading) where
           passed = record { before = λ j m lt at. (let before = passed.before j m lt at in omega (arith, before, le)); behind = behind };
         }
 
-    pub behind-with : (k n : ℕ) → ArePassed db key k n → RefersAt db key k n → ArePassed db key (k + 1) (n + 1)
-    behind-with k n passed at = record {
-      before = λ j m lt there. ⊎_elim
-          (λ few. let before = passed.before j m few there in omega (arith, before))
-          (λ many. let same : j ≡ k = omega (arith, lt, many) in let is : m ≡ n = same_Some m n (sym there ∙ ap (slice_get refs) same ∙ at) in omega (arith, is))
-          (cases_lt j k);
-      behind = λ j m le there. (let later = sooner k j n m (omega (arith, le)) at there in omega (arith, later));
-    }
-
     -- the next that refers is there too
     pub pieces-with : (k n : ℕ) (done more : List Piece) → n < count → HavePieces new db key k n done → RefersAt db key k n → more ≡ done ++ pieces_at new db n → HavePieces new db key (k + 1) (n + 1) more
     pieces-with k n done more lt have at more_is =
         let passed = have.passed in
         record {
           pieces = next-pieces n done more lt have.pieces more_is;
-          passed = behind-with k n passed at;
+          passed = behind-with db key k n passed at;
         }
-
-    pub behind-without : (k n : ℕ) → ArePassed db key k n → (RefersAt db key k n → ⊥) → ArePassed db key k (n + 1)
-    behind-without k n passed other = record {
-      before = λ j m lt there. (let before = passed.before j m lt there in omega (arith, before));
-      behind = all-behind k (n + 1) (λ m at.
-          let low = passed.behind k m (omega arith) at in
-          omega (arith, low, (λ (same : m ≡ n). other (subst (λ (x : ℕ). RefersAt db key k x) same at))));
-    }
 
     -- entries up to one that refers as number k, or to a later one, have their pieces, and none but those that refer gets any up
     -- to the end
@@ -285,26 +296,15 @@ module _ (new : NewKeys) (db : Reading) where
     pub reached-end : (k end : ℕ) (done : List Piece) → IsReached k end done → end ≤ count → ((m : ℕ) → RefersAt db key k m → end ≤ m) → HavePieces new db key k end done
     reached-end k end done is high first = pieces-to k is.at end done is.within high is.quiet is.have first
 
-    -- no more refer than there are entries
-    pub refers-within : (j m : ℕ) → RefersAt db key j m → j < count
-    refers-within j m at =
-        let within = slice_get_within refs j m at in
-        let few = few-numbers (refers key) 0 (crossrefs_of db) in
-        let all = length-map (entries_of db) crossref_text in
-        omega (arith, within, few, all)
-
-    few-refer : (j m : ℕ) → count ≤ j → RefersAt db key j m → ⊥
-    few-refer j m le at = let within = refers-within j m at in omega (arith, le, within)
-
     pub reached-all : (k end : ℕ) (done : List Piece) → IsReached k end done → end ≤ count → count ≤ k → HavePieces new db key count end done
     reached-all k end done is high le =
         let have = is.have in
         let passed = have.passed in
         let all : HavePieces new db key count is.at done = record {
           pieces = have.pieces;
-          passed = record { before = λ j m lt at. passed.before j m (omega (arith, lt, le)) at; behind = λ j m many at. absurd (few-refer j m many at) };
+          passed = record { before = λ j m lt at. passed.before j m (omega (arith, lt, le)) at; behind = λ j m many at. absurd (few-refer db key j m many at) };
         } in
-        pieces-to count is.at end done is.within high is.quiet all (λ m at. absurd (few-refer count m (omega arith) at))
+        pieces-to count is.at end done is.within high is.quiet all (λ m at. absurd (few-refer db key count m (omega arith) at))
 
     -- ---- the one that the key names
 

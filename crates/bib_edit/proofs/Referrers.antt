@@ -15,7 +15,7 @@ use Rattle.bib_spec.proofs.Keys.{option_cases}
 use Rattle.bib_spec.proofs.Names.{same-true, true-same}
 use Rattle.bib_spec.proofs.Places.{first_is, first_named_same}
 use Rattle.bib_entries.specs.EntryTable.{refers, referrers}
-use Rattle.bib_entries.proofs.Tables.{numbers_from, first_is as first_number, first_is_not}
+use Rattle.bib_entries.proofs.Tables.{numbers_from, numbered_first, numbered_later}
 use Rattle.bib_store.proofs.EntryItems.{entry_at, key_at_entry}
 use Rattle.bib_store.proofs.KeptItems.{item_in}
 use Rattle.bib_store.proofs.Parents.{named_within}
@@ -38,8 +38,8 @@ module _ {X : Type 0} (passes : X → Bool) where
   pub number-passes : (b : ℕ) (xs : List X) (k n : ℕ) → slice_get (numbers_from passes b xs) k ≡ Some n → IsNumbered b n xs
   number-passes b [] k n e = absurd (none-some n e)
   number-passes b (x ∷ xs) k n e = ⊎_elim
-      (λ t. here (λ k n. number-passes (b + 1) xs k n) t k n (ap (λ (l : List ℕ). slice_get l k) (sym (first_number passes b x xs t)) ∙ e))
-      (λ t. later b n x xs (number-passes (b + 1) xs k n (ap (λ (l : List ℕ). slice_get l k) (sym (first_is_not passes b x xs t)) ∙ e)))
+      (λ t. here (λ k n. number-passes (b + 1) xs k n) t k n (ap (λ (l : List ℕ). slice_get l k) (sym (numbered_first passes b x xs t)) ∙ e))
+      (λ t. later b n x xs (number-passes (b + 1) xs k n (ap (λ (l : List ℕ). slice_get l k) (sym (numbered_later passes b x xs t)) ∙ e)))
       (cases_Bool (passes x))
     where
       here : ((k n : ℕ) → slice_get (numbers_from passes (b + 1) xs) k ≡ Some n → IsNumbered (b + 1) n xs) → passes x ≡ true → (k n : ℕ)
@@ -49,15 +49,15 @@ module _ {X : Type 0} (passes : X → Bool) where
 
   pub passes-number : (b : ℕ) (xs : List X) (n : ℕ) (x : X) → slice_get xs n ≡ Some x → passes x ≡ true → (k : ℕ) × (slice_get (numbers_from passes b xs) k ≡ Some (b + n))
   passes-number b [] n x e t = absurd (none-some x e)
-  passes-number b (y ∷ xs) zero x e t = (0, ap (λ (l : List ℕ). slice_get l 0) (first_number passes b y xs (ap passes (same_Some y x e) ∙ t)) ∙ ap Some (zeroth b))
+  passes-number b (y ∷ xs) zero x e t = (0, ap (λ (l : List ℕ). slice_get l 0) (numbered_first passes b y xs (ap passes (same_Some y x e) ∙ t)) ∙ ap Some (zeroth b))
     where
       zeroth : (b : ℕ) → b ≡ b + 0
       zeroth b = omega arith
   passes-number b (y ∷ xs) (suc n) x e t =
       let rest = passes-number (b + 1) xs n x e t in
       ⊎_elim
-      (λ s. (suc rest.0, ap (λ (l : List ℕ). slice_get l (suc rest.0)) (first_number passes b y xs s) ∙ rest.1 ∙ ap Some (next b n)))
-      (λ s. (rest.0, ap (λ (l : List ℕ). slice_get l rest.0) (first_is_not passes b y xs s) ∙ rest.1 ∙ ap Some (next b n)))
+      (λ s. (suc rest.0, ap (λ (l : List ℕ). slice_get l (suc rest.0)) (numbered_first passes b y xs s) ∙ rest.1 ∙ ap Some (next b n)))
+      (λ s. (rest.0, ap (λ (l : List ℕ). slice_get l rest.0) (numbered_later passes b y xs s) ∙ rest.1 ∙ ap Some (next b n)))
       (cases_Bool (passes y))
     where
       next : (b n : ℕ) → b + 1 + n ≡ b + suc n
@@ -67,8 +67,8 @@ module _ {X : Type 0} (passes : X → Bool) where
   pub numbers-ascend : (b : ℕ) (xs : List X) (k j n m : ℕ) → k < j → slice_get (numbers_from passes b xs) k ≡ Some n → slice_get (numbers_from passes b xs) j ≡ Some m → n < m
   numbers-ascend b [] k j n m lt e f = absurd (none-some n e)
   numbers-ascend b (x ∷ xs) k j n m lt e f = ⊎_elim
-      (λ t. here (λ k j n m. numbers-ascend (b + 1) xs k j n m) k j n m lt (ap (λ (l : List ℕ). slice_get l k) (sym (first_number passes b x xs t)) ∙ e) (ap (λ (l : List ℕ). slice_get l j) (sym (first_number passes b x xs t)) ∙ f))
-      (λ t. numbers-ascend (b + 1) xs k j n m lt (ap (λ (l : List ℕ). slice_get l k) (sym (first_is_not passes b x xs t)) ∙ e) (ap (λ (l : List ℕ). slice_get l j) (sym (first_is_not passes b x xs t)) ∙ f))
+      (λ t. here (λ k j n m. numbers-ascend (b + 1) xs k j n m) k j n m lt (ap (λ (l : List ℕ). slice_get l k) (sym (numbered_first passes b x xs t)) ∙ e) (ap (λ (l : List ℕ). slice_get l j) (sym (numbered_first passes b x xs t)) ∙ f))
+      (λ t. numbers-ascend (b + 1) xs k j n m lt (ap (λ (l : List ℕ). slice_get l k) (sym (numbered_later passes b x xs t)) ∙ e) (ap (λ (l : List ℕ). slice_get l j) (sym (numbered_later passes b x xs t)) ∙ f))
       (cases_Bool (passes x))
     where
       here : ((k j n m : ℕ) → k < j → slice_get (numbers_from passes (b + 1) xs) k ≡ Some n → slice_get (numbers_from passes (b + 1) xs) j ≡ Some m → n < m)
@@ -209,6 +209,10 @@ module _ (entries : List EntryTexts) (key : Text) where
         at zero e other = other (sym (same_Some m found.0 (sym first ∙ e)))
         at (suc k) e other = none-some found.0 (sym (none-after (referrers key crossrefs) 1 (suc k) (omega arith) none) ∙ e)
 
+    pub other-iff : (o : Option ℕ) (b : Bool) → slice_get (referrers key crossrefs) 0 ≡ Some m → o ≡ slice_get (referrers key crossrefs) 1 → b ≡ is_some o → IsTrue b ↔ IsParent entries m
+    other-iff None b first is told = ((λ t. absurd (both_ways b told t)), λ p. absurd (none-other first (sym is) p))
+    other-iff (Some n) b first is told = ((λ t. other-second first n (sym is)), λ p. told)
+
 -- ---- crossrefs that wait for a key
 
 module _ (key : Text) where
@@ -241,8 +245,8 @@ module _ (key : Text) where
 pub any-numbered : {X : Type 0} (passes : X → Bool) (b : ℕ) (xs : List X) → is_some (slice_get (numbers_from passes b xs) 0) ≡ list_any passes xs
 any-numbered passes b [] = refl
 any-numbered passes b (x ∷ xs) = ⊎_elim
-    (λ t. ap (λ (l : List ℕ). is_some (slice_get l 0)) (first_number passes b x xs t) ∙ sym (ap (λ y. y || list_any passes xs) t))
-    (λ t. ap (λ (l : List ℕ). is_some (slice_get l 0)) (first_is_not passes b x xs t) ∙ any-numbered passes (b + 1) xs ∙ sym (ap (λ y. y || list_any passes xs) t))
+    (λ t. ap (λ (l : List ℕ). is_some (slice_get l 0)) (numbered_first passes b x xs t) ∙ sym (ap (λ y. y || list_any passes xs) t))
+    (λ t. ap (λ (l : List ℕ). is_some (slice_get l 0)) (numbered_later passes b x xs t) ∙ any-numbered passes (b + 1) xs ∙ sym (ap (λ y. y || list_any passes xs) t))
     (cases_Bool (passes x))
 
 module _ (entries : List EntryTexts) (key : Text) where

@@ -354,11 +354,12 @@ module _ {X : Type 0} (passes : X → Bool) where
   abbrev pub numbers_from : ℕ → List X → List ℕ
   numbers_from b xs = map (λ (p : ℕ × X). p.0) (filter (λ (p : ℕ × X). passes p.1) (enumerate_from b xs))
 
-  first_is : (b : ℕ) (x : X) (xs : List X) → passes x ≡ true → numbers_from b (x ∷ xs) ≡ b ∷ numbers_from (b + 1) xs
-  first_is b x xs t = ap (map (λ (p : ℕ × X). p.0)) (cond-true (passes x) ((b, x) ∷ filter (λ (p : ℕ × X). passes p.1) (enumerate_from (b + 1) xs)) (filter (λ (p : ℕ × X). passes p.1) (enumerate_from (b + 1) xs)) t)
+  -- the first of all is the first of them, if it passes
+  pub numbered_first : (b : ℕ) (x : X) (xs : List X) → passes x ≡ true → numbers_from b (x ∷ xs) ≡ b ∷ numbers_from (b + 1) xs
+  numbered_first b x xs t = ap (map (λ (p : ℕ × X). p.0)) (cond-true (passes x) ((b, x) ∷ filter (λ (p : ℕ × X). passes p.1) (enumerate_from (b + 1) xs)) (filter (λ (p : ℕ × X). passes p.1) (enumerate_from (b + 1) xs)) t)
 
-  first_is_not : (b : ℕ) (x : X) (xs : List X) → passes x ≡ false → numbers_from b (x ∷ xs) ≡ numbers_from (b + 1) xs
-  first_is_not b x xs t = ap (map (λ (p : ℕ × X). p.0)) (cond-false (passes x) ((b, x) ∷ filter (λ (p : ℕ × X). passes p.1) (enumerate_from (b + 1) xs)) (filter (λ (p : ℕ × X). passes p.1) (enumerate_from (b + 1) xs)) t)
+  pub numbered_later : (b : ℕ) (x : X) (xs : List X) → passes x ≡ false → numbers_from b (x ∷ xs) ≡ numbers_from (b + 1) xs
+  numbered_later b x xs t = ap (map (λ (p : ℕ × X). p.0)) (cond-false (passes x) ((b, x) ∷ filter (λ (p : ℕ × X). passes p.1) (enumerate_from (b + 1) xs)) (filter (λ (p : ℕ × X). passes p.1) (enumerate_from (b + 1) xs)) t)
 
 -- the ids that pass, where they pass as what they are the ids of
 module _ {X : Type 0} (test : ℕ → Bool) (passes : X → Bool) where
@@ -375,9 +376,9 @@ module _ {X : Type 0} (test : ℕ → Bool) (passes : X → Bool) where
   number_found b [] xs k n id e d at held = absurd (none-some id at)
   number_found b (y ∷ ids) [] k n id e d at held = absurd (omega (arith, ap (length {A = _}) e))
   number_found b (y ∷ ids) (x ∷ xs) k n id e d at held = ⊎_elim
-      (λ t. ap (λ (l : List ℕ). slice_get l k) (first_is passes b x xs (sym (heads e).0 ∙ t))
+      (λ t. ap (λ (l : List ℕ). slice_get l k) (numbered_first passes b x xs (sym (heads e).0 ∙ t))
       ∙ here (λ k n. number_found (b + 1) ids xs k n id (heads e).1 d.1) k n (ap (λ (l : List ℕ). slice_get l k) (sym (cond-true (test y) (y ∷ holders test ids) (holders test ids) t)) ∙ held) at)
-      (λ t. ap (λ (l : List ℕ). slice_get l k) (first_is_not passes b x xs (sym (heads e).0 ∙ t))
+      (λ t. ap (λ (l : List ℕ). slice_get l k) (numbered_later passes b x xs (sym (heads e).0 ∙ t))
       ∙ there (λ k n. number_found (b + 1) ids xs k n id (heads e).1 d.1) k n (ap (λ (l : List ℕ). slice_get l k) (sym (cond-false (test y) (y ∷ holders test ids) (holders test ids) t)) ∙ held) at)
       (cases_Bool (test y))
     where
@@ -400,9 +401,9 @@ module _ {X : Type 0} (test : ℕ → Bool) (passes : X → Bool) where
   none_found b ids [] k e none = refl
   none_found b [] (x ∷ xs) k e none = absurd (omega (arith, ap (length {A = _}) e))
   none_found b (y ∷ ids) (x ∷ xs) k e none = ⊎_elim
-      (λ t. ap (λ (l : List ℕ). slice_get l k) (first_is passes b x xs (sym (heads e).0 ∙ t))
+      (λ t. ap (λ (l : List ℕ). slice_get l k) (numbered_first passes b x xs (sym (heads e).0 ∙ t))
       ∙ past (λ k. none_found (b + 1) ids xs k (heads e).1) k (ap (λ (l : List ℕ). slice_get l k) (sym (cond-true (test y) (y ∷ holders test ids) (holders test ids) t)) ∙ none))
-      (λ t. ap (λ (l : List ℕ). slice_get l k) (first_is_not passes b x xs (sym (heads e).0 ∙ t))
+      (λ t. ap (λ (l : List ℕ). slice_get l k) (numbered_later passes b x xs (sym (heads e).0 ∙ t))
       ∙ none_found (b + 1) ids xs k (heads e).1 (ap (λ (l : List ℕ). slice_get l k) (sym (cond-false (test y) (y ∷ holders test ids) (holders test ids) t)) ∙ none))
       (cases_Bool (test y))
     where
@@ -449,9 +450,9 @@ first_numbered text keys = at 0 keys ∙ shifted_none (first_named text keys)
     at : (b : ℕ) (keys : List Text) → slice_get (numbers_from (is_named text) b keys) 0 ≡ option_map (λ n. b + n) (first_named text keys)
     at b [] = refl
     at b (k ∷ keys) = ⊎_elim
-        (λ t. ap (λ (l : List ℕ). slice_get l 0) (first_is (is_named text) b k keys t) ∙ ap Some (zeroth b)
+        (λ t. ap (λ (l : List ℕ). slice_get l 0) (numbered_first (is_named text) b k keys t) ∙ ap Some (zeroth b)
         ∙ sym (ap (option_map (λ n. b + n)) (cond-true (is_named text k) (Some 0) (option_map suc (first_named text keys)) t)))
-        (λ t. ap (λ (l : List ℕ). slice_get l 0) (first_is_not (is_named text) b k keys t) ∙ at (b + 1) keys ∙ next b (first_named text keys)
+        (λ t. ap (λ (l : List ℕ). slice_get l 0) (numbered_later (is_named text) b k keys t) ∙ at (b + 1) keys ∙ next b (first_named text keys)
         ∙ sym (ap (option_map (λ n. b + n)) (cond-false (is_named text k) (Some 0) (option_map suc (first_named text keys)) t)))
         (cases_Bool (is_named text k))
       where

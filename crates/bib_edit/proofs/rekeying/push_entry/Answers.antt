@@ -1,4 +1,4 @@
-use Rattle.std.proofs.Common.{◌≡◌, List, ◌++◌, Option, ◌∙◌, ap, ap₂, append_assoc}
+use Rattle.std.proofs.Common.{◌≡◌, List, ◌++◌, Option, ◌∙◌, ap, ap₂, append_assoc, arith}
 use Rattle.std.specs.Option.{option_copied}
 use Rattle.bib_spec.specs.Text.{Text}
 use Rattle.bib_spec.specs.Pieces.{Piece}
@@ -8,6 +8,11 @@ use Rattle.bib_edit.specs.NewKeys.{key_of, key_piece, crossref_piece, new_target
 use Rattle.bib_edit.proofs.EntryPieces.{pieces-seen, entry-seen}
 use Rattle.bib_edit.proofs.Results.{on_ok-as}
 use Rattle.bib_edit.proofs.rekeying.push_entry.Goals as goal
+
+pub item_place-start-requires : goal.item_place-start-requires
+item_place-start-requires g c db reads =
+    let within = entry_within db c.args.n c.entry_item.result (c.requires db reads) (c.entry_item.ensures db reads) in
+    omega (arith, within)
 
 pub push_key-requires : goal.push_key-requires
 push_key-requires g c =

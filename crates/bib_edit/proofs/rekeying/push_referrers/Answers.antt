@@ -9,19 +9,19 @@ referrers-init g c db reads a le quiet have = record { at = a; within = le; quie
 
 pub push_entry-requires : goal.push_entry-requires
 push_entry-requires g c db reads =
-    let lt = c.in-Some-referrer_before.ensures.some.0 in
+    let lt = c.in-Some.ensures.some.0 in
     let high = c.requires.end db reads in
     omega (arith, lt, high)
 
 pub referrers-preserved : goal.referrers-preserved
 referrers-preserved g c db reads a le quiet have =
-    let some = c.in-Some-referrer_before.ensures.some in
-    reached-more c.args.new.now db c.args.key.now c.referrers.k c.args.end c.in-Some-referrer_before.n c.referrers.pieces.items c.push_entry.new.pieces.items (c.referrers.invariant db reads a le quiet have)
+    let some = c.in-Some.ensures.some in
+    reached-more c.args.new.now db c.args.key.now c.referrers.k c.args.end c.in-Some.n c.referrers.pieces.items c.push_entry.new.pieces.items (c.referrers.invariant db reads a le quiet have)
     (c.requires.end db reads) some.0 (some.1 db reads) (c.in_ok-push_entry.ensures.pieces db reads)
 
-pub returns-else-referrer_before-clause-pieces : goal.returns-else-referrer_before-clause-pieces
-returns-else-referrer_before-clause-pieces g c db reads a le quiet have =
-    reached-end c.args.new.now db c.args.key.now c.referrers.k c.args.end c.referrers.pieces.items (c.referrers.invariant db reads a le quiet have) (c.requires.end db reads) (c.else-referrer_before.ensures.none db reads)
+pub returns-in_default-clause-pieces : goal.returns-in_default-clause-pieces
+returns-in_default-clause-pieces g c db reads a le quiet have =
+    reached-end c.args.new.now db c.args.key.now c.referrers.k c.args.end c.referrers.pieces.items (c.referrers.invariant db reads a le quiet have) (c.requires.end db reads) (c.in_default.ensures.none db reads)
 
 pub returns-clause-pieces : goal.returns-clause-pieces
 returns-clause-pieces g c db reads a le quiet have =
