@@ -9,7 +9,7 @@ use Rattle.bib_spec.specs.Records.{EntryTexts, keys_of, is_named, crossref_text,
 use Rattle.bib_spec.proofs.Keys.{option_cases}
 use Rattle.bib_spec.proofs.Counts.{count-yes, count-no}
 use Rattle.bib_spec.proofs.Names.{same-true, true-same}
-use Rattle.bib_edit.specs.Dangling.{dangling_at, is_text, is_awaited, is_in_use}
+use Rattle.bib_edit.specs.Dangling.{dangling_at, is_awaited, is_in_use}
 use Rattle.bib_edit.proofs.Walks.{next-of}
 
 -- an entry with a target has no such text, and another that of its crossref
@@ -50,30 +50,6 @@ module _ (entries : List EntryTexts) (n : ℕ) (lt : n < length entries) where
 
 pub texts-past : (entries : List EntryTexts) (n : ℕ) → length entries ≤ n → texts_from entries n ≡ []
 texts-past entries n le = ap (filter_map (dangling_text entries)) (drop_of_length-le entries le)
-
-pub any-next : (key : Text) (o : Option Text) (texts : List Text) → list_any (same key) (cons_option o texts) ≡ (is_text key o || list_any (same key) texts)
-any-next key None texts = refl
-any-next key (Some text) texts = refl
-
--- a key that was not waited for yet
-pub record IsAwaitedFrom (key : Text) (entries : List EntryTexts) (n : ℕ) : Type 0 where
-  pub same_answer : is_awaited key entries ≡ list_any (same key) (texts_from entries n)
-
-pub awaited-first : (key : Text) (entries : List EntryTexts) → IsAwaitedFrom key entries 0
-awaited-first key entries = record { same_answer = refl }
-
-module _ (key : Text) (entries : List EntryTexts) (n : ℕ) (from : IsAwaitedFrom key entries n) where
-  told : n < length entries → is_awaited key entries ≡ (is_text key (dangling_at entries n) || list_any (same key) (texts_from entries (n + 1)))
-  told lt = from.same_answer ∙ ap (list_any (same key)) (texts-next entries n lt) ∙ any-next key (dangling_at entries n) (texts_from entries (n + 1))
-
-  pub awaited-here : n < length entries → is_text key (dangling_at entries n) ≡ true → true ≡ is_awaited key entries
-  awaited-here lt t = sym (told lt ∙ ap (λ b. b || list_any (same key) (texts_from entries (n + 1))) t)
-
-  pub awaited-more : n < length entries → is_text key (dangling_at entries n) ≡ false → IsAwaitedFrom key entries (n + 1)
-  awaited-more lt t = record { same_answer = told lt ∙ ap (λ b. b || list_any (same key) (texts_from entries (n + 1))) t }
-
-  pub awaited-none : length entries ≤ n → false ≡ is_awaited key entries
-  awaited-none le = sym (from.same_answer ∙ ap (list_any (same key)) (texts-past entries n le))
 
 -- ---- keys in use
 

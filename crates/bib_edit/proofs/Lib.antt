@@ -58,3 +58,5 @@ pub mod TakenLists
 pub mod EntryCounts
 pub mod MadeKeyLists
 pub mod Regenerated
+pub mod Referrers
+pub mod EntryPieces

@@ -54,6 +54,11 @@ pub key_of-one : (new : NewKeys) (n : ℕ) (to : Text) → new.first ≡ n → n
 key_of-one new n to first keys =
     ap₂ (λ (f : ℕ) (ks : List Text). let it : NewKeys = record { first = f; keys = ks } in key_of it) first keys ∙ fun_ext (one_key n to)
 
+-- no other gets one
+pub one-alone : (new : NewKeys) (n : ℕ) (to : Text) → new.first ≡ n → new.keys ≡ to ∷ [] → (m : ℕ) → (m ≡ n → ⊥) → key_of new m ≡ None
+one-alone new n to first keys m other =
+    ap (λ (f : ℕ → Option Text). f m) (key_of-one new n to first keys) ∙ cond-false (n == m) (Some to) None (ne_eqb n m (λ e. other (sym e)))
+
 one_short : (n : ℕ) (to : Text) → is_new_key to ≡ true → AreShort (key_for (Some n) to)
 one_short n to is k key e = subst (λ (t : Text). length t ≤ name_limit) (cond_some (n == k) to key e).1 (new_key-length to is)
 

@@ -1,5 +1,5 @@
 -- Crossrefs that name no entry, and keys that they wait for.
-use Rattle.std.specs.Prelude.{ℕ, Bool, ◌&&◌, ◌||◌, not, List, Option, Some, None, false, option_and_then, slice_get}
+use Rattle.std.specs.Prelude.{ℕ, Bool, ◌&&◌, ◌||◌, not, List, Option, option_and_then, slice_get}
 use Rattle.std.specs.List.{list_any}
 use Rattle.bib_spec.specs.Text.{Text, same}
 use Rattle.bib_spec.specs.Records.{EntryTexts, keys_of, is_named, dangling_text, dangling_texts}
@@ -7,11 +7,6 @@ use Rattle.bib_spec.specs.Records.{EntryTexts, keys_of, is_named, dangling_text,
 -- the crossref text of entry n, if it names no entry
 abbrev pub dangling_at : List EntryTexts → ℕ → Option Text
 dangling_at entries n = option_and_then (dangling_text entries) (slice_get entries n)
-
--- the text, if there is one, is the key
-abbrev pub is_text : Text → Option Text → Bool
-is_text key None = false
-is_text key (Some text) = same key text
 
 -- a dangling crossref waits for the key
 abbrev pub is_awaited : Text → List EntryTexts → Bool

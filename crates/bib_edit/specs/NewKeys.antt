@@ -1,5 +1,7 @@
 -- Entries that get new keys: which key an entry gets, and the pieces that make it so.
-use Rattle.std.specs.Prelude.{ℕ, ◌≡◌, ◌+◌, ◌-◌, ◌≤◌, nat_lt, List, [], ◌∷◌, ◌++◌, Option, Some, None, if◌then◌else◌, option_and_then, find, slice_get, length}
+use Rattle.std.specs.Prelude.{ℕ, ◌≡◌, ◌+◌, ◌-◌, ◌≤◌, ◌<◌, nat_lt, List, [], ◌∷◌, ◌++◌, Option, Some, None, if◌then◌else◌, option_and_then, find, slice_get, length}
+use Rattle.std.specs.List.{flat_map, range_with_len}
+use Rattle.std.specs.Option.{option_map_or}
 use Rattle.bib_spec.specs.Bytes.{open_brace, close_brace, file_limit}
 use Rattle.bib_spec.specs.Text.{Text}
 use Rattle.bib_spec.specs.Tree.{Entry, EntryTree}
@@ -8,6 +10,10 @@ use Rattle.bib_spec.specs.Records.{entries_of, crossref, target}
 use Rattle.bib_spec.specs.Pieces.{Piece, Kept, pieces_of_chunks}
 use Rattle.edit_spec.specs.EditChunks.{key_chunks}
 use Rattle.bib_scan.specs.View.{Field, View, view_of}
+use Rattle.bib_scan.specs.Layout.{start_of}
+use Rattle.bib_entries.specs.EntryTable.{referrers}
+use Rattle.bib_store.specs.Meaning.{entry_numbers}
+use Rattle.bib_store.specs.Tables.{crossrefs_of}
 use Rattle.bib_edit.specs.Addressing.{is_field}
 use Rattle.bib_edit.specs.declared.new_keys.NewKeys.{NewKeys}
 
@@ -51,3 +57,36 @@ pub record IsEntrySeen (start : ℕ) (view : View) : Type 0 where
 -- the pieces that give the entries their new keys, and name them by these in crossrefs
 abbrev pub rekeying : NewKeys → Reading → List Piece
 rekeying new db = pieces_of_chunks (Kept db.front ∷ key_chunks (key_of new) db)
+
+-- ---- entry by entry
+
+-- the pieces of an item that is entry n, and begins at this place
+abbrev pub entry_pieces : NewKeys → Reading → ℕ → ℕ → Item → List Piece
+entry_pieces new db n start item = key_piece start (view_of item) (key_of new n) ++ crossref_piece start (view_of item) (new_target new db n)
+
+-- the pieces of entry n
+abbrev pub pieces_at : NewKeys → Reading → ℕ → List Piece
+pieces_at new db n =
+    option_map_or (λ i. option_map_or (entry_pieces new db n (start_of db i)) (slice_get db.items i) []) (slice_get (entry_numbers db.items) n) []
+
+-- the pieces of the entries from number n on
+abbrev pub pieces_behind : NewKeys → Reading → ℕ → List Piece
+pieces_behind new db n = flat_map (pieces_at new db) (range_with_len n (length (entries_of db) - n))
+
+-- entry m is number j of those that refer to the key
+abbrev pub RefersAt : Reading → Text → ℕ → ℕ → Type 0
+RefersAt db key j m = slice_get (referrers key (crossrefs_of db)) j ≡ Some m
+
+-- of the entries that refer to the key, k are before entry n
+pub record ArePassed (db : Reading) (key : Text) (k n : ℕ) : Type 0 where
+  pub before : (j m : ℕ) → j < k → RefersAt db key j m → m < n
+  pub behind : (j m : ℕ) → k ≤ j → RefersAt db key j m → n ≤ m
+
+-- of these entries, only those that refer to the key get pieces
+abbrev pub AreQuiet : NewKeys → Reading → Text → ℕ → ℕ → Type 0
+AreQuiet new db key from to = (n : ℕ) → from ≤ n → n < to → ((j : ℕ) → RefersAt db key j n → ⊥) → pieces_at new db n ≡ []
+
+-- the pieces of the entries before entry n are there, k of which refer to the key
+pub record HavePieces (new : NewKeys) (db : Reading) (key : Text) (k n : ℕ) (done : List Piece) : Type 0 where
+  pub pieces : done ++ pieces_behind new db n ≡ rekeying new db
+  pub passed : ArePassed db key k n

@@ -1,31 +1,20 @@
 //! The pieces that give entries new keys, and name them by these in crossrefs.
 
-ghost use Rattle.std.specs.Prelude.{◌≡◌, ◌++◌, option_and_then, IfOk, IfErr, OnOk};
-ghost use Rattle.std.specs.Option.{option_copied};
-ghost use Rattle.bib_spec.specs.Reading.{Item};
-ghost use Rattle.bib_spec.specs.Records.{entries_of, target};
-ghost use Rattle.bib_scan.specs.View.{view_of};
-ghost use Rattle.bib_store.specs.Meaning.{OfReading, IsEntryNumber, is_entry_tree};
-ghost use Rattle.bib_edit.specs.NewKeys.{key_of, braced, key_piece, crossref_piece, new_target, IsEntrySeen, rekeying};
+ghost use Rattle.std.specs.Prelude.{◌≡◌, ◌≤◌, ◌<◌, ◌+◌, ◌++◌, ℕ, None, Some, length, option_and_then, IfOk, IfErr, IfSome, OnOk};
+ghost use Rattle.std.specs.Option.{option_copied, IfNone};
+ghost use Rattle.bib_spec.specs.Bytes.{name_limit};
+ghost use Rattle.bib_spec.specs.Records.{entries_of, entry_named, target};
+ghost use Rattle.bib_store.specs.Meaning.{OfReading, IsEntryNumber};
+ghost use Rattle.bib_edit.specs.NewKeys.{key_of, braced, key_piece, crossref_piece, new_target, IsEntrySeen, pieces_at, rekeying, RefersAt, ArePassed, AreQuiet, HavePieces};
 ghost use Rattle.bib_edit.specs.declared.fault.EditFault.TheVariants.{Memory};
 
 use crate::address::field_named;
 use crate::fault::EditFault;
 use crate::new_keys::NewKeys;
 use crate::pieces::copied;
-use bib_scan::{ItemView, Kind, Seq, Text};
+use bib_scan::{ItemView, Seq, Text};
 use bib_store::{Database, ItemList, Piece};
 use std::alloc::{AllocError, Global};
-
-/// Whether the item is an entry.
-fn is_entry(view: &ItemView<'_>) -> bool
-    ensures { (i : Item) → view.now ≡ view_of i → result ≡ is_entry_tree i.tree }
-{
-    match view.kind() {
-        Kind::Entry => true,
-        Kind::Comment | Kind::Macro | Kind::Preamble => false,
-    }
-}
 
 /// The key in braces, as a crossref names it.
 fn braced(alloc: Global, key: &[u8]) -> Result<Text, AllocError>
@@ -98,23 +87,23 @@ fn new_target<'a, L: ItemList>(db: &Database<L>, new: &'a NewKeys, n: usize) -> 
     }
 }
 
-/// Adds the pieces of entry `n`, which begins at this place.
+/// Adds the pieces of entry `n`.
 fn push_entry<L: ItemList>(
     alloc: Global,
     db: &Database<L>,
     new: &NewKeys,
     n: usize,
     pieces: &mut Vec<Piece>,
-    start: usize,
-    view: &ItemView<'_>,
 ) -> Result<(), EditFault>
-    requires number { IsEntryNumber db.now n }
-    requires seen { IsEntrySeen start view.now }
-    ensures pieces { OnOk result (OfReading db.now (λ r. pieces.new.items ≡ pieces.old.items ++ (key_piece start view.now (key_of new.now n) ++ crossref_piece start view.now (new_target new.now r n)))) }
+    requires { IsEntryNumber db.now n }
+    ensures pieces { OnOk result (OfReading db.now (λ r. pieces.new.items ≡ pieces.old.items ++ pieces_at new.now r n)) }
     ensures only { IfErr result (λ fault. fault ≡ Memory) }
 {
-    push_key(alloc, pieces, start, view, new.of(n))?;
-    push_crossref(alloc, pieces, start, view, new_target(db, new, n))
+    db.opens();
+    let view = db.entry(n);
+    let start = db.item_place(db.entry_item(n));
+    push_key(alloc, pieces, start, &view, new.of(n))?;
+    push_crossref(alloc, pieces, start, &view, new_target(db, new, n))
 }
 
 /// The pieces that give the entries their new keys, all at once, and name them by these in crossrefs. It takes time in
@@ -127,17 +116,88 @@ pub(crate) fn rekeying<L: ItemList>(
     ensures pieces { IfOk result (λ pieces. OfReading db.now (λ r. pieces ≡ rekeying new.now r)) }
     ensures only { IfErr result (λ fault. fault ≡ Memory) }
 {
-    db.opens();
     let mut pieces = Vec::new(alloc);
-    let mut start = db.front().len();
-    let mut n = 0;
-    'items: for i in 0..db.item_count() {
-        let view = db.item(i);
-        if is_entry(&view) {
-            push_entry(alloc, db, new, n, &mut pieces, start, &view)?;
-            n += 1;
-        }
-        start += view.body().len() + view.trail().len();
+    'entries: for n in 0..db.entry_count() {
+        push_entry(alloc, db, new, n, &mut pieces)?;
     }
     Ok(Seq::from_vec(pieces))
+}
+
+/// The entry that refers to the key as number `k` of those that do, if it is before entry `end`.
+fn referrer_before<L: ItemList>(
+    db: &Database<L>,
+    key: &[u8],
+    k: usize,
+    end: usize,
+) -> Option<usize>
+    requires { length key.now ≤ name_limit }
+    ensures some { IfSome result (λ n. n < end × OfReading db.now (λ r. RefersAt r key.now k n)) }
+    ensures none { IfNone result (OfReading db.now (λ r. (n : ℕ) → RefersAt r key.now k n → end ≤ n)) }
+{
+    match db.referrer(key, k) {
+        Some(n) if n < end => Some(n),
+        _ => None,
+    }
+}
+
+/// Adds the pieces of the entries before entry `end` that refer to the key, from number `from` of those that do. It returns
+/// how many of these are before entry `end`.
+fn push_referrers<L: ItemList>(
+    alloc: Global,
+    db: &Database<L>,
+    new: &NewKeys,
+    key: &[u8],
+    from: usize,
+    end: usize,
+    pieces: &mut Vec<Piece>,
+) -> Result<usize, EditFault>
+    requires short { length key.now ≤ name_limit }
+    requires end { OfReading db.now (λ r. end ≤ length (entries_of r)) }
+    ensures pieces { IfOk result (λ k. OfReading db.now (λ r. (a : ℕ) → a ≤ end → AreQuiet new.now r key.now a end → HavePieces new.now r key.now from a pieces.old.items → HavePieces new.now r key.now k end pieces.new.items)) }
+    ensures only { IfErr result (λ fault. fault ≡ Memory) }
+{
+    let count = db.entry_count();
+    'referrers: for k in from..count {
+        let Some(n) = referrer_before(db, key, k, end) else {
+            return Ok(k);
+        };
+        push_entry(alloc, db, new, n, pieces)?;
+    }
+    Ok(count)
+}
+
+/// The pieces that give entry `n`, the first that has this key, a new key, and name it by that in the crossrefs whose target
+/// it is. It takes time in the lengths of the entries that get pieces, a few steps for each page of entries and of items
+/// for each of them, and memory for the pieces.
+pub(crate) fn renaming<L: ItemList>(
+    alloc: Global,
+    db: &Database<L>,
+    new: &NewKeys,
+    key: &[u8],
+    n: usize,
+) -> Result<Seq<Piece>, EditFault>
+    requires named { OfReading db.now (λ r. entry_named (entries_of r) key.now ≡ Some n) }
+    requires alone { (m : ℕ) → (m ≡ n → ⊥) → key_of new.now m ≡ None }
+    ensures pieces { IfOk result (λ pieces. OfReading db.now (λ r. pieces ≡ rekeying new.now r)) }
+    ensures only { IfErr result (λ fault. fault ≡ Memory) }
+{
+    db.opens();
+    let mut pieces = Vec::new(alloc);
+    let before = push_referrers(alloc, db, new, key, 0, n, &mut pieces)?;
+    push_entry(alloc, db, new, n, &mut pieces)?;
+    let after = behind_itself(db, key, before, n);
+    push_referrers(alloc, db, new, key, after, db.entry_count(), &mut pieces)?;
+    Ok(Seq::from_vec(pieces))
+}
+
+/// How many entries up to entry `n`, itself included, refer to the key, where `k` of those before it do.
+fn behind_itself<L: ItemList>(db: &Database<L>, key: &[u8], k: usize, n: usize) -> usize
+    requires { length key.now ≤ name_limit }
+    ensures { OfReading db.now (λ r. ArePassed r key.now k n → ArePassed r key.now result (n + 1)) }
+{
+    db.opens();
+    match db.referrer(key, k) {
+        Some(m) if m == n => k + 1,
+        _ => k,
+    }
 }

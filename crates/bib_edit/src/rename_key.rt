@@ -13,7 +13,7 @@ use crate::dangling::is_awaited;
 use crate::fault::EditFault;
 use crate::limits::are_too_long;
 use crate::new_keys::key_for;
-use crate::rekeying::rekeying;
+use crate::rekeying::renaming;
 use bib_scan::{Seq, is_key, one_reading, same_folded};
 use bib_store::{Database, ItemList, Piece};
 use std::alloc::Global;
@@ -29,7 +29,8 @@ fn is_in_use<L: ItemList>(db: &Database<L>, from: &[u8], to: &[u8]) -> bool
 
 /// The pieces that give this entry the new key, and name it by that in the crossrefs whose target it is, or the first
 /// reason against it. A crossref is found by what it says, whatever its parts, and gets the key in braces. It takes time
-/// in the length of the file, and memory for the pieces.
+/// in the lengths of these entries, a few steps for each page of entries and of items for each of them, and memory for
+/// the pieces.
 pub(crate) fn rename_key<L: ItemList>(
     alloc: Global,
     db: &Database<L>,
@@ -50,7 +51,7 @@ pub(crate) fn rename_key<L: ItemList>(
         return Err(EditFault::KeyInUse);
     }
     let new = key_for(alloc, n, to)?;
-    let pieces = rekeying(alloc, db, &new)?;
+    let pieces = renaming(alloc, db, &new, from, n)?;
     if are_too_long(db, pieces.as_slice()) {
         return Err(EditFault::FileTooLong);
     }

@@ -1,33 +1,58 @@
 -- What a table says of the entries of a file.
-use Rattle.std.specs.Prelude.{ℕ, ◌≡◌, ◌≢◌, ◌<◌, ◌≤◌, List, [], ◌∷◌, length, map, Option, None, Some, slice_index_or}
-use Rattle.std.specs.List.{AllByRecursion}
+use Rattle.std.specs.Prelude.{ℕ, ◌≡◌, ◌≢◌, ◌<◌, ◌≤◌, Bool, false, nat_le, List, [], ◌∷◌, length, map, filter, Option, None, Some, slice_index_or, if◌then◌else◌}
+use Rattle.std.specs.List.{AllByRecursion, enumerate_from}
+use Rattle.std.specs.Option.{option_map_or}
+use Rattle.bib_spec.specs.Bytes.{name_limit}
 use Rattle.bib_spec.specs.Text.{Text}
+use Rattle.bib_spec.specs.Records.{is_named}
 use Rattle.bib_order.specs.Orders.{Lacks}
 use Rattle.bib_index.specs.KeyIndex.{IsIndexOf, ids_in}
 
--- what is kept: the ids of the entries in file order, the ids that have each key, and the crossref text of each id
+-- what is kept: the ids of the entries in file order, the ids that have each key, the crossref text of each id, and the
+-- ids whose crossref texts name each key
 pub record Kept : Type 0 where
   pub ids : List ℕ
   pub keys : List (Text × List ℕ)
   pub crossrefs : List (Option Text)
+  pub referring : List (Text × List ℕ)
 
 -- a key as a name: an empty one names nothing
 abbrev pub name_of : Text → Option Text
 name_of [] = None
 name_of (b ∷ bs) = Some (b ∷ bs)
 
+-- the key that a crossref text names: one that is longer than a key may be names nothing
+abbrev pub named_by : Option Text → Option Text
+named_by None = None
+named_by (Some text) = if nat_le (length text) name_limit then name_of text else None
+
 -- the crossref text of an id
 abbrev pub crossref_of : List (Option Text) → ℕ → Option Text
 crossref_of crossrefs id = slice_index_or crossrefs id None
 
+-- the ids have these names, in order, and the index says so; an id that is in no use has none
+pub record AreNamed (said : List (Option Text)) (ids : List ℕ) (keys : List (Text × List ℕ)) : Type 0 where
+  pub names : ℕ → Option Text
+  pub named : map names ids ≡ said
+  pub others : (id : ℕ) → Lacks ids id → names id ≡ None
+  pub index : IsIndexOf names ids (ids_in keys)
+
 -- the table is that of entries with these keys and crossref texts, in this order
 pub record IsTableOf (keys : List Text) (crossrefs : List (Option Text)) (t : Kept) : Type 0 where
-  pub names : ℕ → Option Text
-  pub named : map names t.ids ≡ map name_of keys
-  pub others : (id : ℕ) → Lacks t.ids id → names id ≡ None
-  pub index : IsIndexOf names t.ids (ids_in t.keys)
+  pub keyed : AreNamed (map name_of keys) t.ids t.keys
+  pub referring : AreNamed (map named_by crossrefs) t.ids t.referring
   pub said : map (crossref_of t.crossrefs) t.ids ≡ crossrefs
   pub room : AllByRecursion (λ id. id < length t.crossrefs) t.ids
+
+-- ---- what crossrefs name
+
+-- the crossref text names the key
+abbrev pub refers : Text → Option Text → Bool
+refers key crossref = option_map_or (λ text. is_named text key) crossref false
+
+-- the numbers of the entries whose crossref texts name the key, in order
+abbrev pub referrers : Text → List (Option Text) → List ℕ
+referrers key crossrefs = map (λ p. p.0) (filter (λ p. refers key p.1) (enumerate_from 0 crossrefs))
 
 -- what it says of entries, it says still
 abbrev pub SaysTheSame : Kept → Kept → Type 0
@@ -45,6 +70,10 @@ pub record IsIndexWith (old : ℕ → Option Text) (id : ℕ) (name : Option Tex
   pub names : ℕ → Option Text
   pub gives : GivesName old names id name
   pub index : IsIndexOf names ids (ids_in keys)
+
+-- an index of names among which the id has none stays one
+abbrev pub StaysIndex : ℕ → List ℕ → List (Text × List ℕ) → List (Text × List ℕ) → Type 0
+StaysIndex id ids old new = (names : ℕ → Option Text) → names id ≡ None → IsIndexOf names ids (ids_in old) → IsIndexOf names ids (ids_in new)
 
 -- the id has this crossref text now, and the others have those that they had
 pub record GivesCrossref (old new : List (Option Text)) (id : ℕ) (crossref : Option Text) : Type 0 where

@@ -1,25 +1,27 @@
 //! The entries of a file by number and by key.
 
-ghost use Rattle.std.specs.Prelude.{◌≡◌, ◌≤◌, ◌<◌, ℕ, List, Option, None, length, set, OnOk, OnErr};
+ghost use Rattle.std.specs.Prelude.{◌≡◌, ◌≤◌, ◌<◌, ℕ, List, Option, None, length, OnOk, OnErr};
 ghost use Rattle.bib_spec.specs.Bytes.{name_limit};
 ghost use Rattle.bib_spec.specs.Text.{Text as Bytes};
 ghost use Rattle.bib_index.specs.KeyIndex.{IsIndexOf, ids_in, IsKept};
-ghost use Rattle.bib_entries.specs.EntryTable.{name_of, crossref_of, IsIndexWith, HaveTheSame};
+ghost use Rattle.bib_entries.specs.EntryTable.{name_of, named_by, crossref_of, IsIndexWith, HaveTheSame};
 
 use bib_index::KeyIndex;
 use bib_order::Order;
-use bib_scan::Text;
+use bib_scan::{NAME_LIMIT, Text};
 use std::alloc::{AllocError, Global};
 use std::marker::Model;
 
 /// The keys and the crossref texts of a file's entries. An entry that comes or goes costs a few steps for each page of
-/// entries, and the length of its key.
+/// entries, and the lengths of its key and its crossref text.
 #[derive(Drop)]
 pub struct EntryTable {
     order: Order,
     keys: KeyIndex,
     // by id
     crossrefs: Vec<Option<Text>>,
+    // the ids by the keys that their crossref texts name
+    referring: KeyIndex,
 }
 
 /// Gives an id of the order its key, where it has none. Where memory is refused, each key has the ids that it had.
@@ -55,12 +57,23 @@ fn make_room(crossrefs: &mut Vec<Option<Text>>, id: usize) -> Result<(), AllocEr
     Ok(())
 }
 
-/// Gives an id another crossref text, where there is room for one.
-fn put_crossref(crossrefs: &mut Vec<Option<Text>>, id: usize, crossref: Option<Text>)
-    ensures { id < length crossrefs.old.items → crossrefs.new.items ≡ set crossrefs.old.items id crossref }
+/// The key that a crossref text names, or an empty one where it names none.
+fn named_key(crossref: &Option<Text>) -> &[u8]
+    ensures key { name_of result.now ≡ named_by crossref.now }
+    ensures short { length result.now ≤ name_limit }
 {
-    if id < crossrefs.len() {
-        crossrefs[id] = crossref;
+    match crossref {
+        Some(text) if text.as_slice().len() <= NAME_LIMIT => text.as_slice(),
+        _ => &[],
+    }
+}
+
+/// Takes from an id the key that its crossref text names. It asks for no memory.
+fn take_named(referring: &mut KeyIndex, crossrefs: &[Option<Text>], id: usize)
+    ensures { (names : ℕ → Option Bytes) (order : List ℕ) → id < length crossrefs.now → names id ≡ named_by (crossref_of crossrefs.now id) → IsIndexOf names order (ids_in referring.old) → IsIndexWith names id None order referring.new }
+{
+    if let Some(crossref) = crossrefs.get(id) {
+        take_key(referring, named_key(crossref), id);
     }
 }
 
@@ -69,17 +82,17 @@ impl Model for EntryTable {
 
     ghost Value = { Kept };
 
-    ghost view = { λ t. record { ids = t.order; keys = t.keys; crossrefs = t.crossrefs.items } };
+    ghost view = { λ t. record { ids = t.order; keys = t.keys; crossrefs = t.crossrefs.items; referring = t.referring } };
 }
 
 impl EntryTable {
-    ghost use Rattle.std.specs.Prelude.{◌≡◌, ◌≤◌, ◌<◌, ℕ, List, [], Option, None, length, insert, remove, set, slice_get, count_by, OnOk, OnErr};
+    ghost use Rattle.std.specs.Prelude.{◌≡◌, ◌≤◌, ℕ, List, [], Option, None, length, insert, remove, slice_get, count_by, OnOk, OnErr};
     ghost use Rattle.std.specs.Option.{option_copied, option_flatten};
     ghost use Rattle.bib_spec.specs.Bytes.{name_limit};
     ghost use Rattle.bib_spec.specs.Text.{Text as Bytes};
     ghost use Rattle.bib_spec.specs.Records.{is_named, first_named};
-    ghost use Rattle.bib_entries.specs.EntryTable.{IsTableOf, SaysTheSame, name_of, IsIndexWith, GivesCrossref, HaveTheSame};
-    ghost use Rattle.bib_index.specs.KeyIndex.{IsIndexOf, ids_in, IsKept};
+    ghost use Rattle.bib_entries.specs.EntryTable.{IsTableOf, SaysTheSame, name_of, named_by, referrers, IsIndexWith, StaysIndex, GivesCrossref, HaveTheSame};
+    ghost use Rattle.bib_index.specs.KeyIndex.{IsIndexOf, ids_in};
 
     /// The table of no entries. It asks for no memory.
     pub fn new(alloc: Global) -> Self
@@ -89,6 +102,7 @@ impl EntryTable {
             order: Order::new(alloc),
             keys: KeyIndex::new(alloc),
             crossrefs: Vec::new(alloc),
+            referring: KeyIndex::new(alloc),
         }
     }
 
@@ -131,6 +145,20 @@ impl EntryTable {
         }
     }
 
+    /// The number of entry `k`, counted from 0, among those whose crossref texts name this key, in order. It takes a few
+    /// steps for each page of entries, and time in the key's length.
+    pub fn referrer(&self, key: &[u8], k: usize) -> Option<usize>
+        requires { length key.now ≤ name_limit }
+        ensures { (keys : List Bytes) (crossrefs : List (Option Bytes)) → IsTableOf keys crossrefs self.now → result ≡ slice_get (referrers key.now crossrefs) k }
+    {
+        // the ids of an order are distinct
+        let _ = self.order.count();
+        match self.referring.holders(key).get(k) {
+            Some(id) => self.order.position_of(*id),
+            None => None,
+        }
+    }
+
     /// Puts in an entry before entry `n`, or at the end. Where memory is refused, the table says what it said.
     pub fn insert(&mut self, n: usize, key: &[u8], crossref: Option<Text>) -> Result<(), AllocError>
         requires { length key.now ≤ name_limit }
@@ -148,29 +176,29 @@ impl EntryTable {
         }
     }
 
-    /// Gives an id its key and its crossref text, where it has none. Where memory is refused, each has what it had.
+    /// Gives an id its key and its crossref text, where it has none. Where memory is refused, it has none still.
     fn describe(&mut self, id: usize, key: &[u8], crossref: Option<Text>) -> Result<(), AllocError>
         requires { length key.now ≤ name_limit }
         ensures ids { self.new.ids ≡ self.old.ids }
         ensures key { OnOk result ((names : ℕ → Option Bytes) → names id ≡ None → IsIndexOf names self.old.ids (ids_in self.old.keys) → IsIndexWith names id (name_of key.now) self.old.ids self.new.keys) }
+        ensures named { OnOk result ((names : ℕ → Option Bytes) → names id ≡ None → IsIndexOf names self.old.ids (ids_in self.old.referring) → IsIndexWith names id (named_by crossref) self.old.ids self.new.referring) }
         ensures crossref { OnOk result (GivesCrossref self.old.crossrefs self.new.crossrefs id crossref) }
-        ensures err { OnErr result (IsKept (ids_in self.old.keys) (ids_in self.new.keys) × HaveTheSame self.old.crossrefs self.new.crossrefs) }
+        ensures keys_err { OnErr result (StaysIndex id self.old.ids self.old.keys self.new.keys) }
+        ensures named_err { OnErr result (StaysIndex id self.old.ids self.old.referring self.new.referring) }
+        ensures crossrefs_err { OnErr result (HaveTheSame self.old.crossrefs self.new.crossrefs) }
     {
         make_room(&mut self.crossrefs, id)?;
         add_key(&mut self.keys, &self.order, key, id)?;
-        self.crossrefs[id] = crossref;
-        Ok(())
-    }
-
-    /// Gives entry `n` another crossref text. It asks for no memory.
-    pub fn set_crossref(&mut self, n: usize, crossref: Option<Text>)
-        ensures { (keys : List Bytes) (crossrefs : List (Option Bytes)) → n < length keys → IsTableOf keys crossrefs self.old → IsTableOf keys (set crossrefs n crossref) self.new }
-    {
-        if n >= self.order.count() {
-            return;
+        match add_key(&mut self.referring, &self.order, named_key(&crossref), id) {
+            Ok(()) => {
+                self.crossrefs[id] = crossref;
+                Ok(())
+            }
+            Err(fault) => {
+                take_key(&mut self.keys, key, id);
+                Err(fault)
+            }
         }
-        let id = self.order.id_at(n);
-        put_crossref(&mut self.crossrefs, id, crossref);
     }
 
     /// Takes entry `n` out, whose key this is. It asks for no memory.
@@ -180,8 +208,9 @@ impl EntryTable {
         if n >= self.order.count() {
             return;
         }
-        let id = self.order.id_at(n);
-        take_key(&mut self.keys, key, id);
+        let gone = self.order.id_at(n);
+        take_key(&mut self.keys, key, gone);
+        take_named(&mut self.referring, &self.crossrefs, gone);
         self.order.remove(n);
     }
 }

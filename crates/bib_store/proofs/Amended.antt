@@ -113,6 +113,10 @@ fit_elsewhere at there m (item ∷ items) e =
 
 -- ---- an entry in the place of another
 
+stands_at : {X : Type 0} (xs : List X) (x : X) (ys : List X) → slice_get (xs ++ x ∷ ys) (length xs) ≡ Some x
+stands_at [] x ys = refl
+stands_at (y ∷ xs) x ys = stands_at xs x ys
+
 module _ (before behind : List Item) (x y : Item) (e f : Entry) (x_is : x.tree ≡ EntryTree e) (y_is : y.tree ≡ EntryTree f) where
   abbrev here : Macros
   here = macros_at months before (length before)
@@ -138,7 +142,7 @@ module _ (before behind : List Item) (x y : Item) (e f : Entry) (x_is : x.tree �
   -- only the crossref of the one changes
   pub amended_tables : (t new : Tables) (m n : ℕ) (text : Option Text) → e.key ≡ f.key → AreTablesOf (before ++ x ∷ behind) t → n ≡ length before → slice_get t.entries m ≡ Some n
       → new.entries ≡ t.entries → new.preambles ≡ t.preambles → new.definitions ≡ t.definitions
-      → ((keys : List Text) (crossrefs : List (Option Text)) → m < length keys → IsTableOf keys crossrefs t.named → IsTableOf keys (set crossrefs m text) new.named)
+      → ((keys : List Text) (crossrefs : List (Option Text)) → slice_get keys m ≡ Some f.key → IsTableOf keys crossrefs t.named → IsTableOf keys (set crossrefs m text) new.named)
       → text ≡ crossref_text (texts_of here f) → AreTablesOf (before ++ y ∷ behind) new
   amended_tables t new m n text key are count listed entries preambles definitions named says =
       let kind : is_entry_tree x.tree ≡ is_entry_tree y.tree = ap is_entry_tree x_is ∙ sym (ap is_entry_tree y_is) in
@@ -152,14 +156,15 @@ module _ (before behind : List Item) (x y : Item) (e f : Entry) (x_is : x.tree �
       ∙ set-append_seam (map crossref_text first) (crossref_text (texts_of here e)) (map crossref_text others) text
       ∙ ap (λ (o : Option Text). map crossref_text first ++ o ∷ map crossref_text others) says
       ∙ sym (crossrefs_told y f y_is) in
-      let within : m < length (keys_of (gathered entry_in months (before ++ y ∷ behind)))
-      = omega (arith, place, ap (length {A = Text}) (keys_told y f y_is), length-append (keys_of first) (f.key ∷ keys_of others), length-map first (λ (entry : EntryTexts). entry.key)) in
+      let stands : slice_get (keys_of (gathered entry_in months (before ++ y ∷ behind))) m ≡ Some f.key
+      = ap₂ (λ (keys : List Text) (k : ℕ). slice_get keys k) (keys_told y f y_is) (place ∙ sym (length-map first (λ (entry : EntryTexts). entry.key)))
+      ∙ stands_at (keys_of first) f.key (keys_of others) in
       record {
         entries = entries ∙ are.entries ∙ numbers_same is_entry_tree 0 before behind x y kind;
         preambles = preambles ∙ are.preambles ∙ numbers_same is_preamble_tree 0 before behind x y other;
         definitions = subst (λ d. AreDefinitionsOf (before ++ y ∷ behind) (texts_at d)) (sym definitions) (λ k. are.definitions k ∙ macros_same months before behind x y after_same k);
         named = subst (λ (cs : List (Option Text)). IsTableOf (keys_of (gathered entry_in months (before ++ y ∷ behind))) cs new.named) set_crossref
-            (named (keys_of (gathered entry_in months (before ++ y ∷ behind))) (map crossref_text (gathered entry_in months (before ++ x ∷ behind))) within
+            (named (keys_of (gathered entry_in months (before ++ y ∷ behind))) (map crossref_text (gathered entry_in months (before ++ x ∷ behind))) stands
             (subst (λ (ks : List Text). IsTableOf ks (map crossref_text (gathered entry_in months (before ++ x ∷ behind))) t.named) same_keys are.named));
       }
 

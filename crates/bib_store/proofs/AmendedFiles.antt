@@ -31,11 +31,11 @@ use Rattle.bib_store.specs.Meaning.{is_entry_tree}
 use Rattle.bib_items.specs.Items.{item, item_at, stored, all_stored}
 use Rattle.bib_store.specs.Defined.{texts_at}
 use Rattle.bib_store.specs.ItemTexts.{first_too_long, placed_texts, row_texts, crossref_in, OfRows}
-use Rattle.bib_store.specs.Beside.{AreTables, AreTablesOf}
-use Rattle.bib_store.specs.Stored.{IsKeptAs, IsKept}
+use Rattle.bib_store.specs.Beside.{AreTables, AreTablesOf, SayTheSame}
+use Rattle.bib_store.specs.Stored.{IsKeptAs, IsKept, SayTheSameOf}
 use Rattle.bib_store.specs.Windows.{IsWindow, OfJoined, exchanged, joined}
 use Rattle.bib_store.specs.Amending.{HaveOneKey, IsAmendment, OfComing}
-use Rattle.bib_store.proofs.TableSteps.{other_kind, entries_counted}
+use Rattle.bib_store.proofs.TableSteps.{other_kind, entries_counted, named_kept}
 use Rattle.bib_store.proofs.MacrosBehind.{macros_taken}
 use Rattle.bib_store.proofs.RowTexts.{cons_parts}
 use Rattle.bib_store.proofs.EntryItems.{entry_tree}
@@ -152,6 +152,14 @@ replaced items new entries c m seen body trail is layout a sees body_is trail_is
     ∙ ap₂ (λ (a b : List Item). a ++ b) (take-set items n (item body trail)) (drop-set items n (item body trail) low ∙ ap₂ (λ (x : Item) (k : ℕ). x ∷ drop k items) same (sym a.one_goes))
     ∙ ap (λ (l : List reading.Item). take n items ++ (all_stored l ++ drop c.window.to items)) (sym it.1)
 
+-- the tables say of the file what they said, where the entries' keys and crossrefs are the same
+pub kept_still : (items : List Item) (t new : Tables) (m n : ℕ) → slice_get t.entries m ≡ Some n → new.file_len ≡ t.file_len → new.entries ≡ t.entries → new.preambles ≡ t.preambles → new.definitions ≡ t.definitions
+    → ((keys : List Text) (crossrefs : List (Option Text)) → m < length keys → IsTableOf keys crossrefs t.named → IsTableOf keys crossrefs new.named) → SayTheSameOf items t new
+kept_still items t new m n at len entries preambles definitions named =
+    let same : SayTheSame t new = named_kept t new len entries preambles definitions
+    (λ keys crossrefs count held. named keys crossrefs (omega (arith, slice_get_within t.entries m n at, count)) held) in
+    record { len = same.len; tables = λ db front k. same.tables db.items k.tables }
+
 -- ---- the file
 
 -- a list, an element of it, and what stands before and behind
@@ -212,11 +220,11 @@ module _ (items : List Item) (t : Tables) (c : Change) (m : ℕ) (is : IsWindow 
   abbrev seen : Macros
   seen = texts_at t.definitions c.window.from
 
-  pub amended_file : (new : Tables) (text : Option Text) → OfComing c (λ tree. map crossref_text (entry_in seen tree) ≡ text ∷ []) → OfComing c (λ tree. first_too_long (placed_texts seen tree) ≡ None)
+  pub amended_file : (new : Tables) (text : Option Text) (v : View) → ((db : Reading) (i : reading.Item) → Reads c.text db → slice_get db.items 0 ≡ Some i → v ≡ view_of i) → OfComing c (λ tree. map crossref_text (entry_in seen tree) ≡ text ∷ []) → OfComing c (λ tree. first_too_long (placed_texts seen tree) ≡ None)
       → new.entries ≡ t.entries → new.preambles ≡ t.preambles → new.definitions ≡ t.definitions
-      → ((keys : List Text) (crossrefs : List (Option Text)) → m < length keys → IsTableOf keys crossrefs t.named → IsTableOf keys (set crossrefs m text) new.named)
+      → ((keys : List Text) (crossrefs : List (Option Text)) → slice_get keys m ≡ Some v.key → IsTableOf keys crossrefs t.named → IsTableOf keys (set crossrefs m text) new.named)
       → (front_len : ℕ) → OfJoined c front_len items t (λ db. AreTables db new × (too_long_at db ≡ None))
-  amended_file new text says fits entries preambles definitions named front_len front db inner k reads has =
+  amended_file new text v seen_as says fits entries preambles definitions named front_len front db inner k reads has =
       let s : IsSwap items t c db inner = swap items t c m front db inner is layout a k reads in
       let n : ℕ = c.window.from in
       let before : List reading.Item = take n db.items in
@@ -226,7 +234,8 @@ module _ (items : List Item) (t : Tables) (c : Change) (m : ℕ) (is : IsWindow 
       = (cons_parts (crossref_text (texts_of seen s.new_entry)) text [] [] (ap (λ (x : Tree). map crossref_text (entry_in seen x)) (sym s.new_is) ∙ told)).0 in
       let text_is : text ≡ crossref_text (texts_of (macros_at months before (length before)) s.new_entry) = sym said ∙ ap (λ (mm : Macros). crossref_text (texts_of mm s.new_entry)) s.sees in
       let tables = amended_tables before behind s.old s.new s.old_entry s.new_entry s.old_is s.new_is t new m n text s.one_key
-      (subst (λ (l : List reading.Item). AreTablesOf l t) s.before k.tables) s.count a.number entries preambles definitions named text_is in
+      (subst (λ (l : List reading.Item). AreTablesOf l t) s.before k.tables) s.count a.number entries preambles definitions
+      (λ keys crossrefs at. named keys crossrefs (at ∙ ap Some (sym (ap (λ (w : View). w.key) (seen_as inner s.new reads s.comes) ∙ ap key_of s.new_is)))) text_is in
       let short = amended_fits before behind s.old s.new s.old_entry s.new_entry s.old_is s.new_is (length db.front) (length (joined c.window db inner).front)
       (subst (λ (l : List reading.Item). first_too_long (raw_texts_from (length db.front) months l) ≡ None) s.before k.opens.texts)
       (ap (λ (mm : Macros). first_too_long (placed_texts mm s.new.tree)) (sym s.sees) ∙ fits inner s.new reads s.comes s.new_such) in (

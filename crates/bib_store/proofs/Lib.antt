@@ -35,3 +35,4 @@ pub mod NumberedLists
 pub mod Amended
 pub mod AmendedFiles
 pub mod Appended
+pub mod Renewed

@@ -36,13 +36,16 @@ impl<L: ItemList> Model for Database<L> {
 impl<L: ItemList> Database<L> {
     ghost use Rattle.std.specs.Prelude.{◌≡◌, ◌≤◌, [], Some, None, length, slice_get, option_and_then, count_by, IfOk, IfErr, IfSome, OnOk};
     ghost use Rattle.std.specs.Option.{option_copied};
+    ghost use Rattle.bib_spec.specs.Bytes.{name_limit};
     ghost use Rattle.bib_spec.specs.Texts.{IsOpenable};
     ghost use Rattle.bib_spec.specs.Reading.{Item};
     ghost use Rattle.bib_spec.specs.Texts.{months, macros_at, seen, raw_limit};
     ghost use Rattle.bib_spec.specs.Records.{entries_of, preambles_of, keys_of, entry_named, is_named, is_repeated, crossref_text, target};
     ghost use Rattle.bib_scan.specs.View.{view_of};
     ghost use Rattle.bib_scan.specs.Layout.{start_of};
+    ghost use Rattle.bib_entries.specs.EntryTable.{referrers};
     ghost use Rattle.bib_store.specs.Definitions.{macros_seen};
+    ghost use Rattle.bib_store.specs.Tables.{crossrefs_of};
     ghost use Rattle.bib_store.specs.Meaning.{OfReading, IsItemNumber, IsItemPlace, IsEntryNumber, IsPreambleNumber, entry_items, entry_numbers, IsOpenFault};
     ghost use Rattle.bib_items.specs.declared.fault.StoreFault.TheVariants.{Memory, NoSuchEntry};
 
@@ -198,6 +201,16 @@ impl<L: ItemList> Database<L> {
             Some(key) => self.find(key).ok(),
             None => None,
         }
+    }
+
+    /// The number of entry `k`, counted from 0, among those whose crossref texts name this key, in order: its first holder
+    /// is the target of each of them, and where no entry has the key, each dangles. It takes a few steps for each page of
+    /// entries, and time in the key's length, which is at most 255 bytes. (dialect)
+    pub fn referrer(&self, key: &[u8], k: usize) -> Option<usize>
+        requires { length key.now ≤ name_limit }
+        ensures { OfReading self.now (λ db. result ≡ slice_get (referrers key.now (crossrefs_of db)) k) }
+    {
+        self.tables.named.referrer(key, k)
     }
 
     /// The raw text of preamble `n`. It takes time and memory in the length of the text and of the preamble.

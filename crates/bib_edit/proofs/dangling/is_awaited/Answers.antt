@@ -1,21 +1,18 @@
-use Rattle.std.proofs.Common.{◌<◌, length, sym, ◌∙◌, ap, arith}
+use Rattle.std.proofs.Common.{◌∙◌, sym, ap}
+use Rattle.std.specs.Prelude.{is_some}
 use Rattle.bib_spec.specs.Records.{entries_of}
-use Rattle.bib_edit.specs.Dangling.{is_text}
-use Rattle.bib_edit.proofs.DanglingTexts.{awaited-here, awaited-more}
+use Rattle.edit_spec.proofs.RenameKey.{new_key_parts}
+use Rattle.edit_spec.proofs.WrittenRows.{new_key-length}
+use Rattle.bib_edit.proofs.Referrers.{awaited-held, awaited-free}
 use Rattle.bib_edit.proofs.dangling.is_awaited.Goals as goal
 
-pub returns-then-is_text : goal.returns-then-is_text
-returns-then-is_text g c db reads =
-    let count = c.entry_count-n-end.ensures db reads in
-    let test = c.entries-test.true in
-    let lt : c.entries.n < length (entries_of db) = omega (arith, count, test) in
-    awaited-here c.args.key.now (entries_of db) c.entries.n (c.entries.invariant db reads) lt
-    (ap (is_text c.args.key.now) (sym (c.dangling_text.ensures db reads)) ∙ sym c.is_text.ensures ∙ c.if-is_text.true)
+pub returns-in-Ok : goal.returns-in-Ok
+returns-in-Ok g c db reads = awaited-held (entries_of db) c.args.key.now c.in-Ok.field-0 (c.in-Ok.ensures.found db reads)
 
-pub entries-preserved : goal.entries-preserved
-entries-preserved g c db reads =
-    let count = c.entry_count-n-end.ensures db reads in
-    let test = c.entries-test.true in
-    let lt : c.entries.n < length (entries_of db) = omega (arith, count, test) in
-    awaited-more c.args.key.now (entries_of db) c.entries.n (c.entries.invariant db reads) lt
-    (ap (is_text c.args.key.now) (sym (c.dangling_text.ensures db reads)) ∙ sym c.is_text.ensures ∙ c.if-is_text.false)
+pub referrer-requires : goal.referrer-requires
+referrer-requires g c = new_key-length c.args.key.now c.requires
+
+pub returns-in-Err : goal.returns-in-Err
+returns-in-Err g c db reads =
+    c.is_some.ensures ∙ ap is_some (c.referrer.ensures db reads)
+    ∙ awaited-free (entries_of db) c.args.key.now (c.in-Err.ensures.none.1 db reads) (new_key_parts c.args.key.now c.requires).0

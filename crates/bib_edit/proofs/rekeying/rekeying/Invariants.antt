@@ -1,6 +1,7 @@
+use Rattle.std.proofs.Common.{◌≡◌, ◌++◌}
 use Rattle.bib_store.specs.Meaning.{OfReading}
-use Rattle.bib_edit.proofs.KeyPieces.{IsBefore}
+use Rattle.bib_edit.specs.NewKeys.{rekeying, pieces_behind}
 use Rattle.bib_edit.proofs.rekeying.rekeying.Given as goal
 
-abbrev pub invariant-items : goal.invariant-items
-invariant-items g l = OfReading l.db (λ db. IsBefore l.new db l.i l.n l.start l.pieces.items)
+abbrev pub invariant-entries : goal.invariant-entries
+invariant-entries g l = OfReading l.db (λ db. l.pieces.items ++ pieces_behind l.new db l.n ≡ rekeying l.new db)

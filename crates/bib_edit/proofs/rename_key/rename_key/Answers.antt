@@ -9,7 +9,7 @@ use Rattle.bib_edit.specs.NewKeys.{rekeying}
 use Rattle.bib_edit.proofs.AskedEdits.{of-rename_key}
 use Rattle.bib_edit.proofs.LimitTests.{not_over}
 use Rattle.bib_edit.proofs.OpenFiles.{opens-as}
-use Rattle.bib_edit.proofs.RenamedKeys.{refused-holders, refused-use, pieces-are, olds-short, refused-file, accepted}
+use Rattle.bib_edit.proofs.RenamedKeys.{one-alone, refused-holders, refused-use, pieces-are, olds-short, refused-file, accepted}
 use Rattle.bib_edit.proofs.rename_key.rename_key.Goals as goal
 
 pub returns-in_err-n-clause-refused : goal.returns-in_err-n-clause-refused
@@ -60,3 +60,9 @@ returns-clause-allowed g c db reads =
     (λ db reads. sym (c.is_in_use.ensures db reads) ∙ c.if-is_in_use.false) c.in_ok-new.new c.in_ok-new.ensures.0 c.in_ok-new.ensures.1
     db (opens-as c.args.db.now db c.one_reading.ensures c.opens.ensures reads)
     (subst (λ (ps : List Piece). length c.args.db.now + news_len ps ≤ file_limit + olds_len ps) made short))
+
+pub renaming-requires-clause-named : goal.renaming-requires-clause-named
+renaming-requires-clause-named g c db reads = (c.in_ok-n.ensures.lone db reads).named
+
+pub renaming-requires-clause-alone : goal.renaming-requires-clause-alone
+renaming-requires-clause-alone g c = one-alone c.in_ok-new.new c.in_ok-n.n c.args.to.now c.in_ok-new.ensures.0 c.in_ok-new.ensures.1

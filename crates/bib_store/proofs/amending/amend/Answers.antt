@@ -2,7 +2,8 @@ use Rattle.std.proofs.Common.{refl, sym, subst}
 use Rattle.std.proofs.lemmas.Result.{err_from_is_err_and}
 use Rattle.bib_spec.specs.Text.{Text}
 use Rattle.bib_spec.specs.Reading.{Reads}
-use Rattle.bib_store.proofs.AmendedFiles.{replaced, amended_file, amended_refused}
+use Rattle.bib_store.proofs.AmendedFiles.{replaced, amended_file, amended_refused, kept_still}
+use Rattle.bib_store.proofs.Answered.{err_always}
 use Rattle.bib_store.proofs.amending.amend.Goals as goal
 
 pub returns-in_err-crossref-clause-refused : goal.returns-in_err-crossref-clause-refused
@@ -12,10 +13,16 @@ returns-in_err-crossref-clause-refused g c =
 
 pub returns-clause-items : goal.returns-clause-items
 returns-clause-items g c =
-    replaced (g.L.ItemList.items c.args.items.now) (g.L.ItemList.items c.replace.new.self) c.args.tables.now.entries c.args.change.now c.args.m c.item-item.result c.body.result.now c.trail.result.now
-    c.requires.window c.requires.layout c.requires.amendment (λ db i reads at. c.item-item.ensures db i (subst (λ (t : Text). Reads t db) (sym c.as_slice.ensures) reads) at) c.body.ensures c.trail.ensures c.in_ok-replace.ensures.ok
+    replaced (g.L.ItemList.items c.args.items.now) (g.L.ItemList.items c.put_entry.new.items) c.args.tables.now.entries c.args.change.now c.args.m c.item-item.result c.item-item.result.body c.item-item.result.trail
+    c.requires.window c.requires.layout c.requires.amendment (λ db i reads at. c.item-item.ensures db i (subst (λ (t : Text). Reads t db) (sym c.as_slice.ensures) reads) at) refl refl c.in_ok-put_entry.ensures.items
 
 pub returns-clause-tables : goal.returns-clause-tables
 returns-clause-tables g c =
-    amended_file (g.L.ItemList.items c.args.items.now) c.args.tables.now c.args.change.now c.args.m c.requires.window c.requires.layout c.requires.amendment _ c.in_ok-crossref.crossref c.in_ok-crossref.ensures.text c.in_ok-crossref.ensures.short
-    refl refl refl c.set_crossref.ensures
+    amended_file (g.L.ItemList.items c.args.items.now) c.args.tables.now c.args.change.now c.args.m c.requires.window c.requires.layout c.requires.amendment _ c.in_ok-crossref.crossref
+    c.item-item.result (λ db i reads at. c.item-item.ensures db i (subst (λ (t : Text). Reads t db) (sym c.as_slice.ensures) reads) at) c.in_ok-crossref.ensures.text c.in_ok-crossref.ensures.short
+    refl refl refl c.in_ok-put_entry.ensures.named
+
+pub returns-in_err-put_entry-clause-tables_err : goal.returns-in_err-put_entry-clause-tables_err
+returns-in_err-put_entry-clause-tables_err g c =
+    err_always c.from_residual-in_err-put_entry.result
+    (kept_still (g.L.ItemList.items c.args.items.now) c.args.tables.now _ c.args.m c.args.change.now.window.from c.requires.amendment.number refl refl refl refl c.in_err-put_entry.ensures.named_err)

@@ -1,6 +1,17 @@
-use Rattle.std.proofs.Common.{◌≤◌, length, arith}
+use Rattle.std.proofs.Common.{◌≡◌, ◌≤◌, ℕ, insert, length, refl, subst, arith}
+use Rattle.bib_entries.specs.EntryTable.{IsTableOf}
 use Rattle.bib_entries.proofs.Tables.{put_back}
+use Rattle.bib_store.proofs.Answered.{err_always}
 use Rattle.bib_store.proofs.tables.insert_named.Goals as goal
+
+pub returns-in_err-insert-clause-err : goal.returns-in_err-insert-clause-err
+returns-in_err-insert-clause-err c = err_always c.from_residual.result (refl, λ keys crossrefs count t. c.in_err-insert.ensures.err keys crossrefs t)
+
+pub returns-in-Ok-clause-named : goal.returns-in-Ok-clause-named
+returns-in-Ok-clause-named c front rest keys crossrefs parts low t =
+    let at : c.rank-k.result ≡ length front = c.rank-k.ensures.below front rest parts in
+    subst (λ (k : ℕ). IsTableOf (insert keys k c.args.key.now) (insert crossrefs k c.args.crossref) c.insert.new.self) at
+    (c.in_ok-insert.ensures.ok keys crossrefs (omega (arith, at, low)) t)
 
 pub returns-in-Err-clause-err : goal.returns-in-Err-clause-err
 returns-in-Err-clause-err c = (

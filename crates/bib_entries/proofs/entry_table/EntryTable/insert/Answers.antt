@@ -1,14 +1,13 @@
 use Rattle.std.proofs.Common.{◌≡◌, ◌≤◌, ◌∙◌, ℕ, List, sym, ap, length, subst, arith, insert}
-use Rattle.std.specs.Prelude.{remove}
 use Rattle.bib_index.specs.KeyIndex.{IsIndexOf, ids_in}
-use Rattle.bib_entries.specs.EntryTable.{Kept, IsTableOf, IsIndexWith, HaveTheSame, name_of}
-use Rattle.bib_entries.proofs.Tables.{inserted_table, kept_table, put_out, same_count}
+use Rattle.bib_entries.specs.EntryTable.{Kept, IsTableOf, IsIndexWith, StaysIndex, HaveTheSame, name_of, named_by}
+use Rattle.bib_entries.proofs.Tables.{inserted_table, kept_table, same_count}
 use Rattle.bib_entries.proofs.entry_table.EntryTable.insert.Goals as goal
 
 pub returns-in-Ok-clause-ok : goal.returns-in-Ok-clause-ok
 returns-in-Ok-clause-ok c keys crossrefs fits t =
     let inside = subst (IsTableOf keys crossrefs) (sym c.self.view_is) t in
-    let old : Kept = record { ids = c.self.inside.order; keys = c.self.inside.keys; crossrefs = c.self.inside.crossrefs.items } in
+    let old : Kept = record { ids = c.self.inside.order; keys = c.self.inside.keys; crossrefs = c.self.inside.crossrefs.items; referring = c.self.inside.referring } in
     let few : c.args.n ≤ length c.self.inside.order = omega (arith, fits, same_count keys crossrefs old inside) in
     let n : c.min-n.result ≡ c.args.n = omega (arith, few, c.min-n.ensures, c.count.ensures.count) in
     let came = c.in_ok-id.ensures.ok in
@@ -18,18 +17,24 @@ returns-in-Ok-clause-ok c keys crossrefs fits t =
     (λ names none is.
     subst (λ (l : List ℕ). IsIndexWith names c.in_ok-id.id (name_of c.args.key.now) l c.describe.new.self.keys) (sym same)
     (c.in-Ok.ensures.key names none (subst (λ (l : List ℕ). IsIndexOf names l (ids_in c.self.inside.keys)) same is)))
+    (λ names none is.
+    subst (λ (l : List ℕ). IsIndexWith names c.in_ok-id.id (named_by c.args.crossref) l c.describe.new.self.referring) (sym same)
+    (c.in-Ok.ensures.named names none (subst (λ (l : List ℕ). IsIndexOf names l (ids_in c.self.inside.referring)) same is)))
     c.in-Ok.ensures.crossref few
 
 pub returns-in-Err-clause-err : goal.returns-in-Err-clause-err
 returns-in-Err-clause-err c keys crossrefs t =
     let inside = subst (IsTableOf keys crossrefs) (sym c.self.view_is) t in
-    let old : Kept = record { ids = c.self.inside.order; keys = c.self.inside.keys; crossrefs = c.self.inside.crossrefs.items } in
-    let new : Kept = record { ids = c.remove.new.self; keys = c.self-2.inside.keys; crossrefs = c.self-2.inside.crossrefs.items } in
+    let old : Kept = record { ids = c.self.inside.order; keys = c.self.inside.keys; crossrefs = c.self.inside.crossrefs.items; referring = c.self.inside.referring } in
+    let mid : Kept = record { ids = c.self-2.inside.order; keys = c.self-2.inside.keys; crossrefs = c.self-2.inside.crossrefs.items; referring = c.self-2.inside.referring } in
+    let new : Kept = record { ids = c.remove.new.self; keys = c.self-2.inside.keys; crossrefs = c.self-2.inside.crossrefs.items; referring = c.self-2.inside.referring } in
     let few : c.min-n.result ≤ length c.self.inside.order = omega (arith, c.min-n.ensures, c.count.ensures.count) in
     let came = c.in_ok-id.ensures.ok in
     let v = c.self-2.view_is in
-    let ids : c.self-2.inside.order ≡ insert c.self.inside.order c.min-n.result c.in_ok-id.id = ap (λ (k : Kept). k.ids) v ∙ c.in-Err.ensures.ids ∙ came.0 in
-    kept_table keys crossrefs old new
-    (c.remove.ensures ∙ ap (λ (l : List ℕ). remove l c.min-n.result) ids ∙ put_out c.self.inside.order c.min-n.result c.in_ok-id.id few)
-    (λ x. ap (λ (k : Kept). ids_in k.keys x) v ∙ c.in-Err.ensures.err.0 x)
-    (subst (λ (k : Kept). HaveTheSame c.self.inside.crossrefs.items k.crossrefs) (sym v) c.in-Err.ensures.err.1) inside
+    let same : c.self-2.inside.order ≡ c.insert.new.self = ap (λ (k : Kept). k.ids) v ∙ c.in-Err.ensures.ids in
+    kept_table keys crossrefs old mid new c.min-n.result c.in_ok-id.id inside came.1 few (same ∙ came.0) c.remove.ensures
+    (subst (λ (l : List ℕ). StaysIndex c.in_ok-id.id l c.self.inside.keys c.self-2.inside.keys) (sym same)
+    (subst (λ (k : Kept). StaysIndex c.in_ok-id.id c.insert.new.self c.self.inside.keys k.keys) (sym v) c.in-Err.ensures.keys_err))
+    (subst (λ (l : List ℕ). StaysIndex c.in_ok-id.id l c.self.inside.referring c.self-2.inside.referring) (sym same)
+    (subst (λ (k : Kept). StaysIndex c.in_ok-id.id c.insert.new.self c.self.inside.referring k.referring) (sym v) c.in-Err.ensures.named_err))
+    (subst (λ (k : Kept). HaveTheSame c.self.inside.crossrefs.items k.crossrefs) (sym v) c.in-Err.ensures.crossrefs_err)

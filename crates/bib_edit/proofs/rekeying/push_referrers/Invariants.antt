@@ -1,0 +1,9 @@
+use Rattle.std.proofs.Common.{ℕ, ◌≤◌}
+use Rattle.bib_store.specs.Meaning.{OfReading}
+use Rattle.bib_edit.specs.NewKeys.{AreQuiet, HavePieces}
+use Rattle.bib_edit.proofs.EntryPieces.{IsReached}
+use Rattle.bib_edit.proofs.rekeying.push_referrers.Given as goal
+
+abbrev pub invariant-referrers : goal.invariant-referrers
+invariant-referrers g l =
+    OfReading l.db (λ r. (a : ℕ) → a ≤ l.end → AreQuiet l.new r l.key a l.end → HavePieces l.new r l.key l.from a l.initial.pieces.items → IsReached l.new r l.key l.k l.end l.pieces.items)
