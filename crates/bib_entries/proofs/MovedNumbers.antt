@@ -1,5 +1,5 @@
 -- Numbers that are moved, one after another, and those of items where one comes or goes.
-use Rattle.std.proofs.Common.{◌≡◌, ℕ, zero, suc, ◌+◌, ◌≤◌, ◌<◌, ◌^◌, List, [], ◌∷◌, ◌++◌, length, map, take, drop, get_or, set, insert, remove, sym, subst, ◌∙◌, ap, ap₂, ⊎_elim, refl, arith, length-append, append_assoc}
+use Rattle.std.proofs.Common.{◌≡◌, ℕ, zero, suc, ◌+◌, ◌≤◌, ◌<◌, ◌^◌, List, [], ◌∷◌, ◌++◌, length, map, take, drop, get_or, set, insert, remove, sym, subst, ◌∙◌, ap, ap₂, ⊎_elim, refl, arith, length-append, append_assoc, zero-add}
 use Rattle.std.specs.List.{AllByRecursion}
 use Rattle.std.specs.Prelude.{nat_lt, true, false, Bool, cond, filter, min, ◌-◌}
 use Rattle.std.specs.List.Sorted.{IsPartitionedBy, IsPartitionPoint}
@@ -190,19 +190,78 @@ parted_at n (m ∷ numbers) ascend = ⊎_elim
     above_more [] m high all = tt
     above_more (k ∷ numbers) m high all = (let le = all.0 in omega (arith, high, le), above_more numbers m high all.1)
 
+-- ---- how many are below
+
+rank_first : (n m : ℕ) (numbers : List ℕ) → rank_in n (m ∷ numbers) ≡ cond (nat_lt m n) (suc (rank_in n numbers)) (rank_in n numbers)
+rank_first n m numbers = along (nat_lt m n)
+  where
+    along : (b : Bool) → length (cond b (m ∷ filter (λ m. nat_lt m n) numbers) (filter (λ m. nat_lt m n) numbers)) ≡ cond b (suc (rank_in n numbers)) (rank_in n numbers)
+    along true = refl
+    along false = refl
+
+pub rank_none : (n : ℕ) (rest : List ℕ) → AllByRecursion (λ m. n ≤ m) rest → rank_in n rest ≡ 0
+rank_none n [] above = refl
+rank_none n (m ∷ rest) above = rank_first n m rest ∙ ap (λ (b : Bool). cond b (suc (rank_in n rest)) (rank_in n rest)) (le-ltb m n above.0) ∙ rank_none n rest above.1
+
+pub rank_within : (n : ℕ) (numbers : List ℕ) → rank_in n numbers ≤ length numbers
+rank_within n [] = omega arith
+rank_within n (m ∷ numbers) = subst (λ (k : ℕ). k ≤ suc (length numbers)) (sym (rank_first n m numbers)) (either (nat_lt m n) (rank_within n numbers))
+  where
+    either : (b : Bool) → rank_in n numbers ≤ length numbers → cond b (suc (rank_in n numbers)) (rank_in n numbers) ≤ suc (length numbers)
+    either true le = omega (arith, le)
+    either false le = omega (arith, le)
+
+pub rank-append : (n : ℕ) (a b : List ℕ) → rank_in n (a ++ b) ≡ rank_in n a + rank_in n b
+rank-append n [] b = sym (zero-add (rank_in n b))
+rank-append n (m ∷ a) b = rank_first n m (a ++ b) ∙ along (nat_lt m n) (rank-append n a b) ∙ ap (λ (k : ℕ). k + rank_in n b) (sym (rank_first n m a))
+  where
+    along : (c : Bool) → rank_in n (a ++ b) ≡ rank_in n a + rank_in n b → cond c (suc (rank_in n (a ++ b))) (rank_in n (a ++ b)) ≡ cond c (suc (rank_in n a)) (rank_in n a) + rank_in n b
+    along true e = omega (arith, e)
+    along false e = e
+
+pub rank_all : (n : ℕ) (front : List ℕ) → AllByRecursion (λ m. m < n) front → rank_in n front ≡ length front
+rank_all n [] below = refl
+rank_all n (m ∷ front) below = rank_first n m front ∙ ap (λ (b : Bool). cond b (suc (rank_in n front)) (rank_in n front)) (lt-ltb m n below.0) ∙ ap suc (rank_all n front below.1)
+
 -- so many are below n
 pub rank_of : (n : ℕ) (front rest numbers : List ℕ) → PartAt n front rest numbers → rank_in n numbers ≡ length front
-rank_of n front rest numbers p = ap (rank_in n) p.whole ∙ along front p.below
-  where
-    none : (rest : List ℕ) → AllByRecursion (λ m. n ≤ m) rest → rank_in n rest ≡ 0
-    none [] above = refl
-    none (m ∷ rest) above =
-        ap (λ (b : Bool). length (cond b (m ∷ filter (λ m. nat_lt m n) rest) (filter (λ m. nat_lt m n) rest))) (le-ltb m n above.0) ∙ none rest above.1
+rank_of n front rest numbers p =
+    let all = rank_all n front p.below in
+    let none = rank_none n rest p.above in
+    let sum = ap (rank_in n) p.whole ∙ rank-append n front rest in
+    omega (arith, all, none, sum)
 
-    along : (front : List ℕ) → AllByRecursion (λ m. m < n) front → rank_in n (front ++ rest) ≡ length front
-    along [] below = none rest p.above
-    along (m ∷ front) below =
-        ap (λ (b : Bool). length (cond b (m ∷ filter (λ m. nat_lt m n) (front ++ rest)) (filter (λ m. nat_lt m n) (front ++ rest)))) (lt-ltb m n below.0) ∙ ap suc (along front below.1)
+-- where numbers from n on make way, those up to n have the same below them
+pub rank_before_gap : (n j : ℕ) (front rest : List ℕ) → AllByRecursion (λ m. n ≤ m) rest → j ≤ n → rank_in j (front ++ map suc rest) ≡ rank_in j (front ++ rest)
+rank_before_gap n j [] rest above le = rank_none j (map suc rest) (higher rest above) ∙ sym (rank_none j rest (high rest above))
+  where
+    high : (rest : List ℕ) → AllByRecursion (λ m. n ≤ m) rest → AllByRecursion (λ m. j ≤ m) rest
+    high [] all = tt
+    high (m ∷ rest) all = (let low = all.0 in omega (arith, le, low), high rest all.1)
+
+    higher : (rest : List ℕ) → AllByRecursion (λ m. n ≤ m) rest → AllByRecursion (λ m. j ≤ m) (map suc rest)
+    higher [] all = tt
+    higher (m ∷ rest) all = (let low = all.0 in omega (arith, le, low), higher rest all.1)
+rank_before_gap n j (m ∷ front) rest above le =
+    rank_first j m (front ++ map suc rest) ∙ ap (λ (k : ℕ). cond (nat_lt m j) (suc k) k) (rank_before_gap n j front rest above le) ∙ sym (rank_first j m (front ++ rest))
+
+-- and those from n on have as many below them as they had
+pub rank_past_gap : (n j : ℕ) (front rest : List ℕ) → AllByRecursion (λ m. m < n) front → n ≤ j → rank_in (suc j) (front ++ map suc rest) ≡ rank_in j (front ++ rest)
+rank_past_gap n j front rest below le =
+    rank-append (suc j) front (map suc rest) ∙ ap₂ (λ (a b : ℕ). a + b) (rank_all (suc j) front (lower front below (suc j) (omega arith)) ∙ sym (rank_all j front (lower front below j (omega arith)))) (up rest) ∙ sym (rank-append j front rest)
+  where
+    lower : (front : List ℕ) → AllByRecursion (λ m. m < n) front → (k : ℕ) → j ≤ k → AllByRecursion (λ m. m < k) front
+    lower [] all k far = tt
+    lower (m ∷ front) all k far = (let lt = all.0 in omega (arith, lt, le, far), lower front all.1 k far)
+
+    both : (m : ℕ) → nat_lt (suc m) (suc j) ≡ nat_lt m j
+    both m = ⊎_elim (λ (lt : m < j). lt-ltb (suc m) (suc j) (omega (arith, lt)) ∙ sym (lt-ltb m j lt)) (λ (ge : j ≤ m). le-ltb (suc m) (suc j) (omega (arith, ge)) ∙ sym (le-ltb m j ge)) (cases_lt m j)
+
+    up : (rest : List ℕ) → rank_in (suc j) (map suc rest) ≡ rank_in j rest
+    up [] = refl
+    up (m ∷ rest) = rank_first (suc j) (suc m) (map suc rest) ∙ ap₂ (λ (b : Bool) (k : ℕ). cond b (suc k) k) (both m) (up rest) ∙ sym (rank_first j m rest)
+
+-- ---- the order, where numbers are moved
 
 ascend_parts : (front rest : List ℕ) → Ascend (front ++ rest) → Ascend front × Ascend rest
 ascend_parts [] rest ascend = (tt, ascend)

@@ -1,6 +1,8 @@
--- Numbers in ascending order, where one comes or goes.
-use Rattle.std.specs.Prelude.{ℕ, ◌≡◌, ◌<◌, ◌≤◌, ◌+◌, ◌-◌, ◌^◌, ⊤, nat_lt, min, List, [], ◌∷◌, ◌++◌, length, filter, take, drop, map}
-use Rattle.std.specs.List.{AllByRecursion}
+-- Numbers in ascending order, where one comes or goes, and those that the items of a kind have.
+use Rattle.std.specs.Prelude.{ℕ, Bool, ◌≡◌, ◌<◌, ◌≤◌, ◌+◌, ◌-◌, ◌^◌, ⊤, nat_lt, min, List, [], ◌∷◌, ◌++◌, length, filter, take, drop, map}
+use Rattle.std.specs.List.{AllByRecursion, enumerate_from}
+use Rattle.bib_spec.specs.Tree.{Tree}
+use Rattle.bib_spec.specs.Reading.{Item}
 
 -- each number is at most those after it
 abbrev pub Ascend : List ℕ → Type 0
@@ -32,3 +34,15 @@ lowered m = m - 1
 -- the numbers, where those from place k on are moved
 abbrev pub moved_from : (ℕ → ℕ) → ℕ → List ℕ → List ℕ
 moved_from move k numbers = take k numbers ++ map move (drop k numbers)
+
+-- ---- items of a kind
+
+-- the items of a kind, each with its number, where the first item of all has this one
+abbrev pub numbered : (Tree → Bool) → ℕ → List Item → List (ℕ × Item)
+numbered test from items = filter (λ p. test p.1.tree) (enumerate_from from items)
+
+abbrev pub numbers : (Tree → Bool) → ℕ → List Item → List ℕ
+numbers test from items = map (λ p. p.0) (numbered test from items)
+
+abbrev pub those : (Tree → Bool) → List Item → List Item
+those test items = filter (λ item. test item.tree) items

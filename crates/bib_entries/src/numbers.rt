@@ -115,7 +115,8 @@ impl Numbers {
 
     /// Takes number `n` out, of an item that goes: those after it are one less then. It asks for no memory.
     pub fn remove(&mut self, n: usize)
-        ensures { (front rest : List ℕ) → PartAt n front rest (front ++ rest) → HaveNext rest → self.old ≡ front ++ n ∷ map suc rest → self.new ≡ front ++ rest }
+        ensures taken { (front rest : List ℕ) → PartAt n front rest (front ++ rest) → HaveNext rest → self.old ≡ front ++ n ∷ map suc rest → self.new ≡ front ++ rest }
+        ensures count { length self.old ≤ length self.new + 1 }
     {
         let k = count_below(self.list.as_slice(), n);
         if k < self.list.len() {

@@ -9,16 +9,16 @@ ghost use Rattle.bib_scan.specs.Layout.{IsLayoutOf};
 ghost use Rattle.bib_scan.specs.View.{view_of};
 ghost use Rattle.bib_store.specs.Amending.{HaveOneKey, IsAmendment, OfComing};
 ghost use Rattle.bib_store.specs.Beside.{AreTables};
-ghost use Rattle.bib_store.specs.Defined.{texts_at};
+ghost use Rattle.bib_definitions.specs.Definitions.{texts_at};
 ghost use Rattle.bib_store.specs.ItemTexts.{first_too_long, placed_texts};
 ghost use Rattle.bib_store.specs.Windows.{IsWindow, OfJoined, exchanged};
 ghost use Rattle.bib_items.specs.declared.fault.StoreFault.TheVariants.{Memory, BadSplice};
 
 use crate::change::Change;
 use crate::crossrefs::entry_crossref;
-use crate::defining::FileDefinitions;
 use crate::item_fault::ItemFault;
 use crate::tables::Tables;
+use bib_definitions::Definitions;
 use bib_items::{ItemList, StoreFault};
 use bib_scan::{ItemView, Kind, Text};
 use std::alloc::Global;
@@ -52,7 +52,7 @@ pub(crate) fn amended<L: ItemList>(items: &L, entries: &[usize], change: &Change
 fn coming_crossref(
     alloc: Global,
     change: &Change,
-    definitions: &FileDefinitions,
+    definitions: &Definitions,
 ) -> Result<Option<Text>, StoreFault>
     requires layout { IsLayoutOf change.now.text change.now.layout }
     requires one { length change.now.layout.items ≡ 1 }

@@ -12,6 +12,6 @@ returns-in-Comment-clause-step c tree is other seen =
       entries = c.make_way.new.self;
       preambles = c.make_way-in-Comment.new.self;
       named = old.named;
-      definitions = old.definitions;
+      definitions = c.make_way-in-Comment-2.new.self;
     } in
-    comment_insertion old new c.args.n c.args.view.now c.requires c.make_way.ensures c.make_way-in-Comment.ensures refl refl tree is (sym (ap (λ (v : View). v.kind) seen) ∙ sym c.kind.ensures ∙ c.in-Comment.is) seen
+    comment_insertion old new c.args.n c.args.view.now c.make_way.ensures.moved c.make_way-in-Comment.ensures.moved refl c.make_way-in-Comment-2.ensures.come tree is (sym (ap (λ (v : View). v.kind) seen) ∙ sym c.kind.ensures ∙ c.in-Comment.is) seen
