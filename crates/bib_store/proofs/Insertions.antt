@@ -1,20 +1,12 @@
 -- An item that comes among others, or goes: what is gathered of all.
 use Rattle.std.proofs.Common.{◌≡◌, ℕ, zero, suc, ◌+◌, ◌≤◌, ◌<◌, ◌^◌, Bool, true, false, cond, nat_lt, List, [], ◌∷◌, ◌++◌, length, map, Option, Some, None, insert, remove, slice_get, ⊎_elim, refl, sym, ◌∙◌, ap, ap₂, subst, arith, zero-add, append-nil, length-append}
-use Rattle.std.specs.List.{AllByRecursion, All}
-use Rattle.std.proofs.lemmas.Bool.{cases_Bool, cases_lt, cond-true, cond-false, lt-ltb}
 use Rattle.std.proofs.lemmas.List.{map-append, length-map}
 use Rattle.std.proofs.lemmas.List.Elements.{All-head, All-tail}
 use Rattle.bib_spec.specs.Text.{Text}
 use Rattle.bib_spec.specs.Tree.{Tree}
 use Rattle.bib_spec.specs.Reading.{Item}
 use Rattle.bib_spec.specs.Texts.{Macros, months, macros_after, macros_at, gathered}
-use Rattle.bib_value.specs.Macros.{or_else}
-use Rattle.bib_entries.specs.Numbers.{PartAt, HaveNext}
 use Rattle.bib_entries.proofs.Tables.{map-insert, map-remove}
-use Rattle.bib_store.specs.declared.definitions.Definition.{Definition}
-use Rattle.bib_definitions.specs.Definitions.{Defined, definitions_of, text_before, texts_at, EndsBy}
-use Rattle.bib_store.specs.Tables.{AreDefinitionsOf}
-use Rattle.bib_store.proofs.Numbered.{numbered, numbers}
 use Rattle.bib_store.proofs.ItemsMore.{gathered-append}
 
 -- ---- lists
