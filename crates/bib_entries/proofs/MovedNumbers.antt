@@ -1,7 +1,7 @@
 -- Numbers that are moved, one after another, and those of items where one comes or goes.
 use Rattle.std.proofs.Common.{◌≡◌, ℕ, zero, suc, ◌+◌, ◌≤◌, ◌<◌, ◌^◌, List, [], ◌∷◌, ◌++◌, length, map, take, drop, get_or, set, insert, remove, sym, subst, ◌∙◌, ap, ap₂, ⊎_elim, refl, arith, length-append, append_assoc, zero-add}
 use Rattle.std.specs.List.{AllByRecursion}
-use Rattle.std.specs.Prelude.{nat_lt, true, false, Bool, cond, filter, min, ◌-◌}
+use Rattle.std.specs.Prelude.{nat_lt, true, false, Bool, cond, filter}
 use Rattle.std.specs.List.Sorted.{IsPartitionedBy, IsPartitionPoint}
 use Rattle.std.proofs.lemmas.Bool.{cases_lt, lt-ltb, le-ltb, ltb-true, both_ways}
 use Rattle.bib_entries.specs.Numbers.{Ascend, rank_in, PartAt, HaveNext, raised, lowered, moved_from}

@@ -1,4 +1,4 @@
-use Rattle.std.proofs.Common.{ℕ, List, length, sym, subst}
+use Rattle.std.proofs.Common.{ℕ, sym, subst}
 use Rattle.bib_definitions.specs.ByName.{EndsBy}
 use Rattle.bib_definitions.specs.Definitions.{AreDefinitionsOf}
 use Rattle.bib_definitions.proofs.DefinitionTables.{definitions_go}

@@ -1,4 +1,4 @@
-use Rattle.std.proofs.Common.{◌≡◌, ◌∙◌, ◌+◌, ◌≤◌, ◌<◌, ℕ, List, length, suc, refl, sym, ap, subst, arith}
+use Rattle.std.proofs.Common.{◌∙◌, ◌≤◌, ℕ, length, suc, sym, ap, subst, arith}
 use Rattle.bib_definitions.specs.ByName.{EndsBy}
 use Rattle.bib_definitions.specs.Definitions.{AreDefinitionsOf}
 use Rattle.bib_definitions.proofs.DefinitionTables.{definitions-defined, definitions-kept, ends-defined, ends_later}

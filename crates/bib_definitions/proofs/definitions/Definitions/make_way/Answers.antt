@@ -1,5 +1,4 @@
-use Rattle.std.proofs.Common.{◌∙◌, ℕ, List, length, sym, ap, subst}
-use Rattle.bib_entries.specs.Numbers.{rank_in}
+use Rattle.std.proofs.Common.{◌∙◌, ℕ, sym, ap, subst}
 use Rattle.bib_definitions.specs.ByName.{EndsBy, texts_after}
 use Rattle.bib_definitions.specs.Definitions.{Known, texts_at, AreDefinitionsOf}
 use Rattle.bib_definitions.proofs.DefinitionTables.{definitions_come}

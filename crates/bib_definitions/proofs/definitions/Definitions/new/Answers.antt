@@ -1,4 +1,4 @@
-use Rattle.std.proofs.Common.{[], List, ℕ, length, sym, subst}
+use Rattle.std.proofs.Common.{List, ℕ, length, sym, subst}
 use Rattle.bib_definitions.specs.ByName.{EndsBy}
 use Rattle.bib_definitions.proofs.DefinitionTables.{definitions-none}
 use Rattle.bib_definitions.proofs.definitions.Definitions.new.Goals as goal
