@@ -1,2 +1,3 @@
 pub mod Tables
 pub mod MovedNumbers
+pub mod ItemNumbers

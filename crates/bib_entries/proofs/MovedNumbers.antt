@@ -1,44 +1,45 @@
 -- Numbers that are moved, one after another, and those of items where one comes or goes.
-use Rattle.std.proofs.Common.{◌≡◌, ℕ, zero, suc, ◌+◌, ◌≤◌, ◌<◌, ◌^◌, List, [], ◌∷◌, ◌++◌, length, map, take, drop, get_or, set, insert, remove, sym, subst, ◌∙◌, ap, ap₂, ⊎_elim, refl, arith, length-append, append_assoc}
+use Rattle.std.proofs.Common.{◌≡◌, ℕ, zero, suc, ◌+◌, ◌≤◌, ◌<◌, ◌^◌, List, [], ◌∷◌, ◌++◌, length, map, take, drop, get_or, set, insert, remove, sym, subst, ◌∙◌, ap, ap₂, ⊎_elim, refl, arith, length-append, append_assoc, zero-add}
 use Rattle.std.specs.List.{AllByRecursion}
-use Rattle.std.specs.Prelude.{nat_lt, true, false}
+use Rattle.std.specs.Prelude.{nat_lt, true, false, Bool, cond, filter}
 use Rattle.std.specs.List.Sorted.{IsPartitionedBy, IsPartitionPoint}
-use Rattle.std.proofs.lemmas.Bool.{cases_lt, lt-ltb, ltb-true, both_ways}
-use Rattle.bib_entries.specs.Numbers.{PartAt, HaveNext, moved, moved_from}
+use Rattle.std.proofs.lemmas.Bool.{cases_lt, lt-ltb, le-ltb, ltb-true, both_ways}
+use Rattle.bib_entries.specs.Numbers.{Ascend, rank_in, PartAt, HaveNext, raised, lowered, moved_from}
 
 -- ---- one after another
 
 -- the numbers before place i are moved as all will be
-abbrev pub moved_so_far : ℕ → ℕ → ℕ → List ℕ → List ℕ
-moved_so_far i from by numbers = take i (moved_from from by numbers) ++ drop i numbers
+abbrev pub moved_so_far : (ℕ → ℕ) → ℕ → ℕ → List ℕ → List ℕ
+moved_so_far move i from numbers = take i (moved_from move from numbers) ++ drop i numbers
 
-pub moved_none : (from by : ℕ) (numbers : List ℕ) → numbers ≡ moved_so_far from from by numbers
-moved_none zero by numbers = refl
-moved_none (suc from) by [] = refl
-moved_none (suc from) by (m ∷ numbers) = ap (λ (l : List ℕ). m ∷ l) (moved_none from by numbers)
+module _ (move : ℕ → ℕ) where
+  pub moved_none : (from : ℕ) (numbers : List ℕ) → numbers ≡ moved_so_far move from from numbers
+  moved_none zero numbers = refl
+  moved_none (suc from) [] = refl
+  moved_none (suc from) (m ∷ numbers) = ap (λ (l : List ℕ). m ∷ l) (moved_none from numbers)
 
-pub moved_read : (i from by d : ℕ) (numbers : List ℕ) → get_or (moved_so_far i from by numbers) i d ≡ get_or numbers i d
-moved_read zero from by d numbers = refl
-moved_read (suc i) zero by d [] = refl
-moved_read (suc i) (suc from) by d [] = refl
-moved_read (suc i) zero by d (m ∷ numbers) = moved_read i zero by d numbers
-moved_read (suc i) (suc from) by d (m ∷ numbers) = moved_read i from by d numbers
+  pub moved_read : (i from d : ℕ) (numbers : List ℕ) → get_or (moved_so_far move i from numbers) i d ≡ get_or numbers i d
+  moved_read zero from d numbers = refl
+  moved_read (suc i) zero d [] = refl
+  moved_read (suc i) (suc from) d [] = refl
+  moved_read (suc i) zero d (m ∷ numbers) = moved_read i zero d numbers
+  moved_read (suc i) (suc from) d (m ∷ numbers) = moved_read i from d numbers
 
-pub moved_more : (i from by : ℕ) (numbers : List ℕ) → from ≤ i → i < length numbers → set (moved_so_far i from by numbers) i (moved by (get_or numbers i 0)) ≡ moved_so_far (suc i) from by numbers
-moved_more i from by [] h lt = absurd (omega (arith, lt))
-moved_more zero zero by (m ∷ numbers) h lt = refl
-moved_more zero (suc from) by (m ∷ numbers) h lt = absurd (omega (arith, h))
-moved_more (suc i) zero by (m ∷ numbers) h lt = ap (λ (l : List ℕ). moved by m ∷ l) (moved_more i zero by numbers (omega arith) (omega (arith, lt)))
-moved_more (suc i) (suc from) by (m ∷ numbers) h lt = ap (λ (l : List ℕ). m ∷ l) (moved_more i from by numbers (omega (arith, h)) (omega (arith, lt)))
+  pub moved_more : (i from : ℕ) (numbers : List ℕ) → from ≤ i → i < length numbers → set (moved_so_far move i from numbers) i (move (get_or numbers i 0)) ≡ moved_so_far move (suc i) from numbers
+  moved_more i from [] h lt = absurd (omega (arith, lt))
+  moved_more zero zero (m ∷ numbers) h lt = refl
+  moved_more zero (suc from) (m ∷ numbers) h lt = absurd (omega (arith, h))
+  moved_more (suc i) zero (m ∷ numbers) h lt = ap (λ (l : List ℕ). move m ∷ l) (moved_more i zero numbers (omega arith) (omega (arith, lt)))
+  moved_more (suc i) (suc from) (m ∷ numbers) h lt = ap (λ (l : List ℕ). m ∷ l) (moved_more i from numbers (omega (arith, h)) (omega (arith, lt)))
 
-pub moved_all : (i from by : ℕ) (numbers : List ℕ) → length numbers ≤ i → moved_so_far i from by numbers ≡ moved_from from by numbers
-moved_all zero zero by [] h = refl
-moved_all zero (suc from) by [] h = refl
-moved_all (suc i) zero by [] h = refl
-moved_all (suc i) (suc from) by [] h = refl
-moved_all zero from by (m ∷ numbers) h = absurd (omega (arith, h))
-moved_all (suc i) zero by (m ∷ numbers) h = ap (λ (l : List ℕ). moved by m ∷ l) (moved_all i zero by numbers (omega (arith, h)))
-moved_all (suc i) (suc from) by (m ∷ numbers) h = ap (λ (l : List ℕ). m ∷ l) (moved_all i from by numbers (omega (arith, h)))
+  pub moved_all : (i from : ℕ) (numbers : List ℕ) → length numbers ≤ i → moved_so_far move i from numbers ≡ moved_from move from numbers
+  moved_all zero zero [] h = refl
+  moved_all zero (suc from) [] h = refl
+  moved_all (suc i) zero [] h = refl
+  moved_all (suc i) (suc from) [] h = refl
+  moved_all zero from (m ∷ numbers) h = absurd (omega (arith, h))
+  moved_all (suc i) zero (m ∷ numbers) h = ap (λ (l : List ℕ). move m ∷ l) (moved_all i zero numbers (omega (arith, h)))
+  moved_all (suc i) (suc from) (m ∷ numbers) h = ap (λ (l : List ℕ). m ∷ l) (moved_all i from numbers (omega (arith, h)))
 
 -- ---- parts
 
@@ -51,23 +52,23 @@ dropped_front [] rest = refl
 dropped_front (m ∷ front) rest = dropped_front front rest
 
 -- numbers after a front are moved
-pub moved_rest : (front rest : List ℕ) (by : ℕ) → moved_from (length front) by (front ++ rest) ≡ front ++ map (moved by) rest
-moved_rest front rest by = ap₂ (λ (a b : List ℕ). a ++ map (moved by) b) (taken_front front rest) (dropped_front front rest)
+pub moved_rest : (move : ℕ → ℕ) (front rest : List ℕ) → moved_from move (length front) (front ++ rest) ≡ front ++ map move rest
+moved_rest move front rest = ap₂ (λ (a b : List ℕ). a ++ map move b) (taken_front front rest) (dropped_front front rest)
 
--- by one more, and back
-pub map-next : (numbers : List ℕ) → HaveNext numbers → map (moved 1) numbers ≡ map suc numbers
-map-next [] fit = refl
-map-next (m ∷ numbers) fit = ap₂ (λ (n : ℕ) (l : List ℕ). n ∷ l) (next m fit.0) (map-next numbers fit.1)
+-- one greater, and back
+pub map-raised : (numbers : List ℕ) → HaveNext numbers → map raised numbers ≡ map suc numbers
+map-raised [] fit = refl
+map-raised (m ∷ numbers) fit = ap₂ (λ (n : ℕ) (l : List ℕ). n ∷ l) (next m fit.0) (map-raised numbers fit.1)
   where
-    next : (m : ℕ) → m + 1 < 2 ^ 64 → moved 1 m ≡ suc m
+    next : (m : ℕ) → m + 1 < 2 ^ 64 → raised m ≡ suc m
     next m fits = omega (arith, fits)
 
-pub map-back : (numbers : List ℕ) → HaveNext numbers → map (moved 18446744073709551615) (map suc numbers) ≡ numbers
-map-back [] fit = refl
-map-back (m ∷ numbers) fit = ap₂ (λ (n : ℕ) (l : List ℕ). n ∷ l) (back m fit.0) (map-back numbers fit.1)
+pub map-lowered : (numbers : List ℕ) → map lowered (map suc numbers) ≡ numbers
+map-lowered [] = refl
+map-lowered (m ∷ numbers) = ap₂ (λ (n : ℕ) (l : List ℕ). n ∷ l) (back m) (map-lowered numbers)
   where
-    back : (m : ℕ) → m + 1 < 2 ^ 64 → moved 18446744073709551615 (suc m) ≡ m
-    back m fits = omega (arith, fits)
+    back : (m : ℕ) → lowered (suc m) ≡ m
+    back m = omega arith
 
 -- ---- where the front ends
 
@@ -127,13 +128,15 @@ part_gap n front rest now p is = record { whole = is; below = p.below; above = a
 pub part_with : (n : ℕ) (front rest now : List ℕ) → PartAt n front rest (front ++ rest) → now ≡ front ++ n ∷ map suc rest → PartAt n front (n ∷ map suc rest) now
 part_with n front rest now p is = record { whole = is; below = p.below; above = (omega arith, above_next n rest p.above) }
 
-pub put_number : (n k : ℕ) (front rest numbers : List ℕ) → PartAt n front rest numbers → HaveNext rest → k ≡ length front → moved_from (k + 1) 1 (insert numbers k n) ≡ front ++ n ∷ map suc rest
-put_number n k front rest numbers p fit is =
+put_raised : (n k : ℕ) (front rest numbers : List ℕ) → PartAt n front rest numbers → k ≡ length front → moved_from raised (k + 1) (insert numbers k n) ≡ front ++ n ∷ map raised rest
+put_raised n k front rest numbers p is =
     let one : k + 1 ≡ length (front ++ n ∷ []) = omega (arith, is, length-append front (n ∷ [])) in
     let put : insert numbers k n ≡ (front ++ n ∷ []) ++ rest
     = ap₂ (λ (l : List ℕ) (j : ℕ). insert l j n) p.whole is ∙ ap₂ (λ (a b : List ℕ). a ++ n ∷ b) (taken_front front rest) (dropped_front front rest) ∙ sym (append_assoc front (n ∷ []) rest) in
-    ap₂ (λ (j : ℕ) (l : List ℕ). moved_from j 1 l) one put ∙ moved_rest (front ++ n ∷ []) rest 1 ∙ ap (λ (l : List ℕ). (front ++ n ∷ []) ++ l) (map-next rest fit)
-    ∙ append_assoc front (n ∷ []) (map suc rest)
+    ap₂ (λ (j : ℕ) (l : List ℕ). moved_from raised j l) one put ∙ moved_rest raised (front ++ n ∷ []) rest ∙ append_assoc front (n ∷ []) (map raised rest)
+
+pub put_number : (n k : ℕ) (front rest numbers : List ℕ) → PartAt n front rest numbers → HaveNext rest → k ≡ length front → moved_from raised (k + 1) (insert numbers k n) ≡ front ++ n ∷ map suc rest
+put_number n k front rest numbers p fit is = put_raised n k front rest numbers p is ∙ ap (λ (l : List ℕ). front ++ n ∷ l) (map-raised rest fit)
 
 pub taken_number : (n k : ℕ) (front rest now : List ℕ) → now ≡ front ++ n ∷ rest → k ≡ length front → remove now k ≡ front ++ rest
 taken_number n k front rest now is at =
@@ -145,11 +148,11 @@ taken_number n k front rest now is at =
 
 -- ---- written back
 
-pub length-moved_from : (k by : ℕ) (numbers : List ℕ) → length (moved_from k by numbers) ≡ length numbers
-length-moved_from zero by [] = refl
-length-moved_from (suc k) by [] = refl
-length-moved_from zero by (m ∷ numbers) = ap suc (length-moved_from zero by numbers)
-length-moved_from (suc k) by (m ∷ numbers) = ap suc (length-moved_from k by numbers)
+pub length-moved_from : (move : ℕ → ℕ) (k : ℕ) (numbers : List ℕ) → length (moved_from move k numbers) ≡ length numbers
+length-moved_from move zero [] = refl
+length-moved_from move (suc k) [] = refl
+length-moved_from move zero (m ∷ numbers) = ap suc (length-moved_from move zero numbers)
+length-moved_from move (suc k) (m ∷ numbers) = ap suc (length-moved_from move k numbers)
 
 -- a slice that is as long as all takes the place of all
 pub written : (len : ℕ) (old new : List ℕ) → len ≡ length old → length new ≡ length old → take len (new ++ drop (length new) old) ≡ new
@@ -161,7 +164,206 @@ written len old new is same =
     rest_gone (m ∷ l) = rest_gone l
 
 -- numbers moved in place, where the slice was all
-pub written_moved : (len k by : ℕ) (old slice new : List ℕ) → len ≡ length old → slice ≡ old → new ≡ moved_from k by slice → take len (new ++ drop (length new) old) ≡ moved_from k by old
-written_moved len k by old slice new is same moved =
-    let now : new ≡ moved_from k by old = moved ∙ ap (moved_from k by) same in
-    written len old new is (ap (length {A = ℕ}) now ∙ length-moved_from k by old) ∙ now
+pub written_moved : (move : ℕ → ℕ) (len k : ℕ) (old slice new : List ℕ) → len ≡ length old → slice ≡ old → new ≡ moved_from move k slice → take len (new ++ drop (length new) old) ≡ moved_from move k old
+written_moved move len k old slice new is same moved =
+    let now : new ≡ moved_from move k old = moved ∙ ap (moved_from move k) same in
+    written len old new is (ap (length {A = ℕ}) now ∙ length-moved_from move k old) ∙ now
+
+-- ---- the order
+
+-- the numbers below n, and those that are not
+pub record HasParts (n : ℕ) (numbers : List ℕ) : Type 0 where
+  pub front : List ℕ
+  pub rest : List ℕ
+  pub are : PartAt n front rest numbers
+
+pub parted_at : (n : ℕ) (numbers : List ℕ) → Ascend numbers → HasParts n numbers
+parted_at n [] ascend = record { front = []; rest = []; are = record { whole = refl; below = tt; above = tt } }
+parted_at n (m ∷ numbers) ascend = ⊎_elim
+    (λ (low : m < n).
+    let p = parted_at n numbers ascend.1 in
+    record { front = m ∷ p.front; rest = p.rest; are = record { whole = ap (λ (l : List ℕ). m ∷ l) p.are.whole; below = (low, p.are.below); above = p.are.above } })
+    (λ (high : n ≤ m). record { front = []; rest = m ∷ numbers; are = record { whole = refl; below = tt; above = (high, above_more numbers m high ascend.0) } })
+    (cases_lt m n)
+  where
+    above_more : (numbers : List ℕ) (m : ℕ) → n ≤ m → AllByRecursion (λ k. m ≤ k) numbers → AllByRecursion (λ k. n ≤ k) numbers
+    above_more [] m high all = tt
+    above_more (k ∷ numbers) m high all = (let le = all.0 in omega (arith, high, le), above_more numbers m high all.1)
+
+-- ---- how many are below
+
+rank_first : (n m : ℕ) (numbers : List ℕ) → rank_in n (m ∷ numbers) ≡ cond (nat_lt m n) (suc (rank_in n numbers)) (rank_in n numbers)
+rank_first n m numbers = along (nat_lt m n)
+  where
+    along : (b : Bool) → length (cond b (m ∷ filter (λ m. nat_lt m n) numbers) (filter (λ m. nat_lt m n) numbers)) ≡ cond b (suc (rank_in n numbers)) (rank_in n numbers)
+    along true = refl
+    along false = refl
+
+pub rank_none : (n : ℕ) (rest : List ℕ) → AllByRecursion (λ m. n ≤ m) rest → rank_in n rest ≡ 0
+rank_none n [] above = refl
+rank_none n (m ∷ rest) above = rank_first n m rest ∙ ap (λ (b : Bool). cond b (suc (rank_in n rest)) (rank_in n rest)) (le-ltb m n above.0) ∙ rank_none n rest above.1
+
+pub rank_within : (n : ℕ) (numbers : List ℕ) → rank_in n numbers ≤ length numbers
+rank_within n [] = omega arith
+rank_within n (m ∷ numbers) = subst (λ (k : ℕ). k ≤ suc (length numbers)) (sym (rank_first n m numbers)) (either (nat_lt m n) (rank_within n numbers))
+  where
+    either : (b : Bool) → rank_in n numbers ≤ length numbers → cond b (suc (rank_in n numbers)) (rank_in n numbers) ≤ suc (length numbers)
+    either true le = omega (arith, le)
+    either false le = omega (arith, le)
+
+pub rank-append : (n : ℕ) (a b : List ℕ) → rank_in n (a ++ b) ≡ rank_in n a + rank_in n b
+rank-append n [] b = sym (zero-add (rank_in n b))
+rank-append n (m ∷ a) b = rank_first n m (a ++ b) ∙ along (nat_lt m n) (rank-append n a b) ∙ ap (λ (k : ℕ). k + rank_in n b) (sym (rank_first n m a))
+  where
+    along : (c : Bool) → rank_in n (a ++ b) ≡ rank_in n a + rank_in n b → cond c (suc (rank_in n (a ++ b))) (rank_in n (a ++ b)) ≡ cond c (suc (rank_in n a)) (rank_in n a) + rank_in n b
+    along true e = omega (arith, e)
+    along false e = e
+
+pub rank_all : (n : ℕ) (front : List ℕ) → AllByRecursion (λ m. m < n) front → rank_in n front ≡ length front
+rank_all n [] below = refl
+rank_all n (m ∷ front) below = rank_first n m front ∙ ap (λ (b : Bool). cond b (suc (rank_in n front)) (rank_in n front)) (lt-ltb m n below.0) ∙ ap suc (rank_all n front below.1)
+
+-- so many are below n
+pub rank_of : (n : ℕ) (front rest numbers : List ℕ) → PartAt n front rest numbers → rank_in n numbers ≡ length front
+rank_of n front rest numbers p =
+    let all = rank_all n front p.below in
+    let none = rank_none n rest p.above in
+    let sum = ap (rank_in n) p.whole ∙ rank-append n front rest in
+    omega (arith, all, none, sum)
+
+-- where numbers from n on make way, those up to n have the same below them
+pub rank_before_gap : (n j : ℕ) (front rest : List ℕ) → AllByRecursion (λ m. n ≤ m) rest → j ≤ n → rank_in j (front ++ map suc rest) ≡ rank_in j (front ++ rest)
+rank_before_gap n j [] rest above le = rank_none j (map suc rest) (higher rest above) ∙ sym (rank_none j rest (high rest above))
+  where
+    high : (rest : List ℕ) → AllByRecursion (λ m. n ≤ m) rest → AllByRecursion (λ m. j ≤ m) rest
+    high [] all = tt
+    high (m ∷ rest) all = (let low = all.0 in omega (arith, le, low), high rest all.1)
+
+    higher : (rest : List ℕ) → AllByRecursion (λ m. n ≤ m) rest → AllByRecursion (λ m. j ≤ m) (map suc rest)
+    higher [] all = tt
+    higher (m ∷ rest) all = (let low = all.0 in omega (arith, le, low), higher rest all.1)
+rank_before_gap n j (m ∷ front) rest above le =
+    rank_first j m (front ++ map suc rest) ∙ ap (λ (k : ℕ). cond (nat_lt m j) (suc k) k) (rank_before_gap n j front rest above le) ∙ sym (rank_first j m (front ++ rest))
+
+-- and those from n on have as many below them as they had
+pub rank_past_gap : (n j : ℕ) (front rest : List ℕ) → AllByRecursion (λ m. m < n) front → n ≤ j → rank_in (suc j) (front ++ map suc rest) ≡ rank_in j (front ++ rest)
+rank_past_gap n j front rest below le =
+    rank-append (suc j) front (map suc rest) ∙ ap₂ (λ (a b : ℕ). a + b) (rank_all (suc j) front (lower front below (suc j) (omega arith)) ∙ sym (rank_all j front (lower front below j (omega arith)))) (up rest) ∙ sym (rank-append j front rest)
+  where
+    lower : (front : List ℕ) → AllByRecursion (λ m. m < n) front → (k : ℕ) → j ≤ k → AllByRecursion (λ m. m < k) front
+    lower [] all k far = tt
+    lower (m ∷ front) all k far = (let lt = all.0 in omega (arith, lt, le, far), lower front all.1 k far)
+
+    both : (m : ℕ) → nat_lt (suc m) (suc j) ≡ nat_lt m j
+    both m = ⊎_elim (λ (lt : m < j). lt-ltb (suc m) (suc j) (omega (arith, lt)) ∙ sym (lt-ltb m j lt)) (λ (ge : j ≤ m). le-ltb (suc m) (suc j) (omega (arith, ge)) ∙ sym (le-ltb m j ge)) (cases_lt m j)
+
+    up : (rest : List ℕ) → rank_in (suc j) (map suc rest) ≡ rank_in j rest
+    up [] = refl
+    up (m ∷ rest) = rank_first (suc j) (suc m) (map suc rest) ∙ ap₂ (λ (b : Bool) (k : ℕ). cond b (suc k) k) (both m) (up rest) ∙ sym (rank_first j m rest)
+
+-- ---- the order, where numbers are moved
+
+ascend_parts : (front rest : List ℕ) → Ascend (front ++ rest) → Ascend front × Ascend rest
+ascend_parts [] rest ascend = (tt, ascend)
+ascend_parts (m ∷ front) rest ascend = let parts = ascend_parts front rest ascend.1 in ((first front ascend.0, parts.0), parts.1)
+  where
+    first : (front : List ℕ) → AllByRecursion (λ k. m ≤ k) (front ++ rest) → AllByRecursion (λ k. m ≤ k) front
+    first [] all = tt
+    first (k ∷ front) all = (all.0, first front all.1)
+
+-- numbers below n, and after them some that are at most one less than n
+ascend_joined : (n : ℕ) (front rest : List ℕ) → Ascend front → AllByRecursion (λ m. m < n) front → Ascend rest → AllByRecursion (λ m. n ≤ m + 1) rest → Ascend (front ++ rest)
+ascend_joined n [] rest ascend below later above = later
+ascend_joined n (m ∷ front) rest ascend below later above = (least front ascend.0, ascend_joined n front rest ascend.1 below.1 later above)
+  where
+    high : (rest : List ℕ) → AllByRecursion (λ k. n ≤ k + 1) rest → AllByRecursion (λ k. m ≤ k) rest
+    high [] all = tt
+    high (k ∷ rest) all = (let le = all.0 in let lt = below.0 in omega (arith, le, lt), high rest all.1)
+
+    least : (front : List ℕ) → AllByRecursion (λ k. m ≤ k) front → AllByRecursion (λ k. m ≤ k) (front ++ rest)
+    least [] all = high rest above
+    least (k ∷ front) all = (all.0, least front all.1)
+
+-- a move that keeps the order
+module _ (move : ℕ → ℕ) (keeps : (m k : ℕ) → m ≤ k → move m ≤ move k) where
+  ascend_map : (numbers : List ℕ) → Ascend numbers → Ascend (map move numbers)
+  ascend_map [] ascend = tt
+  ascend_map (m ∷ numbers) ascend = (least numbers ascend.0, ascend_map numbers ascend.1)
+    where
+      least : (numbers : List ℕ) → AllByRecursion (λ k. m ≤ k) numbers → AllByRecursion (λ k. move m ≤ k) (map move numbers)
+      least [] all = tt
+      least (k ∷ numbers) all = (keeps m k all.0, least numbers all.1)
+
+  -- the numbers from n on are moved, to n - 1 at the lowest
+  pub ascend_moved : (n k : ℕ) (numbers : List ℕ) → Ascend numbers → ((front rest : List ℕ) → PartAt n front rest numbers → k ≡ length front) → ((m : ℕ) → n ≤ m → n ≤ move m + 1)
+      → Ascend (moved_from move k numbers)
+  ascend_moved n k numbers ascend ends low =
+      let p = parted_at n numbers ascend in
+      let parts = ascend_parts p.front p.rest (subst Ascend p.are.whole ascend) in
+      subst Ascend (sym (moved_rest move p.front p.rest) ∙ ap₂ (λ (j : ℕ) (l : List ℕ). moved_from move j l) (sym (ends p.front p.rest p.are)) (sym p.are.whole))
+      (ascend_joined n p.front (map move p.rest) parts.0 p.are.below (ascend_map p.rest parts.1) (lowest p.rest p.are.above))
+    where
+      lowest : (rest : List ℕ) → AllByRecursion (λ m. n ≤ m) rest → AllByRecursion (λ m. n ≤ m + 1) (map move rest)
+      lowest [] above = tt
+      lowest (m ∷ rest) above = (low m above.0, lowest rest above.1)
+
+raised_keeps : (m k : ℕ) → m ≤ k → raised m ≤ raised k
+raised_keeps m k le = omega (arith, le)
+
+lowered_keeps : (m k : ℕ) → m ≤ k → lowered m ≤ lowered k
+lowered_keeps m k le = omega (arith, le)
+
+-- those from n on, moved, are not below n
+above_raised : (n : ℕ) (rest : List ℕ) → n < 2 ^ 64 → AllByRecursion (λ m. n ≤ m) rest → AllByRecursion (λ m. n ≤ m) (map raised rest)
+above_raised n [] fits above = tt
+above_raised n (m ∷ rest) fits above = (least m above.0, above_raised n rest fits above.1)
+  where
+    least : (m : ℕ) → n ≤ m → n ≤ raised m
+    least m le = omega (arith, le, fits)
+
+module _ (n k : ℕ) (numbers : List ℕ) (ascend : Ascend numbers) (ends : (front rest : List ℕ) → PartAt n front rest numbers → k ≡ length front) where
+  pub ascend_raised : n < 2 ^ 64 → Ascend (moved_from raised k numbers)
+  ascend_raised fits = ascend_moved raised raised_keeps n k numbers ascend ends low
+    where
+      low : (m : ℕ) → n ≤ m → n ≤ raised m + 1
+      low m le = omega (arith, le, fits)
+
+  pub ascend_lowered : Ascend (moved_from lowered k numbers)
+  ascend_lowered = ascend_moved lowered lowered_keeps n k numbers ascend ends low
+    where
+      low : (m : ℕ) → n ≤ m → n ≤ lowered m + 1
+      low m le = omega (arith, le)
+
+  pub rank_raised : n < 2 ^ 64 → rank_in n (moved_from raised k numbers) ≡ rank_in n numbers
+  rank_raised fits =
+      let p = parted_at n numbers ascend in
+      let now = ap₂ (λ (j : ℕ) (l : List ℕ). moved_from raised j l) (ends p.front p.rest p.are) p.are.whole ∙ moved_rest raised p.front p.rest in
+      rank_of n p.front (map raised p.rest) (moved_from raised k numbers) (record { whole = now; below = p.are.below; above = above_raised n p.rest fits p.are.above })
+      ∙ sym (rank_of n p.front p.rest numbers p.are)
+
+  pub rank_is : k ≡ rank_in n numbers
+  rank_is = let p = parted_at n numbers ascend in ends p.front p.rest p.are ∙ sym (rank_of n p.front p.rest numbers p.are)
+
+  pub ascend_put : n < 2 ^ 64 → Ascend (moved_from raised (k + 1) (insert numbers k n))
+  ascend_put fits =
+      let p = parted_at n numbers ascend in
+      let parts = ascend_parts p.front p.rest (subst Ascend p.are.whole ascend) in
+      let above = above_raised n p.rest fits p.are.above in
+      subst Ascend (sym (put_raised n k p.front p.rest numbers p.are (ends p.front p.rest p.are)))
+      (ascend_joined n p.front (n ∷ map raised p.rest) parts.0 p.are.below (above, ascend_map raised raised_keeps p.rest parts.1) (omega arith, higher (map raised p.rest) above))
+    where
+      higher : (l : List ℕ) → AllByRecursion (λ m. n ≤ m) l → AllByRecursion (λ m. n ≤ m + 1) l
+      higher [] all = tt
+      higher (m ∷ l) all = (let le = all.0 in omega (arith, le), higher l all.1)
+
+pub ascend_removed : (k : ℕ) (numbers : List ℕ) → Ascend numbers → Ascend (remove numbers k)
+ascend_removed zero [] ascend = tt
+ascend_removed (suc k) [] ascend = tt
+ascend_removed zero (m ∷ numbers) ascend = ascend.1
+ascend_removed (suc k) (m ∷ numbers) ascend = (fewer k numbers ascend.0, ascend_removed k numbers ascend.1)
+  where
+    fewer : (k : ℕ) (numbers : List ℕ) → AllByRecursion (λ j. m ≤ j) numbers → AllByRecursion (λ j. m ≤ j) (remove numbers k)
+    fewer zero [] all = tt
+    fewer (suc k) [] all = tt
+    fewer zero (j ∷ numbers) all = all.1
+    fewer (suc k) (j ∷ numbers) all = (all.0, fewer k numbers all.1)

@@ -1,6 +1,17 @@
--- Numbers in ascending order, where one comes or goes.
-use Rattle.std.specs.Prelude.{ℕ, ◌≡◌, ◌<◌, ◌≤◌, ◌+◌, ◌%◌, ◌^◌, List, ◌++◌, take, drop, map}
-use Rattle.std.specs.List.{AllByRecursion}
+-- Numbers in ascending order, where one comes or goes, and those that the items of a kind have.
+use Rattle.std.specs.Prelude.{ℕ, Bool, ◌≡◌, ◌<◌, ◌≤◌, ◌+◌, ◌-◌, ◌^◌, ⊤, nat_lt, min, List, [], ◌∷◌, ◌++◌, length, filter, take, drop, map}
+use Rattle.std.specs.List.{AllByRecursion, enumerate_from}
+use Rattle.bib_spec.specs.Tree.{Tree}
+use Rattle.bib_spec.specs.Reading.{Item}
+
+-- each number is at most those after it
+abbrev pub Ascend : List ℕ → Type 0
+Ascend [] = ⊤
+Ascend (m ∷ numbers) = AllByRecursion (λ k. m ≤ k) numbers × Ascend numbers
+
+-- how many of the numbers are below n
+abbrev pub rank_in : ℕ → List ℕ → ℕ
+rank_in n numbers = length (filter (λ m. nat_lt m n) numbers)
 
 -- the numbers are these, which are below n, and after them those, which are not
 pub record PartAt (n : ℕ) (front rest numbers : List ℕ) : Type 0 where
@@ -12,10 +23,26 @@ pub record PartAt (n : ℕ) (front rest numbers : List ℕ) : Type 0 where
 abbrev pub HaveNext : List ℕ → Type 0
 HaveNext numbers = AllByRecursion (λ m. m + 1 < 2 ^ 64) numbers
 
--- a number as a machine adds to it
-abbrev pub moved : ℕ → ℕ → ℕ
-moved by m = (m + by) % 2 ^ 64
+-- the next number, as far as a machine has one
+abbrev pub raised : ℕ → ℕ
+raised m = min (m + 1) (2 ^ 64 - 1)
+
+-- the number before it, if there is one
+abbrev pub lowered : ℕ → ℕ
+lowered m = m - 1
 
 -- the numbers, where those from place k on are moved
-abbrev pub moved_from : ℕ → ℕ → List ℕ → List ℕ
-moved_from k by numbers = take k numbers ++ map (moved by) (drop k numbers)
+abbrev pub moved_from : (ℕ → ℕ) → ℕ → List ℕ → List ℕ
+moved_from move k numbers = take k numbers ++ map move (drop k numbers)
+
+-- ---- items of a kind
+
+-- the items of a kind, each with its number, where the first item of all has this one
+abbrev pub numbered : (Tree → Bool) → ℕ → List Item → List (ℕ × Item)
+numbered test from items = filter (λ p. test p.1.tree) (enumerate_from from items)
+
+abbrev pub numbers : (Tree → Bool) → ℕ → List Item → List ℕ
+numbers test from items = map (λ p. p.0) (numbered test from items)
+
+abbrev pub those : (Tree → Bool) → List Item → List Item
+those test items = filter (λ item. test item.tree) items

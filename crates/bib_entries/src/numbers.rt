@@ -1,7 +1,7 @@
 //! Numbers in ascending order.
 
 ghost use Rattle.std.specs.Prelude.{◌≡◌, ◌≤◌, ◌<◌, ◌+◌, ◌^◌, ℕ, List, length};
-ghost use Rattle.bib_entries.specs.Numbers.{PartAt, HaveNext, moved_from};
+ghost use Rattle.bib_entries.specs.Numbers.{PartAt, HaveNext, raised, lowered, moved_from};
 
 use std::alloc::{AllocError, Global};
 use std::marker::Model;
@@ -15,19 +15,32 @@ pub struct Numbers {
 
 impl Model for Numbers {
     ghost use Rattle.std.specs.Prelude.{List, ℕ};
+    ghost use Rattle.bib_entries.specs.Numbers.{Ascend};
 
     ghost Value = { List ℕ };
 
     ghost view = { λ numbers. numbers.list.items };
+
+    ghost invariant = { λ numbers. Ascend numbers.list.items };
 }
 
-/// Adds to the numbers from place `from` on.
-fn add(numbers: &mut [usize], from: usize, by: usize)
+/// Makes the numbers from place `from` on one greater. The greatest that there is stays.
+fn raise(numbers: &mut [usize], from: usize)
     requires { from ≤ length numbers.old }
-    ensures { numbers.new ≡ moved_from from by numbers.old }
+    ensures { numbers.new ≡ moved_from raised from numbers.old }
 {
     'pass: for i in from..numbers.len() {
-        numbers[i] = numbers[i].wrapping_add(by);
+        numbers[i] = numbers[i].saturating_add(1);
+    }
+}
+
+/// Makes the numbers from place `from` on one less. Zero stays.
+fn lower(numbers: &mut [usize], from: usize)
+    requires { from ≤ length numbers.old }
+    ensures { numbers.new ≡ moved_from lowered from numbers.old }
+{
+    'pass: for i in from..numbers.len() {
+        numbers[i] = numbers[i].saturating_sub(1);
     }
 }
 
@@ -45,6 +58,7 @@ fn count_below(numbers: &[usize], n: usize) -> usize
 
 impl Numbers {
     ghost use Rattle.std.specs.Prelude.{[], ◌++◌, ◌∷◌, suc, map, Some, slice_get, OnOk, OnErr};
+    ghost use Rattle.bib_entries.specs.Numbers.{rank_in};
 
     /// No numbers. It asks for no memory.
     pub fn new(alloc: Global) -> Self
@@ -81,6 +95,7 @@ impl Numbers {
     pub fn rank(&self, n: usize) -> usize
         ensures within { result ≤ length self.now }
         ensures below { (front rest : List ℕ) → PartAt n front rest self.now → result ≡ length front }
+        ensures counted { result ≡ rank_in n self.now }
     {
         count_below(self.list.as_slice(), n)
     }
@@ -89,17 +104,19 @@ impl Numbers {
     /// nothing changes.
     pub fn insert(&mut self, n: usize) -> Result<(), AllocError>
         ensures ok { OnOk result ((front rest : List ℕ) → PartAt n front rest self.old → HaveNext rest → self.new ≡ front ++ n ∷ map suc rest) }
+        ensures count { OnOk result (length self.new ≡ suc (length self.old)) }
         ensures err { OnErr result (self.new ≡ self.old) }
     {
         let k = count_below(self.list.as_slice(), n);
         self.list.insert(k, n)?;
-        add(self.list.as_mut_slice(), k + 1, 1);
+        raise(self.list.as_mut_slice(), k + 1);
         Ok(())
     }
 
     /// Takes number `n` out, of an item that goes: those after it are one less then. It asks for no memory.
     pub fn remove(&mut self, n: usize)
-        ensures { (front rest : List ℕ) → PartAt n front rest (front ++ rest) → HaveNext rest → self.old ≡ front ++ n ∷ map suc rest → self.new ≡ front ++ rest }
+        ensures taken { (front rest : List ℕ) → PartAt n front rest (front ++ rest) → HaveNext rest → self.old ≡ front ++ n ∷ map suc rest → self.new ≡ front ++ rest }
+        ensures count { length self.old ≤ length self.new + 1 }
     {
         let k = count_below(self.list.as_slice(), n);
         if k < self.list.len() {
@@ -110,17 +127,20 @@ impl Numbers {
 
     /// Makes way for an item that comes, of another kind: numbers from `n` on are one greater then.
     pub fn make_way(&mut self, n: usize)
-        ensures { (front rest : List ℕ) → PartAt n front rest self.old → HaveNext rest → self.new ≡ front ++ map suc rest }
+        ensures moved { (front rest : List ℕ) → PartAt n front rest self.old → HaveNext rest → self.new ≡ front ++ map suc rest }
+        ensures count { length self.new ≡ length self.old }
+        ensures rank { rank_in n self.new ≡ rank_in n self.old }
     {
         let k = count_below(self.list.as_slice(), n);
-        add(self.list.as_mut_slice(), k, 1);
+        raise(self.list.as_mut_slice(), k);
     }
 
     /// Closes the gap of an item that goes, of another kind: numbers after `n` are one less then.
     pub fn close(&mut self, n: usize)
-        ensures { (front rest : List ℕ) → PartAt n front rest (front ++ rest) → HaveNext rest → self.old ≡ front ++ map suc rest → self.new ≡ front ++ rest }
+        ensures moved { (front rest : List ℕ) → PartAt n front rest (front ++ rest) → HaveNext rest → self.old ≡ front ++ map suc rest → self.new ≡ front ++ rest }
+        ensures count { length self.new ≡ length self.old }
     {
         let k = count_below(self.list.as_slice(), n);
-        add(self.list.as_mut_slice(), k, usize::MAX);
+        lower(self.list.as_mut_slice(), k);
     }
 }

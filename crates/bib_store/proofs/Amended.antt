@@ -12,12 +12,12 @@ use Rattle.bib_spec.specs.Texts.{Macros, months, macros_after, macros_at, gather
 use Rattle.bib_spec.specs.Records.{EntryTexts, texts_of, entry_in, keys_of, crossref_text}
 use Rattle.bib_store.specs.declared.tables.Tables.{Tables}
 use Rattle.bib_store.specs.Meaning.{is_entry_tree, entry_numbers}
-use Rattle.bib_store.specs.Tables.{is_preamble_tree, AreDefinitionsOf}
+use Rattle.bib_store.specs.Tables.{is_preamble_tree}
 use Rattle.bib_entries.specs.EntryTable.{Kept, IsTableOf}
-use Rattle.bib_store.specs.Defined.{texts_at}
+use Rattle.bib_definitions.specs.Definitions.{is_definition_tree, AreDefinitionsOf}
 use Rattle.bib_store.specs.ItemTexts.{first_too_long, placed_texts}
 use Rattle.bib_store.specs.Beside.{AreTablesOf}
-use Rattle.bib_store.proofs.Numbered.{numbered, numbers}
+use Rattle.bib_entries.specs.Numbers.{numbered, numbers}
 use Rattle.bib_store.proofs.TableSteps.{entries_counted}
 use Rattle.bib_store.proofs.ItemsMore.{gathered-append, raw_texts-append, first-append, first-shift}
 
@@ -146,6 +146,7 @@ module _ (before behind : List Item) (x y : Item) (e f : Entry) (x_is : x.tree �
       → text ≡ crossref_text (texts_of here f) → AreTablesOf (before ++ y ∷ behind) new
   amended_tables t new m n text key are count listed entries preambles definitions named says =
       let kind : is_entry_tree x.tree ≡ is_entry_tree y.tree = ap is_entry_tree x_is ∙ sym (ap is_entry_tree y_is) in
+      let third : is_definition_tree x.tree ≡ is_definition_tree y.tree = ap is_definition_tree x_is ∙ sym (ap is_definition_tree y_is) in
       let other : is_preamble_tree x.tree ≡ is_preamble_tree y.tree = ap is_preamble_tree x_is ∙ sym (ap is_preamble_tree y_is) in
       let at : slice_get (entry_numbers (before ++ x ∷ behind)) m ≡ Some n = ap (λ (ns : List ℕ). slice_get ns m) (sym are.entries) ∙ listed in
       let place : m ≡ length first = listed_behind is_entry_tree 0 before behind x n m (ap is_entry_tree x_is) (omega (arith, count)) at ∙ entries_counted 0 months before in
@@ -162,7 +163,10 @@ module _ (before behind : List Item) (x y : Item) (e f : Entry) (x_is : x.tree �
       record {
         entries = entries ∙ are.entries ∙ numbers_same is_entry_tree 0 before behind x y kind;
         preambles = preambles ∙ are.preambles ∙ numbers_same is_preamble_tree 0 before behind x y other;
-        definitions = subst (λ d. AreDefinitionsOf (before ++ y ∷ behind) (texts_at d)) (sym definitions) (λ k. are.definitions k ∙ macros_same months before behind x y after_same k);
+        definitions = subst (AreDefinitionsOf (before ++ y ∷ behind)) (sym definitions) (record {
+          numbers = are.definitions.numbers ∙ numbers_same is_definition_tree 0 before behind x y third;
+          texts = λ k. are.definitions.texts k ∙ macros_same months before behind x y after_same k;
+        });
         named = subst (λ (cs : List (Option Text)). IsTableOf (keys_of (gathered entry_in months (before ++ y ∷ behind))) cs new.named) set_crossref
             (named (keys_of (gathered entry_in months (before ++ y ∷ behind))) (map crossref_text (gathered entry_in months (before ++ x ∷ behind))) stands
             (subst (λ (ks : List Text). IsTableOf ks (map crossref_text (gathered entry_in months (before ++ x ∷ behind))) t.named) same_keys are.named));

@@ -29,14 +29,14 @@ use Rattle.bib_store.specs.declared.item_fault.ItemFault.{ItemFault}
 use Rattle.bib_store.specs.declared.item_fault.ItemFault.TheVariants.{TooLong}
 use Rattle.bib_store.specs.Meaning.{is_entry_tree}
 use Rattle.bib_items.specs.Items.{item, item_at, stored, all_stored}
-use Rattle.bib_store.specs.Defined.{texts_at}
+use Rattle.bib_definitions.specs.Definitions.{texts_at}
 use Rattle.bib_store.specs.ItemTexts.{first_too_long, placed_texts, row_texts, crossref_in, OfRows}
 use Rattle.bib_store.specs.Beside.{AreTables, AreTablesOf, SayTheSame}
 use Rattle.bib_store.specs.Stored.{IsKeptAs, IsKept, SayTheSameOf}
 use Rattle.bib_store.specs.Windows.{IsWindow, OfJoined, exchanged, joined}
 use Rattle.bib_store.specs.Amending.{HaveOneKey, IsAmendment, OfComing}
 use Rattle.bib_store.proofs.TableSteps.{other_kind, entries_counted, named_kept}
-use Rattle.bib_store.proofs.MacrosBehind.{macros_taken}
+use Rattle.bib_definitions.proofs.MacrosAfter.{macros_taken}
 use Rattle.bib_store.proofs.RowTexts.{cons_parts}
 use Rattle.bib_store.proofs.EntryItems.{entry_tree}
 use Rattle.bib_store.proofs.KeptItems.{item_in, stored_at, count_kept}
@@ -213,7 +213,7 @@ swap items t c m front db inner is layout a k reads =
       comes = first;
       new_such = both.new_is;
       count = count;
-      sees = k.tables.definitions n ∙ sym (macros_taken months db.items n n (omega arith)) ∙ ap (macros_at months (take n db.items)) count;
+      sees = k.tables.definitions.texts n ∙ sym (macros_taken months db.items n n (omega arith)) ∙ ap (macros_at months (take n db.items)) count;
     }
 
 module _ (items : List Item) (t : Tables) (c : Change) (m : ℕ) (is : IsWindow items c.window) (layout : IsLayoutOf c.text c.layout) (a : IsAmendment items t.entries c m) where

@@ -13,11 +13,12 @@ use Rattle.bib_spec.specs.Records.{EntryTexts, entry_in, keys_of, crossref_text}
 use Rattle.bib_scan.proofs.OneReading.{tree_unique}
 use Rattle.bib_store.specs.declared.tables.Tables.{Tables}
 use Rattle.bib_store.specs.Meaning.{is_entry_tree}
+use Rattle.bib_definitions.specs.Definitions.{is_definition_tree}
 use Rattle.bib_store.specs.Tables.{is_preamble_tree}
 use Rattle.bib_entries.specs.EntryTable.{IsTableOf}
 use Rattle.bib_store.specs.ItemTexts.{first_too_long, placed_texts}
 use Rattle.bib_store.specs.Beside.{AreTablesOf}
-use Rattle.bib_store.proofs.Numbered.{numbered, numbers}
+use Rattle.bib_entries.specs.Numbers.{numbered, numbers}
 use Rattle.bib_store.proofs.RowTexts.{cons_parts}
 use Rattle.bib_store.proofs.ItemsMore.{raw_texts-append, first-append}
 use Rattle.bib_store.proofs.Amended.{first_of, first_kept, none_both, fit_parts, fit_joined}
@@ -75,7 +76,10 @@ tables_alike xs ys t e are = record {
   entries = are.entries ∙ numbers_alike is_entry_tree 0 xs ys e;
   preambles = are.preambles ∙ numbers_alike is_preamble_tree 0 xs ys e;
   named = subst (λ (es : List EntryTexts). IsTableOf (keys_of es) (map crossref_text es) t.named) (gathered_alike entry_in months xs ys e) are.named;
-  definitions = λ n. are.definitions n ∙ macros_alike months xs ys n e;
+  definitions = record {
+    numbers = are.definitions.numbers ∙ numbers_alike is_definition_tree 0 xs ys e;
+    texts = λ n. are.definitions.texts n ∙ macros_alike months xs ys n e;
+  };
 }
 
 -- nor do the limits of raw texts

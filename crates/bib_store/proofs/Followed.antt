@@ -14,7 +14,7 @@ use Rattle.bib_items.specs.declared.list.Item.{Item}
 use Rattle.bib_items.specs.Items.{item, item_at}
 use Rattle.bib_entries.proofs.Tables.{heads}
 use Rattle.bib_store.specs.declared.tables.Tables.{Tables}
-use Rattle.bib_store.specs.Defined.{texts_at}
+use Rattle.bib_definitions.specs.Definitions.{texts_at}
 use Rattle.bib_store.specs.ItemTexts.{first_too_long, placed_texts}
 use Rattle.bib_store.specs.Beside.{AreTablesOf, IsInsertion, IsRemoval, IsTooLongAt, OfOther, SayTheSame, item_with}
 use Rattle.bib_store.specs.Following.{bodies_between, AreItemsOf, AreOthersOf, DefineNothing, HaveShortTexts}
@@ -102,15 +102,15 @@ between_later items from to n low =
 -- the first n of the items are out of the tables
 abbrev pub TakenSoFar : ℕ → ℕ → ℕ → ℕ → List Item → Tables → Tables → Type 0
 TakenSoFar n at from to items old new =
-    ((before gone after : List reading.Item) → length before ≡ at → AreOthersOf (bodies_between from to items) gone → at + (length gone + length after) < 2 ^ 64 →
-    AreTablesOf (before ++ (gone ++ after)) old → AreTablesOf (before ++ (drop n gone ++ after)) new) × (new.definitions ≡ old.definitions)
+    (before gone after : List reading.Item) → length before ≡ at → AreOthersOf (bodies_between from to items) gone → at + (length gone + length after) < 2 ^ 64 →
+    AreTablesOf (before ++ (gone ++ after)) old → AreTablesOf (before ++ (drop n gone ++ after)) new
 
 -- the items from the n-th on are in the tables
 abbrev pub PutSoFar : ℕ → ℕ → ℕ → ℕ → List Item → Tables → Tables → Type 0
 PutSoFar n at from to items old now =
     ((before new after : List reading.Item) → length before ≡ at → AreOthersOf (bodies_between from to items) new → at + (length new + length after) < 2 ^ 64 →
     AreTablesOf (before ++ after) old → AreTablesOf (before ++ (drop n new ++ after)) now)
-    × (now.definitions ≡ old.definitions)
+    × (texts_at now.definitions at ≡ texts_at old.definitions at)
     × ((new : List reading.Item) → AreOthersOf (bodies_between from to items) new → HaveShortTexts (texts_at old.definitions at) (drop n new))
 
 -- ---- one more
@@ -127,16 +127,13 @@ module _ (n at from to : ℕ) (items : List Item) (old now next : Tables) (body 
   few : (some after : List reading.Item) → at + (length some + length after) < 2 ^ 64 → at + length (drop (suc n) some ++ after) < 2 ^ 64
   few some after fits = omega (arith, fits, length-append (drop (suc n) some) after, length-drop (suc n) some)
 
-  pub forget_more : TakenSoFar n at from to items old now → OfOther view (λ tree. IsRemoval at tree now next) → next.definitions ≡ now.definitions → TakenSoFar (suc n) at from to items old next
-  forget_more taken step kept = (
-    (λ before gone after count are fits t.
-        let b = body_of gone are in
-        step b.it.tree b.tree (other_of gone are) (sees b.it.tree b.tree b.bytes) before (drop (suc n) gone ++ after) b.it.trail count (few gone after fits)
-        (subst (λ (l : List reading.Item). AreTablesOf (before ++ (l ++ after)) now) b.parts (taken.0 before gone after count are fits t))),
-    kept ∙ taken.1,
-  )
+  pub forget_more : TakenSoFar n at from to items old now → OfOther view (λ tree. IsRemoval at tree now next) → TakenSoFar (suc n) at from to items old next
+  forget_more taken step before gone after count are fits t =
+      let b = body_of gone are in
+      step b.it.tree b.tree (other_of gone are) (sees b.it.tree b.tree b.bytes) before (drop (suc n) gone ++ after) b.it.trail count (few gone after fits)
+      (subst (λ (l : List reading.Item). AreTablesOf (before ++ (l ++ after)) now) b.parts (taken before gone after count are fits t))
 
-  pub learn_more : PutSoFar (suc n) at from to items old now → OfOther view (λ tree. IsInsertion at tree now next) → next.definitions ≡ now.definitions → PutSoFar n at from to items old next
+  pub learn_more : PutSoFar (suc n) at from to items old now → OfOther view (λ tree. IsInsertion at tree now next) → texts_at next.definitions at ≡ texts_at now.definitions at → PutSoFar n at from to items old next
   learn_more put step kept = (
     (λ before new after count are fits t.
         let b = body_of new are in
@@ -147,18 +144,18 @@ module _ (n at from to : ℕ) (items : List Item) (old now next : Tables) (body 
     (λ new are.
         let b = body_of new are in
         subst (HaveShortTexts (texts_at old.definitions at)) (sym b.parts) (
-          ap (λ d. first_too_long (placed_texts (texts_at d at) b.it.tree)) (sym put.1) ∙ (step b.it.tree b.tree (other_of new are) (sees b.it.tree b.tree b.bytes)).texts,
+          ap (λ (m : Macros). first_too_long (placed_texts m b.it.tree)) (sym put.1) ∙ (step b.it.tree b.tree (other_of new are) (sees b.it.tree b.tree b.bytes)).texts,
           put.2 new are,
         )),
   )
 
   -- an item whose text is too long is not one of those that fit
-  pub learn_over : (place : ℕ) → now.definitions ≡ old.definitions → OfOther view (λ tree. IsTooLongAt at tree now place)
+  pub learn_over : (place : ℕ) → texts_at now.definitions at ≡ texts_at old.definitions at → OfOther view (λ tree. IsTooLongAt at tree now place)
       → (new : List reading.Item) → AreOthersOf (bodies_between from to items) new → HaveShortTexts (texts_at old.definitions at) new → ⊥
   learn_over place kept over new are short =
       let b = body_of new are in
       none-some place (sym (all_next (λ (i : reading.Item). first_too_long (placed_texts (texts_at old.definitions at) i.tree) ≡ None) new (drop (suc n) new) n b.it b.parts short)
-      ∙ ap (λ d. first_too_long (placed_texts (texts_at d at) b.it.tree)) (sym kept) ∙ over b.it.tree b.tree (other_of new are) (sees b.it.tree b.tree b.bytes))
+      ∙ ap (λ (m : Macros). first_too_long (placed_texts m b.it.tree)) (sym kept) ∙ over b.it.tree b.tree (other_of new are) (sees b.it.tree b.tree b.bytes))
 
 -- none is in the tables yet
 pub learn_none : (at from to : ℕ) (items : List Item) (old : Tables) → from ≤ to → to ≤ length items → PutSoFar (to - from) at from to items old old
@@ -172,7 +169,7 @@ learn_none at from to items old order within = (
     gone new are = drop_all (to - from) new (omega (arith, counted_items (bodies_between from to items) new are.are, length-between items from to order within))
 
 pub forget_none : (at from to : ℕ) (items : List Item) (old : Tables) → TakenSoFar 0 at from to items old old
-forget_none at from to items old = ((λ before gone after count are fits t. t), refl)
+forget_none at from to items old before gone after count are fits t = t
 
 pub forget_all : (n at from to : ℕ) (items : List Item) (old now : Tables) → from ≤ to → to ≤ length items → to - from ≤ n → TakenSoFar n at from to items old now
     → (before gone after : List reading.Item) → length before ≡ at → AreOthersOf (bodies_between from to items) gone → at + (length gone + length after) < 2 ^ 64 →
@@ -180,7 +177,7 @@ pub forget_all : (n at from to : ℕ) (items : List Item) (old now : Tables) →
 forget_all n at from to items old now order within all taken before gone after count are fits t =
     subst (λ (l : List reading.Item). AreTablesOf (before ++ (l ++ after)) now)
     (drop_all n gone (omega (arith, all, counted_items (bodies_between from to items) gone are.are, length-between items from to order within)))
-    (taken.0 before gone after count are fits t)
+    (taken before gone after count are fits t)
 
 -- those that came are taken out again
 pub learn_back : (n m at from to : ℕ) (items : List Item) (old now tried back : Tables) → m ≡ from + suc n → m ≤ to → to ≤ length items → PutSoFar (suc n) at from to items old now → SayTheSame now tried

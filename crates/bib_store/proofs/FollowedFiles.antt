@@ -16,7 +16,7 @@ use Rattle.bib_items.specs.declared.list.Item.{Item}
 use Rattle.bib_items.specs.Items.{stored, all_stored}
 use Rattle.bib_store.specs.declared.change.Change.{Change}
 use Rattle.bib_store.specs.declared.tables.Tables.{Tables}
-use Rattle.bib_store.specs.Defined.{texts_at}
+use Rattle.bib_definitions.specs.Definitions.{texts_at}
 use Rattle.bib_store.specs.ItemTexts.{first_too_long, placed_texts}
 use Rattle.bib_store.specs.Beside.{AreTablesOf, AreTables}
 use Rattle.bib_store.specs.Stored.{IsKeptAs, SayTheSameOf}
@@ -26,7 +26,7 @@ use Rattle.bib_store.proofs.KeptItems.{count_kept}
 use Rattle.bib_store.proofs.ItemsMore.{raw_texts-append, first-append}
 use Rattle.bib_store.proofs.Amended.{none_both, fit_parts, fit_joined}
 use Rattle.bib_store.proofs.Appended.{fit_alike}
-use Rattle.bib_store.proofs.Insertions.{macros_in_front}
+use Rattle.bib_definitions.proofs.MacrosAfter.{macros_in_front}
 
 -- ---- items
 
@@ -241,7 +241,7 @@ module _ (c : Change) (old now : List Item) (count : ℕ) (put : ArePut c old no
   sees : texts_at t.definitions c.window.from ≡ macros_at months before (length before)
   sees =
       let low : c.window.from ≤ length before = omega (arith, long_before) in
-      k.tables.definitions c.window.from ∙ ap (λ (l : List reading.Item). macros_at months l c.window.from) old_parts ∙ macros_in_front months before (gone ++ after) c.window.from low
+      k.tables.definitions.texts c.window.from ∙ ap (λ (l : List reading.Item). macros_at months l c.window.from) old_parts ∙ macros_in_front months before (gone ++ after) c.window.from low
       ∙ ap (macros_at months before) (sym long_before)
 
   pub followed_tables : (learnt forgot : Tables)

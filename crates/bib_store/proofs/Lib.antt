@@ -29,9 +29,6 @@ pub mod KeptItems
 pub mod OpenedFiles
 pub mod PreambleTexts
 pub mod SplicedFiles
-pub mod DefinitionTables
-pub mod MacrosBehind
-pub mod NumberedLists
 pub mod Amended
 pub mod AmendedFiles
 pub mod Appended

@@ -1,20 +1,10 @@
 -- What is said of the items of a kind, in order, and where these items stand.
 use Rattle.std.proofs.Common.{◌≡◌, ℕ, zero, suc, ◌+◌, ◌<◌, Bool, true, false, List, [], ◌∷◌, ◌++◌, length, map, filter, slice_get, Some, ⊎_elim, refl, sym, ◌∙◌, ap, subst, arith, add-zero, not-suc-le-zero, le_of_suc-le-suc}
-use Rattle.std.specs.List.{enumerate_from}
 use Rattle.std.proofs.lemmas.Bool.{cases_Bool, cond-true, cond-false}
 use Rattle.bib_spec.specs.Tree.{Tree}
 use Rattle.bib_spec.specs.Reading.{Item}
 use Rattle.bib_spec.specs.Texts.{Macros, macros_after, macros_at, gathered}
-
--- the items of a kind, each with its number, where the first item of all has this one
-abbrev pub numbered : (Tree → Bool) → ℕ → List Item → List (ℕ × Item)
-numbered test from items = filter (λ p. test p.1.tree) (enumerate_from from items)
-
-abbrev pub numbers : (Tree → Bool) → ℕ → List Item → List ℕ
-numbers test from items = map (λ p. p.0) (numbered test from items)
-
-abbrev pub those : (Tree → Bool) → List Item → List Item
-those test items = filter (λ item. test item.tree) items
+use Rattle.bib_entries.specs.Numbers.{numbered, numbers, those}
 
 -- item n of a kind: where it stands, and what is said of it there
 pub record StandsAt {X : Type 0} (test : Tree → Bool) (say : Macros → Tree → List X) (m : Macros) (from : ℕ) (items : List Item) (n : ℕ) : Type 0 where

@@ -13,8 +13,8 @@ use Rattle.bib_scan.specs.View.{fields_behind, fields_of}
 use Rattle.bib_scan.proofs.TakenApart.{one_value}
 use Rattle.bib_value.proofs.Entries.{name_short}
 use Rattle.bib_spec.specs.Records.{RecordField, entries_of, own_fields, field_of, fields_at, missing}
-use Rattle.bib_store.specs.declared.definitions.MacrosAt.{MacrosAt}
-use Rattle.bib_store.specs.Definitions.{macros_seen}
+use Rattle.bib_definitions.specs.declared.macros_at.MacrosAt.{MacrosAt}
+use Rattle.bib_definitions.specs.MacrosSeen.{macros_seen}
 use Rattle.bib_store.specs.Gathering.{IsReadable, IsFieldOf, with_fields}
 use Rattle.bib_store.proofs.GatheredFields.{gathered_missing}
 use Rattle.bib_store.specs.Meaning.{entry_numbers}

@@ -1,5 +1,5 @@
 -- What an item that comes or goes does to the tables.
-use Rattle.std.proofs.Common.{◌≡◌, ℕ, suc, ◌+◌, ◌<◌, ◌≤◌, ◌^◌, cond, List, [], ◌∷◌, ◌++◌, length, map, filter, Option, Some, None, insert, remove, slice_get, ◌⊎◌, ⊎_elim, refl, sym, ◌∙◌, ap, ap₂, subst, arith, append-nil, append_assoc, length-append}
+use Rattle.std.proofs.Common.{◌≡◌, ℕ, suc, ◌+◌, ◌<◌, ◌≤◌, ◌^◌, cond, true, false, List, [], ◌∷◌, ◌++◌, length, map, filter, Option, Some, None, insert, remove, slice_get, ◌⊎◌, ⊎_elim, refl, sym, ◌∙◌, ap, ap₂, subst, arith, append-nil, append_assoc, length-append}
 use Rattle.std.specs.List.{enumerate_from}
 use Rattle.std.proofs.lemmas.List.{length-map}
 use Rattle.bib_spec.specs.Bytes.{equals_sign}
@@ -17,14 +17,16 @@ use Rattle.bib_entries.specs.EntryTable.{Kept, IsTableOf}
 use Rattle.bib_entries.proofs.MovedNumbers.{part_with}
 use Rattle.bib_store.specs.declared.tables.Tables.{Tables}
 use Rattle.bib_store.specs.Meaning.{is_entry_tree}
-use Rattle.bib_store.specs.Tables.{is_preamble_tree, AreDefinitionsOf}
-use Rattle.bib_store.specs.Defined.{texts_at, EndsBy, Defines}
+use Rattle.bib_definitions.specs.Definitions.{Known, texts_at, is_definition_tree, AreDefinitionsOf, Defines}
+use Rattle.bib_store.specs.Tables.{is_preamble_tree}
 use Rattle.bib_store.specs.ItemTexts.{first_too_long, placed_texts, row_texts, crossref_in, own_text, OfRows}
 use Rattle.bib_store.specs.Beside.{AreTablesOf, IsStep, IsInsertion, IsRemoval, IsTooLongAt, SayTheSame, OfView, item_with}
 use Rattle.bib_store.proofs.RowTexts.{cons_parts, first_fits, first_over}
-use Rattle.bib_store.proofs.Numbered.{numbers}
+use Rattle.bib_entries.specs.Numbers.{numbers}
 use Rattle.bib_store.proofs.ItemsMore.{gathered-append, gathered-more, number_same}
-use Rattle.bib_store.proofs.Insertions.{map-put, map-taken, map-stands, numbers-parts, numbers-with, parts_at, put_numbers, moved_numbers, taken_numbers, closed_numbers, macros_in_front, definitions_put, definitions_taken, gathered-with}
+use Rattle.bib_entries.proofs.ItemNumbers.{numbers-parts, numbers-with, parts_at, put_numbers, moved_numbers, taken_numbers, closed_numbers}
+use Rattle.bib_definitions.proofs.MacrosAfter.{macros_in_front}
+use Rattle.bib_store.proofs.Insertions.{map-put, map-taken, map-stands, gathered-with}
 
 -- ---- kinds
 
@@ -61,13 +63,13 @@ entries_counted k m (item ∷ items) =
 
 -- ---- an item that is no definition
 
-module _ (old new : Tables) (n : ℕ) (ends : EndsBy n old.definitions) (kept : new.definitions ≡ old.definitions) (before after : List Item) (x : Item) (count : length before ≡ n)
-    (same : macros_after (macros_at months before (length before)) x.tree ≡ macros_at months before (length before)) where
-  put_definitions : AreDefinitionsOf (before ++ after) (texts_at old.definitions) → AreDefinitionsOf (before ++ x ∷ after) (texts_at new.definitions)
-  put_definitions are = subst (λ d. AreDefinitionsOf (before ++ x ∷ after) (texts_at d)) (sym kept) (definitions_put before after x old.definitions n count ends same are)
+-- it comes as item n
+abbrev MakesWay : ℕ → Known → Known → Type 0
+MakesWay n old new = (before after : List Item) (item : Item) → length before ≡ n → n + length after < 2 ^ 64 → is_definition_tree item.tree ≡ false → AreDefinitionsOf (before ++ after) old → AreDefinitionsOf (before ++ item ∷ after) new
 
-  taken_definitions : AreDefinitionsOf (before ++ x ∷ after) (texts_at old.definitions) → AreDefinitionsOf (before ++ after) (texts_at new.definitions)
-  taken_definitions are = subst (λ d. AreDefinitionsOf (before ++ after) (texts_at d)) (sym kept) (definitions_taken before after x old.definitions n count ends same are)
+-- item n goes
+abbrev Closes : ℕ → Known → Known → Type 0
+Closes n old new = (before after : List Item) (item : Item) → length before ≡ n → n + length after < 2 ^ 64 → is_definition_tree item.tree ≡ false → AreDefinitionsOf (before ++ item ∷ after) old → AreDefinitionsOf (before ++ after) new
 
 -- what is said of the entries
 abbrev IsTableOfEntries : List EntryTexts → Kept → Type 0
@@ -108,26 +110,26 @@ named_kept old new len entries preambles kept named = record {
         let all = gathered entry_in months items in
         named (keys_of all) (map crossref_text all)
         (length-map all (λ (entry : EntryTexts). entry.key) ∙ sym (entries_counted 0 months items) ∙ sym (ap (λ (ns : List ℕ). length ns) t.entries)) t.named;
-    definitions = subst (λ d. AreDefinitionsOf items (texts_at d)) (sym kept) t.definitions;
+    definitions = subst (AreDefinitionsOf items) (sym kept) t.definitions;
   };
 }
 
 -- ---- an entry
 
 module _ (old new : Tables) (n : ℕ) (view : View) where
-  pub entry_insertion : (m : Macros) (found : Option Text) → m ≡ texts_at old.definitions n → EndsBy n old.definitions
+  pub entry_insertion : (m : Macros) (found : Option Text) → m ≡ texts_at old.definitions n
       → ((front rest : List ℕ) → PartAt n front rest old.entries → HaveNext rest → new.entries ≡ front ++ n ∷ map suc rest)
       → ((front rest : List ℕ) → PartAt n front rest old.preambles → HaveNext rest → new.preambles ≡ front ++ map suc rest)
       → ((front rest : List ℕ) (keys : List Text) (crossrefs : List (Option Text)) → PartAt n front rest old.entries → length front ≤ length keys → IsTableOf keys crossrefs old.named
       → IsTableOf (insert keys (length front) view.key) (insert crossrefs (length front) found) new.named)
-      → new.definitions ≡ old.definitions
+      → MakesWay n old.definitions new.definitions
       → OfRows view.fields (λ before rows. found ≡ crossref_in m rows)
       → OfRows view.fields (λ before rows. first_too_long (row_texts (length before) m rows) ≡ None)
       → OfView kind.Entry view (λ tree. IsInsertion n tree old new)
-  entry_insertion m found sees ends entries preambles named kept says short (CommentTree h) is at seen = other_kind kind.Entry kind.Comment (sym at) (omega arith)
-  entry_insertion m found sees ends entries preambles named kept says short (DefinitionTree d) is at seen = other_kind kind.Entry kind.Macro (sym at) (omega arith)
-  entry_insertion m found sees ends entries preambles named kept says short (PreambleTree p) is at seen = other_kind kind.Entry kind.Preamble (sym at) (omega arith)
-  entry_insertion m found sees ends entries preambles named kept says short (EntryTree e) is at seen =
+  entry_insertion m found sees entries preambles named defined says short (CommentTree h) is at seen = other_kind kind.Entry kind.Comment (sym at) (omega arith)
+  entry_insertion m found sees entries preambles named defined says short (DefinitionTree d) is at seen = other_kind kind.Entry kind.Macro (sym at) (omega arith)
+  entry_insertion m found sees entries preambles named defined says short (PreambleTree p) is at seen = other_kind kind.Entry kind.Preamble (sym at) (omega arith)
+  entry_insertion m found sees entries preambles named defined says short (EntryTree e) is at seen =
       let start = opening_bytes e.opening ++ e.key ++ e.space_behind_key in
       let fields : view.fields ≡ fields_of (EntryTree e) = ap (λ (v : View). v.fields) seen in
       let long = ap (λ (t : Text). length t) (sym (append_assoc (opening_bytes e.opening) e.key e.space_behind_key)) in
@@ -135,7 +137,7 @@ module _ (old new : Tables) (n : ℕ) (view : View) where
         tables = λ before after trail count fits t.
             let x = item_with (EntryTree e) trail in
             let here = macros_at months before (length before) in
-            let macros : m ≡ here = sees ∙ t.definitions n ∙ macros_in_front months before after n (omega (arith, count)) ∙ ap (macros_at months before) (sym count) in
+            let macros : m ≡ here = sees ∙ t.definitions.texts n ∙ macros_in_front months before after n (omega (arith, count)) ∙ ap (macros_at months before) (sym count) in
             let said = texts_of here e in
             let front = numbers is_entry_tree 0 before in
             let parts = parts_at is_entry_tree n before after old.entries count (t.entries ∙ numbers-parts is_entry_tree before after) in
@@ -147,22 +149,21 @@ module _ (old new : Tables) (n : ℕ) (view : View) where
                   (ap (λ (v : View). v.key) seen) (says start e.rows is.rows fields ∙ ap (λ (mm : Macros). crossref_in mm e.rows) macros) (entries_counted 0 months before)
                   (λ keys crossrefs. named front (numbers is_entry_tree (length before) after) keys crossrefs parts)
                   (subst (λ (es : List EntryTexts). IsTableOfEntries es old.named) (gathered-append entry_in months before after) t.named));
-              definitions = put_definitions old new n ends kept before after x count refl t.definitions;
+              definitions = defined before after x count fits refl t.definitions;
             };
         texts = ap₂ (λ (k : ℕ) (mm : Macros). first_too_long (row_texts k mm e.rows)) long (sym sees) ∙ short start e.rows is.rows fields;
       }
 
-  pub entry_removal : EndsBy n old.definitions
-      → ((front rest : List ℕ) → PartAt n front rest (front ++ rest) → HaveNext rest → old.entries ≡ front ++ n ∷ map suc rest → new.entries ≡ front ++ rest)
+  pub entry_removal : ((front rest : List ℕ) → PartAt n front rest (front ++ rest) → HaveNext rest → old.entries ≡ front ++ n ∷ map suc rest → new.entries ≡ front ++ rest)
       → ((front rest : List ℕ) → PartAt n front rest (front ++ rest) → HaveNext rest → old.preambles ≡ front ++ map suc rest → new.preambles ≡ front ++ rest)
       → (k : ℕ) → ((front rest : List ℕ) → PartAt n front rest old.entries → k ≡ length front)
       → ((keys : List Text) (crossrefs : List (Option Text)) → slice_get keys k ≡ Some view.key → IsTableOf keys crossrefs old.named → IsTableOf (remove keys k) (remove crossrefs k) new.named)
-      → new.definitions ≡ old.definitions
+      → Closes n old.definitions new.definitions
       → OfView kind.Entry view (λ tree. IsRemoval n tree old new)
-  entry_removal ends entries preambles k rank named kept (CommentTree h) is at seen before after trail count fits t = other_kind kind.Entry kind.Comment (sym at) (omega arith)
-  entry_removal ends entries preambles k rank named kept (DefinitionTree d) is at seen before after trail count fits t = other_kind kind.Entry kind.Macro (sym at) (omega arith)
-  entry_removal ends entries preambles k rank named kept (PreambleTree p) is at seen before after trail count fits t = other_kind kind.Entry kind.Preamble (sym at) (omega arith)
-  entry_removal ends entries preambles k rank named kept (EntryTree e) is at seen before after trail count fits t =
+  entry_removal entries preambles k rank named defined (CommentTree h) is at seen before after trail count fits t = other_kind kind.Entry kind.Comment (sym at) (omega arith)
+  entry_removal entries preambles k rank named defined (DefinitionTree d) is at seen before after trail count fits t = other_kind kind.Entry kind.Macro (sym at) (omega arith)
+  entry_removal entries preambles k rank named defined (PreambleTree p) is at seen before after trail count fits t = other_kind kind.Entry kind.Preamble (sym at) (omega arith)
+  entry_removal entries preambles k rank named defined (EntryTree e) is at seen before after trail count fits t =
       let x = item_with (EntryTree e) trail in
       let here = macros_at months before (length before) in
       let said = texts_of here e in
@@ -177,7 +178,7 @@ module _ (old new : Tables) (n : ℕ) (view : View) where
             (taken_named old.named new.named (gathered entry_in months before) (gathered entry_in here after) said k view.key (ap (λ (v : View). v.key) seen)
             (rank front (n ∷ map suc rest) parts ∙ entries_counted 0 months before) named
             (subst (λ (es : List EntryTexts). IsTableOfEntries es old.named) (gathered-with entry_in before after x (said ∷ []) refl refl) t.named));
-        definitions = taken_definitions old new n ends kept before after x count refl t.definitions;
+        definitions = defined before after x count fits refl t.definitions;
       }
 
   pub entry_over : (m : Macros) (place : ℕ) → m ≡ texts_at old.definitions n
@@ -208,8 +209,8 @@ module _ (old new : Tables) (n : ℕ) (view : View) where
       )
 
   pub definition_step : (field : Field) (rest : List Field) → view.fields ≡ field ∷ rest
-      → OfValue field.value (λ v. (items : List Item) (item : Item) → length items ≡ n → AreDefinitionsOf items (texts_at old.definitions)
-      → Defines (macros_at months items n) item.tree field.name (raw_text (own_text (texts_at old.definitions n) field.name) v) → AreDefinitionsOf (items ++ item ∷ []) (texts_at new.definitions))
+      → OfValue field.value (λ v. (items : List Item) (item : Item) → length items ≡ n → is_definition_tree item.tree ≡ true → AreDefinitionsOf items old.definitions
+      → Defines (macros_at months items n) item.tree field.name (raw_text (own_text (texts_at old.definitions n) field.name) v) → AreDefinitionsOf (items ++ item ∷ []) new.definitions)
       → new.entries ≡ old.entries → new.preambles ≡ old.preambles → new.named ≡ old.named
       → OfValue field.value (λ v. length (raw_text (own_text (texts_at old.definitions n) field.name) v) ≤ raw_limit)
       → OfView kind.Macro view (λ tree. IsStep n tree old new)
@@ -226,7 +227,7 @@ module _ (old new : Tables) (n : ℕ) (view : View) where
         tables = λ items trail count t.
             let i = item_with (DefinitionTree d) trail in
             let here = macros_at months items n in
-            let macros : texts_at old.definitions n ≡ here = t.definitions n in
+            let macros : texts_at old.definitions n ≡ here = t.definitions.texts n in
             let defined : Defines here (DefinitionTree d) field.name (raw_text (own_text (texts_at old.definitions n) field.name) a.value) =
             ap (λ (x : Text). updated here x (Some (raw_text (own_text here x) a.value))) (sym name)
             ∙ ap (λ (mm : Macros). updated here field.name (Some (raw_text (own_text mm field.name) a.value))) (sym macros) in
@@ -235,7 +236,7 @@ module _ (old new : Tables) (n : ℕ) (view : View) where
               entries = entries ∙ t.entries ∙ sym (number_same (λ (item : Item). is_entry_tree item.tree) items i refl);
               preambles = preambles ∙ t.preambles ∙ sym (number_same (λ (item : Item). is_preamble_tree item.tree) items i refl);
               named = subst (λ (k : Kept). IsTableOfEntries (gathered entry_in months (items ++ i ∷ [])) k) (sym named) (subst (λ (es : List EntryTexts). IsTableOfEntries es old.named) gone t.named);
-              definitions = table a.value is.assignment.value value items i count t.definitions defined;
+              definitions = table a.value is.assignment.value value items i count refl t.definitions defined;
             };
         texts = first_fits (length (opening_bytes d.opening ++ bytes_before_value a)) (raw_text (own_text (texts_at old.definitions n) a.name) a.value) []
             (subst (λ (x : Text). length (raw_text (own_text (texts_at old.definitions n) x) a.value) ≤ raw_limit) name (short a.value is.assignment.value value));
@@ -259,16 +260,15 @@ module _ (old new : Tables) (n : ℕ) (view : View) where
 
   -- ---- a preamble
 
-  pub preamble_insertion : EndsBy n old.definitions
-      → ((front rest : List ℕ) → PartAt n front rest old.preambles → HaveNext rest → new.preambles ≡ front ++ n ∷ map suc rest)
+  pub preamble_insertion : ((front rest : List ℕ) → PartAt n front rest old.preambles → HaveNext rest → new.preambles ≡ front ++ n ∷ map suc rest)
       → ((front rest : List ℕ) → PartAt n front rest old.entries → HaveNext rest → new.entries ≡ front ++ map suc rest)
-      → new.named ≡ old.named → new.definitions ≡ old.definitions
+      → new.named ≡ old.named → MakesWay n old.definitions new.definitions
       → OfView kind.Preamble view (λ tree. first_too_long (placed_texts (texts_at old.definitions n) tree) ≡ None)
       → OfView kind.Preamble view (λ tree. IsInsertion n tree old new)
-  preamble_insertion ends preambles entries named kept short (CommentTree h) is at seen = other_kind kind.Preamble kind.Comment (sym at) (omega arith)
-  preamble_insertion ends preambles entries named kept short (EntryTree e) is at seen = other_kind kind.Entry kind.Preamble at (omega arith)
-  preamble_insertion ends preambles entries named kept short (DefinitionTree d) is at seen = other_kind kind.Macro kind.Preamble at (omega arith)
-  preamble_insertion ends preambles entries named kept short (PreambleTree p) is at seen = record {
+  preamble_insertion preambles entries named defined short (CommentTree h) is at seen = other_kind kind.Preamble kind.Comment (sym at) (omega arith)
+  preamble_insertion preambles entries named defined short (EntryTree e) is at seen = other_kind kind.Entry kind.Preamble at (omega arith)
+  preamble_insertion preambles entries named defined short (DefinitionTree d) is at seen = other_kind kind.Macro kind.Preamble at (omega arith)
+  preamble_insertion preambles entries named defined short (PreambleTree p) is at seen = record {
     tables = λ before after trail count fits t.
         let x = item_with (PreambleTree p) trail in
         record {
@@ -276,27 +276,26 @@ module _ (old new : Tables) (n : ℕ) (view : View) where
           preambles = put_numbers is_preamble_tree before after x n count fits old.preambles new.preambles refl preambles t.preambles;
           named = subst (λ (es : List EntryTexts). IsTableOfEntries es new.named) (sym (unlisted before after x refl refl))
               (subst (λ (k : Kept). IsTableOfEntries (gathered entry_in months (before ++ after)) k) (sym named) t.named);
-          definitions = put_definitions old new n ends kept before after x count refl t.definitions;
+          definitions = defined before after x count fits refl t.definitions;
         };
     texts = short (PreambleTree p) is at seen;
   }
 
-  pub preamble_removal : EndsBy n old.definitions
-      → ((front rest : List ℕ) → PartAt n front rest (front ++ rest) → HaveNext rest → old.preambles ≡ front ++ n ∷ map suc rest → new.preambles ≡ front ++ rest)
+  pub preamble_removal : ((front rest : List ℕ) → PartAt n front rest (front ++ rest) → HaveNext rest → old.preambles ≡ front ++ n ∷ map suc rest → new.preambles ≡ front ++ rest)
       → ((front rest : List ℕ) → PartAt n front rest (front ++ rest) → HaveNext rest → old.entries ≡ front ++ map suc rest → new.entries ≡ front ++ rest)
-      → new.named ≡ old.named → new.definitions ≡ old.definitions
+      → new.named ≡ old.named → Closes n old.definitions new.definitions
       → OfView kind.Preamble view (λ tree. IsRemoval n tree old new)
-  preamble_removal ends preambles entries named kept (CommentTree h) is at seen before after trail count fits t = other_kind kind.Preamble kind.Comment (sym at) (omega arith)
-  preamble_removal ends preambles entries named kept (EntryTree e) is at seen before after trail count fits t = other_kind kind.Entry kind.Preamble at (omega arith)
-  preamble_removal ends preambles entries named kept (DefinitionTree d) is at seen before after trail count fits t = other_kind kind.Macro kind.Preamble at (omega arith)
-  preamble_removal ends preambles entries named kept (PreambleTree p) is at seen before after trail count fits t =
+  preamble_removal preambles entries named defined (CommentTree h) is at seen before after trail count fits t = other_kind kind.Preamble kind.Comment (sym at) (omega arith)
+  preamble_removal preambles entries named defined (EntryTree e) is at seen before after trail count fits t = other_kind kind.Entry kind.Preamble at (omega arith)
+  preamble_removal preambles entries named defined (DefinitionTree d) is at seen before after trail count fits t = other_kind kind.Macro kind.Preamble at (omega arith)
+  preamble_removal preambles entries named defined (PreambleTree p) is at seen before after trail count fits t =
       let x = item_with (PreambleTree p) trail in
       record {
         entries = closed_numbers is_entry_tree before after x n count fits old.entries new.entries refl entries t.entries;
         preambles = taken_numbers is_preamble_tree before after x n count fits old.preambles new.preambles refl preambles t.preambles;
         named = subst (λ (es : List EntryTexts). IsTableOfEntries es new.named) (unlisted before after x refl refl)
             (subst (λ (k : Kept). IsTableOfEntries (gathered entry_in months (before ++ x ∷ after)) k) (sym named) t.named);
-        definitions = taken_definitions old new n ends kept before after x count refl t.definitions;
+        definitions = defined before after x count fits refl t.definitions;
       }
 
   pub preamble_fits : (field : Field) (rest : List Field) → view.fields ≡ field ∷ rest
@@ -335,15 +334,14 @@ module _ (old new : Tables) (n : ℕ) (view : View) where
 
   -- ---- a comment
 
-  pub comment_insertion : EndsBy n old.definitions
-      → ((front rest : List ℕ) → PartAt n front rest old.entries → HaveNext rest → new.entries ≡ front ++ map suc rest)
+  pub comment_insertion : ((front rest : List ℕ) → PartAt n front rest old.entries → HaveNext rest → new.entries ≡ front ++ map suc rest)
       → ((front rest : List ℕ) → PartAt n front rest old.preambles → HaveNext rest → new.preambles ≡ front ++ map suc rest)
-      → new.named ≡ old.named → new.definitions ≡ old.definitions
+      → new.named ≡ old.named → MakesWay n old.definitions new.definitions
       → OfView kind.Comment view (λ tree. IsInsertion n tree old new)
-  comment_insertion ends entries preambles named kept (EntryTree e) is at seen = other_kind kind.Entry kind.Comment at (omega arith)
-  comment_insertion ends entries preambles named kept (DefinitionTree d) is at seen = other_kind kind.Macro kind.Comment at (omega arith)
-  comment_insertion ends entries preambles named kept (PreambleTree p) is at seen = other_kind kind.Preamble kind.Comment at (omega arith)
-  comment_insertion ends entries preambles named kept (CommentTree h) is at seen = record {
+  comment_insertion entries preambles named defined (EntryTree e) is at seen = other_kind kind.Entry kind.Comment at (omega arith)
+  comment_insertion entries preambles named defined (DefinitionTree d) is at seen = other_kind kind.Macro kind.Comment at (omega arith)
+  comment_insertion entries preambles named defined (PreambleTree p) is at seen = other_kind kind.Preamble kind.Comment at (omega arith)
+  comment_insertion entries preambles named defined (CommentTree h) is at seen = record {
     tables = λ before after trail count fits t.
         let x = item_with (CommentTree h) trail in
         record {
@@ -351,27 +349,26 @@ module _ (old new : Tables) (n : ℕ) (view : View) where
           preambles = moved_numbers is_preamble_tree before after x n count fits old.preambles new.preambles refl preambles t.preambles;
           named = subst (λ (es : List EntryTexts). IsTableOfEntries es new.named) (sym (unlisted before after x refl refl))
               (subst (λ (k : Kept). IsTableOfEntries (gathered entry_in months (before ++ after)) k) (sym named) t.named);
-          definitions = put_definitions old new n ends kept before after x count refl t.definitions;
+          definitions = defined before after x count fits refl t.definitions;
         };
     texts = refl;
   }
 
-  pub comment_removal : EndsBy n old.definitions
-      → ((front rest : List ℕ) → PartAt n front rest (front ++ rest) → HaveNext rest → old.entries ≡ front ++ map suc rest → new.entries ≡ front ++ rest)
+  pub comment_removal : ((front rest : List ℕ) → PartAt n front rest (front ++ rest) → HaveNext rest → old.entries ≡ front ++ map suc rest → new.entries ≡ front ++ rest)
       → ((front rest : List ℕ) → PartAt n front rest (front ++ rest) → HaveNext rest → old.preambles ≡ front ++ map suc rest → new.preambles ≡ front ++ rest)
-      → new.named ≡ old.named → new.definitions ≡ old.definitions
+      → new.named ≡ old.named → Closes n old.definitions new.definitions
       → OfView kind.Comment view (λ tree. IsRemoval n tree old new)
-  comment_removal ends entries preambles named kept (EntryTree e) is at seen before after trail count fits t = other_kind kind.Entry kind.Comment at (omega arith)
-  comment_removal ends entries preambles named kept (DefinitionTree d) is at seen before after trail count fits t = other_kind kind.Macro kind.Comment at (omega arith)
-  comment_removal ends entries preambles named kept (PreambleTree p) is at seen before after trail count fits t = other_kind kind.Preamble kind.Comment at (omega arith)
-  comment_removal ends entries preambles named kept (CommentTree h) is at seen before after trail count fits t =
+  comment_removal entries preambles named defined (EntryTree e) is at seen before after trail count fits t = other_kind kind.Entry kind.Comment at (omega arith)
+  comment_removal entries preambles named defined (DefinitionTree d) is at seen before after trail count fits t = other_kind kind.Macro kind.Comment at (omega arith)
+  comment_removal entries preambles named defined (PreambleTree p) is at seen before after trail count fits t = other_kind kind.Preamble kind.Comment at (omega arith)
+  comment_removal entries preambles named defined (CommentTree h) is at seen before after trail count fits t =
       let x = item_with (CommentTree h) trail in
       record {
         entries = closed_numbers is_entry_tree before after x n count fits old.entries new.entries refl entries t.entries;
         preambles = closed_numbers is_preamble_tree before after x n count fits old.preambles new.preambles refl preambles t.preambles;
         named = subst (λ (es : List EntryTexts). IsTableOfEntries es new.named) (unlisted before after x refl refl)
             (subst (λ (k : Kept). IsTableOfEntries (gathered entry_in months (before ++ x ∷ after)) k) (sym named) t.named);
-        definitions = taken_definitions old new n ends kept before after x count refl t.definitions;
+        definitions = defined before after x count fits refl t.definitions;
       }
 
 -- ---- at the end

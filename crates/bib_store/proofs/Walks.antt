@@ -18,7 +18,7 @@ use Rattle.bib_store.specs.declared.item_fault.ItemFault.{ItemFault}
 use Rattle.bib_store.specs.declared.item_fault.ItemFault.TheVariants.{TooLong, Memory}
 use Rattle.bib_store.specs.declared.tables.Tables.{Tables}
 use Rattle.bib_items.specs.Items.{item, item_at, stored, without_range}
-use Rattle.bib_store.specs.Defined.{texts_at}
+use Rattle.bib_definitions.specs.Definitions.{texts_at}
 use Rattle.bib_store.specs.ItemTexts.{first_too_long, placed_texts, OfTree}
 use Rattle.bib_store.specs.Beside.{AreTablesOf, AreTables, HasItems, IsStep, IsTooLongAt}
 use Rattle.bib_store.proofs.ItemsMore.{first-append, first-shift, raw_texts-append, too_long_within}
@@ -159,7 +159,7 @@ next_macros : (db : Reading) (n : ℕ) (t : Tables) → n < length db.items → 
     → texts_at t.definitions n ≡ macros_at months (take n db.items) (length (take n db.items))
 next_macros db n t inside are =
     let len : length (take n db.items) ≡ n = length-take-le n db.items (omega (arith, inside)) in
-    are.definitions n ∙ ap (macros_at months (take n db.items)) (sym len)
+    are.definitions.texts n ∙ ap (macros_at months (take n db.items)) (sym len)
 
 module _ (front_len from to : ℕ) (all : List Item) (n k place : ℕ) (order : from ≤ to) (within : to ≤ length all)
     (number : k ≡ cond (nat_lt n from) n (n + (to - from))) (low : n < length all - (to - from)) where

@@ -1,7 +1,5 @@
 pub mod Reversing
 pub mod Meaning
-pub mod Defined
-pub mod Definitions
 pub mod Tables
 pub mod Citing
 pub mod Gathering

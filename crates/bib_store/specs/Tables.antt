@@ -1,12 +1,10 @@
--- What is kept beside the items of a file: which of them are entries and preambles, which keys the entries have, what
--- macros stand for where each item stands, and what each entry's crossref says.
+-- What is kept beside the items of a file: which of them are preambles, and what each entry's crossref says.
 use Rattle.std.specs.Prelude.{ℕ, ◌≡◌, ◌++◌, Bool, true, false, List, take, drop, map, filter, Option, option_map, count_by}
 use Rattle.std.specs.List.{enumerate_from}
 use Rattle.bib_spec.specs.Text.{Text, folded}
 use Rattle.bib_spec.specs.Tree.{Tree, CommentTree, DefinitionTree, PreambleTree, EntryTree, tree_bytes}
 use Rattle.bib_spec.specs.Reading as reading
 use Rattle.bib_spec.specs.Reading.{Reading}
-use Rattle.bib_spec.specs.Texts.{Macros, months, macros_at}
 use Rattle.bib_spec.specs.Records.{entries_of, crossref_text, is_named, first_named}
 use Rattle.bib_items.specs.declared.list.Item.{Item}
 use Rattle.bib_items.specs.Items.{item}
@@ -35,12 +33,6 @@ is_preamble_tree (EntryTree e) = false
 -- the numbers that the preambles have among the items, in order
 abbrev pub preamble_numbers : List reading.Item → List ℕ
 preamble_numbers items = map (λ p. p.0) (filter (λ p. is_preamble_tree p.1.tree) (enumerate_from 0 items))
-
--- ---- macros
-
--- the table says what macros stand for where each item stands, and behind the last
-abbrev pub AreDefinitionsOf : List reading.Item → (ℕ → Macros) → Type 0
-AreDefinitionsOf items table = (n : ℕ) → table n ≡ macros_at months items n
 
 -- ---- crossrefs
 

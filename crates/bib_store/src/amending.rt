@@ -13,7 +13,7 @@ ghost use Rattle.bib_entries.specs.EntryTable.{IsTableOf};
 ghost use Rattle.bib_items.specs.Items.{item as stored_item};
 ghost use Rattle.bib_store.specs.Amending.{HaveOneKey, IsAmendment, OfComing};
 ghost use Rattle.bib_store.specs.Beside.{AreTables};
-ghost use Rattle.bib_store.specs.Defined.{texts_at};
+ghost use Rattle.bib_definitions.specs.Definitions.{texts_at};
 ghost use Rattle.bib_store.specs.ItemTexts.{first_too_long, placed_texts};
 ghost use Rattle.bib_store.specs.Stored.{SayTheSameOf};
 ghost use Rattle.bib_store.specs.Windows.{IsWindow, OfJoined, exchanged};
@@ -21,9 +21,9 @@ ghost use Rattle.bib_items.specs.declared.fault.StoreFault.TheVariants.{Memory, 
 
 use crate::change::Change;
 use crate::crossrefs::entry_crossref;
-use crate::defining::FileDefinitions;
 use crate::item_fault::ItemFault;
 use crate::tables::Tables;
+use bib_definitions::Definitions;
 use bib_entries::EntryTable;
 use bib_items::{ItemList, StoreFault};
 use bib_scan::{ItemView, Kind, NAME_LIMIT, Text};
@@ -58,7 +58,7 @@ pub(crate) fn amended<L: ItemList>(items: &L, entries: &[usize], change: &Change
 fn coming_crossref(
     alloc: Global,
     change: &Change,
-    definitions: &FileDefinitions,
+    definitions: &Definitions,
 ) -> Result<Option<Text>, StoreFault>
     requires layout { IsLayoutOf change.now.text change.now.layout }
     requires one { length change.now.layout.items ≡ 1 }

@@ -7,14 +7,14 @@ ghost use Rattle.bib_spec.specs.Tree.{Row};
 ghost use Rattle.bib_spec.specs.Texts.{raw_text};
 ghost use Rattle.bib_spec.specs.Records.{RecordField, field_of};
 ghost use Rattle.bib_value.specs.Raw.{OfValue};
-ghost use Rattle.bib_store.specs.Definitions.{macros_seen};
+ghost use Rattle.bib_definitions.specs.MacrosSeen.{macros_seen};
 ghost use Rattle.bib_store.specs.Gathering.{is_taken, with_field, with_fields, IsShortValue, IsReadable, IsFieldOf};
 ghost use Rattle.bib_store.specs.Choosing.{is_one_of, chosen};
 ghost use Rattle.bib_items.specs.declared.fault.StoreFault.TheVariants.{Memory};
 
-use crate::definitions::MacrosAt;
 use crate::gathering::lower;
 use crate::measuring::short_field_text;
+use bib_definitions::MacrosAt;
 use bib_items::StoreFault;
 use bib_scan::{Fields, Text, same_folded};
 use std::alloc::Global;

@@ -1,11 +1,11 @@
 //! The file as a list of items, with entries, keys and crossrefs.
 
-use crate::definitions::MacrosAt;
 use crate::joining::join;
 use crate::keeping::keep_all;
 use crate::measuring::short_text;
 use crate::preambles::preamble_value;
 use crate::tables::Tables;
+use bib_definitions::MacrosAt;
 use bib_items::{ItemList, StoreFault};
 use bib_scan::{ItemView, ReadFault, Seq, Text, read};
 use bib_value::MacroTable;
@@ -44,8 +44,8 @@ impl<L: ItemList> Database<L> {
     ghost use Rattle.bib_scan.specs.View.{view_of};
     ghost use Rattle.bib_scan.specs.Layout.{start_of};
     ghost use Rattle.bib_entries.specs.EntryTable.{referrers};
-    ghost use Rattle.bib_store.specs.Definitions.{macros_seen};
     ghost use Rattle.bib_store.specs.Tables.{crossrefs_of};
+    ghost use Rattle.bib_definitions.specs.MacrosSeen.{macros_seen};
     ghost use Rattle.bib_store.specs.Meaning.{OfReading, IsItemNumber, IsItemPlace, IsEntryNumber, IsPreambleNumber, entry_items, entry_numbers, IsOpenFault};
     ghost use Rattle.bib_items.specs.declared.fault.StoreFault.TheVariants.{Memory, NoSuchEntry};
 

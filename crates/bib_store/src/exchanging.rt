@@ -6,7 +6,6 @@ ghost use Rattle.bib_spec.specs.Reading.{Reading, Reads};
 ghost use Rattle.bib_spec.specs.Texts.{too_long_at};
 ghost use Rattle.bib_scan.specs.Layout.{IsLayoutOf};
 ghost use Rattle.bib_store.specs.Beside.{AreTables, HasItems};
-ghost use Rattle.bib_store.specs.Defined.{EndsBy};
 ghost use Rattle.bib_store.specs.Following.{bodies_between, AreItemsOf, DefineNothing};
 ghost use Rattle.bib_items.specs.Items.{without_range};
 ghost use Rattle.bib_store.specs.Stored.{SayTheSameOf};
@@ -21,8 +20,8 @@ use crate::tables::Tables;
 use bib_items::{ItemList, StoreFault};
 use std::alloc::Global;
 
-/// Tables follow so many items that come, and so many that go. Each takes a step for every entry after it, so that for
-/// more of them it costs less to make the tables again.
+/// Tables follow so many items that come, and so many that go. Each takes a step for every entry and definition after it,
+/// so that for more of them it costs less to make the tables again.
 const FOLLOWED_LIMIT: usize = 64;
 
 /// Puts the items of a change in place of those in its window, and lets the tables say what holds of all items then. It
@@ -85,8 +84,8 @@ fn exchange_all<L: ItemList>(
 }
 
 /// Lets the tables say what holds once the items of a change, of this count, have replaced those of its window, which
-/// stand after them still. Where no macro is defined in the window or after it, the tables follow the items that come
-/// and go; else they are made again. Where it is refused, the tables say what they said.
+/// stand after them still. Where few come and go, and none defines a macro, the tables follow them; else they are made
+/// again. Where it is refused, the tables say what they said.
 fn renew<L: ItemList>(
     alloc: Global,
     front_len: usize,
@@ -103,29 +102,24 @@ fn renew<L: ItemList>(
     ensures only { IfErr result (λ fault. (fault ≡ BadSplice) ⊎ (fault ≡ Memory)) }
     ensures err { OnErr result ((old : List Item) → (inner : Reading) → Reads change.now.text inner → ArePut change.now old (L.items items.now) count → SayTheSameOf old tables.old tables.new) }
 {
-    if can_follow(items, tables, change, count) {
+    if can_follow(items, change, count) {
         return follow(alloc, items, tables, change, count);
     }
     *tables = remake(alloc, front_len, items, change, count)?;
     Ok(())
 }
 
-/// Whether the tables may follow: few items come and go, and no macro is defined in the window or after it, before and
-/// after the change.
-fn can_follow<L: ItemList>(items: &L, tables: &Tables, change: &Change, count: usize) -> bool
+/// Whether the tables may follow: few items come and go, and none of them defines a macro.
+fn can_follow<L: ItemList>(items: &L, change: &Change, count: usize) -> bool
     requires ordered { change.now.window.from ≤ change.now.window.to }
     requires within { change.now.window.to + count ≤ length (L.items items.now) }
-    ensures ends { IsTrue result → EndsBy change.now.window.from tables.now.definitions }
     ensures others { IsTrue result → (all : List reading.Item) → AreItemsOf (bodies_between change.now.window.from (change.now.window.to + count) (L.items items.now)) all → DefineNothing all }
 {
     let window = change.window;
     // so many items fit
     let _ = items.count();
     let most = count.max(window.to - window.from);
-    if most > FOLLOWED_LIMIT || window.from < tables.definitions.end() {
-        return false;
-    }
-    are_others(items, window.from, window.to + count)
+    most <= FOLLOWED_LIMIT && are_others(items, window.from, window.to + count)
 }
 
 /// Lets the tables follow the items of a change that come, of this count, and those of its window that go.
@@ -138,7 +132,6 @@ fn follow<L: ItemList>(
 ) -> Result<(), StoreFault>
     requires ordered { change.now.window.from ≤ change.now.window.to }
     requires within { change.now.window.to + count ≤ length (L.items items.now) }
-    requires ends { EndsBy change.now.window.from tables.old.definitions }
     requires others { (all : List reading.Item) → AreItemsOf (bodies_between change.now.window.from (change.now.window.to + count) (L.items items.now)) all → DefineNothing all }
     ensures tables { OnOk result ((old : List Item) → (front_len : ℕ) → ArePut change.now old (L.items items.now) count → OfJoined change.now front_len old tables.old (λ db. AreTables db tables.new × (too_long_at db ≡ None))) }
     ensures len { OnOk result (tables.new.file_len ≡ change.now.file_len) }

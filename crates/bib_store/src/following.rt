@@ -1,10 +1,10 @@
-//! Tables that follow items that come and go, where no macro is defined.
+//! Tables that follow items that come and go and define no macro.
 
 ghost use Rattle.std.specs.Prelude.{◌≡◌, ◌+◌, ◌≤◌, ◌<◌, ◌^◌, ◌⊎◌, ℕ, List, ◌++◌, length, IsTrue, IfErr, OnOk, OnErr};
 ghost use Rattle.bib_spec.specs.Reading.{Item};
 ghost use Rattle.bib_items.specs.declared.fault.StoreFault.TheVariants.{Memory, BadSplice};
 ghost use Rattle.bib_store.specs.Beside.{AreTablesOf};
-ghost use Rattle.bib_store.specs.Defined.{EndsBy, texts_at};
+ghost use Rattle.bib_definitions.specs.Definitions.{texts_at};
 ghost use Rattle.bib_store.specs.Following.{bodies_between, AreItemsOf, AreOthersOf, DefineNothing, HaveShortTexts};
 
 use crate::tables::Tables;
@@ -13,8 +13,7 @@ use bib_scan::{ItemView, Kind};
 use std::alloc::Global;
 
 /// Puts items into the tables, before the items that have number `at` and the greater ones: those of the list from
-/// number `from` up to `to`. None is a definition, and all definitions stand before them. Where it is refused, the
-/// tables say what they said.
+/// number `from` up to `to`. None is a definition. Where it is refused, the tables say what they said.
 pub(crate) fn learn<L: ItemList>(
     alloc: Global,
     tables: &mut Tables,
@@ -25,10 +24,8 @@ pub(crate) fn learn<L: ItemList>(
 ) -> Result<(), StoreFault>
     requires ordered { from ≤ to }
     requires within { to ≤ length (L.items items.now) }
-    requires ends { EndsBy at tables.old.definitions }
     ensures tables { OnOk result ((before new after : List Item) → length before ≡ at → AreOthersOf (bodies_between from to (L.items items.now)) new → at + (length new + length after) < 2 ^ 64 → AreTablesOf (before ++ after) tables.old → AreTablesOf (before ++ (new ++ after)) tables.new) }
     ensures short { OnOk result ((new : List Item) → AreOthersOf (bodies_between from to (L.items items.now)) new → HaveShortTexts (texts_at tables.old.definitions at) new) }
-    ensures definitions { tables.new.definitions ≡ tables.old.definitions }
     ensures len { tables.new.file_len ≡ tables.old.file_len }
     ensures refused { IfErr result (λ fault. fault ≡ BadSplice → (new : List Item) → AreOthersOf (bodies_between from to (L.items items.now)) new → HaveShortTexts (texts_at tables.old.definitions at) new → ⊥) }
     ensures only { IfErr result (λ fault. (fault ≡ BadSplice) ⊎ (fault ≡ Memory)) }
@@ -45,13 +42,11 @@ pub(crate) fn learn<L: ItemList>(
 }
 
 /// Takes items out of the tables, from number `at` on: those of the list from number `from` up to `to`. None is a
-/// definition, and all definitions stand before them. It asks for no memory.
+/// definition. It asks for no memory.
 pub(crate) fn forget<L: ItemList>(tables: &mut Tables, items: &L, at: usize, from: usize, to: usize)
     requires ordered { from ≤ to }
     requires within { to ≤ length (L.items items.now) }
-    requires ends { EndsBy at tables.old.definitions }
     ensures tables { (before gone after : List Item) → length before ≡ at → AreOthersOf (bodies_between from to (L.items items.now)) gone → at + (length gone + length after) < 2 ^ 64 → AreTablesOf (before ++ (gone ++ after)) tables.old → AreTablesOf (before ++ after) tables.new }
-    ensures definitions { tables.new.definitions ≡ tables.old.definitions }
     ensures len { tables.new.file_len ≡ tables.old.file_len }
 {
     'forget: for k in from..to {

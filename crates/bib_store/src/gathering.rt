@@ -8,12 +8,12 @@ ghost use Rattle.bib_spec.specs.Tree.{Row};
 ghost use Rattle.bib_spec.specs.Texts.{raw_text};
 ghost use Rattle.bib_spec.specs.Records.{field_of};
 ghost use Rattle.bib_value.specs.Raw.{OfValue};
-ghost use Rattle.bib_store.specs.Definitions.{macros_seen};
+ghost use Rattle.bib_definitions.specs.MacrosSeen.{macros_seen};
 ghost use Rattle.bib_store.specs.Gathering.{AreTaken, with_field, with_fields, IsShortValue, IsReadable, IsFieldOf};
 ghost use Rattle.bib_items.specs.declared.fault.StoreFault.TheVariants.{Memory};
 
-use crate::definitions::MacrosAt;
 use crate::measuring::short_field_text;
+use bib_definitions::MacrosAt;
 use bib_items::StoreFault;
 use bib_scan::{Fields, Seq, Text};
 use bib_value::FoldedMap;

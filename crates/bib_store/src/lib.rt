@@ -10,8 +10,6 @@ mod choosing;
 mod citing;
 mod crossrefs;
 mod database;
-mod defining;
-mod definitions;
 mod exchanging;
 mod expanding;
 mod fitting;
@@ -30,8 +28,8 @@ mod touching;
 mod window;
 
 pub use bib_data::{Piece, Record};
+pub use bib_definitions::MacrosAt;
 pub use bib_items::{Flat, Item, ItemList, Paged, StoreFault};
 pub use database::Database;
-pub use definitions::MacrosAt;
 pub use record::{Cited, Expanded};
 pub use reversing::reverse;

@@ -14,9 +14,9 @@ impl<L: ItemList> Database<L> {
 
     /// Replaces pieces of the file, all at once. The items that the pieces touch are read again, and those between
     /// them; where that shows no file, the whole file is. It takes time in their length, a few steps for each page of
-    /// items, and a step for each entry and preamble after them; and memory in their length. Where a macro is defined
-    /// among them or after them, the tables of all items are made again: it takes time in the file's length, and memory
-    /// as opening it.
+    /// items, and a step for each entry, preamble and macro definition after them; and memory in their length. Where more
+    /// than 64 items come or go, or one of them defines a macro, the tables of all items are made again: it takes time in
+    /// the file's length, and memory as opening it.
     pub fn splice(&mut self, pieces: &[Piece]) -> Result<(), StoreFault>
         ensures fit { OnOk result (Fit pieces.now self.old) }
         ensures spliced { OnOk result (self.new ≡ applied pieces.now self.old) }

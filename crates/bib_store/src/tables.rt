@@ -12,9 +12,9 @@ ghost use Rattle.bib_entries.specs.Numbers.{PartAt, HaveNext};
 ghost use Rattle.bib_entries.specs.EntryTable.{IsTableOf};
 
 use crate::crossrefs::crossref_of;
-use crate::defining::FileDefinitions;
 use crate::item_fault::ItemFault;
 use crate::measuring::{measure, value_text};
+use bib_definitions::Definitions;
 use bib_entries::{EntryTable, Numbers};
 use bib_items::ItemList;
 use bib_scan::{FILE_LIMIT, FieldView, ItemView, Kind, NAME_LIMIT, ReadFault, Text};
@@ -32,17 +32,16 @@ pub(crate) struct Tables {
     /// The key of each entry, and what its crossref says.
     pub named: EntryTable,
     /// What macros stand for where each item stands.
-    pub definitions: FileDefinitions,
+    pub definitions: Definitions,
 }
 
 impl Tables {
-    ghost use Rattle.std.specs.Prelude.{Some};
+    ghost use Rattle.std.specs.Prelude.{Some, true};
     ghost use Rattle.bib_spec.specs.Reading.{Item};
     ghost use Rattle.bib_spec.specs.Texts.{months, macros_at, raw_text, raw_limit};
     ghost use Rattle.bib_value.specs.Raw.{OfValue};
     ghost use Rattle.bib_items.specs.Items.{without_range};
-    ghost use Rattle.bib_store.specs.Tables.{AreDefinitionsOf};
-    ghost use Rattle.bib_store.specs.Defined.{EndsBy, Defines, texts_at};
+    ghost use Rattle.bib_definitions.specs.Definitions.{AreDefinitionsOf, Defines, is_definition_tree, texts_at};
     ghost use Rattle.bib_store.specs.ItemTexts.{OfTree, own_text, first_too_long, placed_texts};
     ghost use Rattle.bib_store.specs.Beside.{AreTablesOf, AreTables, SayTheSame, HasItems, IsStep, IsInsertion, IsRemoval, IsTooLongAt, OfView, OfOther};
 
@@ -81,23 +80,20 @@ impl Tables {
 
     /// The tables of no items. They take no memory.
     fn new(alloc: Global) -> Self
-        ensures tables { AreTablesOf [] result }
-        ensures ends { EndsBy 0 result.definitions }
+        ensures { AreTablesOf [] result }
     {
         Tables {
             file_len: 0,
             entries: Numbers::new(alloc),
             preambles: Numbers::new(alloc),
             named: EntryTable::new(alloc),
-            definitions: FileDefinitions::new(alloc),
+            definitions: Definitions::new(alloc),
         }
     }
 
     /// Puts in item `n`, behind all others.
     fn add(&mut self, alloc: Global, n: usize, body: &[u8]) -> Result<(), ItemFault>
-        requires { EndsBy n self.old.definitions }
         ensures step { OnOk result (OfTree body.now (λ tree. IsStep n tree self.old self.new)) }
-        ensures ends { OnOk result (EndsBy (n + 1) self.new.definitions) }
         ensures too_long { IfErr result (λ fault. (place : ℕ) → fault ≡ ItemTooLong place → OfTree body.now (λ tree. IsTooLongAt n tree self.old place)) }
     {
         let view = ItemView::of(body, b"");
@@ -109,26 +105,23 @@ impl Tables {
 
     /// Puts in item `n`, which is no definition, behind all others.
     fn add_other(&mut self, alloc: Global, n: usize, view: &ItemView<'_>) -> Result<(), ItemFault>
-        requires { EndsBy n self.old.definitions }
         ensures step { OnOk result (OfOther view.now (λ tree. IsStep n tree self.old self.new)) }
-        ensures ends { OnOk result (EndsBy (n + 1) self.new.definitions) }
         ensures too_long { IfErr result (λ fault. (place : ℕ) → fault ≡ ItemTooLong place → OfOther view.now (λ tree. IsTooLongAt n tree self.old place)) }
     {
         self.insert(alloc, n, view)
     }
 
-    /// Puts in item `n`, which is no definition, before the items that had its number and the greater ones. All
-    /// definitions stand before it. It takes time in the item's length, and a step for each entry and preamble after it.
-    /// Where it is refused, the tables say what they said.
+    /// Puts in item `n`, which is no definition, before the items that had its number and the greater ones. It
+    /// takes time in the item's length, and a step for each entry, preamble and definition after it. Where it is refused,
+    /// the tables say what they said.
     pub(crate) fn insert(
         &mut self,
         alloc: Global,
         n: usize,
         view: &ItemView<'_>,
     ) -> Result<(), ItemFault>
-        requires { EndsBy n self.old.definitions }
         ensures step { OnOk result (OfOther view.now (λ tree. IsInsertion n tree self.old self.new)) }
-        ensures definitions { self.new.definitions ≡ self.old.definitions }
+        ensures seen { texts_at self.new.definitions n ≡ texts_at self.old.definitions n }
         ensures len { self.new.file_len ≡ self.old.file_len }
         ensures too_long { IfErr result (λ fault. (place : ℕ) → fault ≡ ItemTooLong place → OfOther view.now (λ tree. IsTooLongAt n tree self.old place)) }
         ensures err { OnErr result (SayTheSame self.old self.new) }
@@ -139,6 +132,7 @@ impl Tables {
             Kind::Comment => {
                 self.entries.make_way(n);
                 self.preambles.make_way(n);
+                self.definitions.make_way(n);
                 Ok(())
             }
             Kind::Macro => Ok(()),
@@ -152,9 +146,8 @@ impl Tables {
         n: usize,
         view: &ItemView<'_>,
     ) -> Result<(), ItemFault>
-        requires { EndsBy n self.old.definitions }
         ensures step { OnOk result (OfView kind.Entry view.now (λ tree. IsInsertion n tree self.old self.new)) }
-        ensures definitions { self.new.definitions ≡ self.old.definitions }
+        ensures seen { texts_at self.new.definitions n ≡ texts_at self.old.definitions n }
         ensures len { self.new.file_len ≡ self.old.file_len }
         ensures too_long { IfErr result (λ fault. (place : ℕ) → fault ≡ ItemTooLong place → OfView kind.Entry view.now (λ tree. IsTooLongAt n tree self.old place)) }
         ensures err { OnErr result (SayTheSame self.old self.new) }
@@ -162,14 +155,13 @@ impl Tables {
         let crossref = crossref_of(alloc, view.fields(), &self.definitions.at(n))?;
         insert_named(&mut self.entries, &mut self.named, n, view.key(), crossref)?;
         self.preambles.make_way(n);
+        self.definitions.make_way(n);
         Ok(())
     }
 
-    /// Takes out item `n`, which is no definition. All definitions stand before it. It asks for no memory.
+    /// Takes out item `n`, which is no definition. It asks for no memory.
     pub(crate) fn remove(&mut self, n: usize, view: &ItemView<'_>)
-        requires { EndsBy n self.old.definitions }
         ensures step { OfOther view.now (λ tree. IsRemoval n tree self.old self.new) }
-        ensures definitions { self.new.definitions ≡ self.old.definitions }
         ensures len { self.new.file_len ≡ self.old.file_len }
     {
         match view.kind() {
@@ -177,14 +169,17 @@ impl Tables {
                 self.named.remove(self.entries.rank(n), view.key());
                 self.entries.remove(n);
                 self.preambles.close(n);
+                self.definitions.close(n);
             }
             Kind::Preamble => {
                 self.entries.close(n);
                 self.preambles.remove(n);
+                self.definitions.close(n);
             }
             Kind::Comment => {
                 self.entries.close(n);
                 self.preambles.close(n);
+                self.definitions.close(n);
             }
             Kind::Macro => {}
         }
@@ -197,9 +192,7 @@ impl Tables {
         n: usize,
         view: &ItemView<'_>,
     ) -> Result<(), ItemFault>
-        requires { EndsBy n self.old.definitions }
         ensures step { OnOk result (OfView kind.Macro view.now (λ tree. IsStep n tree self.old self.new)) }
-        ensures ends { OnOk result (EndsBy (n + 1) self.new.definitions) }
         ensures too_long { IfErr result (λ fault. (place : ℕ) → fault ≡ ItemTooLong place → OfView kind.Macro view.now (λ tree. IsTooLongAt n tree self.old place)) }
     {
         match view.fields().next() {
@@ -210,11 +203,9 @@ impl Tables {
 
     /// Lets the name of the definition that is item `n` stand for its text.
     fn define(&mut self, alloc: Global, n: usize, field: FieldView<'_>) -> Result<(), ItemFault>
-        requires { EndsBy n self.old.definitions }
-        ensures table { OnOk result (OfValue field.entry.value.now (λ v. (items : List Item) (item : Item) → length items ≡ n → AreDefinitionsOf items (texts_at self.old.definitions)
-            → Defines (macros_at months items n) item.tree field.entry.name.now (raw_text (own_text (texts_at self.old.definitions n) field.entry.name.now) v) → AreDefinitionsOf (items ++ item ∷ []) (texts_at self.new.definitions))) }
+        ensures table { OnOk result (OfValue field.entry.value.now (λ v. (items : List Item) (item : Item) → length items ≡ n → is_definition_tree item.tree ≡ true → AreDefinitionsOf items self.old.definitions
+            → Defines (macros_at months items n) item.tree field.entry.name.now (raw_text (own_text (texts_at self.old.definitions n) field.entry.name.now) v) → AreDefinitionsOf (items ++ item ∷ []) self.new.definitions)) }
         ensures rest { OnOk result ((self.new.entries ≡ self.old.entries) × (self.new.preambles ≡ self.old.preambles) × (self.new.named ≡ self.old.named)) }
-        ensures ends { OnOk result (EndsBy (n + 1) self.new.definitions) }
         ensures short { OnOk result (OfValue field.entry.value.now (λ v. length (raw_text (own_text (texts_at self.old.definitions n) field.entry.name.now) v) ≤ raw_limit)) }
         ensures too_long { IfErr result (λ fault. (place : ℕ) → fault ≡ ItemTooLong place
             → (place ≡ field.entry.value_at) × OfValue field.entry.value.now (λ v. raw_limit < length (raw_text (own_text (texts_at self.old.definitions n) field.entry.name.now) v))) }
@@ -258,9 +249,8 @@ impl Tables {
         n: usize,
         view: &ItemView<'_>,
     ) -> Result<(), ItemFault>
-        requires { EndsBy n self.old.definitions }
         ensures step { OnOk result (OfView kind.Preamble view.now (λ tree. IsInsertion n tree self.old self.new)) }
-        ensures definitions { self.new.definitions ≡ self.old.definitions }
+        ensures seen { texts_at self.new.definitions n ≡ texts_at self.old.definitions n }
         ensures len { self.new.file_len ≡ self.old.file_len }
         ensures too_long { IfErr result (λ fault. (place : ℕ) → fault ≡ ItemTooLong place → OfView kind.Preamble view.now (λ tree. IsTooLongAt n tree self.old place)) }
         ensures err { OnErr result (SayTheSame self.old self.new) }
@@ -268,6 +258,7 @@ impl Tables {
         self.measure_preamble(alloc, n, view)?;
         self.preambles.insert(n)?;
         self.entries.make_way(n);
+        self.definitions.make_way(n);
         Ok(())
     }
 

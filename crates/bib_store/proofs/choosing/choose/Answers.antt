@@ -2,7 +2,7 @@ use Rattle.std.proofs.Common.{rules, ◌≡◌, ◌∙◌, ℕ, true, false, Lis
 use Rattle.bib_spec.specs.Text.{Text, folded}
 use Rattle.bib_spec.specs.Texts.{raw_text}
 use Rattle.bib_spec.specs.Records.{RecordField, record_field}
-use Rattle.bib_store.specs.Definitions.{macros_seen}
+use Rattle.bib_definitions.specs.MacrosSeen.{macros_seen}
 use Rattle.bib_store.specs.Gathering.{is_taken}
 use Rattle.bib_store.proofs.ChosenFields.{other_field, taken_field, free_field}
 use Rattle.bib_store.proofs.choosing.choose.Goals as goal

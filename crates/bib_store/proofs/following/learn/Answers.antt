@@ -34,7 +34,7 @@ learn-preserved g c =
       learn_more left c.args.at c.args.from c.args.to items c.args.tables.now c.learn.tables c.insert.new.self c.body.result.now c.of.result
           (next_body items c.args.from c.args.to c.learn.j c.body.result.now left c.learn-test.true c.requires.within c.body.ensures refl) c.of.ensures.item
           (subst (λ (m : ℕ). PutSoFar m c.args.at c.args.from c.args.to items c.args.tables.now c.learn.tables) (left_at c.args.from c.args.to c.learn.j c.learn-test.true) c.learn.invariant.0)
-          c.in_default.ensures.step c.insert.ensures.definitions,
+          c.in_default.ensures.step c.insert.ensures.seen,
       c.insert.ensures.len ∙ c.learn.invariant.1,
     )
 

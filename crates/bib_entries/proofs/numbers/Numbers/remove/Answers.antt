@@ -1,17 +1,20 @@
 use Rattle.std.proofs.Common.{ℕ, ◌∷◌, ◌∙◌, suc, length, length-append, map, sym, ap, subst, arith}
-use Rattle.bib_entries.specs.Numbers.{PartAt}
-use Rattle.bib_entries.proofs.MovedNumbers.{part_with, taken_number}
+use Rattle.bib_entries.specs.Numbers.{Ascend, PartAt}
+use Rattle.bib_entries.proofs.MovedNumbers.{part_with, taken_number, ascend_removed}
 use Rattle.bib_entries.proofs.numbers.Numbers.remove.Goals as goal
 
-pub returns-then-k-len : goal.returns-then-k-len
-returns-then-k-len c front rest p fit is =
+pub invariant_of-self : goal.invariant_of-self
+invariant_of-self c = subst Ascend (sym c.remove.ensures.items) (ascend_removed c.count_below-k.result c.self.inside.list.items c.self.invariant)
+
+pub returns-then-k-len-clause-taken : goal.returns-then-k-len-clause-taken
+returns-then-k-len-clause-taken c front rest p fit is =
     let whole = c.self.view_is ∙ is in
     let inside = part_with c.args.n front rest c.self.inside.list.items p whole in
     let k = c.count_below-k.ensures.below front (c.args.n ∷ map suc rest) (subst (PartAt c.args.n front (c.args.n ∷ map suc rest)) (sym c.as_slice.ensures.value) inside) in
-    c.close.ensures front rest p fit (c.remove.ensures.items ∙ taken_number c.args.n c.count_below-k.result front (map suc rest) c.self.inside.list.items whole k)
+    c.close.ensures.moved front rest p fit (c.remove.ensures.items ∙ taken_number c.args.n c.count_below-k.result front (map suc rest) c.self.inside.list.items whole k)
 
-pub returns-else-k-len : goal.returns-else-k-len
-returns-else-k-len c front rest p fit is =
+pub returns-else-k-len-clause-taken : goal.returns-else-k-len-clause-taken
+returns-else-k-len-clause-taken c front rest p fit is =
     let whole = c.self.view_is ∙ is in
     let inside = part_with c.args.n front rest c.self.inside.list.items p whole in
     let k = c.count_below-k.ensures.below front (c.args.n ∷ map suc rest) (subst (PartAt c.args.n front (c.args.n ∷ map suc rest)) (sym c.as_slice.ensures.value) inside) in

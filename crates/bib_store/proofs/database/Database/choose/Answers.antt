@@ -3,7 +3,7 @@ use Rattle.std.specs.List.{AllByRecursion, AllZip}
 use Rattle.bib_spec.specs.Texts.{Macros, months, macros_at}
 use Rattle.bib_spec.specs.Records.{field_of}
 use Rattle.bib_scan.specs.View.{Field, View}
-use Rattle.bib_store.specs.Definitions.{macros_seen}
+use Rattle.bib_definitions.specs.MacrosSeen.{macros_seen}
 use Rattle.bib_store.specs.Gathering.{IsReadable, IsFieldOf, with_fields}
 use Rattle.bib_store.specs.Choosing.{chosen}
 use Rattle.bib_store.proofs.EntryItems.{IsEntryAt, entry_at, entry_within}

@@ -1,6 +1,6 @@
 use Rattle.std.proofs.Common.{◌<◌, ℕ, List, length, slice_get, ◌∙◌, sym, ap, subst, arith}
 use Rattle.std.proofs.lemmas.Result.{IfOk-weaker}
-use Rattle.bib_store.specs.Definitions.{macros_seen}
+use Rattle.bib_definitions.specs.MacrosSeen.{macros_seen}
 use Rattle.bib_store.specs.Stored.{file_of}
 use Rattle.bib_store.proofs.KeptItems.{kept_as, kept_reading}
 use Rattle.bib_store.proofs.EntryItems.{number_of_preamble, preamble_within}

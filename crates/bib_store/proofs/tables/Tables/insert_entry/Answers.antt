@@ -3,7 +3,7 @@ use Rattle.std.proofs.lemmas.Result.{err_from_is_err_and}
 use Rattle.bib_spec.specs.Text.{Text}
 use Rattle.bib_entries.specs.EntryTable.{IsTableOf}
 use Rattle.bib_store.proofs.Answered.{err_always}
-use Rattle.bib_store.specs.Definitions.{macros_seen}
+use Rattle.bib_definitions.specs.MacrosSeen.{macros_seen}
 use Rattle.bib_store.specs.declared.tables.Tables.{Tables}
 use Rattle.bib_store.proofs.TableSteps.{entry_insertion, entry_over, named_kept}
 use Rattle.bib_store.proofs.tables.Tables.insert_entry.Goals as goal
@@ -34,12 +34,12 @@ returns-clause-step c =
       entries = c.insert_named.new.entries;
       preambles = c.make_way.new.self;
       named = c.insert_named.new.named;
-      definitions = c.args.self.now.definitions;
+      definitions = c.make_way-2.new.self;
     } in
-    entry_insertion c.args.self.now new c.args.n c.args.view.now (macros_seen c.at.result) c.in_ok-crossref.crossref c.at.ensures c.requires
-    c.in_ok-insert_named.ensures.entries c.make_way.ensures
+    entry_insertion c.args.self.now new c.args.n c.args.view.now (macros_seen c.at.result) c.in_ok-crossref.crossref c.at.ensures
+    c.in_ok-insert_named.ensures.entries c.make_way.ensures.moved
     (λ front rest keys crossrefs parts low t. subst (λ (key : Text). IsTableOf (insert keys (length front) key) (insert crossrefs (length front) c.in_ok-crossref.crossref) c.insert_named.new.named) c.key.ensures
     (c.in_ok-insert_named.ensures.named front rest keys crossrefs parts low t))
-    refl
+    c.make_way-2.ensures.come
     (λ before rows are fields. c.in_ok-crossref.ensures.text before rows are (c.fields.ensures.fields ∙ fields))
     (λ before rows are fields. c.in_ok-crossref.ensures.short before rows are (c.fields.ensures.fields ∙ fields))

@@ -11,6 +11,6 @@ returns-clause-step c =
       entries = c.make_way.new.self;
       preambles = c.insert.new.self;
       named = old.named;
-      definitions = old.definitions;
+      definitions = c.make_way-2.new.self;
     } in
-    preamble_insertion old new c.args.n c.args.view.now c.requires c.in_ok-insert.ensures.ok c.make_way.ensures refl refl c.in_ok-measure_preamble.ensures.short
+    preamble_insertion old new c.args.n c.args.view.now c.in_ok-insert.ensures.ok c.make_way.ensures.moved refl c.make_way-2.ensures.come c.in_ok-measure_preamble.ensures.short

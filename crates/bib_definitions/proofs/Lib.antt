@@ -1,0 +1,3 @@
+pub mod MacrosAfter
+pub mod NumberedLists
+pub mod DefinitionTables

@@ -1,0 +1,49 @@
+-- The definitions of each name, as the code keeps them.
+use Rattle.std.specs.Prelude.{◌≡◌, ◌<◌, ℕ, nat_lt, List, [], ◌∷◌, length, map, Option, Some, None, unwrap_or, slice_index_or, if◌then◌else◌}
+use Rattle.std.specs.List.{All}
+use Rattle.std.specs.List.Sorted.{IsNonDecreasingBy}
+use Rattle.std.specs.declared.vec.Vec.{Vec}
+use Rattle.bib_spec.specs.Text.{Text}
+use Rattle.bib_spec.specs.Texts.{Macros, months}
+use Rattle.bib_value.specs.FoldedMap.{value_at}
+use Rattle.bib_value.specs.Macros.{or_else}
+use Rattle.bib_definitions.specs.declared.by_name.Definition.{Definition}
+
+-- the defined names, folded, each with its definitions in file order
+abbrev pub Defined : Type 0
+Defined = List (Text × List Definition)
+
+abbrev pub definitions_of : Defined → Text → List Definition
+definitions_of defined name = unwrap_or (value_at defined name) []
+
+-- the text of the last of these definitions that is one of the first r of all
+abbrev pub text_after : ℕ → List Definition → Option Text
+text_after r [] = None
+text_after r (d ∷ ds) = or_else (text_after r ds) (if nat_lt d.rank r then Some d.text else None)
+
+-- what macros stand for after the first r definitions: the last of the name among them, or else the month
+abbrev pub texts_after : Defined → ℕ → Macros
+texts_after defined r = λ name. or_else (text_after r (definitions_of defined name)) (months name)
+
+-- all definitions are among the first r
+abbrev pub EndsBy : ℕ → Defined → Type 0
+EndsBy r defined = (name : Text) → All (λ d. d.rank < r) (definitions_of defined name)
+
+-- ---- names with numbers, and a list of definitions for each number
+
+-- definitions stand in file order
+abbrev pub Ascends : List Definition → Type 0
+Ascends ds = IsNonDecreasingBy (λ d. d.rank) ds
+
+abbrev pub lists_of : {Z : Type 0} → List (Vec Definition Z) → List (List Definition)
+lists_of lists = map (λ list. list.items) lists
+
+-- each name with the list that has its number
+abbrev pub named_lists : List (Text × ℕ) → List (List Definition) → Defined
+named_lists numbers lists = map (λ e. (e.0, slice_index_or lists e.1 [])) numbers
+
+-- each name has a list of its own, and in each list the definitions stand in file order
+pub record AreNumbered (numbers : List (Text × ℕ)) (lists : List (List Definition)) : Type 0 where
+  pub within : (name : Text) (number : ℕ) → value_at numbers name ≡ Some number → number < length lists
+  pub apart : (a b : Text) (number : ℕ) → value_at numbers a ≡ Some number → value_at numbers b ≡ Some number → a ≡ b
+  pub ascend : (number : ℕ) → Ascends (slice_index_or lists number [])

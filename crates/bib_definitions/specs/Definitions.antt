@@ -1,0 +1,37 @@
+-- The macros that a file defines, and what they stand for where each item stands.
+use Rattle.std.specs.Prelude.{◌≡◌, ℕ, Bool, true, false, List, map, filter, Some}
+use Rattle.std.specs.List.{enumerate_from}
+use Rattle.bib_spec.specs.Text.{Text}
+use Rattle.bib_spec.specs.Tree.{Tree, CommentTree, DefinitionTree, PreambleTree, EntryTree}
+use Rattle.bib_spec.specs.Reading.{Item}
+use Rattle.bib_spec.specs.Texts.{Macros, months, updated, macros_after, macros_at}
+use Rattle.bib_entries.specs.Numbers.{rank_in}
+use Rattle.bib_definitions.specs.ByName.{Defined, texts_after}
+
+-- the numbers that the definitions have among the items, and the definitions of each name
+pub record Known : Type 0 where
+  pub numbers : List ℕ
+  pub names : Defined
+
+-- what macros stand for before item n: what they do after the definitions that stand before it
+abbrev pub texts_at : Known → ℕ → Macros
+texts_at known n = texts_after known.names (rank_in n known.numbers)
+
+abbrev pub is_definition_tree : Tree → Bool
+is_definition_tree (DefinitionTree d) = true
+is_definition_tree (CommentTree h) = false
+is_definition_tree (PreambleTree p) = false
+is_definition_tree (EntryTree e) = false
+
+-- the numbers that the definitions have among the items, in order
+abbrev pub definition_numbers : List Item → List ℕ
+definition_numbers items = map (λ p. p.0) (filter (λ p. is_definition_tree p.1.tree) (enumerate_from 0 items))
+
+-- the table says which of these items are definitions, and what macros stand for where each item stands, and after the last
+pub record AreDefinitionsOf (items : List Item) (known : Known) : Type 0 where
+  pub numbers : known.numbers ≡ definition_numbers items
+  pub texts : (n : ℕ) → texts_at known n ≡ macros_at months items n
+
+-- after an item that sees these macros, the name stands for the text, and the others for what they stood for
+abbrev pub Defines : Macros → Tree → Text → Text → Type 0
+Defines macros tree name text = macros_after macros tree ≡ updated macros name (Some text)

@@ -1,0 +1,3 @@
+pub mod ByName
+pub mod Definitions
+pub mod MacrosSeen

@@ -1,0 +1,89 @@
+//! The macros that a file defines, and where.
+
+use crate::by_name::{ByName, Definition};
+use crate::macros_at::MacrosAt;
+use bib_entries::Numbers;
+use bib_scan::Text;
+use std::alloc::{AllocError, Global};
+use std::marker::Model;
+
+/// All definitions of a file, and the numbers that they have among its items. An item that comes or goes and defines
+/// nothing costs a step for each definition after it.
+#[derive(Drop)]
+pub struct Definitions {
+    numbers: Numbers,
+    names: ByName,
+}
+
+impl Model for Definitions {
+    ghost use Rattle.std.specs.Prelude.{length};
+    ghost use Rattle.bib_definitions.specs.ByName.{EndsBy};
+    ghost use Rattle.bib_definitions.specs.Definitions.{Known};
+
+    ghost Value = { Known };
+
+    ghost view = { λ d. record { numbers = d.numbers; names = d.names } };
+
+    ghost invariant = { λ d. EndsBy (length d.numbers) d.names };
+}
+
+impl Definitions {
+    ghost use Rattle.std.specs.Prelude.{◌≡◌, ◌+◌, ◌<◌, ◌≤◌, ◌^◌, ◌++◌, ◌∷◌, [], true, false, List, length, OnOk, OnErr};
+    ghost use Rattle.bib_spec.specs.Bytes.{name_limit};
+    ghost use Rattle.bib_spec.specs.Reading.{Item};
+    ghost use Rattle.bib_spec.specs.Texts.{months, macros_at};
+    ghost use Rattle.bib_definitions.specs.Definitions.{texts_at, is_definition_tree, AreDefinitionsOf, Defines};
+    ghost use Rattle.bib_definitions.specs.MacrosSeen.{macros_seen};
+
+    /// No definitions: names stand for months alone. It takes no memory.
+    pub fn new(alloc: Global) -> Self
+        ensures { AreDefinitionsOf [] result }
+    {
+        Definitions {
+            numbers: Numbers::new(alloc),
+            names: ByName::new(alloc),
+        }
+    }
+
+    /// Puts in the definition that is item `n`, after all others. Where memory is refused, it says what it said.
+    pub fn define(&mut self, n: usize, name: &[u8], text: Text) -> Result<(), AllocError>
+        requires { length name.now ≤ name_limit }
+        ensures ok { OnOk result ((items : List Item) (item : Item) → length items ≡ n → is_definition_tree item.tree ≡ true → AreDefinitionsOf items self.old → Defines (macros_at months items n) item.tree name.now text → AreDefinitionsOf (items ++ item ∷ []) self.new) }
+        ensures err { OnErr result ((items : List Item) → length items ≡ n → AreDefinitionsOf items self.old → AreDefinitionsOf items self.new) }
+    {
+        let rank = self.numbers.count();
+        self.numbers.insert(n)?;
+        match self.names.put(name, Definition { rank, text }) {
+            Ok(()) => Ok(()),
+            Err(fault) => {
+                self.numbers.remove(n);
+                Err(fault)
+            }
+        }
+    }
+
+    /// Makes way for an item that comes as item `n` and defines nothing. Up to it, macros stand for what they stood for.
+    pub fn make_way(&mut self, n: usize)
+        ensures come { (before after : List Item) (item : Item) → length before ≡ n → n + length after < 2 ^ 64 → is_definition_tree item.tree ≡ false → AreDefinitionsOf (before ++ after) self.old → AreDefinitionsOf (before ++ item ∷ after) self.new }
+        ensures seen { texts_at self.new n ≡ texts_at self.old n }
+    {
+        self.numbers.make_way(n);
+    }
+
+    /// Closes the gap of item `n`, which goes and defined nothing.
+    pub fn close(&mut self, n: usize)
+        ensures { (before after : List Item) (item : Item) → length before ≡ n → n + length after < 2 ^ 64 → is_definition_tree item.tree ≡ false → AreDefinitionsOf (before ++ item ∷ after) self.old → AreDefinitionsOf (before ++ after) self.new }
+    {
+        self.numbers.close(n);
+    }
+
+    /// What macros stand for before item `n`. It takes time in the logarithm of the count of definitions.
+    pub fn at(&self, n: usize) -> MacrosAt<'_>
+        ensures { macros_seen result ≡ texts_at self.now n }
+    {
+        MacrosAt {
+            names: &self.names,
+            rank: self.numbers.rank(n),
+        }
+    }
+}

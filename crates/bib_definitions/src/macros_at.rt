@@ -1,0 +1,21 @@
+//! Macros as an item sees them.
+
+use crate::by_name::ByName;
+use bib_value::MacroTable;
+
+/// What macros stand for where an item stands. It takes no memory.
+#[derive(Drop)]
+pub struct MacrosAt<'a> {
+    pub(crate) names: &'a ByName,
+    pub(crate) rank: usize,
+}
+
+impl<'a> MacroTable for MacrosAt<'a> {
+    ghost use Rattle.bib_definitions.specs.MacrosSeen.{macros_seen};
+
+    ghost macros = { macros_seen };
+
+    fn text_of(&self, name: &[u8]) -> Option<&[u8]> {
+        self.names.text_after(self.rank, name)
+    }
+}
