@@ -13,7 +13,7 @@ use Rattle.bib_spec.specs.Records.{EntryTexts, texts_of, entry_in, keys_of, cros
 use Rattle.bib_store.specs.declared.tables.Tables.{Tables}
 use Rattle.bib_store.specs.Meaning.{is_entry_tree, entry_numbers}
 use Rattle.bib_store.specs.Tables.{is_preamble_tree}
-use Rattle.bib_entries.specs.EntryTable.{Kept, IsTableOf}
+use Rattle.bib_entries.specs.EntryTable.{IsTableOf}
 use Rattle.bib_definitions.specs.Definitions.{is_definition_tree, AreDefinitionsOf}
 use Rattle.bib_store.specs.ItemTexts.{first_too_long, placed_texts}
 use Rattle.bib_store.specs.Beside.{AreTablesOf}

@@ -1,7 +1,7 @@
 -- A change that lets an entry give way to another with the same key: the list, and the file that it makes.
 use Rattle.std.proofs.Common.{◌≡◌, ℕ, ◌+◌, ◌-◌, ◌<◌, ◌≤◌, true, false, List, [], ◌∷◌, ◌++◌, length, take, drop, map, set, slice_get, get_or, Option, Some, None, refl, sym, ◌∙◌, ap, ap₂, subst, arith, take-append-drop, append_assoc}
 use Rattle.std.proofs.lemmas.Option.{slice_get-get_or, slice_get_within, get_or_from_slice_get}
-use Rattle.std.proofs.lemmas.List.{drop_more, take-set, drop-set, length-take-le, length-map}
+use Rattle.std.proofs.lemmas.List.{drop_more, take-set, drop-set, length-take-le}
 use Rattle.std.proofs.lemmas.Cmp.{ranked}
 use Rattle.std.specs.Prelude.{Result, Ok, Err, IfOk, IfErr, OnOk, IfSome}
 use Rattle.std.proofs.Common.{Ordering, Equal}
@@ -14,7 +14,7 @@ use Rattle.bib_spec.specs.Text.{Text}
 use Rattle.bib_spec.specs.Tree.{Tree, CommentTree, DefinitionTree, PreambleTree, EntryTree, Entry, IsTree, tree_bytes, opening_bytes}
 use Rattle.bib_spec.specs.Reading as reading
 use Rattle.bib_spec.specs.Reading.{Reading, Reads, IsItem}
-use Rattle.bib_spec.specs.Texts.{Macros, months, macros_at, raw_texts_from, too_long_at, gathered}
+use Rattle.bib_spec.specs.Texts.{Macros, months, macros_at, raw_texts_from, too_long_at}
 use Rattle.bib_spec.specs.Records.{entry_in, crossref_text, texts_of}
 use Rattle.bib_scan.specs.Layout.{IsLayoutOf, places_of}
 use Rattle.bib_scan.specs.View.{View, Field, view_of, key_of, kind_of, fields_of}

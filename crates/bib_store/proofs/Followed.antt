@@ -1,8 +1,8 @@
 -- Tables that follow items which come and go.
-use Rattle.std.proofs.Common.{◌≡◌, ◌≢◌, ℕ, zero, suc, ◌+◌, ◌-◌, ◌≤◌, ◌<◌, ◌^◌, List, [], ◌∷◌, ◌++◌, length, map, take, drop, slice_get, get_or, Option, None, Some, sym, subst, ◌∙◌, ap, ap₂, refl, arith, append_assoc, length-append}
+use Rattle.std.proofs.Common.{◌≡◌, ◌≢◌, ℕ, zero, suc, ◌+◌, ◌-◌, ◌≤◌, ◌<◌, ◌^◌, List, [], ◌∷◌, ◌++◌, length, map, take, drop, slice_get, get_or, None, Some, sym, subst, ◌∙◌, ap, ap₂, refl, arith, length-append}
 use Rattle.std.specs.List.{AllByRecursion, between}
 use Rattle.std.proofs.lemmas.Option.{none-some, same_Some, slice_get-get_or}
-use Rattle.std.proofs.lemmas.List.{length-map, length-take-le, length-drop, take-map, drop-map, get_or-map, get_or-take, get_or-drop, drop-drop, drop_all, take_all}
+use Rattle.std.proofs.lemmas.List.{length-map, length-take-le, length-drop, drop-map, get_or-map, get_or-take, get_or-drop, drop-drop, drop_all, take_all}
 use Rattle.bib_spec.specs.Bytes.{name_limit}
 use Rattle.bib_spec.specs.Text.{Text}
 use Rattle.bib_spec.specs.Tree.{Tree, IsTree, tree_bytes}

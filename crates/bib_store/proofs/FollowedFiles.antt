@@ -1,6 +1,6 @@
 -- The file of a change whose items come and go where no macro is defined: its tables, and its raw texts.
-use Rattle.std.proofs.Common.{◌≡◌, ◌≢◌, ℕ, zero, suc, ◌+◌, ◌-◌, ◌≤◌, ◌<◌, ◌^◌, List, [], ◌∷◌, ◌++◌, length, map, take, drop, Option, None, Some, sym, subst, ◌∙◌, ap, ap₂, refl, arith, append_assoc, length-append, take-append-drop}
-use Rattle.std.specs.List.{AllByRecursion, All, between, flat_map}
+use Rattle.std.proofs.Common.{◌≡◌, ◌≢◌, ℕ, ◌+◌, ◌-◌, ◌≤◌, ◌<◌, ◌^◌, List, [], ◌∷◌, ◌++◌, length, map, take, drop, None, sym, subst, ◌∙◌, ap, ap₂, refl, arith, append_assoc, length-append, take-append-drop}
+use Rattle.std.specs.List.{AllByRecursion, All, flat_map}
 use Rattle.std.specs.Option.{option_or}
 use Rattle.std.proofs.lemmas.List.{map-append, length-map, take-map, drop-map, length-take-le, length-drop, drop-drop}
 use Rattle.std.proofs.lemmas.List.Elements.{All-head, All-tail, All-take, All-drop}
@@ -17,10 +17,10 @@ use Rattle.bib_items.specs.Items.{stored, all_stored}
 use Rattle.bib_store.specs.declared.change.Change.{Change}
 use Rattle.bib_store.specs.declared.tables.Tables.{Tables}
 use Rattle.bib_definitions.specs.Definitions.{texts_at}
-use Rattle.bib_store.specs.ItemTexts.{first_too_long, placed_texts}
-use Rattle.bib_store.specs.Beside.{AreTablesOf, AreTables}
-use Rattle.bib_store.specs.Stored.{IsKeptAs, SayTheSameOf}
-use Rattle.bib_store.specs.Windows.{IsWindow, ArePut, joined}
+use Rattle.bib_store.specs.ItemTexts.{first_too_long}
+use Rattle.bib_store.specs.Beside.{AreTablesOf}
+use Rattle.bib_store.specs.Stored.{IsKeptAs}
+use Rattle.bib_store.specs.Windows.{ArePut, joined}
 use Rattle.bib_store.specs.Following.{bodies_between, AreItemsOf, AreOthersOf, DefineNothing, HaveShortTexts}
 use Rattle.bib_store.proofs.KeptItems.{count_kept}
 use Rattle.bib_store.proofs.ItemsMore.{raw_texts-append, first-append}

@@ -15,9 +15,7 @@ use Rattle.bib_scan.proofs.OneReading.{one_reading}
 use Rattle.bib_items.specs.declared.list.Item.{Item}
 use Rattle.bib_store.specs.declared.tables.Tables.{Tables}
 use Rattle.bib_items.specs.Items.{item, item_at, stored, all_stored, kept_bytes}
-use Rattle.bib_spec.specs.Texts.{Opens, months, gathered}
-use Rattle.bib_spec.specs.Records.{entry_in, keys_of}
-use Rattle.bib_definitions.specs.Definitions.{texts_at}
+use Rattle.bib_spec.specs.Texts.{Opens}
 use Rattle.bib_store.specs.Stored.{file_of, IsKeptAs, IsKept, SayTheSameOf}
 
 -- what is kept is of the file's one reading

@@ -1,5 +1,5 @@
 -- Items that come and go where no macro is defined.
-use Rattle.std.specs.Prelude.{◌≡◌, ◌≢◌, List, ◌++◌, map, None}
+use Rattle.std.specs.Prelude.{◌≡◌, ◌≢◌, List, map, None}
 use Rattle.std.specs.List.{AllByRecursion, between}
 use Rattle.std.specs.Prelude.{ℕ}
 use Rattle.bib_spec.specs.Bytes.{name_limit}

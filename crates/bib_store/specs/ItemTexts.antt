@@ -1,9 +1,7 @@
 -- What the values of one item say, and which of them says too much.
-use Rattle.std.specs.Prelude.{ℕ, ◌≡◌, ◌==◌, ◌||◌, ◌&&◌, Bool, false, not, nat_le, nat_lt, List, [], ◌∷◌, length, map, find, zip, Option, Some, None, option_map, unwrap_or, if◌then◌else◌, All}
-use Rattle.std.specs.List.{list_any}
-use Rattle.std.specs.Char.{is_ascii_digit}
-use Rattle.bib_spec.specs.Bytes.{name_limit, open_brace, quote, hash}
-use Rattle.bib_spec.specs.Text.{Text, folded, same}
+use Rattle.std.specs.Prelude.{ℕ, ◌≡◌, nat_lt, List, length, map, find, zip, Option, Some, None, option_map, if◌then◌else◌, All}
+use Rattle.bib_spec.specs.Bytes.{name_limit}
+use Rattle.bib_spec.specs.Text.{Text, same}
 use Rattle.bib_spec.specs.Tree.{Tree, Row, Value, IsRow, IsTree, tree_bytes}
 use Rattle.bib_spec.specs.Texts.{Macros, updated, raw_text, raw_limit, field_text, value_places, row_places, raw_texts_in}
 use Rattle.bib_spec.specs.Records.{field_of, has_name, crossref}

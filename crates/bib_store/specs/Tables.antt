@@ -1,11 +1,11 @@
 -- What is kept beside the items of a file: which of them are preambles, and what each entry's crossref says.
-use Rattle.std.specs.Prelude.{ℕ, ◌≡◌, ◌++◌, Bool, true, false, List, take, drop, map, filter, Option, option_map, count_by}
+use Rattle.std.specs.Prelude.{ℕ, ◌++◌, Bool, true, false, List, take, drop, map, filter, Option}
 use Rattle.std.specs.List.{enumerate_from}
-use Rattle.bib_spec.specs.Text.{Text, folded}
+use Rattle.bib_spec.specs.Text.{Text}
 use Rattle.bib_spec.specs.Tree.{Tree, CommentTree, DefinitionTree, PreambleTree, EntryTree, tree_bytes}
 use Rattle.bib_spec.specs.Reading as reading
 use Rattle.bib_spec.specs.Reading.{Reading}
-use Rattle.bib_spec.specs.Records.{entries_of, crossref_text, is_named, first_named}
+use Rattle.bib_spec.specs.Records.{entries_of, crossref_text}
 use Rattle.bib_items.specs.declared.list.Item.{Item}
 use Rattle.bib_items.specs.Items.{item}
 

@@ -1,5 +1,5 @@
-use Rattle.std.proofs.Common.{◌≤◌, ◌∙◌, arith}
-use Rattle.bib_store.proofs.Exchanges.{put_of, are_put, room-put, without-old, taken-new}
+use Rattle.std.proofs.Common.{◌∙◌}
+use Rattle.bib_store.proofs.Exchanges.{put_of, are_put, without-old, taken-new}
 use Rattle.bib_store.proofs.exchanging.exchange_all.Goals as goal
 
 pub returns-in-Ok-clause-items : goal.returns-in-Ok-clause-items

@@ -1,8 +1,7 @@
-use Rattle.std.proofs.Common.{◌≡◌, ◌+◌, ◌-◌, ◌∙◌, ℕ, List, suc, take, sym, ap, subst, arith}
-use Rattle.bib_spec.specs.Reading.{Item}
+use Rattle.std.proofs.Common.{◌≡◌, ◌+◌, ◌-◌, ◌∙◌, ℕ, suc, take, subst, arith}
 use Rattle.bib_store.specs.Following.{bodies_between, DefineNothing}
 use Rattle.bib_store.proofs.TableSteps.{no_macro}
-use Rattle.bib_store.proofs.Followed.{body_between, length-between, pass_more, pass_all}
+use Rattle.bib_store.proofs.Followed.{body_between, pass_more}
 use Rattle.bib_store.proofs.following.are_others.Goals as goal
 
 pub pass-preserved : goal.pass-preserved

@@ -1,5 +1,5 @@
-use Rattle.std.proofs.Common.{◌≡◌, ◌+◌, ◌-◌, ◌∙◌, ℕ, suc, sym, ap, subst, arith}
-use Rattle.bib_store.proofs.Followed.{TakenSoFar, forget_more, forget_none, forget_all, body_between}
+use Rattle.std.proofs.Common.{◌≡◌, ◌+◌, ◌-◌, ◌∙◌, ℕ, suc, subst, arith}
+use Rattle.bib_store.proofs.Followed.{TakenSoFar, forget_more, forget_all, body_between}
 use Rattle.bib_store.proofs.following.forget.Goals as goal
 
 pub forget-preserved : goal.forget-preserved

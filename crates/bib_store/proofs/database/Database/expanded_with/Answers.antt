@@ -1,4 +1,4 @@
-use Rattle.std.proofs.Common.{◌≡◌, ℕ, List, Vec, Global, [], ◌++◌, Option, Some, map, option_map, Bor, sym, ◌∙◌, ap}
+use Rattle.std.proofs.Common.{◌≡◌, ℕ, List, Vec, Global, [], ◌++◌, Some, map, option_map, Bor, sym, ◌∙◌, ap}
 use Rattle.bib_spec.specs.Text.{Text, folded}
 use Rattle.bib_spec.specs.Texts.{months, macros_at}
 use Rattle.bib_spec.specs.Records.{RecordField, EntryTexts, Record, entries_of, texts_of, fields_at, missing}

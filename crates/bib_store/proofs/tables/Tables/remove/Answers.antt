@@ -1,5 +1,4 @@
-use Rattle.std.proofs.Common.{◌∙◌, List, Option, slice_get, Some, remove, refl, sym, ap, subst}
-use Rattle.bib_spec.specs.Text.{Text}
+use Rattle.std.proofs.Common.{◌∙◌, Some, refl, sym, ap}
 use Rattle.bib_scan.specs.View.{View}
 use Rattle.bib_store.specs.declared.tables.Tables.{Tables}
 use Rattle.bib_store.proofs.TableSteps.{entry_removal, preamble_removal, comment_removal}
