@@ -124,12 +124,7 @@ pub(crate) fn rekeying<L: ItemList>(
 }
 
 /// The entry that refers to the key as number `k` of those that do, if it is before entry `end`.
-fn referrer_before<L: ItemList>(
-    db: &Database<L>,
-    key: &[u8],
-    k: usize,
-    end: usize,
-) -> Option<usize>
+fn referrer_before<L: ItemList>(db: &Database<L>, key: &[u8], k: usize, end: usize) -> Option<usize>
     requires { length key.now ≤ name_limit }
     ensures some { IfSome result (λ n. n < end × OfReading db.now (λ r. RefersAt r key.now k n)) }
     ensures none { IfNone result (OfReading db.now (λ r. (n : ℕ) → RefersAt r key.now k n → end ≤ n)) }
