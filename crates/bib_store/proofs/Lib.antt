@@ -35,3 +35,6 @@ pub mod NumberedLists
 pub mod Amended
 pub mod AmendedFiles
 pub mod Appended
+pub mod RunPieces
+pub mod KeptRuns
+pub mod LedRuns

@@ -23,7 +23,7 @@ use std::alloc::Global;
 
 /// Tables follow so many items that come, and so many that go. Each takes a step for every entry after it, so that for
 /// more of them it costs less to make the tables again.
-const FOLLOWED_LIMIT: usize = 64;
+pub(crate) const FOLLOWED_LIMIT: usize = 64;
 
 /// Puts the items of a change in place of those in its window, and lets the tables say what holds of all items then. It
 /// is refused where memory runs out, or where a raw text is too long; nothing has changed then.
@@ -112,7 +112,12 @@ fn renew<L: ItemList>(
 
 /// Whether the tables may follow: few items come and go, and no macro is defined in the window or after it, before and
 /// after the change.
-fn can_follow<L: ItemList>(items: &L, tables: &Tables, change: &Change, count: usize) -> bool
+pub(crate) fn can_follow<L: ItemList>(
+    items: &L,
+    tables: &Tables,
+    change: &Change,
+    count: usize,
+) -> bool
     requires ordered { change.now.window.from ≤ change.now.window.to }
     requires within { change.now.window.to + count ≤ length (L.items items.now) }
     ensures ends { IsTrue result → EndsBy change.now.window.from tables.now.definitions }
