@@ -34,7 +34,7 @@ others_split : (xs ys : List reading.Item) → DefineNothing (xs ++ ys) → (Def
 others_split [] ys all = (tt, all)
 others_split (x ∷ xs) ys all = let rest = others_split xs ys all.1 in ((all.0, rest.0), rest.1)
 
-trees_good : (xs : List reading.Item) → All (IsItem name_limit) xs → AllByRecursion (λ i. IsTree name_limit i.tree) xs
+pub trees_good : (xs : List reading.Item) → All (IsItem name_limit) xs → AllByRecursion (λ i. IsTree name_limit i.tree) xs
 trees_good [] all = tt
 trees_good (x ∷ xs) all = ((All-head (IsItem name_limit) x xs all).tree, trees_good xs (All-tail (IsItem name_limit) x xs all))
 
@@ -55,7 +55,7 @@ macros_kept m (x ∷ xs) all = ap (λ (n : Macros). macros_at n xs (length xs)) 
 
 -- ---- the bodies of a stretch
 
-bodies-stored : (items : List reading.Item) → map (λ (i : Item). i.body) (all_stored items) ≡ map (λ (i : reading.Item). tree_bytes i.tree) items
+pub bodies-stored : (items : List reading.Item) → map (λ (i : Item). i.body) (all_stored items) ≡ map (λ (i : reading.Item). tree_bytes i.tree) items
 bodies-stored [] = refl
 bodies-stored (i ∷ items) = ap (λ (l : List Text). tree_bytes i.tree ∷ l) (bodies-stored items)
 
@@ -68,7 +68,7 @@ dropped_front [] b = refl
 dropped_front (x ∷ a) b = dropped_front a b
 
 -- those that stand between two numbers
-stretch : (a b c : List Item) (from to : ℕ) → from ≡ length a → to ≡ length a + length b → bodies_between from to (a ++ (b ++ c)) ≡ map (λ (i : Item). i.body) b
+pub stretch : (a b c : List Item) (from to : ℕ) → from ≡ length a → to ≡ length a + length b → bodies_between from to (a ++ (b ++ c)) ≡ map (λ (i : Item). i.body) b
 stretch a b c from to low high =
     let size : to - from ≡ length b = omega (arith, low, high) in
     ap₂ (λ (n m : ℕ). map (λ (i : Item). i.body) (take n (drop m (a ++ (b ++ c))))) size low
@@ -107,7 +107,7 @@ gone_fit at m (i ∷ gone) after plain fits there =
     gone_fit (at + length (item_bytes i)) m gone after plain.1
     (subst (λ (n : Macros). first_too_long (raw_texts_from (at + length (item_bytes i)) n (gone ++ after)) ≡ None) (plain_after m i.tree plain.0) (fit_parts at m i (gone ++ after) fits).1) there
 
-exchanged_fits : (at there : ℕ) (before gone new after : List reading.Item) → DefineNothing gone → DefineNothing new → HaveShortTexts (macros_at months before (length before)) new
+pub exchanged_fits : (at there : ℕ) (before gone new after : List reading.Item) → DefineNothing gone → DefineNothing new → HaveShortTexts (macros_at months before (length before)) new
     → first_too_long (raw_texts_from at months (before ++ (gone ++ after))) ≡ None → first_too_long (raw_texts_from there months (before ++ (new ++ after))) ≡ None
 exchanged_fits at there before gone new after old_plain new_plain short fits =
     let parts = parts_fit at before (gone ++ after) fits in

@@ -33,3 +33,6 @@ pub mod Amended
 pub mod AmendedFiles
 pub mod Appended
 pub mod Renewed
+pub mod RunPieces
+pub mod KeptRuns
+pub mod LedRuns

@@ -38,7 +38,7 @@ ascend-behind at end from (p ∷ ps) h b a =
     let below : end ≤ p.place - at = a.0 in
     (omega arith, ascend-behind at (end_of (moved_back at p)) (end_of p) ps (omega arith) b.1 a.1)
 
-applied-from_behind : (before bytes behind : Text) (at end : ℕ) (ps : List Piece) → length before ≡ at → end ≤ length bytes → BeginFrom at ps
+pub applied-from_behind : (before bytes behind : Text) (at end : ℕ) (ps : List Piece) → length before ≡ at → end ≤ length bytes → BeginFrom at ps
     → AscendFrom end (all_moved_back at ps) → AllByRecursion (Stands bytes) (all_moved_back at ps)
     → applied_from (at + end) ps (before ++ (bytes ++ behind)) ≡ applied_from end (all_moved_back at ps) bytes ++ behind
 applied-from_behind before bytes behind at end [] e h b a s = drop-behind before bytes behind at end e h

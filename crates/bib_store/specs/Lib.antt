@@ -11,3 +11,4 @@ pub mod Beside
 pub mod Stored
 pub mod Amending
 pub mod Following
+pub mod Runs

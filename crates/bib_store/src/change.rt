@@ -6,6 +6,7 @@ ghost use Rattle.bib_spec.specs.Bytes.{file_limit};
 ghost use Rattle.bib_spec.specs.Text.{Text as Bytes};
 ghost use Rattle.bib_spec.specs.Reading.{Reading, Reads, HasReading};
 ghost use Rattle.bib_scan.specs.Layout.{IsLayoutOf};
+ghost use Rattle.bib_store.specs.Runs.{LieIn};
 ghost use Rattle.bib_store.specs.Stored.{file_of};
 ghost use Rattle.bib_store.specs.Windows.{IsWindow, IsWhole, IsChange, Serve, front_after, bytes_before};
 ghost use Rattle.bib_items.specs.declared.fault.StoreFault.TheVariants.{Memory, BadSplice};
@@ -67,6 +68,7 @@ pub(crate) fn change_of<L: ItemList>(
     requires len { file_len ≡ length (file_of front.now (L.items items.now)) }
     requires short { file_len ≤ file_limit }
     ensures change { IfOk result (λ change. IfSome change (IsChange pieces.now front.now (L.items items.now))) }
+    ensures lie { IfOk result (λ change. IfSome change (LieIn pieces.now front.now (L.items items.now))) }
     ensures none { IfOk result (λ change. change ≡ None → IsWhole (L.items items.now) window → Serve pieces.now (file_of front.now (L.items items.now)) → ⊥) }
     ensures only { IfErr result (λ fault. fault ≡ Memory) }
 {

@@ -22,7 +22,7 @@ use std::alloc::Global;
 
 /// Tables follow so many items that come, and so many that go. Each takes a step for every entry and definition after it,
 /// so that for more of them it costs less to make the tables again.
-const FOLLOWED_LIMIT: usize = 64;
+pub(crate) const FOLLOWED_LIMIT: usize = 64;
 
 /// Puts the items of a change in place of those in its window, and lets the tables say what holds of all items then. It
 /// is refused where memory runs out, or where a raw text is too long; nothing has changed then.
@@ -110,7 +110,7 @@ fn renew<L: ItemList>(
 }
 
 /// Whether the tables may follow: few items come and go, and none of them defines a macro.
-fn can_follow<L: ItemList>(items: &L, change: &Change, count: usize) -> bool
+pub(crate) fn can_follow<L: ItemList>(items: &L, change: &Change, count: usize) -> bool
     requires ordered { change.now.window.from ≤ change.now.window.to }
     requires within { change.now.window.to + count ≤ length (L.items items.now) }
     ensures others { IsTrue result → (all : List reading.Item) → AreItemsOf (bodies_between change.now.window.from (change.now.window.to + count) (L.items items.now)) all → DefineNothing all }

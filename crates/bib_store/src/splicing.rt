@@ -3,6 +3,8 @@
 use crate::change::{find_change, front_len, new_front, put_front};
 use crate::database::Database;
 use crate::exchanging::exchange;
+use crate::following_runs::follow_runs;
+use crate::runs::run_starts;
 use bib_data::Piece;
 use bib_items::{ItemList, StoreFault};
 
@@ -12,12 +14,57 @@ impl<L: ItemList> Database<L> {
     ghost use Rattle.bib_spec.specs.Pieces.{Fit, applied};
     ghost use Rattle.bib_items.specs.declared.fault.StoreFault.TheVariants.{Memory, BadSplice};
 
-    /// Replaces pieces of the file, all at once. The items that the pieces touch are read again, and those between
-    /// them; where that shows no file, the whole file is. It takes time in their length, a few steps for each page of
-    /// items, and a step for each entry, preamble and macro definition after them; and memory in their length. Where more
-    /// than 64 items come or go, or one of them defines a macro, the tables of all items are made again: it takes time in
-    /// the file's length, and memory as opening it.
+    /// Replaces pieces of the file, all at once. The items that the pieces touch are read again: each run of neighbours
+    /// alone, where at most 256 pieces make 2 to 64 runs of at most 64 items each, none touches the front, and none has or
+    /// gets a macro definition; else all from the first to the last; and where that shows no file, the whole file. It
+    /// takes time in the length of what is read, and for each run a few steps for each page of items, and a step for each
+    /// entry, preamble and macro definition after it; and memory in the length of what is read. Where all is read in one
+    /// run of which more than 64 items come or go, or one defines a macro, the tables of all items are made again: it
+    /// takes time in the file's length, and memory as opening it.
     pub fn splice(&mut self, pieces: &[Piece]) -> Result<(), StoreFault>
+        ensures fit { OnOk result (Fit pieces.now self.old) }
+        ensures spliced { OnOk result (self.new ≡ applied pieces.now self.old) }
+        ensures file { OnOk result (IsOpenable self.new) }
+        ensures refused { IfErr result (λ fault. fault ≡ BadSplice → Fit pieces.now self.old → IsOpenable (applied pieces.now self.old) → ⊥) }
+        ensures only { IfErr result (λ fault. (fault ≡ BadSplice) ⊎ (fault ≡ Memory)) }
+        ensures err { OnErr result (self.new ≡ self.old) }
+    {
+        match self.splice_runs(pieces) {
+            Ok(()) => Ok(()),
+            Err(StoreFault::Memory) => Err(StoreFault::Memory),
+            Err(_) => self.splice_window(pieces),
+        }
+    }
+
+    /// Replaces pieces that touch several runs of items, each read alone. Refused where that doesn't do, which is not to
+    /// say that the pieces don't lead to a file.
+    fn splice_runs(&mut self, pieces: &[Piece]) -> Result<(), StoreFault>
+        ensures fit { OnOk result (Fit pieces.now self.old) }
+        ensures spliced { OnOk result (self.new ≡ applied pieces.now self.old) }
+        ensures file { OnOk result (IsOpenable self.new) }
+        ensures err { OnErr result (self.new ≡ self.old) }
+    {
+        let starts = run_starts(
+            self.alloc,
+            self.front.as_slice(),
+            &self.items,
+            self.tables.file_len,
+            pieces,
+        )?;
+        let count = self.items.count();
+        follow_runs(
+            self.alloc,
+            self.front.as_slice(),
+            &mut self.items,
+            &mut self.tables,
+            count,
+            &starts,
+            pieces,
+        )
+    }
+
+    /// Replaces pieces in one window, from the first item that they touch to the last.
+    fn splice_window(&mut self, pieces: &[Piece]) -> Result<(), StoreFault>
         ensures fit { OnOk result (Fit pieces.now self.old) }
         ensures spliced { OnOk result (self.new ≡ applied pieces.now self.old) }
         ensures file { OnOk result (IsOpenable self.new) }

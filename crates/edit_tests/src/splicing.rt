@@ -153,3 +153,59 @@ fn pieces_are_put_into_a_file(rt: HostRuntime) -> Result<(), Fail> {
     );
     Ok(())
 }
+
+const FOUR: &[u8] = b"@misc{a}\n@misc{b}\n@misc{c}\n@misc{d}\n";
+
+/// A place, its old bytes and its new.
+type Change<'a> = (u64, &'a [u8], &'a [u8]);
+
+/// What comes of putting two pieces into the file at once.
+fn spliced_twice(
+    alloc: Global,
+    file: &[u8],
+    first: Change<'_>,
+    last: Change<'_>,
+    to: &[u8],
+) -> Result<u16, Fail> {
+    let mut pieces = Vec::new(alloc);
+    pieces.push(piece(alloc, first.0, first.1, first.2)?)?;
+    pieces.push(piece(alloc, last.0, last.1, last.2)?)?;
+    let mut db = opened(alloc, file)?;
+    outcome(&mut db, pieces.as_slice(), to)
+}
+
+#[test]
+fn pieces_far_apart_are_put_into_a_file(rt: HostRuntime) -> Result<(), Fail> {
+    let alloc = rt.alloc();
+    let keys = b"@misc{a}\n@misc{B}\n@misc{c}\n@misc{D}\n";
+    assert_eq!(rt; spliced_twice(alloc, FOUR, (15, b"b", b"B"), (33, b"d", b"D"), keys)?, 0);
+    let moved = b"@misc{a}\n\n@misc{c}\n@misc{d}\n@misc{b}\n";
+    assert_eq!(rt;
+        spliced_twice(
+            alloc,
+            FOUR,
+            (9, b"@misc{b}", b""),
+            (36, b"", b"@misc{b}\n"),
+            moved
+        )?,
+        0
+    );
+    Ok(())
+}
+
+#[test]
+fn pieces_far_apart_may_make_one_item(rt: HostRuntime) -> Result<(), Fail> {
+    let alloc = rt.alloc();
+    let file = b"@misc{a}\n@misc{b}\n@misc{c}\n@misc{d}\n}}";
+    let one = b"@misc{a}\n@misc{b,x={\n@misc{c}\n@misc{D}\n}}";
+    assert_eq!(rt; spliced_twice(alloc, file, (16, b"}", b",x={"), (33, b"d", b"D"), one)?, 0);
+    Ok(())
+}
+
+#[test]
+fn pieces_far_apart_are_refused_together(rt: HostRuntime) -> Result<(), Fail> {
+    let alloc = rt.alloc();
+    assert_eq!(rt; spliced_twice(alloc, FOUR, (15, b"x", b"B"), (33, b"d", b"D"), FOUR)?, 12);
+    assert_eq!(rt; spliced_twice(alloc, FOUR, (16, b"}", b""), (33, b"d", b"D"), FOUR)?, 12);
+    Ok(())
+}

@@ -3,7 +3,7 @@ use Rattle.std.proofs.lemmas.Result.{err_from_is_err_and}
 use Rattle.std.specs.Option.{unwrap_or}
 use Rattle.bib_spec.specs.Text.{Text}
 use Rattle.bib_store.proofs.SplicedFiles.{after_splice, after_refusal}
-use Rattle.bib_store.proofs.database.Database.splice.Goals as goal
+use Rattle.bib_store.proofs.database.Database.splice_window.Goals as goal
 
 pub returns-in_err-exchange-clause-refused : goal.returns-in_err-exchange-clause-refused
 returns-in_err-exchange-clause-refused g c =

@@ -1,0 +1,51 @@
+//! Runs of pieces.
+
+ghost use Rattle.std.specs.Prelude.{◌≡◌, ◌≤◌, length};
+ghost use Rattle.bib_spec.specs.Bytes.{file_limit};
+ghost use Rattle.bib_store.specs.Stored.{file_of};
+
+use crate::touching::touched;
+use bib_data::Piece;
+use bib_items::{ItemList, StoreFault};
+use std::alloc::Global;
+
+/// So many pieces are sought for runs. Each takes a few steps for each page of items, so that for more of them it costs
+/// less to read what stands between them.
+const PIECES_LIMIT: usize = 256;
+
+/// So many runs are read apart.
+const RUNS_LIMIT: usize = 64;
+
+/// The numbers of the pieces with which the runs begin. The pieces of a run touch items that stand side by side; an item
+/// that none touches stands between two runs. Refused where they aren't read apart: there is one run, there are more than
+/// 64, or one of them touches the front. Only time rests on where they begin.
+pub(crate) fn run_starts<L: ItemList>(
+    alloc: Global,
+    front: &[u8],
+    items: &L,
+    file_len: usize,
+    pieces: &[Piece],
+) -> Result<Vec<usize>, StoreFault>
+    requires len { file_len ≡ length (file_of front.now (L.items items.now)) }
+    requires short { file_len ≤ file_limit }
+{
+    if pieces.len() < 2 || pieces.len() > PIECES_LIMIT {
+        return Err(StoreFault::BadSplice);
+    }
+    let mut starts = Vec::new(alloc);
+    let mut end = 0;
+    'pass: for k in 0..pieces.len() {
+        let window = touched(front, items, file_len, &pieces[k..k + 1]);
+        if window.with_front || starts.len() > RUNS_LIMIT {
+            return Err(StoreFault::BadSplice);
+        }
+        if starts.is_empty() || end < window.from {
+            starts.push(k)?;
+        }
+        end = window.to;
+    }
+    if starts.len() < 2 || starts.len() > RUNS_LIMIT {
+        return Err(StoreFault::BadSplice);
+    }
+    Ok(starts)
+}
