@@ -16,7 +16,7 @@ bytes_of_both db next none =
 
 pub joined_readings : JoinedReadings
 joined_readings file more db next reads after none = record {
-    bytes = bytes_of_both db next none ∙ ap₂ ◌++◌ reads.bytes after.bytes;
-    front = reads.front;
-    items = All-append (IsItem name_limit) db.items next.items reads.items after.items
+  bytes = bytes_of_both db next none ∙ ap₂ ◌++◌ reads.bytes after.bytes;
+  front = reads.front;
+  items = All-append (IsItem name_limit) db.items next.items reads.items after.items;
 }

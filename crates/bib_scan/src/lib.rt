@@ -20,9 +20,7 @@ mod view;
 
 pub use fault::ReadFault;
 pub use fields::{FieldView, Fields};
-pub use laws::{
-    clean_before_sign, cut_ends, joined_readings, one_fault, one_place, one_reading,
-};
+pub use laws::{clean_before_sign, cut_ends, joined_readings, one_fault, one_place, one_reading};
 pub use layout::Layout;
 pub use opening::is_clean_trail;
 pub use parts::{Parts, only_part, read_value};

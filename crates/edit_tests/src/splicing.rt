@@ -178,7 +178,10 @@ fn spliced_twice(
 fn pieces_far_apart_are_put_into_a_file(rt: HostRuntime) -> Result<(), Fail> {
     let alloc = rt.alloc();
     let keys = b"@misc{a}\n@misc{B}\n@misc{c}\n@misc{D}\n";
-    assert_eq!(rt; spliced_twice(alloc, FOUR, (15, b"b", b"B"), (33, b"d", b"D"), keys)?, 0);
+    assert_eq!(rt;
+        spliced_twice(alloc, FOUR, (15, b"b", b"B"), (33, b"d", b"D"), keys)?,
+        0
+    );
     let moved = b"@misc{a}\n\n@misc{c}\n@misc{d}\n@misc{b}\n";
     assert_eq!(rt;
         spliced_twice(
@@ -198,14 +201,23 @@ fn pieces_far_apart_may_make_one_item(rt: HostRuntime) -> Result<(), Fail> {
     let alloc = rt.alloc();
     let file = b"@misc{a}\n@misc{b}\n@misc{c}\n@misc{d}\n}}";
     let one = b"@misc{a}\n@misc{b,x={\n@misc{c}\n@misc{D}\n}}";
-    assert_eq!(rt; spliced_twice(alloc, file, (16, b"}", b",x={"), (33, b"d", b"D"), one)?, 0);
+    assert_eq!(rt;
+        spliced_twice(alloc, file, (16, b"}", b",x={"), (33, b"d", b"D"), one)?,
+        0
+    );
     Ok(())
 }
 
 #[test]
 fn pieces_far_apart_are_refused_together(rt: HostRuntime) -> Result<(), Fail> {
     let alloc = rt.alloc();
-    assert_eq!(rt; spliced_twice(alloc, FOUR, (15, b"x", b"B"), (33, b"d", b"D"), FOUR)?, 12);
-    assert_eq!(rt; spliced_twice(alloc, FOUR, (16, b"}", b""), (33, b"d", b"D"), FOUR)?, 12);
+    assert_eq!(rt;
+        spliced_twice(alloc, FOUR, (15, b"x", b"B"), (33, b"d", b"D"), FOUR)?,
+        12
+    );
+    assert_eq!(rt;
+        spliced_twice(alloc, FOUR, (16, b"}", b""), (33, b"d", b"D"), FOUR)?,
+        12
+    );
     Ok(())
 }
