@@ -20,34 +20,35 @@ HERE = os.path.dirname(os.path.abspath(__file__))
 ROOT = os.path.dirname(os.path.dirname(HERE))
 CRATE = "refusals"
 STANDS_ON = (
-    "bib_scan bib_data bib_value bib_order bib_index bib_entries bib_items bib_store bib_names bib_edit bib_journal "
-    "journal_format bib_script ris_text ris_format bib_ris bib_taps"
+    "bib_scan bib_data bib_value bib_order bib_index bib_entries bib_definitions bib_items bib_store bib_names bib_edit "
+    "bib_journal journal_format bib_script ris_text ris_format bib_ris bib_taps"
 )
 # The number of the request that is refused, and how many the program makes before it spends any.
-REFUSED = 200
+REFUSED = 400
 STARTING = 7
-# The rows, by subject, each with a number that its requests stay below; 0: it is left out, since it is tried over pages.
+# How many rows each subject has, and those that are left out, since they are tried over pages.
 ROWS = {
-    "files": [3, 3, 3, 3, 3, 3, 3, 3, 2],
-    "parts": [3, 4, 3, 3, 2, 2, 3],
-    "values": [3, 12, 22, 40, 35],
-    "indexes": [3, 10, 40, 16, 22, 4, 7],
-    "flat_lists": [11, 73],
-    "paged_lists": [9, 20],
-    "flat_stores": [32, 10, 58, 42, 3, 57, 85, 91, 100, 38, 8],
-    "paged_stores": [33, 12, 56, 40, 3, 58, 85, 91, 100, 39, 8],
-    "names": [11, 9, 14, 16, 15, 50, 30, 28, 46, 17, 3, 3, 85],
-    "flat_edits": [45, 0, 0, 0, 72, 0, 91, 0, 0, 0, 0, 0, 0, 0, 0, 81, 58, 140],
-    "paged_edits": [45, 42, 69, 56, 62, 46, 88, 144, 138, 108, 151, 151, 160, 98, 56, 80, 58, 135],
-    "plans": [23, 24, 24, 22, 22, 34, 23, 30, 22, 22, 24, 23, 23, 23, 36, 23, 23, 25, 23, 27, 45, 34, 74],
-    "journals": [35, 81, 11, 8, 11, 16, 3, 2],
-    "references": [19, 139, 65, 2, 3, 2, 74, 36, 54, 82, 16, 17, 16, 31],
+    "files": 9,
+    "parts": 7,
+    "values": 5,
+    "indexes": 8,
+    "flat_lists": 2,
+    "paged_lists": 2,
+    "flat_stores": 11,
+    "paged_stores": 11,
+    "names": 13,
+    "flat_edits": 18,
+    "paged_edits": 18,
+    "plans": 23,
+    "journals": 8,
+    "references": 14,
 }
+LEFT_OUT = {("flat_edits", row) for row in (1, 2, 3, 5, *range(7, 15))}
 
 # So many rows have calls that take no memory: each is run with them, and up to them.
 QUIET = "quiet"
 SET_UP = "set_up"
-QUIET_ROWS = 16
+QUIET_ROWS = 17
 # The calls with a result that take no memory.
 WITHOUT_MEMORY = {"Database::find", "Macros::months"}
 # A request that comes after all of a row, and one that comes before the first.
@@ -71,18 +72,19 @@ def tried(report, _program):
         return
     with tempfile.TemporaryDirectory(prefix="bibkeep-library-") as room:
         program, said = built(room)
-        endings = {run: ending_of(program, *run) for run in all_runs()} if program else {}
+        if not program:
+            report.tried(KIND, "all rows", [Seen("wrong", "the program was not built:\n" + said[-2000:])])
+            return
+        endings = dict(endings_of(program))
     runs = {}
-    for subject, row, most in rows():
-        for request in range(1, most + 1):
-            ending = endings.get((subject, row, request), "was not built:\n" + said[-2000:])
-            where = f"{subject}, row {row}, request {request}"
-            if ending.startswith("refused "):
-                runs.setdefault(ending.split()[1], []).append(Seen("refused, and answered when called again"))
-            elif ending == "made do":
-                runs.setdefault(subject, []).append(Seen("answered with less memory"))
-            elif ending != "elsewhere" and not ending.startswith("not reached"):
-                runs.setdefault(subject, []).append(Seen("wrong", f"{where}: {ending}"))
+    for (subject, row, request), ending in endings.items():
+        where = f"{subject}, row {row}, request {request}"
+        if ending.startswith("refused "):
+            runs.setdefault(ending.split()[1], []).append(Seen("refused, and answered when called again"))
+        elif ending == "made do":
+            runs.setdefault(subject, []).append(Seen("answered with less memory"))
+        elif request and ending != "elsewhere" and not ending.startswith("not reached"):
+            runs.setdefault(subject, []).append(Seen("wrong", f"{where}: {ending}"))
     for call, seen in runs.items():
         report.tried(KIND, call, seen)
     report.tried("each row is tried to its end", "all rows", ends_of(endings))
@@ -91,21 +93,19 @@ def tried(report, _program):
 
 
 def rows():
-    """The rows that are tried, with their subjects and the number that their requests stay below."""
-    for subject, numbers in ROWS.items():
-        for row, most in enumerate(numbers):
-            if most:
-                yield subject, row, most
+    """The rows that are tried, with their subjects."""
+    return [(subject, row) for subject, count in ROWS.items() for row in range(count) if (subject, row) not in LEFT_OUT]
 
 
 def ends_of(endings):
     """A row is tried from its first request, before which one comes too early, to its end, where none is refused."""
-    for subject, row, most in rows():
-        ending = endings.get((subject, row, most), "was not run")
+    for subject, row in rows():
+        last = max(request for tried, n, request in endings if (tried, n) == (subject, row))
+        ending = endings[subject, row, last]
         if ending.startswith("not reached"):
             yield Seen("no refusal")
         else:
-            yield Seen("wrong", f"{subject}, row {row}, which makes fewer than {most} requests, {ending}")
+            yield Seen("wrong", f"{subject}, row {row}, request {last} and no later one: {ending}")
     before = endings.get(BEFORE_THE_FIRST)
     yield Seen("too early") if before == TOO_EARLY else Seen("wrong", f"the request before the first one: {before}")
 
@@ -196,12 +196,16 @@ def ending_of(program, subject, row, request):
     return ran.stdout.rstrip() if ran.returncode == 0 else f"{ran.stdout}{ran.stderr}status {ran.returncode}"
 
 
-def all_runs():
-    """Subject, row and the number of the row's request that is refused."""
-    yield BEFORE_THE_FIRST
-    for subject, row, most in rows():
-        for request in range(1, most + 1):
-            yield subject, row, request
+def endings_of(program):
+    """Subject, row and the number of the row's request that is refused, and how the program ends: for each row up to the
+    first request that it does not make."""
+    yield BEFORE_THE_FIRST, ending_of(program, *BEFORE_THE_FIRST)
+    for subject, row in rows():
+        for request in range(1, LATE + 1):
+            ending = ending_of(program, subject, row, request)
+            yield (subject, row, request), ending
+            if ending.startswith("not reached"):
+                break
     for row in range(QUIET_ROWS):
-        yield QUIET, row, LATE
-        yield SET_UP, row, LATE
+        for subject in (QUIET, SET_UP):
+            yield (subject, row, LATE), ending_of(program, subject, row, LATE)
