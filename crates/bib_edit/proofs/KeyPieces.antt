@@ -17,7 +17,8 @@ use Rattle.bib_scan.specs.View.{Field, field_behind, fields_behind, View, view_o
 use Rattle.bib_store.specs.Meaning.{is_entry_tree, entry_items}
 use Rattle.bib_store.proofs.EntryItems.{length-entry_items}
 use Rattle.bib_edit.specs.Addressing.{is_field}
-use Rattle.bib_edit.specs.NewKeys.{key_of, new_target, braced, key_piece, value_piece, crossref_piece, entry_item, IsEntrySeen, rekeying}
+use Rattle.bib_edit.specs.Definitions.{braced}
+use Rattle.bib_edit.specs.NewKeys.{key_of, new_target, key_piece, value_piece, crossref_piece, entry_item, IsEntrySeen, rekeying}
 use Rattle.bib_edit.specs.declared.new_keys.NewKeys.{NewKeys}
 use Rattle.bib_edit.proofs.Walks.{next-of}
 use Rattle.bib_edit.proofs.PieceLists.{pieces-append, pieces-kept_rows}

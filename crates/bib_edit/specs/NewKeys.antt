@@ -2,7 +2,7 @@
 use Rattle.std.specs.Prelude.{ℕ, ◌≡◌, ◌+◌, ◌-◌, ◌≤◌, ◌<◌, nat_lt, List, [], ◌∷◌, ◌++◌, Option, Some, None, if◌then◌else◌, option_and_then, find, slice_get, length}
 use Rattle.std.specs.List.{flat_map, range_with_len}
 use Rattle.std.specs.Option.{option_map_or}
-use Rattle.bib_spec.specs.Bytes.{open_brace, close_brace, file_limit}
+use Rattle.bib_spec.specs.Bytes.{file_limit}
 use Rattle.bib_spec.specs.Text.{Text}
 use Rattle.bib_spec.specs.Tree.{Entry, EntryTree}
 use Rattle.bib_spec.specs.Reading.{Item, Reading, item_bytes}
@@ -15,6 +15,7 @@ use Rattle.bib_entries.specs.EntryTable.{referrers}
 use Rattle.bib_store.specs.Meaning.{entry_numbers}
 use Rattle.bib_store.specs.Tables.{crossrefs_of}
 use Rattle.bib_edit.specs.Addressing.{is_field}
+use Rattle.bib_edit.specs.Definitions.{braced}
 use Rattle.bib_edit.specs.declared.new_keys.NewKeys.{NewKeys}
 
 -- the key that entry n gets
@@ -24,10 +25,6 @@ key_of new n = if nat_lt n new.first then None else slice_get new.keys (n - new.
 -- the new key of the target of entry n
 abbrev pub new_target : NewKeys → Reading → ℕ → Option Text
 new_target new db n = option_and_then (key_of new) (target (entries_of db) n)
-
--- a key as a crossref names it
-abbrev pub braced : Text → Text
-braced key = open_brace ∷ key ++ close_brace ∷ []
 
 -- the piece that gives the entry this key, in an item that begins at this place
 abbrev pub key_piece : ℕ → View → Option Text → List Piece

@@ -5,7 +5,8 @@ ghost use Rattle.std.specs.Option.{option_copied, IfNone};
 ghost use Rattle.bib_spec.specs.Bytes.{name_limit};
 ghost use Rattle.bib_spec.specs.Records.{entries_of, entry_named, target};
 ghost use Rattle.bib_store.specs.Meaning.{OfReading, IsEntryNumber};
-ghost use Rattle.bib_edit.specs.NewKeys.{key_of, braced, key_piece, crossref_piece, new_target, IsEntrySeen, pieces_at, rekeying, RefersAt, ArePassed, AreQuiet, HavePieces};
+ghost use Rattle.bib_edit.specs.Definitions.{braced};
+ghost use Rattle.bib_edit.specs.NewKeys.{key_of, key_piece, crossref_piece, new_target, IsEntrySeen, pieces_at, rekeying, RefersAt, ArePassed, AreQuiet, HavePieces};
 ghost use Rattle.bib_edit.specs.declared.fault.EditFault.TheVariants.{Memory};
 
 use crate::address::field_named;

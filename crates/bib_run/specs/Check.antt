@@ -13,16 +13,11 @@ use Rattle.bib_scan.specs.declared.view.Kind.{Kind}
 use Rattle.bib_scan.specs.declared.view.Kind.TheVariants as kind
 use Rattle.bib_value.specs.Macros.{is_own}
 use Rattle.bib_store.specs.Meaning.{entry_items}
+use Rattle.bib_definitions.specs.Definitions.{is_definition_tree}
 use Rattle.bib_run.specs.declared.answers.Answer.{Answer}
 use Rattle.bib_run.specs.Outcome.{answer_of}
 
 -- ---- counts
-
-abbrev pub is_definition : Tree → Bool
-is_definition (DefinitionTree d) = true
-is_definition (CommentTree h) = false
-is_definition (PreambleTree p) = false
-is_definition (EntryTree e) = false
 
 -- how many items pass the test
 abbrev pub count_items : (Tree → Bool) → Reading → ℕ
@@ -146,7 +141,7 @@ all_reports db = flat_map (reports_on db) (range_with_len 0 (length db.items))
 
 abbrev pub checked : Reading → Text
 checked db =
-    count_lines (length db.items) (length (entries_of db)) (count_items is_definition db) (length (preambles_of db)) (count_items is_comment db)
+    count_lines (length db.items) (length (entries_of db)) (count_items is_definition_tree db) (length (preambles_of db)) (count_items is_comment db)
     ++ all_reports db
 
 -- `check F` (dialect)

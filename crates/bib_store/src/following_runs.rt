@@ -12,11 +12,10 @@ ghost use Rattle.bib_store.specs.Following.{bodies_between, AreItemsOf, AreOther
 ghost use Rattle.bib_store.specs.Runs.{IsRunChange, DefineNothingBetween, ComeBefore, StaysKept, LeadWithin};
 ghost use Rattle.bib_store.specs.Stored.{IsKept};
 
-use crate::change::{Change, change_of};
+use crate::change::{Change, change_near};
 use crate::exchanging::{FOLLOWED_LIMIT, can_follow};
 use crate::following::{are_others, forget, learn};
 use crate::tables::Tables;
-use crate::touching::touched;
 use bib_data::Piece;
 use bib_items::{ItemList, StoreFault};
 use bib_scan::FILE_LIMIT;
@@ -35,8 +34,7 @@ fn run_change<L: ItemList>(
     requires kept { IsKept front.now (L.items items.now) tables.now }
     ensures { IfOk result (IsRunChange run.now front.now (L.items items.now) n) }
 {
-    let window = touched(front, items, tables.file_len, run);
-    let Some(change) = change_of(alloc, front, items, tables.file_len, window, run)? else {
+    let Some(change) = change_near(alloc, front, items, tables.file_len, run)? else {
         return Err(StoreFault::BadSplice);
     };
     if change.window.with_front || change.window.to > n || !can_follow(items, &change, 0) {

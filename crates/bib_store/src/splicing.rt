@@ -14,13 +14,14 @@ impl<L: ItemList> Database<L> {
     ghost use Rattle.bib_spec.specs.Pieces.{Fit, applied};
     ghost use Rattle.bib_items.specs.declared.fault.StoreFault.TheVariants.{Memory, BadSplice};
 
-    /// Replaces pieces of the file, all at once. The items that the pieces touch are read again: each run of neighbours
-    /// alone, where at most 256 pieces make 2 to 64 runs of at most 64 items each, none touches the front, and none has or
-    /// gets a macro definition; else all from the first to the last; and where that shows no file, the whole file. It
-    /// takes time in the length of what is read, and for each run a few steps for each page of items, and a step for each
-    /// entry, preamble and macro definition after it; and memory in the length of what is read. Where all is read in one
-    /// run of which more than 64 items come or go, or one defines a macro, the tables of all items are made again: it
-    /// takes time in the file's length, and memory as opening it.
+    /// Replaces pieces of the file, all at once. The items that the pieces touch are read again, but for one that they
+    /// touch by its end alone where the rest is read without it: each run of neighbours alone, where at most 256 pieces
+    /// make 2 to 64 runs of at most 64 items each, none touches the front, and none has or gets a macro definition; else
+    /// all from the first to the last; and where that shows no file, the whole file. It takes time in the length of what
+    /// is read, and for each run a few steps for each page of items, and a step for each entry, preamble and macro
+    /// definition after it; and memory in the length of what is read. Where all is read in one run of which more than 64
+    /// items come or go, or one defines a macro, the tables of all items are made again: it takes time in the file's
+    /// length, and memory as opening it.
     pub fn splice(&mut self, pieces: &[Piece]) -> Result<(), StoreFault>
         ensures fit { OnOk result (Fit pieces.now self.old) }
         ensures spliced { OnOk result (self.new ≡ applied pieces.now self.old) }

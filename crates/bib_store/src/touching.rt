@@ -80,3 +80,29 @@ pub(crate) fn touched<L: ItemList>(
         place: front.len() + items.start(from),
     }
 }
+
+/// The window without what its pieces may touch by its end alone: the front, or else the first item.
+pub(crate) fn without_first<L: ItemList>(
+    front: &[u8],
+    items: &L,
+    file_len: usize,
+    window: Window,
+) -> Window
+    requires window { IsWindow (L.items items.now) window }
+    requires len { file_len ≡ length (file_of front.now (L.items items.now)) }
+    requires short { file_len ≤ file_limit }
+    ensures window { IsWindow (L.items items.now) result }
+    ensures place { result.place ≡ length (bytes_before result front.now (L.items items.now)) }
+{
+    let from = if window.with_front {
+        0
+    } else {
+        window.to.min(window.from.saturating_add(1))
+    };
+    Window {
+        from,
+        to: window.to,
+        with_front: false,
+        place: front.len() + items.start(from),
+    }
+}

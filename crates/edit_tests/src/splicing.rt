@@ -154,6 +154,40 @@ fn pieces_are_put_into_a_file(rt: HostRuntime) -> Result<(), Fail> {
     Ok(())
 }
 
+/// What comes of putting this piece before the second of these items.
+fn spliced_between(alloc: Global, old: &[u8], new: &[u8], to: &[u8]) -> Result<u16, Fail> {
+    spliced(alloc, b"@string{m = {1}}\n@misc{b, t = m}\n", 17, old, new, to)
+}
+
+#[test]
+fn pieces_between_items_are_put_into_a_file(rt: HostRuntime) -> Result<(), Fail> {
+    let alloc = rt.alloc();
+    let file = b"@string{m = {1}}\n@misc{a, t = m}\n@misc{b, t = m}\n";
+    assert_eq!(rt; spliced_between(alloc, b"", b"@misc{a, t = m}\n", file)?, 0);
+    let file = b"@string{m = {1}}\n#\n@misc{b, t = m}\n";
+    assert_eq!(rt; spliced_between(alloc, b"", b"#\n", file)?, 0);
+    let file = b"@string{m = {1}}\n";
+    assert_eq!(rt; spliced_between(alloc, b"@misc{b, t = m}\n", b"", file)?, 0);
+    let file = b"@string{m = {1}}\n\n";
+    assert_eq!(rt; spliced_between(alloc, b"@misc{b, t = m}", b"", file)?, 0);
+    Ok(())
+}
+
+#[test]
+fn pieces_between_items_may_make_one_item(rt: HostRuntime) -> Result<(), Fail> {
+    let alloc = rt.alloc();
+    let file = b"@misc{a}@x\n{c}";
+    assert_eq!(rt;
+        spliced(alloc, b"@misc{a}@x\n@misc{b}", 11, b"@misc{b}", b"{c}", file)?,
+        0
+    );
+    let file = b"@x\n{c}@misc{b}";
+    assert_eq!(rt; spliced(alloc, b"@x\n@misc{b}", 3, b"", b"{c}", file)?, 0);
+    let file = b"@x\n@misc{a}@misc{b}";
+    assert_eq!(rt; spliced(alloc, b"@x\n@misc{b}", 3, b"", b"@misc{a}", file)?, 0);
+    Ok(())
+}
+
 const FOUR: &[u8] = b"@misc{a}\n@misc{b}\n@misc{c}\n@misc{d}\n";
 
 /// A place, its old bytes and its new.

@@ -4,7 +4,8 @@ ghost use Rattle.std.specs.Prelude.{◌≡◌, ◌+◌, ◌<◌, ◌^◌, if◌t
 ghost use Rattle.bib_spec.specs.Tree.{is_comment};
 ghost use Rattle.bib_store.specs.Meaning.{OfReading};
 ghost use Rattle.bib_run.specs.Opened.{AnswersFile};
-ghost use Rattle.bib_run.specs.Check.{is_definition, count_items, count_lines, all_reports, check_answer};
+ghost use Rattle.bib_definitions.specs.Definitions.{is_definition_tree};
+ghost use Rattle.bib_run.specs.Check.{count_items, count_lines, all_reports, check_answer};
 
 use crate::answers::{Answer, done, unread};
 use crate::commands::kinds::is_same_kind;
@@ -69,7 +70,7 @@ struct Found {
 
 fn look_through(alloc: Global, db: &Database<Paged>) -> Result<Found, AllocError>
     ensures reports { IfOk result (λ found. OfReading db.now (λ r. found.reports.items ≡ all_reports r)) }
-    ensures definitions { IfOk result (λ found. OfReading db.now (λ r. found.definitions ≡ count_items is_definition r)) }
+    ensures definitions { IfOk result (λ found. OfReading db.now (λ r. found.definitions ≡ count_items is_definition_tree r)) }
     ensures comments { IfOk result (λ found. OfReading db.now (λ r. found.comments ≡ count_items is_comment r)) }
 {
     let mut reports = Vec::new(alloc);

@@ -3,7 +3,8 @@ use Rattle.bib_spec.specs.Tree.{is_comment}
 use Rattle.bib_spec.specs.Reading.{Reading, Reads}
 use Rattle.bib_scan.specs.View.{View}
 use Rattle.bib_store.specs.Meaning.{is_entry_tree}
-use Rattle.bib_run.specs.Check.{is_definition, reports_on}
+use Rattle.bib_definitions.specs.Definitions.{is_definition_tree}
+use Rattle.bib_run.specs.Check.{reports_on}
 use Rattle.bib_run.proofs.ReportSteps.{items_more}
 use Rattle.bib_run.proofs.ItemCounts.{entries_counted, items_counted, counted_small, counted_all}
 use Rattle.bib_run.proofs.commands.check.look_through.Goals as goal
@@ -16,7 +17,7 @@ items-preserved c =
           ∙ entries_counted r c.items.n c.is_same_kind.result c.items.entries (inside r reads)
           (λ item at. c.is_same_kind.ensures item.tree (sym (c.kind-kind.ensures ∙ ap (λ (v : View). v.kind) (c.item-item.ensures r reads item at)))) (c.items.invariant.1 r reads)),
       (λ r reads. c.counted-definitions.ensures
-          ∙ items_counted (λ item. is_definition item.tree) r.items c.items.n c.is_same_kind-in-items.result c.items.definitions (inside r reads)
+          ∙ items_counted (λ item. is_definition_tree item.tree) r.items c.items.n c.is_same_kind-in-items.result c.items.definitions (inside r reads)
           (λ item at. c.is_same_kind-in-items.ensures item.tree (sym (c.kind-kind.ensures ∙ ap (λ (v : View). v.kind) (c.item-item.ensures r reads item at)))) (c.items.invariant.2 r reads)),
       (λ r reads. c.counted-comments.ensures
           ∙ items_counted (λ item. is_comment item.tree) r.items c.items.n c.is_same_kind-in-items-2.result c.items.comments (inside r reads)
