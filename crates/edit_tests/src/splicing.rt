@@ -156,7 +156,14 @@ fn pieces_are_put_into_a_file(rt: HostRuntime) -> Result<(), Fail> {
 
 /// What comes of putting this piece before the second of these items.
 fn spliced_between(alloc: Global, old: &[u8], new: &[u8], to: &[u8]) -> Result<u16, Fail> {
-    spliced(alloc, b"@string{m = {1}}\n@misc{b, t = m}\n", 17, old, new, to)
+    spliced(
+        alloc,
+        b"@string{m = {1}}\n@misc{b, t = m}\n",
+        17,
+        old,
+        new,
+        to,
+    )
 }
 
 #[test]
@@ -178,13 +185,23 @@ fn pieces_between_items_may_make_one_item(rt: HostRuntime) -> Result<(), Fail> {
     let alloc = rt.alloc();
     let file = b"@misc{a}@x\n{c}";
     assert_eq!(rt;
-        spliced(alloc, b"@misc{a}@x\n@misc{b}", 11, b"@misc{b}", b"{c}", file)?,
+        spliced(
+            alloc,
+            b"@misc{a}@x\n@misc{b}",
+            11,
+            b"@misc{b}",
+            b"{c}",
+            file
+        )?,
         0
     );
     let file = b"@x\n{c}@misc{b}";
     assert_eq!(rt; spliced(alloc, b"@x\n@misc{b}", 3, b"", b"{c}", file)?, 0);
     let file = b"@x\n@misc{a}@misc{b}";
-    assert_eq!(rt; spliced(alloc, b"@x\n@misc{b}", 3, b"", b"@misc{a}", file)?, 0);
+    assert_eq!(rt;
+        spliced(alloc, b"@x\n@misc{b}", 3, b"", b"@misc{a}", file)?,
+        0
+    );
     Ok(())
 }
 

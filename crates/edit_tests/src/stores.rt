@@ -130,3 +130,56 @@ fn a_crossref_of_a_macro_follows_what_the_macro_says(rt: HostRuntime) -> Result<
     assert!(rt; follows_its_macro(alloc, Paged::new(alloc))?);
     Ok(())
 }
+
+/// What an open file says of its entry `n`.
+#[derive(Clone, Copy, PartialEq, Eq, Debug)]
+struct Said {
+    is_repeated: bool,
+    crossref_len: Option<usize>,
+    target: Option<usize>,
+}
+
+fn said_of<L: ItemList>(db: &Database<L>, n: usize) -> Option<Said> {
+    if n >= db.entry_count() {
+        return None;
+    }
+    Some(Said {
+        is_repeated: db.is_repeated(n),
+        crossref_len: db.crossref_text(n).map(|text| text.len()),
+        target: db.target(n),
+    })
+}
+
+/// What the file of the example says of an entry of it, and how many entries have the key `a`.
+fn example_in<L: ItemList>(alloc: Global, items: L, n: usize) -> Result<(Option<Said>, usize), Fail>
+    requires { L.items items ≡ [] }
+{
+    let file = b"@misc{a}@misc{b, crossref = \"A\" # {}}@misc{A, crossref = {none}}";
+    let db = Database::open_bytes(alloc, file, items)?;
+    Ok((said_of(&db, n), db.holders(b"a")))
+}
+
+fn example(alloc: Global, n: usize) -> Result<(Option<Said>, usize), Fail> {
+    let plain = example_in(alloc, Flat::new(alloc), n)?;
+    if plain != example_in(alloc, Paged::new(alloc), n)? {
+        return Err(Fail::new(DIFFERENCE));
+    }
+    Ok(plain)
+}
+
+#[test]
+fn an_open_file_knows_keys_and_crossrefs(rt: HostRuntime) -> Result<(), Fail> {
+    let alloc = rt.alloc();
+    let said = |is_repeated, crossref_len, target| {
+        Some(Said {
+            is_repeated,
+            crossref_len,
+            target,
+        })
+    };
+    assert_eq!(rt; example(alloc, 0)?, (said(false, None, None), 2));
+    assert_eq!(rt; example(alloc, 1)?, (said(false, Some(1), Some(0)), 2));
+    assert_eq!(rt; example(alloc, 2)?, (said(true, Some(4), None), 2));
+    assert_eq!(rt; example(alloc, 3)?, (None, 2));
+    Ok(())
+}
