@@ -13,15 +13,14 @@ pub invariant_of-self-in-Ok : goal.invariant_of-self-in-Ok
 invariant_of-self-in-Ok c =
     let d : Definition = record { rank = c.count-rank.result; text = c.args.text } in (
       subst (λ (k : ℕ). EndsBy k c.put.new.self) (sym (c.in_ok-insert.ensures.count ∙ ap suc (sym c.count-rank.ensures) ∙ omega arith))
-      (ends-defined c.self.inside.names c.put.new.self c.args.name.now d c.in-Ok.ensures.ok
-      (subst (λ (k : ℕ). EndsBy k c.self.inside.names) (sym c.count-rank.ensures) c.self.invariant.0)),
+          (ends-defined c.self.inside.names c.put.new.self c.args.name.now d c.in-Ok.ensures.ok
+          (subst (λ (k : ℕ). EndsBy k c.self.inside.names) (sym c.count-rank.ensures) c.self.invariant.0)),
       within_more c.self.inside.names c.put.new.self c.args.name.now d c.in-Ok.ensures.ok c.self.inside.longest c.max-self-inside.result (omega (arith, c.max-self-inside.ensures)) (omega (arith, c.max-self-inside.ensures, ap (length {A = ℕ}) c.as_slice-len.ensures)) c.self.invariant.1,
     )
 
 pub invariant_of-self-in-Err : goal.invariant_of-self-in-Err
 invariant_of-self-in-Err c =
-    let long : length c.self.inside.numbers ≤ length c.remove.new.self = omega (arith, c.remove.ensures.count, c.in_ok-insert.ensures.count) in
-    (
+    let long : length c.self.inside.numbers ≤ length c.remove.new.self = omega (arith, c.remove.ensures.count, c.in_ok-insert.ensures.count) in (
       ends_later (length c.self.inside.numbers) (length c.remove.new.self) c.put.new.self long (subst (EndsBy (length c.self.inside.numbers)) (sym c.in-Err.ensures.err) c.self.invariant.0),
       subst (AreWithin c.self.inside.longest) (sym c.in-Err.ensures.err) c.self.invariant.1,
     )
