@@ -1,3 +1,4 @@
 pub mod MacrosAfter
 pub mod NumberedLists
 pub mod DefinitionTables
+pub mod LongestTexts

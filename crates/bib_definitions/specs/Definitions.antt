@@ -1,5 +1,5 @@
 -- The macros that a file defines, and what they stand for where each item stands.
-use Rattle.std.specs.Prelude.{◌≡◌, ℕ, Bool, true, false, List, map, filter, Some}
+use Rattle.std.specs.Prelude.{◌≡◌, ◌≤◌, ℕ, Bool, true, false, List, length, map, filter, Some}
 use Rattle.std.specs.List.{enumerate_from}
 use Rattle.bib_spec.specs.Text.{Text}
 use Rattle.bib_spec.specs.Tree.{Tree, CommentTree, DefinitionTree, PreambleTree, EntryTree}
@@ -16,6 +16,14 @@ pub record Known : Type 0 where
 -- what macros stand for before item n: what they do after the definitions that stand before it
 abbrev pub texts_at : Known → ℕ → Macros
 texts_at known n = texts_after known.names (rank_in n known.numbers)
+
+-- no text that a name stands for is longer
+abbrev pub AreAtMost : ℕ → Macros → Type 0
+AreAtMost longest macros = (name text : Text) → macros name ≡ Some text → length text ≤ longest
+
+-- nor is one after any of the definitions
+abbrev pub AreWithin : ℕ → Defined → Type 0
+AreWithin longest names = (r : ℕ) → AreAtMost longest (texts_after names r)
 
 abbrev pub is_definition_tree : Tree → Bool
 is_definition_tree (DefinitionTree d) = true

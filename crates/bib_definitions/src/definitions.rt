@@ -7,32 +7,37 @@ use bib_scan::Text;
 use std::alloc::{AllocError, Global};
 use std::marker::Model;
 
+/// How long the longest text of a month is: `September`.
+const LONGEST_MONTH: usize = 9;
+
 /// All definitions of a file, and the numbers that they have among its items. An item that comes or goes and defines
 /// nothing costs a step for each definition after it.
 #[derive(Drop)]
 pub struct Definitions {
     numbers: Numbers,
     names: ByName,
+    // no name stands for a longer text
+    longest: usize,
 }
 
 impl Model for Definitions {
     ghost use Rattle.std.specs.Prelude.{length};
     ghost use Rattle.bib_definitions.specs.ByName.{EndsBy};
-    ghost use Rattle.bib_definitions.specs.Definitions.{Known};
+    ghost use Rattle.bib_definitions.specs.Definitions.{Known, AreWithin};
 
     ghost Value = { Known };
 
     ghost view = { λ d. record { numbers = d.numbers; names = d.names } };
 
-    ghost invariant = { λ d. EndsBy (length d.numbers) d.names };
+    ghost invariant = { λ d. EndsBy (length d.numbers) d.names × AreWithin d.longest d.names };
 }
 
 impl Definitions {
-    ghost use Rattle.std.specs.Prelude.{◌≡◌, ◌+◌, ◌<◌, ◌≤◌, ◌^◌, ◌++◌, ◌∷◌, [], true, false, List, length, OnOk, OnErr};
+    ghost use Rattle.std.specs.Prelude.{◌≡◌, ◌+◌, ◌<◌, ◌≤◌, ◌^◌, ◌++◌, ◌∷◌, [], true, false, ℕ, List, length, OnOk, OnErr};
     ghost use Rattle.bib_spec.specs.Bytes.{name_limit};
     ghost use Rattle.bib_spec.specs.Reading.{Item};
     ghost use Rattle.bib_spec.specs.Texts.{months, macros_at};
-    ghost use Rattle.bib_definitions.specs.Definitions.{texts_at, is_definition_tree, AreDefinitionsOf, Defines};
+    ghost use Rattle.bib_definitions.specs.Definitions.{texts_at, is_definition_tree, AreDefinitionsOf, Defines, AreAtMost};
     ghost use Rattle.bib_definitions.specs.MacrosSeen.{macros_seen};
 
     /// No definitions: names stand for months alone. It takes no memory.
@@ -42,6 +47,7 @@ impl Definitions {
         Definitions {
             numbers: Numbers::new(alloc),
             names: ByName::new(alloc),
+            longest: LONGEST_MONTH,
         }
     }
 
@@ -52,9 +58,13 @@ impl Definitions {
         ensures err { OnErr result ((items : List Item) → length items ≡ n → AreDefinitionsOf items self.old → AreDefinitionsOf items self.new) }
     {
         let rank = self.numbers.count();
+        let len = text.as_slice().len();
         self.numbers.insert(n)?;
         match self.names.put(name, Definition { rank, text }) {
-            Ok(()) => Ok(()),
+            Ok(()) => {
+                self.longest = self.longest.max(len);
+                Ok(())
+            }
             Err(fault) => {
                 self.numbers.remove(n);
                 Err(fault)
@@ -75,6 +85,13 @@ impl Definitions {
         ensures { (before after : List Item) (item : Item) → length before ≡ n → n + length after < 2 ^ 64 → is_definition_tree item.tree ≡ false → AreDefinitionsOf (before ++ item ∷ after) self.old → AreDefinitionsOf (before ++ after) self.new }
     {
         self.numbers.close(n);
+    }
+
+    /// A length in bytes that no text is longer than for which a name stands before any item.
+    pub fn longest(&self) -> usize
+        ensures { (n : ℕ) → AreAtMost result (texts_at self.now n) }
+    {
+        self.longest
     }
 
     /// What macros stand for before item `n`. It takes time in the logarithm of the count of definitions.

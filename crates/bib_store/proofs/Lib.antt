@@ -36,3 +36,6 @@ pub mod Renewed
 pub mod RunPieces
 pub mod KeptRuns
 pub mod LedRuns
+pub mod Glances
+pub mod ShortEntries
+pub mod FirstCrossrefs

@@ -3,7 +3,7 @@ use Rattle.std.proofs.Common.{◌≡◌, ℕ, ◌≤◌, List, length, Some, Non
 use Rattle.bib_spec.specs.Bytes.{file_limit}
 use Rattle.bib_spec.specs.Text.{Text}
 use Rattle.bib_spec.specs.Reading.{Reading, Reads}
-use Rattle.bib_spec.specs.Texts.{too_long_at}
+use Rattle.bib_spec.specs.Texts.{too_long_at, Opens, IsOpenable}
 use Rattle.bib_spec.specs.Fault.{IsReadFault, no_memory}
 use Rattle.bib_scan.specs.Layout.{Places, IsLayoutOf}
 use Rattle.bib_items.specs.declared.list.Item.{Item}
@@ -11,18 +11,10 @@ use Rattle.bib_store.specs.declared.tables.Tables.{Tables}
 use Rattle.bib_items.specs.Items.{all_stored, without_range}
 use Rattle.bib_store.specs.Meaning.{OfReading, IsTextFault, IsOpenFault}
 use Rattle.bib_store.specs.Beside.{HasItems, AreTables}
-use Rattle.bib_store.specs.Stored.{file_of, IsKeptAs, IsKept}
+use Rattle.bib_store.specs.Stored.{file_of, IsTaken, IsKeptAs, IsKept}
 use Rattle.bib_store.proofs.KeptItems.{file-stored}
 
 -- ---- the file
-
--- the front and the items are those of the file that the bytes are
-pub record IsTaken (bytes front : Text) (items : List Item) : Type 0 where
-  pub db : Reading
-  pub reads : Reads bytes db
-  pub short : length bytes ≤ file_limit
-  pub front_is : front ≡ db.front
-  pub items_are : items ≡ all_stored db.items
 
 pub taken : (bytes front : Text) (items : List Item) (places : Places) → (length bytes ≤ file_limit) × IsLayoutOf bytes places → OfReading bytes (λ db. front ≡ db.front) →
     OfReading bytes (λ db. items ≡ all_stored db.items) → IsTaken bytes front items
@@ -66,3 +58,6 @@ taken_kept bytes front items t tables are len short =
       len = len ∙ ap (length {A = ℕ}) file;
     } in
     record { db = t.db; is = kept }
+
+pub taken_opens : (bytes front : Text) (items : List Item) (tables : Tables) → IsTaken bytes front items → IsKept front items tables → IsOpenable bytes
+taken_opens bytes front items tables t kept = (kept.db, subst (λ (f : Text). Opens f kept.db) (taken_file bytes front items t) kept.is.opens)

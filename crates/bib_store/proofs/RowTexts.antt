@@ -40,7 +40,7 @@ first_over n t texts over = ap (option_map (λ (p : ℕ × Text). p.0)) (cond-tr
 
 -- ---- one row more
 
-crossref_more : (m : Macros) (row : Row) (rows : List Row) (found : Option Text)
+pub crossref_more : (m : Macros) (row : Row) (rows : List Row) (found : Option Text)
     → option_or found (crossref_in m (row ∷ rows)) ≡ option_or (option_or found (said_by m row.assignment.name row.assignment.value)) (crossref_in m rows)
 crossref_more m row rows (Some t) = refl
 crossref_more m row rows None =

@@ -2,13 +2,13 @@
 use Rattle.std.proofs.Common.{◌≡◌, ℕ, suc, ◌+◌, ◌<◌, ◌≤◌, ◌^◌, cond, true, false, List, [], ◌∷◌, ◌++◌, length, map, filter, Option, Some, None, insert, remove, slice_get, ◌⊎◌, ⊎_elim, refl, sym, ◌∙◌, ap, ap₂, subst, arith, append-nil, append_assoc, length-append}
 use Rattle.std.specs.List.{enumerate_from}
 use Rattle.std.proofs.lemmas.List.{length-map}
-use Rattle.bib_spec.specs.Bytes.{equals_sign}
+use Rattle.bib_spec.specs.Bytes.{equals_sign, name_limit}
 use Rattle.bib_spec.specs.Text.{Text}
-use Rattle.bib_spec.specs.Tree.{Tree, CommentTree, DefinitionTree, PreambleTree, EntryTree, Definition, opening_bytes, value_bytes}
+use Rattle.bib_spec.specs.Tree.{Tree, CommentTree, DefinitionTree, PreambleTree, EntryTree, Definition, IsTree, opening_bytes, value_bytes}
 use Rattle.bib_spec.specs.Reading.{Item}
 use Rattle.bib_spec.specs.Texts.{Macros, months, updated, raw_text, raw_limit, macros_after, macros_at, gathered, bytes_before_value}
 use Rattle.bib_spec.specs.Records.{EntryTexts, entry_in, keys_of, crossref_text, texts_of}
-use Rattle.bib_scan.specs.View.{Field, View, field_behind, fields_of}
+use Rattle.bib_scan.specs.View.{Field, View, field_behind, fields_of, view_of}
 use Rattle.bib_scan.specs.declared.view.Kind.{Kind}
 use Rattle.bib_scan.specs.declared.view.Kind.TheVariants as kind
 use Rattle.bib_value.specs.Raw.{OfValue}
@@ -19,7 +19,7 @@ use Rattle.bib_store.specs.declared.tables.Tables.{Tables}
 use Rattle.bib_store.specs.Meaning.{is_entry_tree}
 use Rattle.bib_definitions.specs.Definitions.{Known, texts_at, is_definition_tree, AreDefinitionsOf, Defines}
 use Rattle.bib_store.specs.Tables.{is_preamble_tree}
-use Rattle.bib_store.specs.ItemTexts.{first_too_long, placed_texts, row_texts, crossref_in, own_text, OfRows}
+use Rattle.bib_store.specs.ItemTexts.{first_too_long, placed_texts, own_text}
 use Rattle.bib_store.specs.Beside.{AreTablesOf, IsStep, IsInsertion, IsRemoval, IsTooLongAt, SayTheSame, OfView, item_with}
 use Rattle.bib_store.proofs.RowTexts.{cons_parts, first_fits, first_over}
 use Rattle.bib_entries.specs.Numbers.{numbers}
@@ -123,16 +123,14 @@ module _ (old new : Tables) (n : ℕ) (view : View) where
       → ((front rest : List ℕ) (keys : List Text) (crossrefs : List (Option Text)) → PartAt n front rest old.entries → length front ≤ length keys → IsTableOf keys crossrefs old.named
       → IsTableOf (insert keys (length front) view.key) (insert crossrefs (length front) found) new.named)
       → MakesWay n old.definitions new.definitions
-      → OfRows view.fields (λ before rows. found ≡ crossref_in m rows)
-      → OfRows view.fields (λ before rows. first_too_long (row_texts (length before) m rows) ≡ None)
+      → ((i : Item) → IsTree name_limit i.tree → is_entry_tree i.tree ≡ true → view ≡ view_of i → map crossref_text (entry_in m i.tree) ≡ found ∷ [])
+      → ((i : Item) → IsTree name_limit i.tree → is_entry_tree i.tree ≡ true → view ≡ view_of i → first_too_long (placed_texts m i.tree) ≡ None)
       → OfView kind.Entry view (λ tree. IsInsertion n tree old new)
   entry_insertion m found sees entries preambles named defined says short (CommentTree h) is at seen = other_kind kind.Entry kind.Comment (sym at) (omega arith)
   entry_insertion m found sees entries preambles named defined says short (DefinitionTree d) is at seen = other_kind kind.Entry kind.Macro (sym at) (omega arith)
   entry_insertion m found sees entries preambles named defined says short (PreambleTree p) is at seen = other_kind kind.Entry kind.Preamble (sym at) (omega arith)
   entry_insertion m found sees entries preambles named defined says short (EntryTree e) is at seen =
-      let start = opening_bytes e.opening ++ e.key ++ e.space_behind_key in
-      let fields : view.fields ≡ fields_of (EntryTree e) = ap (λ (v : View). v.fields) seen in
-      let long = ap (λ (t : Text). length t) (sym (append_assoc (opening_bytes e.opening) e.key e.space_behind_key)) in
+      let here_says : crossref_text (texts_of m e) ≡ found = (cons_parts (crossref_text (texts_of m e)) found [] [] (says (item_with (EntryTree e) []) is refl seen)).0 in
       record {
         tables = λ before after trail count fits t.
             let x = item_with (EntryTree e) trail in
@@ -146,12 +144,12 @@ module _ (old new : Tables) (n : ℕ) (view : View) where
               preambles = moved_numbers is_preamble_tree before after x n count fits old.preambles new.preambles refl preambles t.preambles;
               named = subst (λ (es : List EntryTexts). IsTableOfEntries es new.named) (sym (gathered-with entry_in before after x (said ∷ []) refl refl))
                   (put_named old.named new.named (gathered entry_in months before) (gathered entry_in here after) said (length front) view.key found
-                  (ap (λ (v : View). v.key) seen) (says start e.rows is.rows fields ∙ ap (λ (mm : Macros). crossref_in mm e.rows) macros) (entries_counted 0 months before)
+                  (ap (λ (v : View). v.key) seen) (sym here_says ∙ ap (λ (mm : Macros). crossref_text (texts_of mm e)) macros) (entries_counted 0 months before)
                   (λ keys crossrefs. named front (numbers is_entry_tree (length before) after) keys crossrefs parts)
                   (subst (λ (es : List EntryTexts). IsTableOfEntries es old.named) (gathered-append entry_in months before after) t.named));
               definitions = defined before after x count fits refl t.definitions;
             };
-        texts = ap₂ (λ (k : ℕ) (mm : Macros). first_too_long (row_texts k mm e.rows)) long (sym sees) ∙ short start e.rows is.rows fields;
+        texts = ap (λ (mm : Macros). first_too_long (placed_texts mm (EntryTree e))) (sym sees) ∙ short (item_with (EntryTree e) []) is refl seen;
       }
 
   pub entry_removal : ((front rest : List ℕ) → PartAt n front rest (front ++ rest) → HaveNext rest → old.entries ≡ front ++ n ∷ map suc rest → new.entries ≡ front ++ rest)
@@ -182,14 +180,13 @@ module _ (old new : Tables) (n : ℕ) (view : View) where
       }
 
   pub entry_over : (m : Macros) (place : ℕ) → m ≡ texts_at old.definitions n
-      → OfRows view.fields (λ before rows. first_too_long (row_texts (length before) m rows) ≡ Some place)
+      → ((i : Item) → IsTree name_limit i.tree → is_entry_tree i.tree ≡ true → view ≡ view_of i → first_too_long (placed_texts m i.tree) ≡ Some place)
       → OfView kind.Entry view (λ tree. IsTooLongAt n tree old place)
   entry_over m place sees over (CommentTree h) is at seen = other_kind kind.Entry kind.Comment (sym at) (omega arith)
   entry_over m place sees over (DefinitionTree d) is at seen = other_kind kind.Entry kind.Macro (sym at) (omega arith)
   entry_over m place sees over (PreambleTree p) is at seen = other_kind kind.Entry kind.Preamble (sym at) (omega arith)
   entry_over m place sees over (EntryTree e) is at seen =
-      ap₂ (λ (k : ℕ) (mm : Macros). first_too_long (row_texts k mm e.rows)) (ap (λ (t : Text). length t) (sym (append_assoc (opening_bytes e.opening) e.key e.space_behind_key))) (sym sees)
-      ∙ over (opening_bytes e.opening ++ e.key ++ e.space_behind_key) e.rows is.rows (ap (λ (v : View). v.fields) seen)
+      ap (λ (mm : Macros). first_too_long (placed_texts mm (EntryTree e))) (sym sees) ∙ over (item_with (EntryTree e) []) is refl seen
 
   -- ---- a definition
 

@@ -12,3 +12,4 @@ pub mod Stored
 pub mod Amending
 pub mod Following
 pub mod Runs
+pub mod Glancing

@@ -2,7 +2,7 @@
 
 ghost use Rattle.std.specs.Prelude.{◌≡◌, ◌<◌, ◌≤◌, ℕ, [], ◌∷◌, true, Some, None, length, map, IfOk, IfErr, OnOk};
 ghost use Rattle.std.specs.Option.{option_or};
-ghost use Rattle.bib_spec.specs.Texts.{raw_text, raw_limit};
+ghost use Rattle.bib_spec.specs.Texts.{raw_text, raw_limit, field_text};
 ghost use Rattle.bib_spec.specs.Bytes.{name_limit};
 ghost use Rattle.bib_spec.specs.Tree.{IsTree};
 ghost use Rattle.bib_spec.specs.Reading.{Item};
@@ -12,8 +12,10 @@ ghost use Rattle.bib_value.specs.Raw.{OfValue};
 ghost use Rattle.bib_store.specs.Meaning.{is_entry_tree};
 ghost use Rattle.bib_store.specs.ItemTexts.{said_by, crossref_in, row_texts, first_too_long, placed_texts, OfRows};
 ghost use Rattle.bib_value.specs.declared.fault.ValueFault.TheVariants.{TextTooLong};
-ghost use Rattle.bib_store.specs.declared.item_fault.ItemFault.TheVariants.{TooLong as ItemTooLong};
+ghost use Rattle.bib_store.specs.declared.item_fault.ItemFault.TheVariants.{TooLong as ItemTooLong, Memory as ItemMemory};
+ghost use Rattle.bib_definitions.specs.Definitions.{AreAtMost};
 
+use crate::glancing::{are_short, lacks_crossref};
 use crate::item_fault::ItemFault;
 use crate::measuring::{measure, value_field_text};
 use bib_scan::{FieldView, Fields, ItemView, Text, same_folded};
@@ -85,4 +87,72 @@ pub(crate) fn entry_crossref<M: MacroTable>(
     ensures too_long { IfErr result (λ fault. (n : ℕ) → fault ≡ ItemTooLong n → (i : Item) → IsTree name_limit i.tree → is_entry_tree i.tree ≡ true → entry.now ≡ view_of i → first_too_long (placed_texts (M.macros macros.now) i.tree) ≡ Some n) }
 {
     crossref_of(alloc, entry.fields(), macros)
+}
+
+/// What a crossref says whose raw text is not too long.
+fn unmeasured_text<M: MacroTable>(
+    alloc: Global,
+    value: &[u8],
+    macros: &M,
+) -> Result<Text, ItemFault>
+    ensures text { IfOk result (λ text. OfValue value.now (λ v. text ≡ field_text (raw_text (M.macros macros.now) v))) }
+    ensures only { IfErr result (λ fault. fault ≡ ItemMemory) }
+{
+    match value_field_text(alloc, value, macros) {
+        Ok(text) => Ok(text),
+        Err(_) => Err(ItemFault::Memory),
+    }
+}
+
+/// What the first crossref of these fields says, where none of their texts is too long. Those after it are not read.
+fn first_crossref<M: MacroTable>(
+    alloc: Global,
+    fields: Fields<'_>,
+    macros: &M,
+) -> Result<Option<Text>, ItemFault>
+    ensures text { IfOk result (λ text. OfRows fields.entry (λ before rows. text ≡ crossref_in (M.macros macros.now) rows)) }
+    ensures only { IfErr result (λ fault. fault ≡ ItemMemory) }
+{
+    let mut fields = fields;
+    'rows: while let Some(field) = fields.next() {
+        if same_folded(field.name, b"crossref") {
+            return Ok(Some(unmeasured_text(alloc, field.value, macros)?));
+        }
+    }
+    Ok(None)
+}
+
+/// What the crossref of an entry says, none of whose texts is too long.
+fn short_crossref<M: MacroTable>(
+    alloc: Global,
+    entry: &ItemView<'_>,
+    macros: &M,
+) -> Result<Option<Text>, ItemFault>
+    ensures text { IfOk result (λ text. (i : Item) → IsTree name_limit i.tree → is_entry_tree i.tree ≡ true → entry.now ≡ view_of i → map crossref_text (entry_in (M.macros macros.now) i.tree) ≡ text ∷ []) }
+    ensures only { IfErr result (λ fault. fault ≡ ItemMemory) }
+{
+    // most entries have none, and need not be read
+    if lacks_crossref(entry.body()) {
+        return Ok(None);
+    }
+    first_crossref(alloc, entry.fields(), macros)
+}
+
+/// What the crossref of an entry says, where no macro stands for more than `longest` bytes. Texts are measured only where
+/// one of them may be too long.
+pub(crate) fn crossref_within<M: MacroTable>(
+    alloc: Global,
+    entry: &ItemView<'_>,
+    macros: &M,
+    longest: usize,
+) -> Result<Option<Text>, ItemFault>
+    requires { AreAtMost longest (M.macros macros.now) }
+    ensures text { IfOk result (λ text. (i : Item) → IsTree name_limit i.tree → is_entry_tree i.tree ≡ true → entry.now ≡ view_of i → map crossref_text (entry_in (M.macros macros.now) i.tree) ≡ text ∷ []) }
+    ensures short { OnOk result ((i : Item) → IsTree name_limit i.tree → is_entry_tree i.tree ≡ true → entry.now ≡ view_of i → first_too_long (placed_texts (M.macros macros.now) i.tree) ≡ None) }
+    ensures too_long { IfErr result (λ fault. (n : ℕ) → fault ≡ ItemTooLong n → (i : Item) → IsTree name_limit i.tree → is_entry_tree i.tree ≡ true → entry.now ≡ view_of i → first_too_long (placed_texts (M.macros macros.now) i.tree) ≡ Some n) }
+{
+    if are_short(entry.body().len(), longest) {
+        return short_crossref(alloc, entry, macros);
+    }
+    entry_crossref(alloc, entry, macros)
 }

@@ -1,13 +1,13 @@
 //! The file as a list of items, with entries, keys and crossrefs.
 
 use crate::joining::join;
-use crate::keeping::keep_all;
+use crate::keeping::take_in;
 use crate::measuring::short_text;
 use crate::preambles::preamble_value;
 use crate::tables::Tables;
 use bib_definitions::MacrosAt;
 use bib_items::{ItemList, StoreFault};
-use bib_scan::{ItemView, ReadFault, Seq, Text, read};
+use bib_scan::{ItemView, ReadFault, Seq, Text};
 use bib_value::MacroTable;
 use std::alloc::Global;
 use std::marker::Model;
@@ -45,6 +45,8 @@ impl<L: ItemList> Database<L> {
     ghost use Rattle.bib_scan.specs.Layout.{start_of};
     ghost use Rattle.bib_entries.specs.EntryTable.{referrers};
     ghost use Rattle.bib_store.specs.Tables.{crossrefs_of};
+    ghost use Rattle.bib_spec.specs.Text.{Text as Bytes};
+    ghost use Rattle.bib_store.specs.Stored.{IsTaken};
     ghost use Rattle.bib_definitions.specs.MacrosSeen.{macros_seen};
     ghost use Rattle.bib_store.specs.Meaning.{OfReading, IsItemNumber, IsItemPlace, IsEntryNumber, IsPreambleNumber, entry_items, entry_numbers, IsOpenFault};
     ghost use Rattle.bib_items.specs.declared.fault.StoreFault.TheVariants.{Memory, NoSuchEntry};
@@ -58,11 +60,31 @@ impl<L: ItemList> Database<L> {
         ensures file { OnOk result (IsOpenable bytes.now) }
         ensures fault { IfErr result (λ fault. IsOpenFault bytes.now fault.kind fault.place) }
     {
-        let layout = read(alloc, bytes)?;
-        let Ok((front, items)) = keep_all(alloc, &layout, bytes, empty) else {
-            return Err(ReadFault { kind: 10, place: 0 });
-        };
-        let tables = Tables::of(alloc, bytes.len(), front.as_slice().len(), &items, 0, 0)?;
+        let (front, items) = take_in(alloc, bytes, empty)?;
+        Database::of_items(alloc, bytes.len(), front, items)
+    }
+
+    /// The same. The file's memory is given back as soon as its items have the bytes, before the tables are made.
+    pub fn open_file(alloc: Global, file: Vec<u8>, empty: L) -> Result<Database<L>, ReadFault>
+        requires { L.items empty ≡ [] }
+        ensures opened { IfOk result (λ db. db ≡ file.items) }
+        ensures file { OnOk result (IsOpenable file.items) }
+        ensures fault { IfErr result (λ fault. IsOpenFault file.items fault.kind fault.place) }
+    {
+        let len = file.len();
+        let (front, items) = take_in(alloc, file.as_slice(), empty)?;
+        drop(file);
+        Database::of_items(alloc, len, front, items)
+    }
+
+    /// The file of so many bytes that a front and the items after it are.
+    fn of_items(alloc: Global, len: usize, front: Text, items: L) -> Result<Database<L>, ReadFault>
+        requires { (bytes : Bytes) × IsTaken bytes front (L.items items) × (len ≡ length bytes) }
+        ensures opened { (bytes : Bytes) → IsTaken bytes front (L.items items) → IfOk result (λ db. db ≡ bytes) }
+        ensures file { (bytes : Bytes) → IsTaken bytes front (L.items items) → OnOk result (IsOpenable bytes) }
+        ensures fault { (bytes : Bytes) → IsTaken bytes front (L.items items) → IfErr result (λ fault. IsOpenFault bytes fault.kind fault.place) }
+    {
+        let tables = Tables::of(alloc, len, front.as_slice().len(), &items, 0, 0)?;
         Ok(Database {
             alloc,
             front,

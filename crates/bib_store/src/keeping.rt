@@ -2,12 +2,14 @@
 
 ghost use Rattle.std.specs.Prelude.{◌≡◌, [], IfOk, IfErr};
 ghost use Rattle.bib_scan.specs.Layout.{IsLayoutOf};
+ghost use Rattle.bib_spec.specs.Fault.{IsReadFault};
 ghost use Rattle.bib_store.specs.Meaning.{OfReading};
+ghost use Rattle.bib_store.specs.Stored.{IsTaken};
 ghost use Rattle.bib_items.specs.Items.{all_stored};
 ghost use Rattle.bib_items.specs.declared.fault.StoreFault.TheVariants.{Memory};
 
 use bib_items::{ItemList, StoreFault};
-use bib_scan::{Layout, Seq, Text};
+use bib_scan::{Layout, ReadFault, Seq, Text, read};
 use std::alloc::Global;
 
 /// The list with the items of a file, in order.
@@ -23,7 +25,7 @@ fn keep<L: ItemList>(layout: &Layout, bytes: &[u8], empty: L) -> Result<L, Store
 }
 
 /// The front and the items of a file, as they are kept.
-pub(crate) fn keep_all<L: ItemList>(
+fn keep_all<L: ItemList>(
     alloc: Global,
     layout: &Layout,
     bytes: &[u8],
@@ -38,4 +40,21 @@ pub(crate) fn keep_all<L: ItemList>(
     let front = Vec::from_slice(alloc, layout.front(bytes))?;
     let items = keep(layout, bytes, empty)?;
     Ok((Seq::from_vec(front), items))
+}
+
+/// The front and the items of the file that these bytes are, as they are kept.
+pub(crate) fn take_in<L: ItemList>(
+    alloc: Global,
+    bytes: &[u8],
+    empty: L,
+) -> Result<(Text, L), ReadFault>
+    requires { L.items empty ≡ [] }
+    ensures taken { IfOk result (λ kept. IsTaken bytes.now kept.0 (L.items kept.1)) }
+    ensures fault { IfErr result (λ fault. IsReadFault bytes.now fault.kind fault.place) }
+{
+    let layout = read(alloc, bytes)?;
+    match keep_all(alloc, &layout, bytes, empty) {
+        Ok(kept) => Ok(kept),
+        Err(_) => Err(ReadFault { kind: 10, place: 0 }),
+    }
 }

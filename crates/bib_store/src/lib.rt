@@ -16,6 +16,7 @@ mod fitting;
 mod following;
 mod following_runs;
 mod gathering;
+mod glancing;
 mod item_fault;
 mod joining;
 mod keeping;

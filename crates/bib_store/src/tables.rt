@@ -11,7 +11,7 @@ ghost use Rattle.bib_spec.specs.Text.{Text as Bytes};
 ghost use Rattle.bib_entries.specs.Numbers.{PartAt, HaveNext};
 ghost use Rattle.bib_entries.specs.EntryTable.{IsTableOf};
 
-use crate::crossrefs::crossref_of;
+use crate::crossrefs::crossref_within;
 use crate::item_fault::ItemFault;
 use crate::measuring::{measure, value_text};
 use bib_definitions::Definitions;
@@ -152,7 +152,8 @@ impl Tables {
         ensures too_long { IfErr result (λ fault. (place : ℕ) → fault ≡ ItemTooLong place → OfView kind.Entry view.now (λ tree. IsTooLongAt n tree self.old place)) }
         ensures err { OnErr result (SayTheSame self.old self.new) }
     {
-        let crossref = crossref_of(alloc, view.fields(), &self.definitions.at(n))?;
+        let longest = self.definitions.longest();
+        let crossref = crossref_within(alloc, view, &self.definitions.at(n), longest)?;
         insert_named(&mut self.entries, &mut self.named, n, view.key(), crossref)?;
         self.preambles.make_way(n);
         self.definitions.make_way(n);

@@ -5,7 +5,7 @@ use Rattle.bib_definitions.proofs.DefinitionTables.{definitions_come}
 use Rattle.bib_definitions.proofs.definitions.Definitions.make_way.Goals as goal
 
 pub invariant_of-self : goal.invariant_of-self
-invariant_of-self c = subst (λ (k : ℕ). EndsBy k c.self.inside.names) (sym c.make_way.ensures.count) c.self.invariant
+invariant_of-self c = (subst (λ (k : ℕ). EndsBy k c.self.inside.names) (sym c.make_way.ensures.count) c.self.invariant.0, c.self.invariant.1)
 
 pub returns-clause-come : goal.returns-clause-come
 returns-clause-come c before after item count fits other are =

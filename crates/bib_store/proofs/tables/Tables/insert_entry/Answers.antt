@@ -1,8 +1,9 @@
-use Rattle.std.proofs.Common.{◌∙◌, length, insert, subst, refl}
+use Rattle.std.proofs.Common.{length, sym, insert, subst, refl}
 use Rattle.std.proofs.lemmas.Result.{err_from_is_err_and}
 use Rattle.bib_spec.specs.Text.{Text}
 use Rattle.bib_entries.specs.EntryTable.{IsTableOf}
 use Rattle.bib_store.proofs.Answered.{err_always}
+use Rattle.bib_definitions.specs.Definitions.{AreAtMost}
 use Rattle.bib_definitions.specs.MacrosSeen.{macros_seen}
 use Rattle.bib_store.specs.declared.tables.Tables.{Tables}
 use Rattle.bib_store.proofs.TableSteps.{entry_insertion, entry_over, named_kept}
@@ -13,8 +14,7 @@ returns-in_err-crossref-clause-too_long c =
     let p = err_from_is_err_and c.from_residual.result c.from_residual.ensures.1 in
     rw (p.1, p.2) (λ place is.
     let over = c.in_err-crossref.ensures.too_long place is in
-    entry_over c.args.self.now c.args.self.now c.args.n c.args.view.now (macros_seen c.at.result) place c.at.ensures
-    (λ before rows are fields. over before rows are (c.fields.ensures.fields ∙ fields)))
+    entry_over c.args.self.now c.args.self.now c.args.n c.args.view.now (macros_seen c.at.result) place c.at.ensures over)
 
 pub returns-in_err-insert_named-clause-err : goal.returns-in_err-insert_named-clause-err
 returns-in_err-insert_named-clause-err c =
@@ -41,5 +41,8 @@ returns-clause-step c =
     (λ front rest keys crossrefs parts low t. subst (λ (key : Text). IsTableOf (insert keys (length front) key) (insert crossrefs (length front) c.in_ok-crossref.crossref) c.insert_named.new.named) c.key.ensures
     (c.in_ok-insert_named.ensures.named front rest keys crossrefs parts low t))
     c.make_way-2.ensures.come
-    (λ before rows are fields. c.in_ok-crossref.ensures.text before rows are (c.fields.ensures.fields ∙ fields))
-    (λ before rows are fields. c.in_ok-crossref.ensures.short before rows are (c.fields.ensures.fields ∙ fields))
+    c.in_ok-crossref.ensures.text
+    c.in_ok-crossref.ensures.short
+
+pub crossref_within-requires : goal.crossref_within-requires
+crossref_within-requires c = subst (AreAtMost c.longest-longest.result) (sym c.at.ensures) (c.longest-longest.ensures c.args.n)

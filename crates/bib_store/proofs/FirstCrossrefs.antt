@@ -1,0 +1,137 @@
+-- The first crossref of an entry: where its word does not stand in the entry's bytes there is none, and else it is found row by row.
+use Rattle.std.proofs.Common.{◌≡◌, ℕ, true, false, List, [], ◌∷◌, ◌++◌, length, map, Option, Some, None, refl, sym, ◌∙◌, ap, subst, arith, append_assoc, All}
+use Rattle.std.specs.List.{flat_map}
+use Rattle.std.specs.Option.{option_or}
+use Rattle.std.proofs.lemmas.Bool.{cond-true, cond-false}
+use Rattle.std.proofs.lemmas.List.Elements.{All-head, All-tail}
+use Rattle.bib_spec.specs.Bytes.{comma, equals_sign, name_limit}
+use Rattle.bib_spec.specs.Text.{Text, same}
+use Rattle.bib_spec.specs.Tree.{Tree, Row, Entry, EntryTree, IsRow, IsTree, value_bytes, row_bytes, opening_bytes, last_comma_bytes, close_byte, entry_bytes, tree_bytes}
+use Rattle.bib_spec.specs.Reading.{Item}
+use Rattle.bib_spec.specs.Texts.{Macros, raw_text, field_text}
+use Rattle.bib_spec.specs.Records.{crossref, crossref_text, entry_in}
+use Rattle.bib_scan.specs.View.{View, Field, field_behind, fields_behind, view_of}
+use Rattle.bib_value.specs.Raw.{OfValue}
+use Rattle.bib_store.specs.Meaning.{is_entry_tree}
+use Rattle.bib_store.specs.ItemTexts.{crossref_in, OfRows}
+use Rattle.bib_store.specs.Glancing.{LacksWord}
+use Rattle.bib_store.proofs.EntryItems.{entry_tree}
+use Rattle.bib_store.proofs.RowTexts.{cons_parts, crossref_more}
+
+-- ---- one row
+
+row_is_other : (m : Macros) (row : Row) (rows : List Row) → same row.assignment.name crossref ≡ false → crossref_in m (row ∷ rows) ≡ crossref_in m rows
+row_is_other m row rows e =
+    crossref_more m row rows None
+    ∙ ap (λ o. option_or o (crossref_in m rows)) (cond-false (same row.assignment.name crossref) (Some (field_text (raw_text m row.assignment.value))) None e)
+
+row_is_first : (m : Macros) (row : Row) (rows : List Row) → same row.assignment.name crossref ≡ true → crossref_in m (row ∷ rows) ≡ Some (field_text (raw_text m row.assignment.value))
+row_is_first m row rows e =
+    crossref_more m row rows None
+    ∙ ap (λ o. option_or o (crossref_in m rows)) (cond-true (same row.assignment.name crossref) (Some (field_text (raw_text m row.assignment.value))) None e)
+
+-- ---- where its word does not stand
+
+-- a row's name among the bytes around it
+row_shape : (front space name before equals value behind rows rest : Text) → front ++ ((space ++ (name ++ before ++ equals ++ value ++ behind) ++ rows) ++ rest)
+    ≡ (front ++ space) ++ (name ++ (before ++ (equals ++ (value ++ (behind ++ (rows ++ rest))))))
+row_shape front space name before equals value behind rows rest = simp append_assoc
+
+next_shape : (front row rows rest : Text) → front ++ ((row ++ rows) ++ rest) ≡ (front ++ row) ++ (rows ++ rest)
+next_shape front row rows rest = simp append_assoc
+
+entry_shape : (opening key space rows last close : Text) → opening ++ key ++ (space ++ rows ++ last ++ close) ≡ (opening ++ (key ++ space)) ++ (rows ++ (last ++ close))
+entry_shape opening key space rows last close = simp append_assoc
+
+rows_lack : (m : Macros) (text front rest : Text) (rows : List Row) → text ≡ front ++ (flat_map row_bytes rows ++ rest) → LacksWord text crossref → crossref_in m rows ≡ None
+rows_lack m text front rest [] is lacks = refl
+rows_lack m text front rest (row ∷ rows) is lacks =
+    let a = row.assignment in
+    let others = flat_map row_bytes rows in
+    let sp = comma ∷ row.space_before_name in
+    let eq = equals_sign ∷ a.space_before_value in
+    row_is_other m row rows (lacks (front ++ sp) a.name _ (is ∙ row_shape front sp a.name a.space_before_equals eq (value_bytes a.value) a.space_behind others rest))
+    ∙ rows_lack m text (front ++ row_bytes row) rest rows (is ∙ next_shape front (row_bytes row) others rest) lacks
+
+pub entry_lacks : (m : Macros) (v : View) → LacksWord v.body crossref → (i : Item) → IsTree name_limit i.tree → is_entry_tree i.tree ≡ true → v ≡ view_of i
+    → map crossref_text (entry_in m i.tree) ≡ None ∷ []
+entry_lacks m v lacks i is entry seen = there i.tree (entry_tree i.tree entry) (ap (λ (w : View). w.body) seen)
+  where
+    there : (t : Tree) → (e : Entry) × (t ≡ EntryTree e) → v.body ≡ tree_bytes t → map crossref_text (entry_in m t) ≡ None ∷ []
+    there t (e, e_is) body =
+        let rows = flat_map row_bytes e.rows in
+        let end = last_comma_bytes e.last_comma ++ (close_byte e.opening.delimiter ∷ []) in
+        let shape = entry_shape (opening_bytes e.opening) e.key e.space_behind_key rows (last_comma_bytes e.last_comma) (close_byte e.opening.delimiter ∷ []) in
+        ap (λ (x : Tree). map crossref_text (entry_in m x)) e_is
+        ∙ ap (λ (o : Option Text). o ∷ []) (rows_lack m v.body (opening_bytes e.opening ++ (e.key ++ e.space_behind_key)) end e.rows (body ∙ ap tree_bytes e_is ∙ shape) lacks)
+
+-- ---- row by row
+
+-- the crossref of these rows is that of the rows left
+pub record IsAhead (m : Macros) (rows : List Row) (left : List Field) : Type 0 where
+  pub before : Text
+  pub rows_left : List Row
+  pub are_rows : All (IsRow name_limit) rows_left
+  pub fields : left ≡ fields_behind before rows_left
+  pub crossref_text : crossref_in m rows ≡ crossref_in m rows_left
+
+pub record AreAhead (all : List Field) (m : Macros) (left : List Field) : Type 0 where
+  pub rest : OfRows all (λ before rows. IsAhead m rows left)
+
+pub ahead_start : (all : List Field) (m : Macros) → AreAhead all m all
+ahead_start all m = record {
+  rest = λ before rows are fields. record { before = before; rows_left = rows; are_rows = are; fields = fields; crossref_text = refl };
+}
+
+nil_cons : {X : Type 0} (x : X) (xs : List X) → [] ≡ x ∷ xs → ⊥
+nil_cons x xs e = absurd (omega (arith, ap length e))
+
+is_more : (m : Macros) (rows : List Row) (field : Field) (left : List Field) → same field.name crossref ≡ false
+    → (before : Text) (rows_left : List Row) → All (IsRow name_limit) rows_left → field ∷ left ≡ fields_behind before rows_left → crossref_in m rows ≡ crossref_in m rows_left
+    → IsAhead m rows left
+is_more m rows field left other before [] are fields cross = absurd (nil_cons field left (sym fields))
+is_more m rows field left other before (row ∷ others) are fields cross =
+    let same_parts = cons_parts field (field_behind (length before) (before ++ comma ∷ row.space_before_name) row.assignment) left (fields_behind (before ++ row_bytes row) others) fields in
+    let name : field.name ≡ row.assignment.name = ap (λ (f : Field). f.name) same_parts.0 in
+    record {
+      before = before ++ row_bytes row;
+      rows_left = others;
+      are_rows = All-tail (IsRow name_limit) row others are;
+      fields = same_parts.1;
+      crossref_text = cross ∙ row_is_other m row others (subst (λ (n : Text). same n crossref ≡ false) name other);
+    }
+
+pub ahead_more : (all : List Field) (m : Macros) (field : Field) (left now : List Field) → same field.name crossref ≡ false → now ≡ field ∷ left → AreAhead all m now → AreAhead all m left
+ahead_more all m field left now other is to = record {
+  rest = λ before rows are fields.
+      let r = to.rest before rows are fields in
+      is_more m rows field left other r.before r.rows_left r.are_rows (sym is ∙ r.fields) r.crossref_text;
+}
+
+is_found : (m : Macros) (rows : List Row) (field : Field) (left : List Field) (text : Text) → same field.name crossref ≡ true → OfValue field.value (λ v. text ≡ field_text (raw_text m v))
+    → (before : Text) (rows_left : List Row) → All (IsRow name_limit) rows_left → field ∷ left ≡ fields_behind before rows_left → crossref_in m rows ≡ crossref_in m rows_left
+    → Some text ≡ crossref_in m rows
+is_found m rows field left text is says before [] are fields cross = absurd (nil_cons field left (sym fields))
+is_found m rows field left text is says before (row ∷ others) are fields cross =
+    let same_parts = cons_parts field (field_behind (length before) (before ++ comma ∷ row.space_before_name) row.assignment) left (fields_behind (before ++ row_bytes row) others) fields in
+    let name : field.name ≡ row.assignment.name = ap (λ (f : Field). f.name) same_parts.0 in
+    let value : value_bytes row.assignment.value ≡ field.value = ap (λ (f : Field). f.value) (sym same_parts.0) in
+    let good = All-head (IsRow name_limit) row others are in
+    ap Some (says row.assignment.value good.assignment.value value)
+    ∙ sym (cross ∙ row_is_first m row others (subst (λ (n : Text). same n crossref ≡ true) name is))
+
+pub ahead_found : (all : List Field) (m : Macros) (field : Field) (left now : List Field) (text : Text) → same field.name crossref ≡ true → OfValue field.value (λ v. text ≡ field_text (raw_text m v))
+    → now ≡ field ∷ left → AreAhead all m now → OfRows all (λ before rows. Some text ≡ crossref_in m rows)
+ahead_found all m field left now text is says at to before rows are fields =
+    let r = to.rest before rows are fields in
+    is_found m rows field left text is says r.before r.rows_left r.are_rows (sym at ∙ r.fields) r.crossref_text
+
+is_none : (m : Macros) (rows : List Row) (before : Text) (rows_left : List Row) → [] ≡ fields_behind before rows_left → crossref_in m rows ≡ crossref_in m rows_left → None ≡ crossref_in m rows
+is_none m rows before [] fields cross = sym cross
+is_none m rows before (row ∷ others) fields cross =
+    absurd (nil_cons (field_behind (length before) (before ++ comma ∷ row.space_before_name) row.assignment) (fields_behind (before ++ row_bytes row) others) fields)
+
+pub ahead_none : (all : List Field) (m : Macros) (left : List Field) → left ≡ [] → AreAhead all m left → OfRows all (λ before rows. None ≡ crossref_in m rows)
+ahead_none all m left end to before rows are fields =
+    let r = to.rest before rows are fields in
+    is_none m rows r.before r.rows_left (sym end ∙ r.fields) r.crossref_text

@@ -1,0 +1,100 @@
+-- How long the texts of an entry are, at most.
+use Rattle.std.proofs.Common.{◌≡◌, ℕ, ◌+◌, ◌*◌, ◌<◌, ◌≤◌, true, List, [], ◌∷◌, ◌++◌, length, map, max, Option, Some, None, unwrap_or, refl, sym, ◌∙◌, ap, subst, arith, length-append, All}
+use Rattle.std.specs.List.{flat_map}
+use Rattle.std.proofs.Math.Nat.{le-mul_of_pos_right, mul-le-mul_right, add-mul}
+use Rattle.std.proofs.lemmas.List.Elements.{All-head, All-tail}
+use Rattle.bib_spec.specs.Bytes.{name_limit, comma, equals_sign, hash, open_brace, close_brace, quote}
+use Rattle.bib_spec.specs.Text.{Text, folded, is_name_within}
+use Rattle.bib_spec.specs.Tree.{Tree, Part, Braced, Quoted, Digits, Macro, Link, Value, Row, Entry, EntryTree, IsPart, IsLink, IsValue, IsRow, IsTree, part_bytes, link_bytes, value_bytes, row_bytes, assignment_bytes, opening_bytes, behind_key_bytes, last_comma_bytes, close_byte, entry_bytes, tree_bytes}
+use Rattle.bib_spec.specs.Reading.{Item}
+use Rattle.bib_spec.specs.Texts.{Macros, part_text, raw_text, raw_limit, row_start}
+use Rattle.bib_scan.specs.View.{View, view_of}
+use Rattle.bib_scan.proofs.PartLaws.{name_parts}
+use Rattle.bib_definitions.specs.Definitions.{AreAtMost}
+use Rattle.bib_store.specs.Meaning.{is_entry_tree}
+use Rattle.bib_store.specs.ItemTexts.{first_too_long, placed_texts, row_texts}
+use Rattle.bib_store.proofs.EntryItems.{entry_tree}
+use Rattle.bib_store.proofs.RowTexts.{first_fits}
+
+module _ (m : Macros) (k : ℕ) (within : AreAtMost k m) (some : 0 < k) where
+  wide : (a b : ℕ) → a ≤ b → a ≤ b * k
+  wide a b le = let more = le-mul_of_pos_right b some in omega (arith, le, more)
+
+  known : (name : Text) (o : Option Text) → m (folded name) ≡ o → length (unwrap_or o []) ≤ k
+  known name None is = omega arith
+  known name (Some t) is = within (folded name) t is
+
+  part_within : (p : Part) → IsPart name_limit p → length (part_text m p) ≤ length (part_bytes p) * k
+  part_within (Braced t) is = wide (length t) (length (part_bytes (Braced t))) (omega (arith, length-append t (close_brace ∷ [])))
+  part_within (Quoted t) is = wide (length t) (length (part_bytes (Quoted t))) (omega (arith, length-append t (quote ∷ [])))
+  part_within (Digits t) is = wide (length t) (length t) (omega arith)
+  part_within (Macro name) is =
+      let low = known name (m (folded name)) refl in
+      let one : 1 ≤ length name = (name_parts name_limit name is).some in
+      let more : 1 * k ≤ length name * k = mul-le-mul_right k one in
+      omega (arith, low, more)
+
+  links_within : (ls : List Link) → All (IsLink name_limit) ls → length (flat_map (part_text m) (map (λ l. l.part) ls)) ≤ length (flat_map link_bytes ls) * k
+  links_within [] are = omega arith
+  links_within (l ∷ ls) are =
+      let here = part_within l.part (All-head (IsLink name_limit) l ls are).part in
+      let rest = links_within ls (All-tail (IsLink name_limit) l ls are) in
+      let texts = length-append (part_text m l.part) (flat_map (part_text m) (map (λ (x : Link). x.part) ls)) in
+      let bytes = length-append (link_bytes l) (flat_map link_bytes ls) in
+      let long : length (part_bytes l.part) ≤ length (link_bytes l) =
+      omega (arith, length-append l.space_before_hash (hash ∷ l.space_behind_hash ++ part_bytes l.part), length-append l.space_behind_hash (part_bytes l.part), length-append (l.space_before_hash ++ hash ∷ l.space_behind_hash) (part_bytes l.part)) in
+      let more = mul-le-mul_right k long in
+      let sum = add-mul (length (link_bytes l)) (length (flat_map link_bytes ls)) k in
+      let all : length (flat_map link_bytes (l ∷ ls)) * k ≡ (length (link_bytes l) + length (flat_map link_bytes ls)) * k = ap (λ (n : ℕ). n * k) bytes in
+      omega (arith, here, rest, texts, more, sum, all)
+
+  pub value_within : (v : Value) → IsValue name_limit v → length (raw_text m v) ≤ length (value_bytes v) * k
+  value_within v is =
+      let here = part_within v.first is.first in
+      let rest = links_within v.links is.links in
+      let texts = length-append (part_text m v.first) (flat_map (part_text m) (map (λ (x : Link). x.part) v.links)) in
+      let bytes = length-append (part_bytes v.first) (flat_map link_bytes v.links) in
+      let sum = add-mul (length (part_bytes v.first)) (length (flat_map link_bytes v.links)) k in
+      let all : length (value_bytes v) * k ≡ (length (part_bytes v.first) + length (flat_map link_bytes v.links)) * k = ap (λ (n : ℕ). n * k) bytes in
+      omega (arith, here, rest, texts, sum, all)
+
+  -- rows that have at most n bytes
+  rows_short : (n : ℕ) → n * k ≤ raw_limit → (at : ℕ) (rows : List Row) → All (IsRow name_limit) rows → length (flat_map row_bytes rows) ≤ n → first_too_long (row_texts at m rows) ≡ None
+  rows_short n few at [] are low = refl
+  rows_short n few at (row ∷ rows) are low =
+      let a = row.assignment in
+      let front = a.name ++ a.space_before_equals ++ equals_sign ∷ a.space_before_value in
+      let value = value_within a.value (All-head (IsRow name_limit) row rows are).assignment.value in
+      let all = length-append (row_bytes row) (flat_map row_bytes rows) in
+      let inside : length (value_bytes a.value) ≤ length (row_bytes row) =
+      omega (arith, length-append (comma ∷ row.space_before_name) (assignment_bytes a), length-append (front ++ value_bytes a.value) a.space_behind, length-append front (value_bytes a.value)) in
+      let fits : length (value_bytes a.value) ≤ n = omega (arith, inside, all, low) in
+      let most = mul-le-mul_right k fits in
+      first_fits (at + length (row_start row)) (raw_text m a.value) (row_texts (at + length (row_bytes row)) m rows) (omega (arith, value, most, few))
+      ∙ rows_short n few (at + length (row_bytes row)) rows (All-tail (IsRow name_limit) row rows are) (omega (arith, all, low))
+
+  rows_inside : (e : Entry) → length (flat_map row_bytes e.rows) ≤ length (entry_bytes e)
+  rows_inside e =
+      let rows = flat_map row_bytes e.rows in
+      let last = last_comma_bytes e.last_comma in
+      let close = close_byte e.opening.delimiter ∷ [] in
+      omega (
+        arith,
+        length-append (opening_bytes e.opening ++ e.key) (behind_key_bytes e),
+        length-append (e.space_behind_key ++ rows ++ last) close,
+        length-append (e.space_behind_key ++ rows) last,
+        length-append e.space_behind_key rows,
+      )
+
+  entry_short : (e : Entry) → IsTree name_limit (EntryTree e) → length (entry_bytes e) * k ≤ raw_limit → first_too_long (placed_texts m (EntryTree e)) ≡ None
+  entry_short e is few =
+      rows_short (length (entry_bytes e)) few (length (opening_bytes e.opening ++ (e.key ++ e.space_behind_key))) e.rows is.rows (rows_inside e)
+
+  pub entry_is_short : (v : View) → length v.body * k ≤ raw_limit → (i : Item) → IsTree name_limit i.tree → is_entry_tree i.tree ≡ true → v ≡ view_of i → first_too_long (placed_texts m i.tree) ≡ None
+  entry_is_short v few i is entry seen = there i.tree (entry_tree i.tree entry) is (ap (λ (w : View). w.body) seen)
+    where
+      there : (t : Tree) → (e : Entry) × (t ≡ EntryTree e) → IsTree name_limit t → v.body ≡ tree_bytes t → first_too_long (placed_texts m t) ≡ None
+      there t (e, e_is) is_tree body =
+          let bytes : v.body ≡ entry_bytes e = body ∙ ap tree_bytes e_is in
+          ap (λ (x : Tree). first_too_long (placed_texts m x)) e_is
+          ∙ entry_short e (subst (IsTree name_limit) e_is is_tree) (subst (λ (b : Text). length b * k ≤ raw_limit) bytes few)

@@ -1,0 +1,10 @@
+use Rattle.bib_spec.specs.Fault.{no_memory}
+use Rattle.bib_store.proofs.OpenedFiles.{taken}
+use Rattle.bib_store.proofs.keeping.take_in.Goals as goal
+
+pub returns-in-Ok-clause-taken : goal.returns-in-Ok-clause-taken
+returns-in-Ok-clause-taken g c =
+    taken c.args.bytes.now c.in-Ok.kept.0 (g.L.ItemList.items c.in-Ok.kept.1) c.in_ok-layout.layout c.in_ok-layout.ensures.found c.in-Ok.ensures.front c.in-Ok.ensures.items
+
+pub returns-clause-fault : goal.returns-clause-fault
+returns-clause-fault g c = no_memory c.in_ok-layout.ensures.found.0
