@@ -44,6 +44,17 @@ placed-fields file n at view fields is within before seen same =
     subst (ArePlacedFields at) (sym (same ∙ ap (λ (v : View). v.fields) (seen db reads it.0 it.1)))
     (fields-within at it.0.tree (item_in (IsItem name_limit) db.items n it.0 reads.items it.1).tree (omega (arith, ends, short, low, long)))
 
+-- the next item begins where this one ends
+pub place-next : (db : Reading) (k place : ℕ) (view : View) (body trail : Text) → k < length db.items → ((i : Item) → slice_get db.items k ≡ Some i → view ≡ view_of i) → body ≡ view.body → trail ≡ view.trail →
+    place ≡ start_of db k → place + (length body + length trail) ≡ start_of db (k + 1)
+place-next db k place view body trail lt seen body_is trail_is here =
+    let it = slice_get-within db.items k lt in
+    let is : view ≡ view_of it.0 = seen it.0 it.1 in
+    let next : start_of db (k + 1) ≡ start_of db k + length (item_bytes it.0) = start_more db k it.0 (drop (k + 1) db.items) (drop-next db.items k it.0 it.1) in
+    let b = ap (length {A = ℕ}) (body_is ∙ ap (λ (v : View). v.body) is) in
+    let t = ap (length {A = ℕ}) (trail_is ∙ ap (λ (v : View). v.trail) is) in
+    omega (arith, next, here, b, t, length-append (tree_bytes it.0.tree) it.0.trail)
+
 module _ (test : Part → Bool) where
   -- with the tokens of the items from number k on, which begins at this place, the tokens so far are all from number n on
   pub record AreTokensTo (db : Reading) (n : ℕ) (old : List (ℕ × Text)) (k at : ℕ) (tokens : List (ℕ × Text)) : Type 0 where

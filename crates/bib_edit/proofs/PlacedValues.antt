@@ -1,5 +1,5 @@
 -- The parts of a value with their places, taken one by one.
-use Rattle.std.proofs.Common.{◌≡◌, ℕ, zero, suc, ◌+◌, ◌≤◌, Bool, true, false, List, [], ◌∷◌, ◌++◌, Some, option_map, slice_get, length, map, take, drop, refl, sym, ◌∙◌, ap, ap₂, subst, arith, append_assoc, append-nil, length-append}
+use Rattle.std.proofs.Common.{◌≡◌, ℕ, zero, suc, ◌+◌, ◌≤◌, Bool, true, false, cond, get_or, List, [], ◌∷◌, ◌++◌, Some, option_map, slice_get, length, map, take, drop, refl, sym, ◌∙◌, ap, ap₂, subst, arith, append_assoc, append-nil, length-append}
 use Rattle.std.specs.List.{flat_map}
 use Rattle.std.proofs.lemmas.Bool.{cond-true, cond-false}
 use Rattle.std.proofs.lemmas.List.{drop_more, drop_all, drop_at, take_at}
@@ -154,3 +154,21 @@ part-placed test at value n p part v ok same = value_has at v n p (part v ok sam
     value_has : (at : ℕ) (v : Value) (n : ℕ) (p : Part) → slice_get (parts_of v) n ≡ Some p → (place : ℕ) × (slice_get (value_placed at v) n ≡ Some (place, p))
     value_has at v zero p is = (at, ap (λ (q : Part). Some (at, q)) (same_Some v.first p is))
     value_has at v (suc n) p is = links_have (at + length (part_bytes v.first)) v.links n p is
+
+-- ---- the only part of a value
+
+only_tokens : (test : Part → Bool) (at : ℕ) (value : Text) (p : Part) → OfValue value (λ v. parts_of v ≡ p ∷ []) → OfValue value (λ v. tokens_of test (value_placed at v) ≡ cond (test p) ((at, value) ∷ []) [])
+only_tokens test at value p only v ok same = go v.first v.links (only v ok same) same
+  where
+    go : (first : Part) (links : List Link) → first ∷ map link_part links ≡ p ∷ [] → part_bytes first ++ flat_map link_bytes links ≡ value
+        → tokens_of test ((at, first) ∷ links_placed (at + length (part_bytes first)) links) ≡ cond (test p) ((at, value) ∷ []) []
+    go first [] is bytes =
+        ap (λ (ps : List Part). cond (test (get_or ps 0 p)) ((at, part_bytes first) ∷ []) []) is
+        ∙ ap (λ (t : Text). cond (test p) ((at, t) ∷ []) []) (sym (append-nil (part_bytes first)) ∙ bytes)
+    go first (l ∷ ls) is bytes = let count = ap length is in absurd (omega (arith, count))
+
+pub only_met : (test : Part → Bool) (at : ℕ) (value : Text) (p : Part) → test p ≡ true → OfValue value (λ v. parts_of v ≡ p ∷ []) → OfValue value (λ v. tokens_of test (value_placed at v) ≡ (at, value) ∷ [])
+only_met test at value p t only v ok same = only_tokens test at value p only v ok same ∙ cond-true (test p) ((at, value) ∷ []) [] t
+
+pub only_unmet : (test : Part → Bool) (at : ℕ) (value : Text) (p : Part) → test p ≡ false → OfValue value (λ v. parts_of v ≡ p ∷ []) → OfValue value (λ v. tokens_of test (value_placed at v) ≡ [])
+only_unmet test at value p t only v ok same = only_tokens test at value p only v ok same ∙ cond-false (test p) ((at, value) ∷ []) [] t

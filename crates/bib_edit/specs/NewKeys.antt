@@ -57,6 +57,10 @@ rekeying new db = pieces_of_chunks (Kept db.front ∷ key_chunks (key_of new) db
 
 -- ---- entry by entry
 
+-- the item that is entry n begins at this place
+abbrev pub IsEntryPlace : Reading → ℕ → ℕ → Type 0
+IsEntryPlace db n start = (i : ℕ) → slice_get (entry_numbers db.items) n ≡ Some i → start ≡ start_of db i
+
 -- the pieces of an item that is entry n, and begins at this place
 abbrev pub entry_pieces : NewKeys → Reading → ℕ → ℕ → Item → List Piece
 entry_pieces new db n start item = key_piece start (view_of item) (key_of new n) ++ crossref_piece start (view_of item) (new_target new db n)

@@ -1,33 +1,41 @@
 //! Keys that are made for entries.
 
-ghost use Rattle.std.specs.Prelude.{◌≡◌, ◌≤◌, ◌+◌, ◌*◌, length, slice_get, Some, IfOk, IfErr};
+ghost use Rattle.std.specs.Prelude.{◌≡◌, ◌≤◌, ◌+◌, ◌*◌, length, map, slice_get, Some, IfOk, IfErr};
 ghost use Rattle.std.specs.List.{AllByRecursion};
 ghost use Rattle.bib_spec.specs.Bytes.{name_limit, file_limit};
 ghost use Rattle.bib_spec.specs.Records.{EntryTexts, entries_of, record_of, default_depth};
 ghost use Rattle.bib_spec.specs.MadeKeys.{free_key, made_keys, new_keys, base_limit};
 ghost use Rattle.bib_store.specs.Meaning.{OfReading, IsEntryNumber};
+ghost use Rattle.bib_names.specs.Label.{label_names};
 ghost use Rattle.bib_edit.specs.Asking.{made_base};
 ghost use Rattle.bib_edit.specs.TakenKeys.{AreTaken, taken_in};
 ghost use Rattle.bib_edit.specs.declared.fault.EditFault.TheVariants.{Memory};
 
 use crate::fault::EditFault;
 use crate::taken_keys::TakenKeys;
-use bib_names::key_base;
+use bib_names::{key_base, label_names};
 use bib_scan::{Seq, Text};
 use bib_store::{Database, ItemList};
 use std::alloc::{AllocError, Global};
 
-/// The base of the key that is made for entry `n`: that of its record.
-fn base_of<L: ItemList>(alloc: Global, db: &Database<L>, n: usize) -> Result<Text, EditFault>
-    requires { IsEntryNumber db.now n }
+/// The base of the key that is made for entry `n`: that of its record. No other fields of it are gathered than those of
+/// these names, which are all that a base is made of.
+fn base_of<L: ItemList>(
+    alloc: Global,
+    db: &Database<L>,
+    n: usize,
+    names: &[&[u8]],
+) -> Result<Text, EditFault>
+    requires number { IsEntryNumber db.now n }
+    requires names { map (λ name. name.now) names.now ≡ label_names }
     ensures base { IfOk result (λ base. OfReading db.now (λ r. (entry : EntryTexts) → slice_get (entries_of r) n ≡ Some entry → base ≡ made_base (record_of default_depth (entries_of r) n entry))) }
     ensures short { IfOk result (λ base. length base ≤ base_limit) }
     ensures only { IfErr result (λ fault. fault ≡ Memory) }
 {
-    let Ok(expanded) = db.expanded(n) else {
+    let Ok(record) = db.expanded_with(n, names) else {
         return Err(EditFault::Memory);
     };
-    match key_base(alloc, &expanded.rec) {
+    match key_base(alloc, &record) {
         Ok(base) => Ok(base),
         Err(_) => Err(EditFault::Memory),
     }
@@ -47,9 +55,11 @@ pub(crate) fn made_keys<L: ItemList>(
     db.opens();
     let mut taken = TakenKeys::none(alloc);
     taken.add_dangling(db)?;
+    let label_names = label_names(alloc)?;
+    let names = label_names.as_slice();
     let mut keys = Vec::new(alloc);
     'entries: for n in 0..db.entry_count() {
-        let base = base_of(alloc, db, n)?;
+        let base = base_of(alloc, db, n, names)?;
         let key = taken.free_key(base.as_slice())?;
         taken.add(key.as_slice())?;
         keys.push(key)?;

@@ -4,9 +4,10 @@ ghost use Rattle.std.specs.Prelude.{◌≡◌, ◌≤◌, ◌<◌, ◌+◌, ◌+
 ghost use Rattle.std.specs.Option.{option_copied, IfNone};
 ghost use Rattle.bib_spec.specs.Bytes.{name_limit};
 ghost use Rattle.bib_spec.specs.Records.{entries_of, entry_named, target};
-ghost use Rattle.bib_store.specs.Meaning.{OfReading, IsEntryNumber};
+ghost use Rattle.bib_scan.specs.Layout.{start_of};
+ghost use Rattle.bib_store.specs.Meaning.{OfReading, IsEntryNumber, IsItemPlace};
 ghost use Rattle.bib_edit.specs.Definitions.{braced};
-ghost use Rattle.bib_edit.specs.NewKeys.{key_of, key_piece, crossref_piece, new_target, IsEntrySeen, pieces_at, rekeying, RefersAt, ArePassed, AreQuiet, HavePieces};
+ghost use Rattle.bib_edit.specs.NewKeys.{key_of, key_piece, crossref_piece, new_target, IsEntrySeen, IsEntryPlace, pieces_at, rekeying, RefersAt, ArePassed, AreQuiet, HavePieces};
 ghost use Rattle.bib_edit.specs.declared.fault.EditFault.TheVariants.{Memory};
 
 use crate::address::field_named;
@@ -88,6 +89,26 @@ fn new_target<'a, L: ItemList>(db: &Database<L>, new: &'a NewKeys, n: usize) -> 
     }
 }
 
+/// Adds the pieces of entry `n`, whose item begins at this place.
+fn push_entry_at<L: ItemList>(
+    alloc: Global,
+    db: &Database<L>,
+    new: &NewKeys,
+    n: usize,
+    start: usize,
+    pieces: &mut Vec<Piece>,
+) -> Result<(), EditFault>
+    requires number { IsEntryNumber db.now n }
+    requires place { OfReading db.now (λ r. IsEntryPlace r n start) }
+    ensures pieces { OnOk result (OfReading db.now (λ r. pieces.new.items ≡ pieces.old.items ++ pieces_at new.now r n)) }
+    ensures only { IfErr result (λ fault. fault ≡ Memory) }
+{
+    db.opens();
+    let view = db.entry(n);
+    push_key(alloc, pieces, start, &view, new.of(n))?;
+    push_crossref(alloc, pieces, start, &view, new_target(db, new, n))
+}
+
 /// Adds the pieces of entry `n`.
 fn push_entry<L: ItemList>(
     alloc: Global,
@@ -101,10 +122,26 @@ fn push_entry<L: ItemList>(
     ensures only { IfErr result (λ fault. fault ≡ Memory) }
 {
     db.opens();
-    let view = db.entry(n);
     let start = db.item_place(db.entry_item(n));
-    push_key(alloc, pieces, start, &view, new.of(n))?;
-    push_crossref(alloc, pieces, start, &view, new_target(db, new, n))
+    push_entry_at(alloc, db, new, n, start, pieces)
+}
+
+/// The place of item `to`, given that of item `from`. It takes a look at each item between them.
+fn place_from<L: ItemList>(db: &Database<L>, from: usize, at: usize, to: usize) -> usize
+    requires to { IsItemPlace db.now to }
+    requires at { OfReading db.now (λ r. at ≡ start_of r from) }
+    ensures { OfReading db.now (λ r. result ≡ start_of r to) }
+{
+    db.opens();
+    if to < from {
+        return db.item_place(to);
+    }
+    let mut place = at;
+    'items: for k in from..to {
+        let view = db.item(k);
+        place += view.body().len() + view.trail().len();
+    }
+    place
 }
 
 /// The pieces that give the entries their new keys, all at once, and name them by these in crossrefs. It takes time in
@@ -117,9 +154,15 @@ pub(crate) fn rekeying<L: ItemList>(
     ensures pieces { IfOk result (λ pieces. OfReading db.now (λ r. pieces ≡ rekeying new.now r)) }
     ensures only { IfErr result (λ fault. fault ≡ Memory) }
 {
+    db.opens();
     let mut pieces = Vec::new(alloc);
+    let mut item = 0;
+    let mut place = db.item_place(item);
     'entries: for n in 0..db.entry_count() {
-        push_entry(alloc, db, new, n, &mut pieces)?;
+        let next = db.entry_item(n);
+        place = place_from(db, item, place, next);
+        item = next;
+        push_entry_at(alloc, db, new, n, place, &mut pieces)?;
     }
     Ok(Seq::from_vec(pieces))
 }

@@ -1,13 +1,13 @@
 //! The parts of a file that an edit seeks, each with its place.
 
-ghost use Rattle.std.specs.Prelude.{◌≡◌, ◌+◌, ◌<◌, ◌^◌, ◌++◌, drop, length, slice_get, Some, OnOk, IfOk, IfErr};
+ghost use Rattle.std.specs.Prelude.{◌≡◌, ◌+◌, ◌<◌, ◌^◌, ◌++◌, ◌∷◌, [], drop, length, slice_get, Some, OnOk, IfOk, IfErr};
 ghost use Rattle.std.specs.Option.{option_map};
 ghost use Rattle.bib_spec.specs.Bytes.{name_limit};
 ghost use Rattle.bib_spec.specs.Tree.{part_bytes};
 ghost use Rattle.bib_spec.specs.Reading.{Item, IsValueWithin};
 ghost use Rattle.edit_spec.specs.Edits.{any_part};
 ghost use Rattle.bib_scan.specs.PartView.{part_view};
-ghost use Rattle.bib_scan.specs.ValueParts.{IsPartsOf};
+ghost use Rattle.bib_scan.specs.ValueParts.{parts_of, IsPartsOf};
 ghost use Rattle.bib_scan.specs.Layout.{start_of};
 ghost use Rattle.bib_value.specs.Raw.{OfValue};
 ghost use Rattle.bib_store.specs.Meaning.{OfReading, IsItemNumber, IsItemPlace};
@@ -18,9 +18,9 @@ ghost use Rattle.bib_edit.specs.declared.fault.EditFault.TheVariants.{Memory};
 use crate::fault::EditFault;
 use crate::sought::Sought;
 use crate::values::value_parts;
-use bib_scan::{Fields, Part, Parts};
+use bib_scan::{Fields, Part, Parts, only_part};
 use bib_store::{Database, ItemList};
-use std::alloc::Global;
+use std::alloc::{AllocError, Global};
 
 /// Bytes that stand at a place in the file.
 #[derive(Clone, Copy, Debug)]
@@ -56,7 +56,29 @@ fn token_of<'a>(at: usize, parts: &Parts, value: &'a [u8], n: usize) -> Token<'a
     }
 }
 
-/// Adds the sought parts of a value, which stands at this place in the file, to the tokens.
+/// Adds the only part of a value, which stands at this place in the file, to the tokens, if it is sought.
+fn push_only<'a>(
+    tokens: &mut Vec<Token<'a>>,
+    at: usize,
+    value: &'a [u8],
+    part: Part<'_>,
+    sought: Sought<'_>,
+) -> Result<(), AllocError>
+    requires { OfValue value.now (λ v. parts_of v ≡ part_view part ∷ []) }
+    ensures { OnOk result (OfValue value.now (λ v. tokens_seen tokens.new.items ≡ tokens_seen tokens.old.items ++ tokens_of (test_of sought.entry) (value_placed at v))) }
+{
+    if !sought.is_met(part) {
+        return Ok(());
+    }
+    tokens.push(Token {
+        place: at,
+        bytes: value,
+    })?;
+    Ok(())
+}
+
+/// Adds the sought parts of a value, which stands at this place in the file, to the tokens. Most values have one part, and
+/// are not taken apart.
 fn push_in_value<'a>(
     alloc: Global,
     tokens: &mut Vec<Token<'a>>,
@@ -69,6 +91,10 @@ fn push_in_value<'a>(
     ensures tokens { OnOk result (OfValue value.now (λ v. tokens_seen tokens.new.items ≡ tokens_seen tokens.old.items ++ tokens_of (test_of sought.entry) (value_placed at v))) }
     ensures only { IfErr result (λ fault. fault ≡ Memory) }
 {
+    if let Some(part) = only_part(value) {
+        push_only(tokens, at, value, part, sought)?;
+        return Ok(());
+    }
     let parts = value_parts(alloc, value)?;
     'parts: for n in 0..parts.len() {
         if sought.is_met(parts.part(value, n)) {

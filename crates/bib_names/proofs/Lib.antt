@@ -17,4 +17,6 @@ pub mod PrintLemmas
 pub mod TemplateLaws
 -- ---- labels and made keys
 pub mod LabelLaws
+pub mod SurnameLaws
+pub mod LabelFields
 pub mod MadeKeyLaws

@@ -13,4 +13,5 @@ pub mod TemplateReading
 pub mod Printing
 pub mod Outputs
 pub mod Label
+pub mod Surname
 pub mod Counts

@@ -1,16 +1,16 @@
 //! The letters of a label and its base.
 
 ghost use Rattle.std.specs.Prelude.{◌≡◌, ◌≤◌, ◌<◌, ◌++◌, ◌∷◌, [], Some, None, IfOk, IfErr, length, map, filter, take};
-ghost use Rattle.std.specs.List.{flat_map};
 ghost use Rattle.std.specs.Char.{is_ascii_digit};
-ghost use Rattle.bib_names.specs.Label.{text_in, label_names, balances, listed_names, names_in, group, initials_template, last_template, print_of, initials_of, first_three, letters_of_one, ends_with_others, letters_of_many, letters_of_fields, or_anon, last_two, label_base};
+ghost use Rattle.bib_names.specs.Label.{text_in, label_names, balances, listed_names, names_in, group, initials_template, print_of, initials_of, first_three, letters_of_one, ends_with_others, letters_of_many, letters_of_fields, or_anon, last_two, label_base};
+ghost use Rattle.bib_names.specs.Surname.{initials_printed, last_printed};
 
 use crate::fault::NameFault;
-use crate::name::parts_of;
 use crate::name_list::names_of;
-use crate::printing::printed;
+use crate::printing::printed_group;
 use crate::special::{Chars, char_count};
-use crate::template::{Form, Group, Part, Template};
+use crate::surname::{Surname, initials, surname_in};
+use crate::template::{Form, Group, Part};
 use crate::text::is_balanced;
 use bib_data::Record;
 use bib_scan::{Seq, Text};
@@ -42,7 +42,7 @@ pub fn label_names(alloc: Global) -> Result<Seq<&'static [u8]>, AllocError>
 }
 
 /// Whether the braces of the text balance, as a test that a definition computes.
-fn balances(text: &[u8]) -> bool
+pub(crate) fn balances(text: &[u8]) -> bool
     ensures { result ≡ balances text.now }
 {
     is_balanced(text)
@@ -85,39 +85,30 @@ fn group(alloc: Global, part: Part, form: Form, between: Option<Text>) -> Group
     }
 }
 
-/// `{v{}}{l{}}`.
-fn initials_template(alloc: Global) -> Result<Template, AllocError>
-    ensures { IfOk result (λ t. t ≡ initials_template) }
+/// The print of a surname by `{v{}}{l{}}`.
+fn initials_printed(alloc: Global, surname: &Surname<'_>) -> Result<Vec<u8>, AllocError>
+    ensures { IfOk result (λ t. t.items ≡ initials_printed surname.now) }
 {
-    let nothing = Some(Seq::from_vec(Vec::new(alloc)));
-    let von = group(alloc, Part::Von, Form::Initials, nothing);
-    let nothing = Some(Seq::from_vec(Vec::new(alloc)));
-    let last = group(alloc, Part::Last, Form::Initials, nothing);
-    let mut groups = Vec::new(alloc);
-    groups.push(von)?;
-    groups.push(last)?;
-    Ok(Template::of(alloc, Seq::from_vec(Vec::new(alloc)), groups))
+    let mut out = initials(alloc, surname.von())?;
+    out.extend_from_slice(initials(alloc, surname.last())?.as_slice())?;
+    Ok(out)
 }
 
-/// `{ll}`.
-fn last_template(alloc: Global) -> Result<Template, AllocError>
-    ensures { IfOk result (λ t. t ≡ last_template) }
+/// The print of a surname by `{ll}`.
+fn last_printed(alloc: Global, surname: &Surname<'_>) -> Result<Vec<u8>, AllocError>
+    ensures { IfOk result (λ t. t.items ≡ last_printed surname.now) }
 {
-    let mut groups = Vec::new(alloc);
-    groups.push(group(alloc, Part::Last, Form::Words, None))?;
-    Ok(Template::of(alloc, Seq::from_vec(Vec::new(alloc)), groups))
+    let last = group(alloc, Part::Last, Form::Words, None);
+    printed_group(alloc, &last, surname.last())
 }
 
-/// The print of a name, empty where the name is refused.
-fn print_of(alloc: Global, template: &Template, name: &[u8]) -> Result<Text, AllocError>
-    ensures { IfOk result (λ text. text ≡ print_of template.now name.now) }
+/// The print of a name by `{v{}}{l{}}`, empty where the name is refused.
+fn print_of_initials(alloc: Global, name: &[u8]) -> Result<Vec<u8>, AllocError>
+    ensures { IfOk result (λ t. t.items ≡ print_of initials_template name.now) }
 {
-    if !balances(name) {
-        return Ok(Seq::from_vec(Vec::new(alloc)));
-    }
-    match parts_of(alloc, name)? {
-        Some(parts) => printed(alloc, template, &parts),
-        None => Ok(Seq::from_vec(Vec::new(alloc))),
+    match surname_in(alloc, name)? {
+        Some(surname) => initials_printed(alloc, &surname),
+        None => Ok(Vec::new(alloc)),
     }
 }
 
@@ -141,31 +132,26 @@ fn first_three(alloc: Global, text: &[u8]) -> Result<Text, AllocError>
 fn letters_of_one(alloc: Global, name: &[u8]) -> Result<Text, AllocError>
     ensures { IfOk result (λ t. t ≡ letters_of_one name.now) }
 {
-    let initials = print_of(alloc, &initials_template(alloc)?, name)?;
+    let Some(surname) = surname_in(alloc, name)? else {
+        return Ok(Seq::from_vec(Vec::new(alloc)));
+    };
+    let initials = initials_printed(alloc, &surname)?;
     if char_count(initials.as_slice(), 2) < 2 {
-        let last = print_of(alloc, &last_template(alloc)?, name)?;
-        first_three(alloc, last.as_slice())
+        first_three(alloc, last_printed(alloc, &surname)?.as_slice())
     } else {
-        Ok(initials)
+        Ok(Seq::from_vec(initials))
     }
-}
-
-/// The prints of names, joined.
-fn prints_of(alloc: Global, template: &Template, names: &[&[u8]]) -> Result<Vec<u8>, AllocError>
-    ensures { IfOk result (λ t. t.items ≡ flat_map (print_of template.now) (map (λ n. n.now) names.now)) }
-{
-    let mut out = Vec::new(alloc);
-    for name in names {
-        out.extend_from_slice(print_of(alloc, template, name)?.as_slice())?;
-    }
-    Ok(out)
 }
 
 /// The prints of names by `{v{}}{l{}}`, joined.
 fn initials_of(alloc: Global, names: &[&[u8]]) -> Result<Vec<u8>, AllocError>
     ensures { IfOk result (λ t. t.items ≡ initials_of (map (λ n. n.now) names.now)) }
 {
-    prints_of(alloc, &initials_template(alloc)?, names)
+    let mut out = Vec::new(alloc);
+    for name in names {
+        out.extend_from_slice(print_of_initials(alloc, name)?.as_slice())?;
+    }
+    Ok(out)
 }
 
 /// Whether the last name is `others`.

@@ -37,8 +37,9 @@ fn label_of(alloc: Global, base: &[u8], count: usize, earlier: usize) -> Result<
     Ok(Seq::from_vec(label))
 }
 
-/// The labels of records with these bases.
-fn labels_of(alloc: Global, bases: &[Text]) -> Result<Seq<Text>, AllocError>
+/// The labels of records with these bases, as `labels` gives them: whoever has many records needs to keep no more of each
+/// than its base. It takes time in the lengths of the bases.
+pub fn labels_of(alloc: Global, bases: &[Text]) -> Result<Seq<Text>, AllocError>
     ensures { IfOk result (λ labels. labels ≡ labels_of bases.now) }
 {
     let all = Tally::of(alloc, bases)?;
@@ -46,8 +47,8 @@ fn labels_of(alloc: Global, bases: &[Text]) -> Result<Seq<Text>, AllocError>
     let mut labels = Vec::new(alloc);
     for base in bases {
         let base = base.as_slice();
-        labels.push(label_of(alloc, base, all.count(base), earlier.count(base))?)?;
-        earlier.add(base)?;
+        let count = all.count(base);
+        labels.push(label_of(alloc, base, count, earlier.add(base)?)?)?;
     }
     Ok(Seq::from_vec(labels))
 }
@@ -64,7 +65,7 @@ fn bases_of(alloc: Global, records: &[Record]) -> Result<Vec<Text>, AllocError>
 }
 
 /// The labels of records, in their order: where a base stands more than once, byte for byte, a, b, .. z, aa, ab, .. are
-/// added in list order. Each label takes time logarithmic in their number. The one refusal is want of memory.
+/// added in list order. It takes time in the lengths of the records and their number. The one refusal is want of memory.
 pub fn labels(alloc: Global, records: &[Record]) -> Result<Seq<Text>, NameFault>
     ensures labels { IfOk result (λ labels. labels ≡ labels_of (map (λ r. label_base r.fields) records.now)) }
     ensures memory { IfErr result (λ fault. fault ≡ NameFault.Memory) }

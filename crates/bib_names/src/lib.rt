@@ -16,6 +16,7 @@ mod name;
 mod name_list;
 mod printing;
 mod special;
+mod surname;
 mod tally;
 mod template;
 mod text;
@@ -23,7 +24,7 @@ mod word;
 
 pub use fault::NameFault;
 pub use label::{label_base, label_names, text_in};
-pub use labelling::labels;
+pub use labelling::{labels, labels_of};
 pub use made_key::{BASE_LIMIT, candidate, key_base, key_bases_are_keys};
 pub use name::{Name, split_name};
 pub use name_list::split_names;

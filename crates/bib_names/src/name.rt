@@ -32,7 +32,7 @@ fn is_comma(text: &[u8], place: usize, braces: Braces) -> bool
 }
 
 /// The first comma at depth 0 from a place of depth 0 on.
-fn comma_from(text: &[u8], start: usize) -> Option<usize>
+pub(crate) fn comma_from(text: &[u8], start: usize) -> Option<usize>
     requires within { start ≤ length text.now }
     requires level { is_level text.now start ≡ true }
     ensures found { IfSome result (IsFirstComma text.now start) }
@@ -49,7 +49,7 @@ fn comma_from(text: &[u8], start: usize) -> Option<usize>
 }
 
 /// How many words there are up to the last von word, the final word aside.
-fn von_end(words: &[Word<'_>]) -> usize
+pub(crate) fn von_end(words: &[Word<'_>]) -> usize
     ensures end { result ≡ von_end words.now }
     ensures within { result ≤ length words.now }
 {
@@ -61,7 +61,7 @@ fn von_end(words: &[Word<'_>]) -> usize
 }
 
 /// How many words stand before the first von word.
-fn von_start(words: &[Word<'_>]) -> usize
+pub(crate) fn von_start(words: &[Word<'_>]) -> usize
     ensures start { result ≡ von_start words.now }
     ensures within { result ≤ length words.now }
 {
@@ -69,7 +69,7 @@ fn von_start(words: &[Word<'_>]) -> usize
 }
 
 /// How many words stand before the last that no hyphen joins to the one before it.
-fn hyphened_start(words: &[Word<'_>]) -> usize
+pub(crate) fn hyphened_start(words: &[Word<'_>]) -> usize
     ensures start { result ≡ hyphened_start words.now }
     ensures within { result ≤ length words.now }
 {

@@ -87,7 +87,7 @@ fn push_between(
 }
 
 /// The output of a group, with its last tie dropped or made a space.
-fn finished(mut out: Vec<u8>) -> Result<Vec<u8>, AllocError>
+pub(crate) fn finished(mut out: Vec<u8>) -> Result<Vec<u8>, AllocError>
     ensures { IfOk result (λ r. r.items ≡ finished out.items) }
 {
     let len = out.len();
@@ -124,7 +124,7 @@ fn printed_words(alloc: Global, group: &Group, words: &[Word<'_>]) -> Result<Vec
 }
 
 /// What a group prints of these words.
-fn printed_group(alloc: Global, group: &Group, words: &[Word<'_>]) -> Result<Vec<u8>, AllocError>
+pub(crate) fn printed_group(alloc: Global, group: &Group, words: &[Word<'_>]) -> Result<Vec<u8>, AllocError>
     ensures { IfOk result (λ r. r.items ≡ printed_group group.now words.now) }
 {
     if words.is_empty() {

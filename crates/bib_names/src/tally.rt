@@ -7,12 +7,12 @@ ghost use Rattle.bib_names.specs.Counts.{times};
 
 use bib_scan::Text;
 use std::alloc::{AllocError, Global};
-use std::collections::BTreeMap;
+use std::collections::HashMap;
 
 /// How often each text was counted.
 #[derive(Drop)]
 pub(crate) struct Tally<'a> {
-    counts: BTreeMap<&'a [u8], usize>,
+    counts: HashMap<&'a [u8], usize>,
 }
 
 impl<'a> Tally<'a> {
@@ -21,7 +21,7 @@ impl<'a> Tally<'a> {
         ensures { (text : List ℕ) → times result.counts text ≡ 0 }
     {
         Tally {
-            counts: BTreeMap::new(alloc),
+            counts: HashMap::new(alloc),
         }
     }
 
@@ -35,14 +35,15 @@ impl<'a> Tally<'a> {
         }
     }
 
-    /// Counts the text once more.
-    pub fn add(&mut self, text: &'a [u8]) -> Result<(), AllocError>
+    /// How often the text was counted; then it is counted once more.
+    pub fn add(&mut self, text: &'a [u8]) -> Result<usize, AllocError>
         requires { times self.old.counts text.now + 1 < 2 ^ 64 }
-        ensures { OnOk result ((other : List ℕ) → times self.new.counts other ≡ times self.old.counts other + (if bytes_eq other text.now then 1 else 0)) }
+        ensures before { IfOk result (λ count. count ≡ times self.old.counts text.now) }
+        ensures added { OnOk result ((other : List ℕ) → times self.new.counts other ≡ times self.old.counts other + (if bytes_eq other text.now then 1 else 0)) }
     {
-        let count = self.count(text);
-        self.counts.insert(text, count + 1)?;
-        Ok(())
+        let before = self.count(text);
+        self.counts.insert(text, before + 1)?;
+        Ok(before)
     }
 
     /// How often each text stands among these.

@@ -1,12 +1,7 @@
-use Rattle.std.proofs.Common.{◌≡◌, List, ◌++◌, Option, ◌∙◌, ap, ap₂, append_assoc, arith}
-use Rattle.std.specs.Option.{option_copied}
-use Rattle.bib_spec.specs.Text.{Text}
-use Rattle.bib_spec.specs.Pieces.{Piece}
-use Rattle.bib_store.specs.Meaning.{OfReading}
+use Rattle.std.proofs.Common.{◌∙◌, sym, ap, arith}
+use Rattle.std.proofs.lemmas.Option.{same_Some}
+use Rattle.bib_scan.specs.Layout.{start_of}
 use Rattle.bib_store.proofs.EntryItems.{entry_within}
-use Rattle.bib_edit.specs.NewKeys.{key_of, key_piece, crossref_piece, new_target, pieces_at}
-use Rattle.bib_edit.proofs.EntryPieces.{pieces-seen, entry-seen}
-use Rattle.bib_edit.proofs.Results.{on_ok-as}
 use Rattle.bib_edit.proofs.rekeying.push_entry.Goals as goal
 
 pub item_place-start-requires : goal.item_place-start-requires
@@ -14,32 +9,6 @@ item_place-start-requires g c db reads =
     let within = entry_within db c.args.n c.entry_item.result (c.requires db reads) (c.entry_item.ensures db reads) in
     omega (arith, within)
 
-pub push_key-requires : goal.push_key-requires
-push_key-requires g c =
-    let db = c.opens.ensures.0 in
-    let reads = c.opens.ensures.1.reads in
-    entry-seen c.args.new.now db c.args.db.now c.args.n c.entry_item.result c.item_place-start.result c.entry-view.result reads c.opens.ensures.1.short
-    (c.requires db reads) (c.entry_item.ensures db reads) (c.item_place-start.ensures db reads) (c.entry-view.ensures db reads)
-
-pub push_crossref-requires : goal.push_crossref-requires
-push_crossref-requires g c =
-    let db = c.opens.ensures.0 in
-    let reads = c.opens.ensures.1.reads in
-    entry-seen c.args.new.now db c.args.db.now c.args.n c.entry_item.result c.item_place-start.result c.entry-view.result reads c.opens.ensures.1.short
-    (c.requires db reads) (c.entry_item.ensures db reads) (c.item_place-start.ensures db reads) (c.entry-view.ensures db reads)
-
-pub returns-clause-pieces : goal.returns-clause-pieces
-returns-clause-pieces g c =
-    let start = c.item_place-start.result in
-    let view = c.entry-view.result in
-    on_ok-as (c.push_crossref.new.pieces.items ≡ c.push_key.new.pieces.items ++ crossref_piece start view (option_copied c.new_target.result))
-    (OfReading c.args.db.now (λ r. c.push_crossref.new.pieces.items ≡ c.args.pieces.now.items ++ pieces_at c.args.new.now r c.args.n))
-    (λ is db reads.
-    is
-    ∙ ap₂ (λ (done : List Piece) (o : Option Text). done ++ crossref_piece start view o)
-    (c.in_ok-push_key.ensures.pieces ∙ ap (λ o. c.args.pieces.now.items ++ key_piece start view o) c.of.ensures)
-    (c.new_target.ensures db reads)
-    ∙ append_assoc c.args.pieces.now.items (key_piece start view (key_of c.args.new.now c.args.n)) (crossref_piece start view (new_target c.args.new.now db c.args.n))
-    ∙ ap (λ ps. c.args.pieces.now.items ++ ps)
-    (pieces-seen c.args.new.now db c.args.n c.entry_item.result start view (c.requires db reads) (c.entry_item.ensures db reads) (c.item_place-start.ensures db reads) (c.entry-view.ensures db reads)))
-    c.push_crossref.result c.push_crossref.ensures.pieces
+pub push_entry_at-requires-clause-place : goal.push_entry_at-requires-clause-place
+push_entry_at-requires-clause-place g c db reads i at =
+    c.item_place-start.ensures db reads ∙ ap (start_of db) (same_Some c.entry_item.result i (sym (c.entry_item.ensures db reads) ∙ at))

@@ -12,6 +12,6 @@ loop-base-preserved c =
     let is : base ≡ get_or bases n base = subst (λ (b : Text). b ≡ get_or bases n b) (sym c.as_slice-base.ensures) c.base-item.is in
     record {
       earlier = λ text.
-          c.in_ok-add.ensures text ∙ ap (λ k. k + cond (bytes_eq text base) 1 0) (c.loop-base.invariant.earlier text) ∙ sym (count_of_more text bases n base c.loop-base-test.true is);
-      told = c.in_ok-push.ensures.items ∙ labels_more bases c.loop-base.labels.items n base _ _ _ c.loop-base-test.true is (c.count.ensures ∙ c.in_ok-all.ensures base) (c.count-in-loop-base.ensures ∙ c.loop-base.invariant.earlier base) c.in_ok-label_of.ensures c.loop-base.invariant.told;
+          c.in_ok-add.ensures.added text ∙ ap (λ k. k + cond (bytes_eq text base) 1 0) (c.loop-base.invariant.earlier text) ∙ sym (count_of_more text bases n base c.loop-base-test.true is);
+      told = c.in_ok-push.ensures.items ∙ labels_more bases c.loop-base.labels.items n base _ _ _ c.loop-base-test.true is (c.count-count.ensures ∙ c.in_ok-all.ensures base) (c.in_ok-add.ensures.before ∙ c.loop-base.invariant.earlier base) c.in_ok-label_of.ensures c.loop-base.invariant.told;
     }

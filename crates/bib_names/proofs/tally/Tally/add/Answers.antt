@@ -1,10 +1,8 @@
 use Rattle.std.proofs.Common.{◌≡◌, ℕ, ◌+◌, Bool, true, false, cond, refl, sym, ap, ◌∙◌, arith, Option, Some, unwrap_or}
 use Rattle.std.specs.Str.{bytes_eq}
 use Rattle.std.proofs.lemmas.Slice.Eq.{bytes_eq-Decides}
-use Rattle.std.proofs.lemmas.Map.Text.{btree_map_updates_str}
-use Rattle.std.specs.Cmp.Lexicographic.{slice_cmp}
-use Rattle.std.specs.Ordering.{nat_cmp}
-use Rattle.std.specs.BTreeMap.{get_by}
+use Rattle.std.proofs.lemmas.Map.Text.{hash_map_updates_str}
+use Rattle.std.specs.HashMap.{get_by}
 use Rattle.bib_spec.specs.Text.{Text}
 use Rattle.bib_names.proofs.tally.Tally.add.Goals as goal
 
@@ -25,11 +23,11 @@ one_more found text other = go (bytes_eq text other) refl ∙ ap (λ b. unwrap_o
     go true e = ap (λ t. unwrap_or (found t) 0 + 1) ((bytes_eq-Decides text other).0 e)
     go false e = omega arith
 
-pub returns : goal.returns
-returns c = λ other.
+pub returns-clause-added : goal.returns-clause-added
+returns-clause-added c = λ other.
     let counts = c.args.self.now.counts in
     let text = c.args.text.now in
-    let found = λ (t : Text). get_by (λ k. slice_cmp nat_cmp t k.now) counts in
-    ap (λ o. unwrap_or o 0) (btree_map_updates_str text counts c.insert.new.self _ c.in_ok-insert.ensures.updates other)
-    ∙ ap (λ n. unwrap_or (cond (bytes_eq text other) (Some (n + 1)) (found other)) 0) c.count-count.ensures
+    let found = λ (t : Text). get_by (λ k. bytes_eq t k.now) counts in
+    ap (λ o. unwrap_or o 0) (hash_map_updates_str text counts c.insert.new.self _ c.in_ok-insert.ensures.updates other)
+    ∙ ap (λ n. unwrap_or (cond (bytes_eq text other) (Some (n + 1)) (found other)) 0) c.count-before.ensures
     ∙ one_more found text other

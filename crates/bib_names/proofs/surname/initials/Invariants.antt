@@ -1,0 +1,8 @@
+use Rattle.std.proofs.Common.{◌≡◌, ◌++◌, drop}
+use Rattle.std.specs.List.{flat_map}
+use Rattle.bib_names.specs.Printing.{initial}
+use Rattle.bib_names.proofs.surname.initials.Given as goal
+
+-- the initials so far with those of the words that are left
+abbrev pub invariant-loop-word : goal.invariant-loop-word
+invariant-loop-word l = l.out.items ++ flat_map (λ w. initial w.text) (drop l.word-index l.words) ≡ flat_map (λ w. initial w.text) l.words
