@@ -53,18 +53,17 @@ impl Drafts {
     }
 
     /// Adds a record.
-    fn add(&mut self, alloc: Global, entry: &Record) -> Result<(), ImportFault>
-        ensures added { OnOk result ((records : List EntryRecord) → AreDraftsOf records self.old → AreDraftsOf (records ++ entry.now ∷ []) self.new) }
-        ensures refused { IfErr result (λ fault. (fault ≡ Memory) ⊎ ((fault ≡ UnbalancedText) × (are_balanced entry.now ≡ false))) }
+    fn add(&mut self, alloc: Global, entry: Record) -> Result<(), ImportFault>
+        ensures added { OnOk result ((records : List EntryRecord) → AreDraftsOf records self.old → AreDraftsOf (records ++ entry ∷ []) self.new) }
+        ensures refused { IfErr result (λ fault. (fault ≡ Memory) ⊎ ((fault ≡ UnbalancedText) × (are_balanced entry ≡ false))) }
     {
-        let draft = to_entry(alloc, entry)?;
         let key = entry.key.as_slice();
         if is_key(key) {
             self.ids.push(Seq::from_vec(Vec::from_slice(alloc, key)?))?;
         } else {
-            self.bases.push(base_of(alloc, entry)?)?;
+            self.bases.push(base_of(alloc, &entry)?)?;
         }
-        self.entries.push(draft)?;
+        self.entries.push(to_entry(alloc, entry)?)?;
         Ok(())
     }
 
@@ -78,7 +77,7 @@ impl Drafts {
         left.reverse();
         'records: while let Some(record) = left.pop() {
             let entry = from_ris(alloc, &record)?;
-            drafts.add(alloc, &entry)?;
+            drafts.add(alloc, entry)?;
         }
         Ok(drafts)
     }

@@ -1,7 +1,9 @@
 //! Entries that a RIS text adds to a file.
 
-ghost use Rattle.std.specs.Prelude.{◌≡◌, ◌⊎◌, true, false, IfOk, IfErr, OnOk};
-ghost use Rattle.std.specs.List.{list_all};
+ghost use Rattle.std.specs.Prelude.{◌≡◌, ◌≤◌, ◌⊎◌, length, true, false, IfOk, IfErr, OnOk};
+ghost use Rattle.std.specs.List.{list_all, AllByRecursion};
+ghost use Rattle.bib_spec.specs.MadeKeys.{base_limit, made_keys};
+ghost use Rattle.bib_edit.specs.TakenKeys.{taken_in};
 ghost use Rattle.bib_store.specs.Meaning.{OfReading};
 ghost use Rattle.ris_format.specs.Entry.{are_balanced};
 ghost use Rattle.bib_ris.specs.Import.{records_of, imported, AreAdditions, RefusesImport};
@@ -11,7 +13,7 @@ use crate::drafts::{Drafts, with_keys};
 use crate::fault::ImportFault;
 use bib_data::NewEntry;
 use bib_edit::free_keys;
-use bib_scan::Seq;
+use bib_scan::{Seq, Text};
 use bib_store::{Database, ItemList};
 use ris_text::{RisRecord, read_ris};
 use std::alloc::Global;
@@ -21,6 +23,27 @@ use std::alloc::Global;
 pub struct Additions {
     pub entries: Seq<NewEntry>,
     pub skipped: u64,
+}
+
+/// The keys that are made for drafts: a free one of each base in turn, which is no ID of another. The file's keys are not
+/// looked at where no key is to be made.
+fn keys_of<L: ItemList>(
+    alloc: Global,
+    db: &Database<L>,
+    bases: &[Text],
+    ids: &[Text],
+) -> Result<Seq<Text>, ImportFault>
+    requires { AllByRecursion (λ base. length base ≤ base_limit) bases.now }
+    ensures keys { IfOk result (λ keys. OfReading db.now (λ r. keys ≡ made_keys (taken_in r ids.now) bases.now)) }
+    ensures memory { IfErr result (λ fault. fault ≡ Memory) }
+{
+    if bases.is_empty() {
+        return Ok(Seq::from_vec(Vec::new(alloc)));
+    }
+    match free_keys(alloc, db, bases, ids) {
+        Ok(keys) => Ok(keys),
+        Err(_) => Err(ImportFault::Memory),
+    }
 }
 
 /// The entries of these records.
@@ -34,10 +57,8 @@ fn imported<L: ItemList>(
     ensures refused { IfErr result (λ fault. (fault ≡ Memory) ⊎ ((fault ≡ UnbalancedText) × (list_all are_balanced (records_of records) ≡ false))) }
 {
     let drafts = Drafts::of(alloc, records)?;
-    match free_keys(alloc, db, drafts.bases.as_slice(), drafts.ids.as_slice()) {
-        Ok(keys) => Ok(with_keys(drafts.entries, keys)),
-        Err(_) => Err(ImportFault::Memory),
-    }
+    let keys = keys_of(alloc, db, drafts.bases.as_slice(), drafts.ids.as_slice())?;
+    Ok(with_keys(drafts.entries, keys))
 }
 
 /// What a RIS text adds to an open file. A record whose ID can be a key keeps it; each other gets a free key of its made

@@ -108,7 +108,7 @@ in_text_gap text apart b rest whole h joins is = record {
 pub in_text_all : (text : Text) (apart : Bool) (whole : Text) → InText text apart [] whole → text ≡ field_text whole
 in_text_all text apart whole is = sym (append-nil text) ∙ is.joined
 
-rest_is : (bytes : Text) (i : ℕ) → i < length bytes → drop i bytes ≡ get_or bytes i 0 ∷ drop (i + 1) bytes
+pub rest_is : (bytes : Text) (i : ℕ) → i < length bytes → drop i bytes ≡ get_or bytes i 0 ∷ drop (i + 1) bytes
 rest_is bytes i inside = rw (add-one, drop-cons bytes i 0) refl
 
 pub in_text_is : (t u : Text) (a b : Bool) (rest whole : Text) → t ≡ u → a ≡ b → InText u b rest whole → InText t a rest whole

@@ -1,5 +1,5 @@
 -- Texts that are their own field texts.
-use Rattle.std.specs.Prelude.{Bool, not, ◌&&◌, ◌==◌, true, false, [], ◌∷◌, if◌then◌else◌}
+use Rattle.std.specs.Prelude.{ℕ, Bool, not, ◌&&◌, ◌||◌, ◌==◌, true, false, [], ◌∷◌, if◌then◌else◌}
 use Rattle.bib_spec.specs.Bytes.{space}
 use Rattle.bib_spec.specs.Text.{Text, is_space}
 
@@ -7,3 +7,7 @@ use Rattle.bib_spec.specs.Text.{Text, is_space}
 abbrev pub neat : Bool → Text → Bool
 neat apart [] = not apart
 neat apart (b ∷ t) = if is_space b then b == space && (not apart && neat true t) else neat false t
+
+-- a neat text can go on with this byte, where a word has to begin here if the text stands apart
+abbrev pub can_go_on : Bool → ℕ → Bool
+can_go_on apart b = not (is_space b) || (b == space && not apart)

@@ -3,7 +3,7 @@
 ghost use Rattle.std.specs.Prelude.{◌≡◌, true, IfOk, IfErr};
 ghost use Rattle.bib_spec.specs.Text.{is_space};
 ghost use Rattle.bib_spec.specs.Texts.{field_text};
-ghost use Rattle.bib_value.specs.Spacing.{neat};
+ghost use Rattle.bib_value.specs.Spacing.{can_go_on, neat};
 ghost use Rattle.bib_value.specs.declared.fault.ValueFault.TheVariants.{Memory};
 
 use crate::fault::ValueFault;
@@ -18,23 +18,28 @@ fn is_space(byte: u8) -> bool
     matches!(byte, b' ' | b'\t' | b'\n' | b'\r')
 }
 
+/// Whether a neat text can go on with this byte, where a word has to begin if it stands apart. It takes no branch.
+#[tactic(auto, unfolding(bib_spec::specs::Text::is_space))]
+fn can_go_on(apart: bool, byte: u8) -> bool
+    ensures { result ≡ can_go_on apart byte }
+{
+    let is_other = (byte == b'\t') | (byte == b'\n') | (byte == b'\r');
+    !is_other & !(apart & (byte == b' '))
+}
+
 /// Whether the text is words with one space between each two, and none at its ends: such a text is a field text as it
-/// stands. It takes no memory.
+/// stands. It takes no memory. Each byte is looked at beside the one before it, so that many are tested at a time.
 pub fn is_neat(text: &[u8]) -> bool
     ensures { result ≡ neat true text.now }
 {
-    let mut apart = true;
-    'bytes: for byte in text {
-        if is_space(*byte) {
-            if apart || *byte != b' ' {
-                return false;
-            }
-            apart = true;
-        } else {
-            apart = false;
-        }
+    if text.is_empty() {
+        return false;
     }
-    !apart
+    let mut is_so_far = can_go_on(true, text[0]);
+    'bytes: for n in 1..text.len() {
+        is_so_far = is_so_far & can_go_on(text[n - 1] == b' ', text[n]);
+    }
+    is_so_far & (text[text.len() - 1] != b' ')
 }
 
 /// The text with each run of white space as one space, and none at the ends. It takes memory for the text, and time in

@@ -1,11 +1,11 @@
 //! A record as an entry that an edit adds.
 
-ghost use Rattle.std.specs.Prelude.{◌≡◌, ◌++◌, IfOk, IfErr, OnOk, Err, true, false};
+ghost use Rattle.std.specs.Prelude.{◌≡◌, IfOk, IfErr, OnOk, Err, map, true, false};
 ghost use Rattle.ris_format.specs.Entry.{value_field, entry_of, are_balanced};
 ghost use Rattle.ris_format.specs.declared.fault.MappingFault.TheVariants.{Memory, UnbalancedText};
 
 use crate::fault::MappingFault;
-use crate::text::{balances, copy, in_braces};
+use crate::text::{balances, in_braces};
 use bib_data::{NewEntry, Record};
 use bib_scan::{Seq, Text};
 use std::alloc::{AllocError, Global};
@@ -22,33 +22,42 @@ fn are_balanced(entry: &Record) -> bool
     true
 }
 
-/// The field with its text as a braced value.
-fn value_field(alloc: Global, field: &(Text, Text)) -> Result<(Text, Text), AllocError>
-    ensures { IfOk result (λ f. f ≡ value_field field.now) }
+/// Puts the field's text in braces.
+fn brace(alloc: Global, field: &mut (Text, Text)) -> Result<(), AllocError>
+    ensures { OnOk result (field.new ≡ value_field field.old) }
 {
-    let name = copy(alloc, field.0.as_slice())?;
-    Ok((name, in_braces(alloc, field.1.as_slice())?))
+    field.1 = in_braces(alloc, field.1.as_slice())?;
+    Ok(())
 }
 
-/// The entry that an edit may add for a record: each text stands in braces. It takes time in the record's size.
+/// Puts each field's text in braces.
+fn brace_all(alloc: Global, fields: &mut Vec<(Text, Text)>) -> Result<(), AllocError>
+    ensures { OnOk result (fields.new.items ≡ map value_field fields.old.items) }
+{
+    'fields: for n in 0..fields.len() {
+        brace(alloc, &mut fields[n])?;
+    }
+    Ok(())
+}
+
+/// The entry that an edit may add for a record: each text stands in braces, and all else is handed on. It takes time in
+/// the record's size, and memory for its longest text.
 ///
 /// A record with a text whose braces do not balance is refused as 64; else the one refusal is want of memory.
-pub fn to_entry(alloc: Global, entry: &Record) -> Result<NewEntry, MappingFault>
-    ensures entry { IfOk result (λ e. e ≡ entry_of entry.now) }
-    ensures balanced { OnOk result (are_balanced entry.now ≡ true) }
-    ensures unbalanced { are_balanced entry.now ≡ false → result ≡ Err UnbalancedText }
-    ensures memory { are_balanced entry.now ≡ true → IfErr result (λ fault. fault ≡ Memory) }
+pub fn to_entry(alloc: Global, entry: Record) -> Result<NewEntry, MappingFault>
+    ensures entry { IfOk result (λ e. e ≡ entry_of entry) }
+    ensures balanced { OnOk result (are_balanced entry ≡ true) }
+    ensures unbalanced { are_balanced entry ≡ false → result ≡ Err UnbalancedText }
+    ensures memory { are_balanced entry ≡ true → IfErr result (λ fault. fault ≡ Memory) }
 {
-    if !are_balanced(entry) {
+    if !are_balanced(&entry) {
         return Err(MappingFault::UnbalancedText);
     }
-    let mut fields = Vec::with_capacity(alloc, entry.fields.as_slice().len())?;
-    for field in entry.fields.as_slice() {
-        fields.push(value_field(alloc, field)?)?;
-    }
+    let mut fields = entry.fields.into_vec();
+    brace_all(alloc, &mut fields)?;
     Ok(NewEntry {
-        kind_name: copy(alloc, entry.kind_name.as_slice())?,
-        key: copy(alloc, entry.key.as_slice())?,
+        kind_name: entry.kind_name,
+        key: entry.key,
         fields: Seq::from_vec(fields),
     })
 }

@@ -103,7 +103,7 @@ fn an_article_is_written_and_read_back(rt: HostRuntime) -> Result<(), Fail> {
 #[test]
 fn texts_of_a_new_entry_stand_in_braces(rt: HostRuntime) -> Result<(), Fail> {
     let alloc = rt.alloc();
-    let made = to_entry(alloc, &entry(alloc, b"article", &KING)?)?;
+    let made = to_entry(alloc, entry(alloc, b"article", &KING)?)?;
     let fields: [(&[u8], &[u8]); 6] = [
         (
             b"author",
@@ -123,7 +123,7 @@ fn texts_of_a_new_entry_stand_in_braces(rt: HostRuntime) -> Result<(), Fail> {
 fn a_text_that_is_not_balanced_is_refused(rt: HostRuntime) -> Result<(), Fail> {
     let alloc = rt.alloc();
     let record = entry(alloc, b"misc", &[(b"title", b"a}b")])?;
-    match to_entry(alloc, &record) {
+    match to_entry(alloc, record) {
         Err(fault) => assert!(rt; fault.number() == 64),
         Ok(_) => assert!(rt; false),
     }

@@ -7,13 +7,13 @@ use Rattle.bib_ris.specs.Drafts.{bases_of, with_keys}
 use Rattle.bib_ris.proofs.KeyedRecords.{keyed-with}
 use Rattle.bib_ris.proofs.importing.imported.Goals as goal
 
-pub returns-in-Ok-clause-entries : goal.returns-in-Ok-clause-entries
-returns-in-Ok-clause-entries g c db reads =
+pub returns-clause-entries : goal.returns-clause-entries
+returns-clause-entries g c db reads =
     let records = records_of c.args.records in
     let drafts = c.in_ok-drafts.ensures.drafts in
     c.with_keys.ensures
     ∙ ap (λ (keys : List Text). with_keys keys c.in_ok-drafts.drafts.entries.items)
-    (c.in-Ok.ensures.keys db reads
+    (c.in_ok-keys.ensures.keys db reads
     ∙ ap (λ (ids : List Text). made_keys (taken_in db ids) c.as_slice.result.now) (c.as_slice-2.ensures.value ∙ drafts.ids)
     ∙ ap (made_keys (taken_in db (usable_ids records))) (c.as_slice.ensures.value ∙ drafts.bases))
     ∙ ap (with_keys (made_keys (taken_in db (usable_ids records)) (bases_of records))) drafts.entries

@@ -1,0 +1,9 @@
+use Rattle.std.proofs.Common.{◌≡◌, ◌++◌, length, take, drop, map}
+use Rattle.ris_format.specs.Entry.{value_field}
+use Rattle.ris_format.proofs.new_entry.brace_all.Given as goal
+
+abbrev pub invariant-fields : goal.invariant-fields
+invariant-fields l = record {
+  braced : take l.n l.fields.items ++ map value_field (drop l.n l.fields.items) ≡ map value_field l.fn.fields.items;
+  all : length l.fields.items ≡ length l.fn.fields.items;
+}
