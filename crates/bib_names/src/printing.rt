@@ -124,7 +124,11 @@ fn printed_words(alloc: Global, group: &Group, words: &[Word<'_>]) -> Result<Vec
 }
 
 /// What a group prints of these words.
-pub(crate) fn printed_group(alloc: Global, group: &Group, words: &[Word<'_>]) -> Result<Vec<u8>, AllocError>
+pub(crate) fn printed_group(
+    alloc: Global,
+    group: &Group,
+    words: &[Word<'_>],
+) -> Result<Vec<u8>, AllocError>
     ensures { IfOk result (λ r. r.items ≡ printed_group group.now words.now) }
 {
     if words.is_empty() {
