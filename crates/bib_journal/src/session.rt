@@ -71,13 +71,37 @@ impl<L: ItemList> Session<L> {
         match Database::open_bytes(alloc, bytes, empty) {
             Ok(database) => {
                 database.opens();
-                Ok(Session {
-                    alloc,
-                    database,
-                    past: Vec::new(alloc),
-                    undone: Vec::new(alloc),
-                    past_len: 0,
-                })
+                Ok(Session::begun(alloc, database))
+            }
+            Err(fault) => Err(unopened(fault)),
+        }
+    }
+
+    /// The session of an open file, to which nothing was done yet.
+    fn begun(alloc: Global, database: Database<L>) -> Session<L>
+        ensures { result ≡ started database }
+    {
+        database.opens();
+        Session {
+            alloc,
+            database,
+            past: Vec::new(alloc),
+            undone: Vec::new(alloc),
+            past_len: 0,
+        }
+    }
+
+    /// Opens the file as `start` does. Its memory is given back as soon as its items have the bytes.
+    fn start_file(alloc: Global, file: Vec<u8>, empty: L) -> Result<Session<L>, SessionFault>
+        requires { L.items empty ≡ [] }
+        ensures started { IfOk result (λ session. session ≡ started file.items) }
+        ensures opens { OnOk result (IsOpenable file.items) }
+        ensures refused { IfErr result (λ fault. RefusesStart fault file.items) }
+    {
+        match Database::open_file(alloc, file, empty) {
+            Ok(database) => {
+                database.opens();
+                Ok(Session::begun(alloc, database))
             }
             Err(fault) => Err(unopened(fault)),
         }
@@ -118,6 +142,24 @@ impl<L: ItemList> Session<L> {
         match journal {
             Some(journal) => Session::load(alloc, bytes, journal, empty),
             None => Session::start(alloc, bytes, empty),
+        }
+    }
+
+    /// Opens the file with its journal, as `open` does. Where it has none, its memory is given back as soon as its items have
+    /// the bytes.
+    pub fn open_file(
+        alloc: Global,
+        file: Vec<u8>,
+        journal: Option<&[u8]>,
+        empty: L,
+    ) -> Result<Session<L>, SessionFault>
+        requires { L.items empty ≡ [] }
+        ensures opened { IfOk result (Opens file.items (option_map (λ text. text.now) journal.entry)) }
+        ensures refused { IfErr result (λ fault. RefusesOpen fault file.items (option_map (λ text. text.now) journal.entry)) }
+    {
+        match journal {
+            Some(journal) => Session::load(alloc, file.as_slice(), journal, empty),
+            None => Session::start_file(alloc, file, empty),
         }
     }
 
