@@ -11,8 +11,7 @@ ghost use Rattle.bib_ris.specs.Export.{entries_ris};
 
 use bib_scan::{Seq, Text};
 use bib_store::{Database, ItemList};
-use ris_format::{MappingFault, given_records_fit, ris_names, ris_of};
-use ris_text::write_record;
+use ris_format::{MappingFault, given_records_fit, ris_names, write_entry};
 use std::alloc::Global;
 
 /// Puts the RIS text of entry `n`, with what it inherits, after a text. Of its fields those with these names are gathered.
@@ -33,8 +32,7 @@ fn add_entry<L: ItemList>(
     let Ok(entry) = db.expanded_with(n, names) else {
         return Err(MappingFault::Memory);
     };
-    let record = ris_of(alloc, &entry)?;
-    write_record(text, &record)?;
+    write_entry(alloc, text, &entry)?;
     Ok(())
 }
 

@@ -1,39 +1,76 @@
 -- Lines and fields that are put after others, one after another.
-use Rattle.std.proofs.Common.{◌≡◌, List, [], ◌∷◌, ◌++◌, sym, ap, ◌∙◌, append_assoc, append-nil, map}
+use Rattle.std.proofs.Common.{◌≡◌, List, [], ◌∷◌, ◌++◌, refl, sym, ap, ◌∙◌, append_assoc, append-nil}
 use Rattle.std.specs.Prelude.{filter}
+use Rattle.std.specs.List.{flat_map}
 use Rattle.std.proofs.lemmas.Grind.{flat_map-append}
 use Rattle.std.proofs.lemmas.List.Elements.{filter-append}
 use Rattle.bib_spec.specs.Text.{Text}
 use Rattle.bib_spec.specs.Records.{RecordField}
 use Rattle.ris_text.specs.declared.records.RisLine.{RisLine}
-use Rattle.ris_format.specs.Lines.{line, Tagged, tagged, tagged_lines, lines_of}
+use Rattle.ris_format.specs.Lines.{Tagged, tagged_lines, lines_of}
 use Rattle.ris_format.specs.Mapping.{Fields, field, has_text}
 
--- one group of lines more
-pub group_more : (before : List RisLine) (g : Tagged) (gs : List Tagged) → (before ++ tagged_lines g) ++ lines_of gs ≡ before ++ lines_of (g ∷ gs)
-group_more before g gs = append_assoc before (tagged_lines g) (lines_of gs)
+-- ---- lines, each kept as a list of members
 
-pub two_groups : (a b c : List RisLine) (g h : Tagged) → b ≡ a ++ tagged_lines g → c ≡ b ++ tagged_lines h → c ≡ a ++ lines_of (g ∷ h ∷ [])
-two_groups a b c g h p q = q ∙ ap (λ (ls : List RisLine). ls ++ tagged_lines h) p ∙ append_assoc a (tagged_lines g) (tagged_lines h) ∙ ap (λ (ls : List RisLine). a ++ (tagged_lines g ++ ls)) (sym (append-nil (tagged_lines h)))
+module _ {A : Type 0} (kept : RisLine → List A) where
+  abbrev kept_groups : List Tagged → List A
+  kept_groups gs = flat_map kept (lines_of gs)
 
-pub more_groups : (a b c : List RisLine) (g : Tagged) (gs : List Tagged) → b ≡ a ++ tagged_lines g → c ≡ b ++ lines_of gs → c ≡ a ++ lines_of (g ∷ gs)
-more_groups a b c g gs p q = q ∙ ap (λ (ls : List RisLine). ls ++ lines_of gs) p ∙ group_more a g gs
+  groups_of : (gs hs : List Tagged) → kept_groups (gs ++ hs) ≡ kept_groups gs ++ kept_groups hs
+  groups_of gs hs = ap (flat_map kept) (flat_map-append tagged_lines gs hs) ∙ flat_map-append kept (lines_of gs) (lines_of hs)
 
-pub six_sections : (a b c d e : List Tagged) (g : Tagged) (l1 l2 l3 l4 l5 l6 : List RisLine)
-    → l1 ≡ [] ++ lines_of a → l2 ≡ l1 ++ lines_of b → l3 ≡ l2 ++ lines_of c → l4 ≡ l3 ++ lines_of d → l5 ≡ l4 ++ lines_of e → l6 ≡ l5 ++ tagged_lines g
-    → l6 ≡ lines_of ((a ++ (b ++ (c ++ (d ++ e)))) ++ (g ∷ []))
-six_sections a b c d e g l1 l2 l3 l4 l5 l6 p1 p2 p3 p4 p5 p6 =
-    let lines = λ (gs : List Tagged). lines_of gs in
-    p6 ∙ ap (λ (ls : List RisLine). ls ++ tagged_lines g)
-    (p5 ∙ ap (λ (ls : List RisLine). ls ++ lines_of e) (p4 ∙ ap (λ (ls : List RisLine). ls ++ lines_of d) (p3 ∙ ap (λ (ls : List RisLine). ls ++ lines_of c) (p2 ∙ ap (λ (ls : List RisLine). ls ++ lines_of b) p1))))
-    ∙ sym (flat_map-append tagged_lines (a ++ (b ++ (c ++ (d ++ e)))) (g ∷ []) ∙ ap (λ (ls : List RisLine). lines_of (a ++ (b ++ (c ++ (d ++ e)))) ++ ls) (append-nil (tagged_lines g))
-    ∙ ap (λ (ls : List RisLine). ls ++ tagged_lines g)
-    (flat_map-append tagged_lines a (b ++ (c ++ (d ++ e))) ∙ ap (λ (ls : List RisLine). lines_of a ++ ls)
-    (flat_map-append tagged_lines b (c ++ (d ++ e)) ∙ ap (λ (ls : List RisLine). lines_of b ++ ls)
-    (flat_map-append tagged_lines c (d ++ e) ∙ ap (λ (ls : List RisLine). lines_of c ++ ls) (flat_map-append tagged_lines d e)))
-    ∙ sym (append_assoc (lines_of a) (lines_of b) (lines_of c ++ (lines_of d ++ lines_of e)))
-    ∙ sym (append_assoc (lines_of a ++ lines_of b) (lines_of c) (lines_of d ++ lines_of e))
-    ∙ sym (append_assoc ((lines_of a ++ lines_of b) ++ lines_of c) (lines_of d) (lines_of e))))
+  -- one group of lines
+  pub one_group : (a b : List A) (g : Tagged) → b ≡ a ++ flat_map kept (tagged_lines g) → b ≡ a ++ flat_map kept (lines_of (g ∷ []))
+  one_group a b g p = p ∙ ap (λ (ls : List RisLine). a ++ flat_map kept ls) (sym (append-nil (tagged_lines g)))
+
+  -- some groups, and then others
+  pub more_sections_kept : (a b c : List A) (gs hs : List Tagged) → b ≡ a ++ flat_map kept (lines_of gs) → c ≡ b ++ flat_map kept (lines_of hs)
+      → c ≡ a ++ flat_map kept (lines_of (gs ++ hs))
+  more_sections_kept a b c gs hs p q =
+      q ∙ ap (λ (ls : List A). ls ++ kept_groups hs) p ∙ append_assoc a (kept_groups gs) (kept_groups hs) ∙ ap (λ (ls : List A). a ++ ls) (sym (groups_of gs hs))
+
+  -- one group more
+  pub more_groups : (a b c : List A) (g : Tagged) (gs : List Tagged) → b ≡ a ++ flat_map kept (tagged_lines g) → c ≡ b ++ flat_map kept (lines_of gs)
+      → c ≡ a ++ flat_map kept (lines_of (g ∷ gs))
+  more_groups a b c g gs p q = more_sections_kept a b c (g ∷ []) gs (one_group a b g p) q
+
+  -- two, three, four and five groups of lines, one after another
+  pub two_groups : (a l1 l2 : List A) (g1 g2 : Tagged) → l1 ≡ a ++ flat_map kept (tagged_lines g1) → l2 ≡ l1 ++ flat_map kept (tagged_lines g2)
+      → l2 ≡ a ++ flat_map kept (lines_of (g1 ∷ g2 ∷ []))
+  two_groups a l1 l2 g1 g2 p1 p2 = more_groups a l1 l2 g1 (g2 ∷ []) p1 (one_group l1 l2 g2 p2)
+
+  pub three_groups : (a l1 l2 l3 : List A) (g1 g2 g3 : Tagged) → l1 ≡ a ++ flat_map kept (tagged_lines g1) → l2 ≡ l1 ++ flat_map kept (tagged_lines g2)
+      → l3 ≡ l2 ++ flat_map kept (tagged_lines g3) → l3 ≡ a ++ flat_map kept (lines_of (g1 ∷ g2 ∷ g3 ∷ []))
+  three_groups a l1 l2 l3 g1 g2 g3 p1 p2 p3 = more_groups a l1 l3 g1 (g2 ∷ g3 ∷ []) p1 (two_groups l1 l2 l3 g2 g3 p2 p3)
+
+  pub four_groups : (a l1 l2 l3 l4 : List A) (g1 g2 g3 g4 : Tagged) → l1 ≡ a ++ flat_map kept (tagged_lines g1) → l2 ≡ l1 ++ flat_map kept (tagged_lines g2)
+      → l3 ≡ l2 ++ flat_map kept (tagged_lines g3) → l4 ≡ l3 ++ flat_map kept (tagged_lines g4) → l4 ≡ a ++ flat_map kept (lines_of (g1 ∷ g2 ∷ g3 ∷ g4 ∷ []))
+  four_groups a l1 l2 l3 l4 g1 g2 g3 g4 p1 p2 p3 p4 = more_groups a l1 l4 g1 (g2 ∷ g3 ∷ g4 ∷ []) p1 (three_groups l1 l2 l3 l4 g2 g3 g4 p2 p3 p4)
+
+  pub five_groups : (a l1 l2 l3 l4 l5 : List A) (g1 g2 g3 g4 g5 : Tagged) → l1 ≡ a ++ flat_map kept (tagged_lines g1) → l2 ≡ l1 ++ flat_map kept (tagged_lines g2)
+      → l3 ≡ l2 ++ flat_map kept (tagged_lines g3) → l4 ≡ l3 ++ flat_map kept (tagged_lines g4) → l5 ≡ l4 ++ flat_map kept (tagged_lines g5)
+      → l5 ≡ a ++ flat_map kept (lines_of (g1 ∷ g2 ∷ g3 ∷ g4 ∷ g5 ∷ []))
+  five_groups a l1 l2 l3 l4 l5 g1 g2 g3 g4 g5 p1 p2 p3 p4 p5 = more_groups a l1 l5 g1 (g2 ∷ g3 ∷ g4 ∷ g5 ∷ []) p1 (four_groups l1 l2 l3 l4 l5 g2 g3 g4 g5 p2 p3 p4 p5)
+
+  -- five sections and a group, one after another
+  pub six_sections : (a b c d e : List Tagged) (g : Tagged) (l0 l1 l2 l3 l4 l5 l6 : List A)
+      → l1 ≡ l0 ++ flat_map kept (lines_of a) → l2 ≡ l1 ++ flat_map kept (lines_of b) → l3 ≡ l2 ++ flat_map kept (lines_of c) → l4 ≡ l3 ++ flat_map kept (lines_of d)
+      → l5 ≡ l4 ++ flat_map kept (lines_of e) → l6 ≡ l5 ++ flat_map kept (tagged_lines g)
+      → l6 ≡ l0 ++ flat_map kept (lines_of ((a ++ (b ++ (c ++ (d ++ e)))) ++ (g ∷ [])))
+  six_sections a b c d e g l0 l1 l2 l3 l4 l5 l6 p1 p2 p3 p4 p5 p6 =
+      more_sections_kept l0 l5 l6 (a ++ (b ++ (c ++ (d ++ e)))) (g ∷ [])
+      (more_sections_kept l0 l1 l5 a (b ++ (c ++ (d ++ e))) p1
+      (more_sections_kept l1 l2 l5 b (c ++ (d ++ e)) p2
+      (more_sections_kept l2 l3 l5 c (d ++ e) p3
+      (more_sections_kept l3 l4 l5 d e p4 p5))))
+      (one_group l5 l6 g p6)
+
+-- lines that are kept as themselves
+pub kept_whole : (lines : List RisLine) → flat_map (λ l. l ∷ []) lines ≡ lines
+kept_whole [] = refl
+kept_whole (l ∷ lines) = ap (λ (ls : List RisLine). l ∷ ls) (kept_whole lines)
+
+-- ---- fields
 
 -- one field more
 pub more_fields : (a b c : Fields) (f : RecordField) (fs : Fields) → b ≡ a ++ filter has_text (f ∷ []) → c ≡ b ++ filter has_text fs → c ≡ a ++ filter has_text (f ∷ fs)
@@ -45,15 +82,6 @@ pub more_sections : (a b c : Fields) (fs gs : Fields) → b ≡ a ++ filter has_
 more_sections a b c fs gs p q =
     q ∙ ap (λ (xs : Fields). xs ++ filter has_text gs) p ∙ append_assoc a (filter has_text fs) (filter has_text gs)
     ∙ ap (λ (xs : Fields). a ++ xs) (sym (filter-append has_text fs gs))
-
--- five groups of lines, one after another
-pub five_groups : (a l1 l2 l3 l4 l5 : List RisLine) (t1 t2 t3 t4 t5 : Text) (v1 v2 v3 v4 v5 : List Text)
-    → l1 ≡ a ++ map (line t1) v1 → l2 ≡ l1 ++ map (line t2) v2 → l3 ≡ l2 ++ map (line t3) v3 → l4 ≡ l3 ++ map (line t4) v4 → l5 ≡ l4 ++ map (line t5) v5
-    → l5 ≡ a ++ lines_of (tagged t1 v1 ∷ tagged t2 v2 ∷ tagged t3 v3 ∷ tagged t4 v4 ∷ tagged t5 v5 ∷ [])
-five_groups a l1 l2 l3 l4 l5 t1 t2 t3 t4 t5 v1 v2 v3 v4 v5 p1 p2 p3 p4 p5 =
-    more_groups a l1 l5 (tagged t1 v1) (tagged t2 v2 ∷ tagged t3 v3 ∷ tagged t4 v4 ∷ tagged t5 v5 ∷ []) p1
-    (more_groups l1 l2 l5 (tagged t2 v2) (tagged t3 v3 ∷ tagged t4 v4 ∷ tagged t5 v5 ∷ []) p2
-    (more_groups l2 l3 l5 (tagged t3 v3) (tagged t4 v4 ∷ tagged t5 v5 ∷ []) p3 (two_groups l3 l4 l5 (tagged t4 v4) (tagged t5 v5) p4 p5)))
 
 -- one field put after others, by another word for its text
 pub field_put : (a b : Fields) (name t u : Text) → b ≡ a ++ filter has_text (field name t ∷ []) → t ≡ u → b ≡ a ++ filter has_text (field name u ∷ [])

@@ -1,18 +1,17 @@
 //! Dates, both ways: `year/MM//`.
 
 ghost use Rattle.std.specs.Prelude.{◌≡◌, ◌++◌, ◌||◌, ◌≤◌, OnOk, IfOk, length, map, take, drop, codes};
-ghost use Rattle.std.specs.List.{prefix_len, list_any};
+ghost use Rattle.std.specs.List.{prefix_len, list_any, flat_map};
 ghost use Rattle.std.specs.Option.{option_copied};
 ghost use Rattle.bib_spec.specs.Text.{same};
 ghost use Rattle.ris_format.specs.Lines.{line};
 ghost use Rattle.ris_format.specs.Dates.{shown, digits_among, named_among, is_named_among, has_slash, month_digits, written_year, written_month, date_value, written_date, is_no_slash, before_slash, after_slash, read_year, is_zero_digit, plain_number, numbers_month, read_month, is_plain_month};
 
+use crate::keeping::Kept;
 use crate::kinds::is;
-use crate::lines::push_line;
 use crate::text::has_bytes;
 use bib_scan::{Seq, Text, same_folded};
 use bib_trim::trimmed;
-use ris_text::RisLine;
 use std::alloc::{AllocError, Global};
 
 /// The twelve months, each with its number in two digits.
@@ -104,20 +103,20 @@ fn date_value(alloc: Global, year: &[u8], digits: &[u8]) -> Result<Text, AllocEr
 }
 
 /// Puts a line for the date after the others, where there is a year or a month.
-pub(crate) fn push_date(
+pub(crate) fn push_date<T: Kept>(
     alloc: Global,
-    lines: &mut Vec<RisLine>,
+    lines: &mut Vec<T>,
     tag: [u8; 2],
     year: &[u8],
     month: &[u8],
 ) -> Result<(), AllocError>
-    ensures { OnOk result (lines.new.items ≡ lines.old.items ++ map (line tag) (written_date year.now month.now)) }
+    ensures { OnOk result (lines.new.items ≡ lines.old.items ++ flat_map T.kept (map (line tag) (written_date year.now month.now))) }
 {
     let year = written_year(year);
     let digits = written_month(month);
     if has_bytes(year) || has_bytes(digits) {
         let value = date_value(alloc, year, digits)?;
-        push_line(lines, tag, value)?;
+        T::keep(alloc, lines, tag, value.as_slice())?;
     }
     Ok(())
 }

@@ -44,6 +44,22 @@ pub(crate) fn push_field(
     Ok(())
 }
 
+/// The same with a text that is handed on.
+pub(crate) fn push_text(
+    alloc: Global,
+    fields: &mut Vec<(Text, Text)>,
+    name: &[u8],
+    text: Text,
+) -> Result<(), AllocError>
+    ensures { OnOk result (fields.new.items ≡ fields.old.items ++ filter has_text (field name.now text ∷ [])) }
+{
+    if has_bytes(text.as_slice()) {
+        let name = copy(alloc, name)?;
+        fields.push((name, text))?;
+    }
+    Ok(())
+}
+
 /// The names of the fields that a record of the kind can have, in order.
 pub(crate) fn field_names(alloc: Global, kind: Kind) -> Result<Vec<&'static [u8]>, AllocError>
     ensures { IfOk result (λ names. map (λ n. n.now) names.items ≡ field_names kind) }

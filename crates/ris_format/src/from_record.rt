@@ -1,8 +1,9 @@
 //! From a record to RIS.
 
-ghost use Rattle.std.specs.Prelude.{◌≡◌, ◌++◌, ◌∷◌, [], IfOk, IfErr, OnOk, map, filter};
-ghost use Rattle.std.specs.List.{list_any};
+ghost use Rattle.std.specs.Prelude.{◌≡◌, ◌++◌, true, IfOk, IfErr, OnOk, map, filter};
+ghost use Rattle.std.specs.List.{list_any, flat_map};
 ghost use Rattle.std.specs.Str.{bytes_eq};
+ghost use Rattle.ris_text.specs.Writing.{record_text, is_well_formed};
 ghost use Rattle.ris_format.specs.Kinds.{ris_type};
 ghost use Rattle.ris_format.specs.Lines.{lines_of};
 ghost use Rattle.ris_format.specs.Mapping.{booktitle_text, field_names, written_names, written_titles, written_numbers, written_publishers, written_notes, written, ris, is_carried, is_dropped, dropped};
@@ -11,6 +12,7 @@ ghost use Rattle.ris_format.specs.declared.fault.MappingFault.TheVariants.{Memor
 use crate::dates::{has_slash, month_digits, push_date};
 use crate::fault::MappingFault;
 use crate::fields::{field_names, text_of};
+use crate::keeping::Kept;
 use crate::keywords::push_keywords;
 use crate::kinds::{Kind, is};
 use crate::lines::push_single;
@@ -19,18 +21,18 @@ use crate::people::{is_refused, push_people};
 use crate::text::{copy, has_bytes};
 use bib_data::Record;
 use bib_scan::{Seq, Text};
-use ris_text::{RisLine, RisRecord};
+use ris_text::{RisLine, RisRecord, write_line};
 use std::alloc::{AllocError, Global};
 
 // ---- lines
 
 /// Puts the lines of author and editor after the others.
-fn push_names(
+fn push_names<T: Kept>(
     alloc: Global,
-    lines: &mut Vec<RisLine>,
+    lines: &mut Vec<T>,
     fields: &[(Text, Text)],
 ) -> Result<(), AllocError>
-    ensures { OnOk result (lines.new.items ≡ lines.old.items ++ lines_of (written_names fields.now)) }
+    ensures { OnOk result (lines.new.items ≡ lines.old.items ++ flat_map T.kept (lines_of (written_names fields.now))) }
 {
     push_people(alloc, lines, *b"AU", text_of(fields, b"author"))?;
     push_people(alloc, lines, *b"A2", text_of(fields, b"editor"))
@@ -48,13 +50,13 @@ fn booktitle<'a>(kind: Kind, fields: &'a [(Text, Text)]) -> &'a [u8]
 }
 
 /// Puts the lines of titles after the others.
-fn push_titles(
+fn push_titles<T: Kept>(
     alloc: Global,
-    lines: &mut Vec<RisLine>,
+    lines: &mut Vec<T>,
     kind: Kind,
     fields: &[(Text, Text)],
 ) -> Result<(), AllocError>
-    ensures { OnOk result (lines.new.items ≡ lines.old.items ++ lines_of (written_titles kind fields.now)) }
+    ensures { OnOk result (lines.new.items ≡ lines.old.items ++ flat_map T.kept (lines_of (written_titles kind fields.now))) }
 {
     push_single(alloc, lines, *b"TI", text_of(fields, b"title"))?;
     push_single(alloc, lines, *b"T2", booktitle(kind, fields))?;
@@ -63,12 +65,12 @@ fn push_titles(
 }
 
 /// Puts the lines of date, volume, number and pages after the others.
-fn push_numbers(
+fn push_numbers<T: Kept>(
     alloc: Global,
-    lines: &mut Vec<RisLine>,
+    lines: &mut Vec<T>,
     fields: &[(Text, Text)],
 ) -> Result<(), AllocError>
-    ensures { OnOk result (lines.new.items ≡ lines.old.items ++ lines_of (written_numbers fields.now)) }
+    ensures { OnOk result (lines.new.items ≡ lines.old.items ++ flat_map T.kept (lines_of (written_numbers fields.now))) }
 {
     let year = text_of(fields, b"year");
     push_date(alloc, lines, *b"PY", year, text_of(fields, b"month"))?;
@@ -80,13 +82,13 @@ fn push_numbers(
 }
 
 /// Puts the lines of publisher, address and serial number after the others.
-fn push_publishers(
+fn push_publishers<T: Kept>(
     alloc: Global,
-    lines: &mut Vec<RisLine>,
+    lines: &mut Vec<T>,
     kind: Kind,
     fields: &[(Text, Text)],
 ) -> Result<(), AllocError>
-    ensures { OnOk result (lines.new.items ≡ lines.old.items ++ lines_of (written_publishers kind fields.now)) }
+    ensures { OnOk result (lines.new.items ≡ lines.old.items ++ flat_map T.kept (lines_of (written_publishers kind fields.now))) }
 {
     push_single(
         alloc,
@@ -99,12 +101,12 @@ fn push_publishers(
 }
 
 /// Puts the lines of addresses on the web, abstract, note and keywords after the others.
-fn push_notes(
+fn push_notes<T: Kept>(
     alloc: Global,
-    lines: &mut Vec<RisLine>,
+    lines: &mut Vec<T>,
     fields: &[(Text, Text)],
 ) -> Result<(), AllocError>
-    ensures { OnOk result (lines.new.items ≡ lines.old.items ++ lines_of (written_notes fields.now)) }
+    ensures { OnOk result (lines.new.items ≡ lines.old.items ++ flat_map T.kept (lines_of (written_notes fields.now))) }
 {
     push_single(alloc, lines, *b"UR", text_of(fields, b"url"))?;
     push_single(alloc, lines, *b"DO", text_of(fields, b"doi"))?;
@@ -113,19 +115,22 @@ fn push_notes(
     push_keywords(alloc, lines, *b"KW", text_of(fields, b"keywords"))
 }
 
-/// The lines of a record, with its key at the end.
-fn record_lines(alloc: Global, kind: Kind, entry: &Record) -> Result<Vec<RisLine>, AllocError>
-    ensures { IfOk result (λ lines. lines.items ≡ lines_of (written kind entry.now)) }
+/// Puts the lines of a record after the others, with its key at the end.
+fn push_record<T: Kept>(
+    alloc: Global,
+    lines: &mut Vec<T>,
+    kind: Kind,
+    entry: &Record,
+) -> Result<(), AllocError>
+    ensures { OnOk result (lines.new.items ≡ lines.old.items ++ flat_map T.kept (lines_of (written kind entry.now))) }
 {
     let fields = entry.fields.as_slice();
-    let mut lines = Vec::with_capacity(alloc, fields.len() + 4)?;
-    push_names(alloc, &mut lines, fields)?;
-    push_titles(alloc, &mut lines, kind, fields)?;
-    push_numbers(alloc, &mut lines, fields)?;
-    push_publishers(alloc, &mut lines, kind, fields)?;
-    push_notes(alloc, &mut lines, fields)?;
-    push_single(alloc, &mut lines, *b"ID", entry.key.as_slice())?;
-    Ok(lines)
+    push_names(alloc, lines, fields)?;
+    push_titles(alloc, lines, kind, fields)?;
+    push_numbers(alloc, lines, fields)?;
+    push_publishers(alloc, lines, kind, fields)?;
+    push_notes(alloc, lines, fields)?;
+    push_single(alloc, lines, *b"ID", entry.key.as_slice())
 }
 
 // ---- what is dropped
@@ -187,6 +192,15 @@ fn dropped_names(
     Ok(names)
 }
 
+/// The lines of a record, with its key at the end.
+fn record_lines(alloc: Global, kind: Kind, entry: &Record) -> Result<Vec<RisLine>, AllocError>
+    ensures { IfOk result (λ lines. lines.items ≡ lines_of (written kind entry.now)) }
+{
+    let mut lines = Vec::with_capacity(alloc, entry.fields.as_slice().len() + 4)?;
+    push_record(alloc, &mut lines, kind, entry)?;
+    Ok(lines)
+}
+
 /// The RIS record of a record of this kind.
 fn record_of(alloc: Global, kind: Kind, entry: &Record) -> Result<RisRecord, AllocError>
     ensures { IfOk result (λ r. r ≡ record { kind_name = ris_type kind; lines = lines_of (written kind entry.now) }) }
@@ -195,6 +209,20 @@ fn record_of(alloc: Global, kind: Kind, entry: &Record) -> Result<RisRecord, All
         kind_name: copy(alloc, kind.ris_type())?,
         lines: Seq::from_vec(record_lines(alloc, kind, entry)?),
     })
+}
+
+/// Puts the text of a record's RIS record, as `to_ris` makes that, after a text. It takes time in the record's size, and
+/// memory for the text alone. The one refusal is want of memory.
+pub fn write_entry(alloc: Global, text: &mut Vec<u8>, entry: &Record) -> Result<(), MappingFault>
+    requires { is_well_formed (ris entry.now) ≡ true }
+    ensures text { OnOk result (text.new.items ≡ text.old.items ++ record_text (ris entry.now)) }
+    ensures memory { IfErr result (λ fault. fault ≡ Memory) }
+{
+    let kind = Kind::of_entry(entry.kind_name.as_slice());
+    write_line(text, b"TY", kind.ris_type())?;
+    push_record(alloc, text, kind, entry)?;
+    write_line(text, b"ER", b"")?;
+    Ok(())
 }
 
 /// The RIS record of a record, as `to_ris` makes it, for those who don't ask what is dropped.

@@ -1,13 +1,13 @@
 //! Keywords, both ways.
 
-ghost use Rattle.std.specs.Prelude.{◌≡◌, ◌++◌, ◌∷◌, [], OnOk, IfOk, map};
+ghost use Rattle.std.specs.Prelude.{◌≡◌, ◌++◌, OnOk, IfOk, map};
+ghost use Rattle.std.specs.List.{flat_map};
 ghost use Rattle.ris_format.specs.Lines.{line};
 ghost use Rattle.ris_format.specs.Keywords.{is_comma_byte, keyword_pieces, written_keywords, read_keywords, are_plain_keywords};
 
+use crate::keeping::Kept;
 use crate::kinds::is;
-use crate::lines::push_line;
-use crate::text::{copy, has_bytes, join, piece_between};
-use ris_text::RisLine;
+use crate::text::{has_bytes, join, piece_between};
 use std::alloc::{AllocError, Global};
 
 /// Whether keywords are cut at this byte.
@@ -48,13 +48,13 @@ fn keywords(alloc: Global, text: &[u8]) -> Result<Vec<&[u8]>, AllocError>
 }
 
 /// Puts a line for each keyword after the others.
-pub(crate) fn push_keywords(
+pub(crate) fn push_keywords<T: Kept>(
     alloc: Global,
-    lines: &mut Vec<RisLine>,
+    lines: &mut Vec<T>,
     tag: [u8; 2],
     text: &[u8],
 ) -> Result<(), AllocError>
-    ensures { OnOk result (lines.new.items ≡ lines.old.items ++ map (line tag) (written_keywords text.now)) }
+    ensures { OnOk result (lines.new.items ≡ lines.old.items ++ flat_map T.kept (map (line tag) (written_keywords text.now))) }
 {
     let words = keywords(alloc, text)?;
     for word in words.as_slice() {
@@ -64,16 +64,15 @@ pub(crate) fn push_keywords(
 }
 
 /// Puts a line for the keyword after the others.
-fn push_word(
+fn push_word<T: Kept>(
     alloc: Global,
-    lines: &mut Vec<RisLine>,
+    lines: &mut Vec<T>,
     tag: [u8; 2],
     word: &[u8],
 ) -> Result<(), AllocError>
-    ensures { OnOk result (lines.new.items ≡ lines.old.items ++ (line tag word.now ∷ [])) }
+    ensures { OnOk result (lines.new.items ≡ lines.old.items ++ T.kept (line tag word.now)) }
 {
-    let value = copy(alloc, word)?;
-    push_line(lines, tag, value)
+    T::keep(alloc, lines, tag, word)
 }
 
 /// Whether the text is its keywords, joined by a comma and a space.

@@ -1,39 +1,27 @@
 //! Lines of a RIS record by their tags.
 
-ghost use Rattle.std.specs.Prelude.{◌≡◌, ◌++◌, ◌∷◌, [], OnOk, IfOk, map};
+ghost use Rattle.std.specs.Prelude.{◌≡◌, ◌++◌, OnOk, IfOk, map};
+ghost use Rattle.std.specs.List.{flat_map};
 ghost use Rattle.ris_format.specs.Lines.{are_neat_lines, spaced, line, single, read_lines, has_tag, values_at, value_at, or_else};
 
+use crate::keeping::Kept;
 use crate::kinds::is;
-use crate::text::{copy, has_bytes};
-use bib_scan::Text;
+use crate::text::has_bytes;
 use bib_value::{field_text, is_neat};
 use ris_text::RisLine;
 use std::alloc::{AllocError, Global};
 
-/// Puts a line after the others.
-pub(crate) fn push_line(
-    lines: &mut Vec<RisLine>,
-    tag: [u8; 2],
-    value: Text,
-) -> Result<(), AllocError>
-    ensures { OnOk result (lines.new.items ≡ lines.old.items ++ (line tag value ∷ [])) }
-{
-    lines.push(RisLine { tag, value })?;
-    Ok(())
-}
-
 /// Puts a line with the text after the others, where it is not empty.
-pub(crate) fn push_single(
+pub(crate) fn push_single<T: Kept>(
     alloc: Global,
-    lines: &mut Vec<RisLine>,
+    lines: &mut Vec<T>,
     tag: [u8; 2],
     text: &[u8],
 ) -> Result<(), AllocError>
-    ensures { OnOk result (lines.new.items ≡ lines.old.items ++ map (line tag) (single text.now)) }
+    ensures { OnOk result (lines.new.items ≡ lines.old.items ++ flat_map T.kept (map (line tag) (single text.now))) }
 {
     if has_bytes(text) {
-        let value = copy(alloc, text)?;
-        push_line(lines, tag, value)?;
+        T::keep(alloc, lines, tag, text)?;
     }
     Ok(())
 }

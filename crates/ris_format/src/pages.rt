@@ -1,18 +1,18 @@
 //! Pages, both ways: the first and the last.
 
 ghost use Rattle.std.specs.Prelude.{◌≡◌, ◌++◌, ◌≤◌, OnOk, IfOk, length, map, take, drop, ◌+◌};
-ghost use Rattle.std.specs.List.{prefix_len, list_all};
+ghost use Rattle.std.specs.List.{prefix_len, list_all, flat_map};
 ghost use Rattle.bib_spec.specs.Text.{after_run};
 ghost use Rattle.bib_trim.specs.Trimming.{before_run};
 ghost use Rattle.ris_format.specs.Lines.{line};
 ghost use Rattle.ris_format.specs.Pages.{is_no_hyphen, begins_with_hyphen, before_dash, has_dash, before_cut, after_cut, is_margin, page, are_two, written_start, written_end, read_pages, is_plain_page, are_plain_pages};
 
+use crate::keeping::Kept;
 use crate::kinds::is;
 use crate::lines::push_single;
 use crate::text::{copy, has_bytes};
 use bib_scan::{Seq, Text};
 use bib_trim::is_space;
-use ris_text::RisLine;
 use std::alloc::{AllocError, Global};
 
 /// Whether the text begins with a hyphen.
@@ -120,13 +120,13 @@ fn are_two(text: &[u8]) -> bool
 }
 
 /// Puts a line for the first page after the others.
-pub(crate) fn push_start(
+pub(crate) fn push_start<T: Kept>(
     alloc: Global,
-    lines: &mut Vec<RisLine>,
+    lines: &mut Vec<T>,
     tag: [u8; 2],
     text: &[u8],
 ) -> Result<(), AllocError>
-    ensures { OnOk result (lines.new.items ≡ lines.old.items ++ map (line tag) (written_start text.now)) }
+    ensures { OnOk result (lines.new.items ≡ lines.old.items ++ flat_map T.kept (map (line tag) (written_start text.now))) }
 {
     if are_two(text) {
         push_single(alloc, lines, tag, page(before_cut(text)))
@@ -136,13 +136,13 @@ pub(crate) fn push_start(
 }
 
 /// Puts a line for the last page after the others, where there are two.
-pub(crate) fn push_end(
+pub(crate) fn push_end<T: Kept>(
     alloc: Global,
-    lines: &mut Vec<RisLine>,
+    lines: &mut Vec<T>,
     tag: [u8; 2],
     text: &[u8],
 ) -> Result<(), AllocError>
-    ensures { OnOk result (lines.new.items ≡ lines.old.items ++ map (line tag) (written_end text.now)) }
+    ensures { OnOk result (lines.new.items ≡ lines.old.items ++ flat_map T.kept (map (line tag) (written_end text.now))) }
 {
     if are_two(text) {
         push_single(alloc, lines, tag, page(after_cut(text)))

@@ -1,18 +1,17 @@
 //! Names of persons, both ways.
 
 ghost use Rattle.std.specs.Prelude.{◌≡◌, ◌++◌, ◌==◌, ◌&&◌, OnOk, IfOk, map, length, true};
-ghost use Rattle.std.specs.List.{slice_range, list_any, list_all};
+ghost use Rattle.std.specs.List.{slice_range, list_any, list_all, flat_map};
 ghost use Rattle.ris_format.specs.Lines.{line};
 ghost use Rattle.ris_format.specs.People.{word_end, to_last_end, part_text, family, person, ris_name, bib_name, is_somebody, taken_apart, is_broken, is_refused, written_person, written_names, written_people, name_pieces, person_of, is_opaque, read_balanced, read_name, read_people, is_plain_name, are_plain_names};
 ghost use Rattle.bib_names.specs.Label.{balances, listed_names};
 
 use crate::braces::Braces;
+use crate::keeping::Kept;
 use crate::kinds::is;
-use crate::lines::push_line;
 use crate::text::{balances, copy, has_bytes, in_braces, join, piece_between, with_comma};
 use bib_names::{Name, NameFault, Word, split_name, split_names};
 use bib_scan::{Seq, Text};
-use ris_text::RisLine;
 use std::alloc::{AllocError, Global};
 use std::marker::Model;
 
@@ -178,29 +177,29 @@ pub(crate) fn is_refused(alloc: Global, list: &[u8]) -> Result<bool, AllocError>
 // ---- writing
 
 /// Puts a line for the name after the others, where it has a word.
-fn push_person(
+fn push_person<T: Kept>(
     alloc: Global,
-    lines: &mut Vec<RisLine>,
+    lines: &mut Vec<T>,
     tag: [u8; 2],
     person: &Person<'_>,
 ) -> Result<(), AllocError>
-    ensures { OnOk result (lines.new.items ≡ lines.old.items ++ map (line tag) (written_person person.now)) }
+    ensures { OnOk result (lines.new.items ≡ lines.old.items ++ flat_map T.kept (map (line tag) (written_person person.now))) }
 {
     if person.is_somebody() {
         let value = person.ris_name(alloc)?;
-        push_line(lines, tag, value)?;
+        T::keep(alloc, lines, tag, value.as_slice())?;
     }
     Ok(())
 }
 
 /// Puts a line for each of these names after the others, none where one of them cannot be taken apart.
-fn push_names(
+fn push_names<T: Kept>(
     alloc: Global,
-    lines: &mut Vec<RisLine>,
+    lines: &mut Vec<T>,
     tag: [u8; 2],
     names: &[&[u8]],
 ) -> Result<(), AllocError>
-    ensures { OnOk result (lines.new.items ≡ lines.old.items ++ map (line tag) (written_names (map (λ n. n.now) names.now))) }
+    ensures { OnOk result (lines.new.items ≡ lines.old.items ++ flat_map T.kept (map (line tag) (written_names (map (λ n. n.now) names.now)))) }
 {
     let before = lines.len();
     'names: for name in names {
@@ -215,13 +214,13 @@ fn push_names(
 
 /// Puts a line for each name of a list after the others, none where the list is refused.
 #[tactic(auto, using(crate::proofs::TakenApart::written_listed))]
-pub(crate) fn push_people(
+pub(crate) fn push_people<T: Kept>(
     alloc: Global,
-    lines: &mut Vec<RisLine>,
+    lines: &mut Vec<T>,
     tag: [u8; 2],
     list: &[u8],
 ) -> Result<(), AllocError>
-    ensures { OnOk result (lines.new.items ≡ lines.old.items ++ map (line tag) (written_people list.now)) }
+    ensures { OnOk result (lines.new.items ≡ lines.old.items ++ flat_map T.kept (map (line tag) (written_people list.now))) }
 {
     push_names(alloc, lines, tag, listed_names(alloc, list)?.as_slice())
 }

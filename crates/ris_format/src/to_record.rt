@@ -6,7 +6,7 @@ ghost use Rattle.ris_format.specs.declared.fault.MappingFault.TheVariants.{Memor
 
 use crate::dates::{read_month, read_year};
 use crate::fault::MappingFault;
-use crate::fields::push_field;
+use crate::fields::{push_field, push_text};
 use crate::kinds::Kind;
 use crate::lines::{are_neat_lines, or_else, read_lines, value_at, values_at};
 use crate::pages::read_pages;
@@ -27,10 +27,10 @@ fn push_names(
 {
     let authors = values_at(alloc, &[*b"AU", *b"A1"], lines)?;
     let author = read_people(alloc, authors.as_slice())?;
-    push_field(alloc, fields, b"author", author.as_slice())?;
+    push_text(alloc, fields, b"author", author)?;
     let editors = values_at(alloc, &[*b"A2", *b"ED"], lines)?;
     let editor = read_people(alloc, editors.as_slice())?;
-    push_field(alloc, fields, b"editor", editor.as_slice())?;
+    push_text(alloc, fields, b"editor", editor)?;
     push_field(alloc, fields, b"title", value_at(&[*b"TI", *b"T1"], lines))
 }
 
@@ -92,7 +92,7 @@ fn push_numbers(
     push_field(alloc, fields, b"number", value_at(&[*b"IS"], lines))?;
     let end = value_at(&[*b"EP"], lines);
     let pages = read_pages(alloc, value_at(&[*b"SP"], lines), end)?;
-    push_field(alloc, fields, b"pages", pages.as_slice())
+    push_text(alloc, fields, b"pages", pages)
 }
 
 /// Puts publisher, address and serial number after the other fields.
@@ -138,7 +138,7 @@ fn push_notes(
     push_field(alloc, fields, b"note", value_at(&[*b"N1"], lines))?;
     let words = values_at(alloc, &[*b"KW"], lines)?;
     let keywords = join(alloc, b", ", words.as_slice())?;
-    push_field(alloc, fields, b"keywords", keywords.as_slice())
+    push_text(alloc, fields, b"keywords", keywords)
 }
 
 /// The fields that lines say whose values are field texts.

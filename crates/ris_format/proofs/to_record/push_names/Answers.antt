@@ -10,18 +10,18 @@ pub returns : goal.returns
 returns c =
     let lines = c.args.lines.now in
     let before = c.args.fields.now.items in
-    let with_author = c.push_field.new.fields.items in
-    let with_editor = c.push_field-2.new.fields.items in
+    let with_author = c.push_text.new.fields.items in
+    let with_editor = c.push_text-2.new.fields.items in
     let authors = read_people (values_at (codes "AU" ∷ codes "A1" ∷ []) lines) in
     let editors = read_people (values_at (codes "A2" ∷ codes "ED" ∷ []) lines) in
     let title = value_at (codes "TI" ∷ codes "T1" ∷ []) lines in
-    let author : c.as_slice-2.result.now ≡ authors =
-    c.as_slice-2.ensures ∙ c.in_ok-author.ensures ∙ ap read_people (ap (map (λ v. v.now)) c.as_slice.ensures.value ∙ c.in_ok-authors.ensures) in
-    let editor : c.as_slice-4.result.now ≡ editors =
-    c.as_slice-4.ensures ∙ c.in_ok-editor.ensures ∙ ap read_people (ap (map (λ v. v.now)) c.as_slice-3.ensures.value ∙ c.in_ok-editors.ensures) in
-    on_ok_weaker c.push_field-3.result
-    (λ h. three_fields before with_author with_editor c.push_field-3.new.fields.items (field (codes "author") authors) (field (codes "editor") editors) (field (codes "title") title)
-    (field_put before with_author (codes "author") c.as_slice-2.result.now authors c.in_ok-push_field.ensures author)
-    (field_put with_author with_editor (codes "editor") c.as_slice-4.result.now editors c.in_ok-push_field-2.ensures editor)
-    (field_put with_editor c.push_field-3.new.fields.items (codes "title") c.value_at.result.now title h c.value_at.ensures))
-    c.push_field-3.ensures
+    let author : c.in_ok-author.author ≡ authors =
+    c.in_ok-author.ensures ∙ ap read_people (ap (map (λ v. v.now)) c.as_slice.ensures.value ∙ c.in_ok-authors.ensures) in
+    let editor : c.in_ok-editor.editor ≡ editors =
+    c.in_ok-editor.ensures ∙ ap read_people (ap (map (λ v. v.now)) c.as_slice-2.ensures.value ∙ c.in_ok-editors.ensures) in
+    on_ok_weaker c.push_field.result
+    (λ h. three_fields before with_author with_editor c.push_field.new.fields.items (field (codes "author") authors) (field (codes "editor") editors) (field (codes "title") title)
+    (field_put before with_author (codes "author") c.in_ok-author.author authors c.in_ok-push_text.ensures author)
+    (field_put with_author with_editor (codes "editor") c.in_ok-editor.editor editors c.in_ok-push_text-2.ensures editor)
+    (field_put with_editor c.push_field.new.fields.items (codes "title") c.value_at.result.now title h c.value_at.ensures))
+    c.push_field.ensures
