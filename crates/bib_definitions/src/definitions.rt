@@ -11,7 +11,7 @@ use std::marker::Model;
 const LONGEST_MONTH: usize = 9;
 
 /// All definitions of a file, and the numbers that they have among its items. An item that comes or goes and defines
-/// nothing costs a step for each definition after it.
+/// nothing costs a step for each page of definitions, and some for those of one.
 #[derive(Drop)]
 pub struct Definitions {
     numbers: Numbers,

@@ -1,3 +1,6 @@
 pub mod Tables
+pub mod Moves
+pub mod FilledPages
+pub mod SoughtPages
 pub mod MovedNumbers
 pub mod ItemNumbers

@@ -1,45 +1,12 @@
--- Numbers that are moved, one after another, and those of items where one comes or goes.
-use Rattle.std.proofs.Common.{◌≡◌, ℕ, zero, suc, ◌+◌, ◌≤◌, ◌<◌, ◌^◌, List, [], ◌∷◌, ◌++◌, length, map, take, drop, get_or, set, insert, remove, sym, subst, ◌∙◌, ap, ap₂, ⊎_elim, refl, arith, length-append, append_assoc, zero-add}
+-- Numbers in order, where one comes or goes and those after it are moved.
+use Rattle.std.proofs.Common.{◌≡◌, ℕ, zero, suc, ◌+◌, ◌-◌, ◌≤◌, ◌<◌, ◌^◌, List, [], ◌∷◌, ◌++◌, length, map, take, drop, get_or, insert, remove, sym, subst, ◌∙◌, ap, ap₂, ⊎_elim, refl, arith, length-append, append_assoc, zero-add}
 use Rattle.std.specs.List.{AllByRecursion}
-use Rattle.std.specs.Prelude.{nat_lt, true, false, Bool, cond, filter}
+use Rattle.std.specs.Prelude.{◌≢◌, nat_lt, max, true, false, Bool, cond, filter}
+use Rattle.bib_pages.proofs.Paging.{all_append}
 use Rattle.std.specs.List.Sorted.{IsPartitionedBy, IsPartitionPoint}
 use Rattle.std.proofs.lemmas.Bool.{cases_lt, lt-ltb, le-ltb, ltb-true, both_ways}
-use Rattle.bib_entries.specs.Numbers.{Ascend, rank_in, PartAt, HaveNext, raised, lowered, moved_from}
-
--- ---- one after another
-
--- the numbers before place i are moved as all will be
-abbrev pub moved_so_far : (ℕ → ℕ) → ℕ → ℕ → List ℕ → List ℕ
-moved_so_far move i from numbers = take i (moved_from move from numbers) ++ drop i numbers
-
-module _ (move : ℕ → ℕ) where
-  pub moved_none : (from : ℕ) (numbers : List ℕ) → numbers ≡ moved_so_far move from from numbers
-  moved_none zero numbers = refl
-  moved_none (suc from) [] = refl
-  moved_none (suc from) (m ∷ numbers) = ap (λ (l : List ℕ). m ∷ l) (moved_none from numbers)
-
-  pub moved_read : (i from d : ℕ) (numbers : List ℕ) → get_or (moved_so_far move i from numbers) i d ≡ get_or numbers i d
-  moved_read zero from d numbers = refl
-  moved_read (suc i) zero d [] = refl
-  moved_read (suc i) (suc from) d [] = refl
-  moved_read (suc i) zero d (m ∷ numbers) = moved_read i zero d numbers
-  moved_read (suc i) (suc from) d (m ∷ numbers) = moved_read i from d numbers
-
-  pub moved_more : (i from : ℕ) (numbers : List ℕ) → from ≤ i → i < length numbers → set (moved_so_far move i from numbers) i (move (get_or numbers i 0)) ≡ moved_so_far move (suc i) from numbers
-  moved_more i from [] h lt = absurd (omega (arith, lt))
-  moved_more zero zero (m ∷ numbers) h lt = refl
-  moved_more zero (suc from) (m ∷ numbers) h lt = absurd (omega (arith, h))
-  moved_more (suc i) zero (m ∷ numbers) h lt = ap (λ (l : List ℕ). move m ∷ l) (moved_more i zero numbers (omega arith) (omega (arith, lt)))
-  moved_more (suc i) (suc from) (m ∷ numbers) h lt = ap (λ (l : List ℕ). m ∷ l) (moved_more i from numbers (omega (arith, h)) (omega (arith, lt)))
-
-  pub moved_all : (i from : ℕ) (numbers : List ℕ) → length numbers ≤ i → moved_so_far move i from numbers ≡ moved_from move from numbers
-  moved_all zero zero [] h = refl
-  moved_all zero (suc from) [] h = refl
-  moved_all (suc i) zero [] h = refl
-  moved_all (suc i) (suc from) [] h = refl
-  moved_all zero from (m ∷ numbers) h = absurd (omega (arith, h))
-  moved_all (suc i) zero (m ∷ numbers) h = ap (λ (l : List ℕ). move m ∷ l) (moved_all i zero numbers (omega (arith, h)))
-  moved_all (suc i) (suc from) (m ∷ numbers) h = ap (λ (l : List ℕ). m ∷ l) (moved_all i from numbers (omega (arith, h)))
+use Rattle.bib_entries.specs.Numbers.{Ascend, rank_in, PartAt, HaveNext}
+use Rattle.bib_entries.specs.Moves.{plus, moved_from}
 
 -- ---- parts
 
@@ -55,13 +22,9 @@ dropped_front (m ∷ front) rest = dropped_front front rest
 pub moved_rest : (move : ℕ → ℕ) (front rest : List ℕ) → moved_from move (length front) (front ++ rest) ≡ front ++ map move rest
 moved_rest move front rest = ap₂ (λ (a b : List ℕ). a ++ map move b) (taken_front front rest) (dropped_front front rest)
 
--- one greater, and back
-pub map-raised : (numbers : List ℕ) → HaveNext numbers → map raised numbers ≡ map suc numbers
-map-raised [] fit = refl
-map-raised (m ∷ numbers) fit = ap₂ (λ (n : ℕ) (l : List ℕ). n ∷ l) (next m fit.0) (map-raised numbers fit.1)
-  where
-    next : (m : ℕ) → m + 1 < 2 ^ 64 → raised m ≡ suc m
-    next m fits = omega (arith, fits)
+-- the number before it, if there is one
+abbrev pub lowered : ℕ → ℕ
+lowered m = m - 1
 
 pub map-lowered : (numbers : List ℕ) → map lowered (map suc numbers) ≡ numbers
 map-lowered [] = refl
@@ -128,15 +91,12 @@ part_gap n front rest now p is = record { whole = is; below = p.below; above = a
 pub part_with : (n : ℕ) (front rest now : List ℕ) → PartAt n front rest (front ++ rest) → now ≡ front ++ n ∷ map suc rest → PartAt n front (n ∷ map suc rest) now
 part_with n front rest now p is = record { whole = is; below = p.below; above = (omega arith, above_next n rest p.above) }
 
-put_raised : (n k : ℕ) (front rest numbers : List ℕ) → PartAt n front rest numbers → k ≡ length front → moved_from raised (k + 1) (insert numbers k n) ≡ front ++ n ∷ map raised rest
-put_raised n k front rest numbers p is =
+pub put_number : (n k : ℕ) (front rest numbers : List ℕ) → PartAt n front rest numbers → k ≡ length front → moved_from suc (k + 1) (insert numbers k n) ≡ front ++ n ∷ map suc rest
+put_number n k front rest numbers p is =
     let one : k + 1 ≡ length (front ++ n ∷ []) = omega (arith, is, length-append front (n ∷ [])) in
     let put : insert numbers k n ≡ (front ++ n ∷ []) ++ rest
     = ap₂ (λ (l : List ℕ) (j : ℕ). insert l j n) p.whole is ∙ ap₂ (λ (a b : List ℕ). a ++ n ∷ b) (taken_front front rest) (dropped_front front rest) ∙ sym (append_assoc front (n ∷ []) rest) in
-    ap₂ (λ (j : ℕ) (l : List ℕ). moved_from raised j l) one put ∙ moved_rest raised (front ++ n ∷ []) rest ∙ append_assoc front (n ∷ []) (map raised rest)
-
-pub put_number : (n k : ℕ) (front rest numbers : List ℕ) → PartAt n front rest numbers → HaveNext rest → k ≡ length front → moved_from raised (k + 1) (insert numbers k n) ≡ front ++ n ∷ map suc rest
-put_number n k front rest numbers p fit is = put_raised n k front rest numbers p is ∙ ap (λ (l : List ℕ). front ++ n ∷ l) (map-raised rest fit)
+    ap₂ (λ (j : ℕ) (l : List ℕ). moved_from suc j l) one put ∙ moved_rest suc (front ++ n ∷ []) rest ∙ append_assoc front (n ∷ []) (map suc rest)
 
 pub taken_number : (n k : ℕ) (front rest now : List ℕ) → now ≡ front ++ n ∷ rest → k ≡ length front → remove now k ≡ front ++ rest
 taken_number n k front rest now is at =
@@ -145,29 +105,6 @@ taken_number n k front rest now is at =
     past : (front : List ℕ) → drop (suc (length front)) (front ++ n ∷ rest) ≡ rest
     past [] = refl
     past (m ∷ front) = past front
-
--- ---- written back
-
-pub length-moved_from : (move : ℕ → ℕ) (k : ℕ) (numbers : List ℕ) → length (moved_from move k numbers) ≡ length numbers
-length-moved_from move zero [] = refl
-length-moved_from move (suc k) [] = refl
-length-moved_from move zero (m ∷ numbers) = ap suc (length-moved_from move zero numbers)
-length-moved_from move (suc k) (m ∷ numbers) = ap suc (length-moved_from move k numbers)
-
--- a slice that is as long as all takes the place of all
-pub written : (len : ℕ) (old new : List ℕ) → len ≡ length old → length new ≡ length old → take len (new ++ drop (length new) old) ≡ new
-written len old new is same =
-    ap₂ (λ (n : ℕ) (l : List ℕ). take n (new ++ l)) (is ∙ sym same) (ap (λ (n : ℕ). drop n old) same ∙ rest_gone old) ∙ taken_front new []
-  where
-    rest_gone : (l : List ℕ) → drop (length l) l ≡ []
-    rest_gone [] = refl
-    rest_gone (m ∷ l) = rest_gone l
-
--- numbers moved in place, where the slice was all
-pub written_moved : (move : ℕ → ℕ) (len k : ℕ) (old slice new : List ℕ) → len ≡ length old → slice ≡ old → new ≡ moved_from move k slice → take len (new ++ drop (length new) old) ≡ moved_from move k old
-written_moved move len k old slice new is same moved =
-    let now : new ≡ moved_from move k old = moved ∙ ap (moved_from move k) same in
-    written len old new is (ap (length {A = ℕ}) now ∙ length-moved_from move k old) ∙ now
 
 -- ---- the order
 
@@ -263,7 +200,7 @@ rank_past_gap n j front rest below le =
 
 -- ---- the order, where numbers are moved
 
-ascend_parts : (front rest : List ℕ) → Ascend (front ++ rest) → Ascend front × Ascend rest
+pub ascend_parts : (front rest : List ℕ) → Ascend (front ++ rest) → Ascend front × Ascend rest
 ascend_parts [] rest ascend = (tt, ascend)
 ascend_parts (m ∷ front) rest ascend = let parts = ascend_parts front rest ascend.1 in ((first front ascend.0, parts.0), parts.1)
   where
@@ -307,54 +244,46 @@ module _ (move : ℕ → ℕ) (keeps : (m k : ℕ) → m ≤ k → move m ≤ mo
       lowest [] above = tt
       lowest (m ∷ rest) above = (low m above.0, lowest rest above.1)
 
-raised_keeps : (m k : ℕ) → m ≤ k → raised m ≤ raised k
-raised_keeps m k le = omega (arith, le)
-
-lowered_keeps : (m k : ℕ) → m ≤ k → lowered m ≤ lowered k
-lowered_keeps m k le = omega (arith, le)
-
 -- those from n on, moved, are not below n
-above_raised : (n : ℕ) (rest : List ℕ) → n < 2 ^ 64 → AllByRecursion (λ m. n ≤ m) rest → AllByRecursion (λ m. n ≤ m) (map raised rest)
-above_raised n [] fits above = tt
-above_raised n (m ∷ rest) fits above = (least m above.0, above_raised n rest fits above.1)
-  where
-    least : (m : ℕ) → n ≤ m → n ≤ raised m
-    least m le = omega (arith, le, fits)
+above_raised : (n : ℕ) (rest : List ℕ) → AllByRecursion (λ m. n ≤ m) rest → AllByRecursion (λ m. n ≤ m) (map suc rest)
+above_raised n [] above = tt
+above_raised n (m ∷ rest) above = (let le = above.0 in omega (arith, le), above_raised n rest above.1)
 
-module _ (n k : ℕ) (numbers : List ℕ) (ascend : Ascend numbers) (ends : (front rest : List ℕ) → PartAt n front rest numbers → k ≡ length front) where
-  pub ascend_raised : n < 2 ^ 64 → Ascend (moved_from raised k numbers)
-  ascend_raised fits = ascend_moved raised raised_keeps n k numbers ascend ends low
-    where
-      low : (m : ℕ) → n ≤ m → n ≤ raised m + 1
-      low m le = omega (arith, le, fits)
+module _ (n k : ℕ) (numbers : List ℕ) (ascend : Ascend numbers) (is : k ≡ rank_in n numbers) where
+  -- the numbers below n are so many
+  pub ends : (front rest : List ℕ) → PartAt n front rest numbers → k ≡ length front
+  ends front rest p = is ∙ rank_of n front rest numbers p
+
+  pub ascend_raised : Ascend (moved_from suc k numbers)
+  ascend_raised = ascend_moved suc (λ m j le. omega (arith, le)) n k numbers ascend ends (λ m le. omega (arith, le))
 
   pub ascend_lowered : Ascend (moved_from lowered k numbers)
-  ascend_lowered = ascend_moved lowered lowered_keeps n k numbers ascend ends low
-    where
-      low : (m : ℕ) → n ≤ m → n ≤ lowered m + 1
-      low m le = omega (arith, le)
+  ascend_lowered = ascend_moved lowered (λ m j le. omega (arith, le)) n k numbers ascend ends (λ m le. omega (arith, le))
 
-  pub rank_raised : n < 2 ^ 64 → rank_in n (moved_from raised k numbers) ≡ rank_in n numbers
-  rank_raised fits =
+  pub rank_raised : rank_in n (moved_from suc k numbers) ≡ rank_in n numbers
+  rank_raised =
       let p = parted_at n numbers ascend in
-      let now = ap₂ (λ (j : ℕ) (l : List ℕ). moved_from raised j l) (ends p.front p.rest p.are) p.are.whole ∙ moved_rest raised p.front p.rest in
-      rank_of n p.front (map raised p.rest) (moved_from raised k numbers) (record { whole = now; below = p.are.below; above = above_raised n p.rest fits p.are.above })
+      let now = ap₂ (λ (j : ℕ) (l : List ℕ). moved_from suc j l) (ends p.front p.rest p.are) p.are.whole ∙ moved_rest suc p.front p.rest in
+      rank_of n p.front (map suc p.rest) (moved_from suc k numbers) (record { whole = now; below = p.are.below; above = above_raised n p.rest p.are.above })
       ∙ sym (rank_of n p.front p.rest numbers p.are)
 
-  pub rank_is : k ≡ rank_in n numbers
-  rank_is = let p = parted_at n numbers ascend in ends p.front p.rest p.are ∙ sym (rank_of n p.front p.rest numbers p.are)
-
-  pub ascend_put : n < 2 ^ 64 → Ascend (moved_from raised (k + 1) (insert numbers k n))
-  ascend_put fits =
+  pub ascend_put : Ascend (moved_from suc (k + 1) (insert numbers k n))
+  ascend_put =
       let p = parted_at n numbers ascend in
       let parts = ascend_parts p.front p.rest (subst Ascend p.are.whole ascend) in
-      let above = above_raised n p.rest fits p.are.above in
-      subst Ascend (sym (put_raised n k p.front p.rest numbers p.are (ends p.front p.rest p.are)))
-      (ascend_joined n p.front (n ∷ map raised p.rest) parts.0 p.are.below (above, ascend_map raised raised_keeps p.rest parts.1) (omega arith, higher (map raised p.rest) above))
+      let above = above_raised n p.rest p.are.above in
+      subst Ascend (sym (put_number n k p.front p.rest numbers p.are (ends p.front p.rest p.are)))
+      (ascend_joined n p.front (n ∷ map suc p.rest) parts.0 p.are.below (above, ascend_map suc (λ m j le. omega (arith, le)) p.rest parts.1) (omega arith, higher (map suc p.rest) above))
     where
       higher : (l : List ℕ) → AllByRecursion (λ m. n ≤ m) l → AllByRecursion (λ m. n ≤ m + 1) l
       higher [] all = tt
       higher (m ∷ l) all = (let le = all.0 in omega (arith, le), higher l all.1)
+
+  -- the numbers from there on are not below n
+  pub above_rank : AllByRecursion (λ m. n ≤ m) (drop k numbers)
+  above_rank =
+      let p = parted_at n numbers ascend in
+      subst (AllByRecursion (λ m. n ≤ m)) (sym (dropped_front p.front p.rest) ∙ ap₂ (λ (j : ℕ) (l : List ℕ). drop j l) (sym (ends p.front p.rest p.are)) (sym p.are.whole)) p.are.above
 
 pub ascend_removed : (k : ℕ) (numbers : List ℕ) → Ascend numbers → Ascend (remove numbers k)
 ascend_removed zero [] ascend = tt
@@ -367,3 +296,126 @@ ascend_removed (suc k) (m ∷ numbers) ascend = (fewer k numbers ascend.0, ascen
     fewer (suc k) [] all = tt
     fewer zero (j ∷ numbers) all = all.1
     fewer (suc k) (j ∷ numbers) all = (all.0, fewer k numbers all.1)
+
+-- ---- as a machine counts
+
+-- no number is greater than the last
+pub below_last : (numbers : List ℕ) (k last : ℕ) → Ascend numbers → k + 1 ≡ length numbers → last ≡ get_or numbers k 0 → AllByRecursion (λ m. m ≤ last) numbers
+below_last [] k last ascend h is = tt
+below_last (m ∷ []) zero last ascend h is = (omega (arith, is), tt)
+below_last (m ∷ []) (suc k) last ascend h is = absurd (omega (arith, h))
+below_last (m ∷ j ∷ numbers) zero last ascend h is = absurd (omega (arith, h))
+below_last (m ∷ j ∷ numbers) (suc k) last ascend h is =
+    let later = below_last (j ∷ numbers) k last ascend.1 (omega (arith, h)) is in
+    let low : m ≤ j = ascend.0.0 in
+    let high : j ≤ last = later.0 in
+    (omega (arith, low, high), later)
+
+pub at_most : (numbers : List ℕ) (last top : ℕ) → last < top → AllByRecursion (λ m. m ≤ last) numbers → AllByRecursion (λ m. m < top) numbers
+at_most [] last top h all = tt
+at_most (m ∷ numbers) last top h all = (let le = all.0 in omega (arith, h, le), at_most numbers last top h all.1)
+
+pub have_next : (numbers : List ℕ) (last : ℕ) → last + 1 < 2 ^ 64 → AllByRecursion (λ m. m ≤ last) numbers → HaveNext numbers
+have_next [] last h all = tt
+have_next (m ∷ numbers) last h all = (let le = all.0 in omega (arith, h, le), have_next numbers last h all.1)
+
+-- the last number has a next, where the rest does
+pub next_of_last : (n : ℕ) (front rest numbers : List ℕ) (k last : ℕ) → PartAt n front rest numbers → HaveNext rest → n ≤ last → k + 1 ≡ length numbers → last ≡ get_or numbers k 0 → last + 1 < 2 ^ 64
+next_of_last n front rest numbers k last p fit le h is = along front rest k p.below fit (h ∙ ap (length {A = ℕ}) p.whole) (is ∙ ap (λ (l : List ℕ). get_or l k 0) p.whole)
+  where
+    along : (front rest : List ℕ) (k : ℕ) → AllByRecursion (λ m. m < n) front → HaveNext rest → k + 1 ≡ length (front ++ rest) → last ≡ get_or (front ++ rest) k 0 → last + 1 < 2 ^ 64
+    along [] [] k below fit h is = absurd (omega (arith, h))
+    along [] (m ∷ []) zero below fit h is = let next = fit.0 in omega (arith, is, next)
+    along [] (m ∷ []) (suc k) below fit h is = absurd (omega (arith, h))
+    along [] (m ∷ j ∷ rest) zero below fit h is = absurd (omega (arith, h))
+    along [] (m ∷ j ∷ rest) (suc k) below fit h is = along [] (j ∷ rest) k tt fit.1 (omega (arith, h)) is
+    along (m ∷ []) [] zero below fit h is = let low = below.0 in absurd (omega (arith, is, low, le))
+    along (m ∷ front) rest (suc k) below fit h is = along front rest k below.1 fit (omega (arith, h)) is
+    along (m ∷ j ∷ front) rest zero below fit h is = absurd (omega (arith, h))
+    along (m ∷ []) (j ∷ rest) zero below fit h is = absurd (omega (arith, h))
+
+-- one more, and one less
+pub plus_one : (numbers : List ℕ) (k : ℕ) → HaveNext (drop k numbers) → moved_from (plus 1) k numbers ≡ moved_from suc k numbers
+plus_one numbers k fit = ap (λ (l : List ℕ). take k numbers ++ l) (each (drop k numbers) fit)
+  where
+    next : (m : ℕ) → m + 1 < 2 ^ 64 → plus 1 m ≡ suc m
+    next m h = omega (arith, h)
+
+    each : (l : List ℕ) → HaveNext l → map (plus 1) l ≡ map suc l
+    each [] fit = refl
+    each (m ∷ l) fit = ap₂ (λ (n : ℕ) (rest : List ℕ). n ∷ rest) (next m fit.0) (each l fit.1)
+
+pub less_one : (n : ℕ) (numbers : List ℕ) (k : ℕ) → 1 ≤ n → AllByRecursion (λ m. n ≤ m) (drop k numbers) → AllByRecursion (λ m. m < 2 ^ 64) numbers → moved_from (plus (2 ^ 64 - 1)) k numbers ≡ moved_from lowered k numbers
+less_one n numbers k some above fit = ap (λ (l : List ℕ). take k numbers ++ l) (each (drop k numbers) above (dropped k numbers fit))
+  where
+    back : (m : ℕ) → n ≤ m → m < 2 ^ 64 → plus (2 ^ 64 - 1) m ≡ lowered m
+    back m le lt = omega (arith, some, le, lt)
+
+    each : (l : List ℕ) → AllByRecursion (λ m. n ≤ m) l → AllByRecursion (λ m. m < 2 ^ 64) l → map (plus (2 ^ 64 - 1)) l ≡ map lowered l
+    each [] above fit = refl
+    each (m ∷ l) above fit = ap₂ (λ (j : ℕ) (rest : List ℕ). j ∷ rest) (back m above.0 fit.0) (each l above.1 fit.1)
+
+    dropped : (k : ℕ) (l : List ℕ) → AllByRecursion (λ m. m < 2 ^ 64) l → AllByRecursion (λ m. m < 2 ^ 64) (drop k l)
+    dropped zero l all = all
+    dropped (suc k) [] all = tt
+    dropped (suc k) (m ∷ l) all = dropped k l all.1
+
+-- what all have, those from a place on have; and those from the next on of a list in which one is put there
+pub rest_has : (P : ℕ → Type 0) (k : ℕ) (numbers : List ℕ) → AllByRecursion P numbers → AllByRecursion P (drop k numbers)
+rest_has P zero numbers all = all
+rest_has P (suc k) [] all = tt
+rest_has P (suc k) (m ∷ numbers) all = rest_has P k numbers all.1
+
+pub rest_put : (P : ℕ → Type 0) (k n : ℕ) (numbers : List ℕ) → k ≤ length numbers → AllByRecursion P numbers → AllByRecursion P (drop (k + 1) (insert numbers k n))
+rest_put P zero n numbers h all = all
+rest_put P (suc k) n [] h all = absurd (omega (arith, h))
+rest_put P (suc k) n (m ∷ numbers) h all =
+    let e : suc (k + 1) ≡ suc k + 1 = omega arith in
+    subst (λ (j : ℕ). AllByRecursion P (drop j (insert (m ∷ numbers) (suc k) n))) e (rest_put P k n numbers (omega (arith, h)) all.1)
+
+-- ---- the number itself
+
+-- where the first that is not below n is another number, n is none of them
+pub absent : (n k : ℕ) (numbers : List ℕ) → Ascend numbers → k ≡ rank_in n numbers → (k < length numbers → get_or numbers k 0 ≢ n) → AllByRecursion (λ m. m ≢ n) numbers
+absent n k numbers ascend is other =
+    let p = parted_at n numbers ascend in
+    let at = is ∙ rank_of n p.front p.rest numbers p.are in
+    subst (AllByRecursion (λ m. m ≢ n)) (sym p.are.whole)
+    (all_append (λ m. m ≢ n) p.front p.rest (low p.front p.are.below)
+    (high p.front p.rest p.are.above (ascend_parts p.front p.rest (subst Ascend p.are.whole ascend)).1
+    (subst (λ (l : List ℕ). length p.front < length l → get_or l (length p.front) 0 ≢ n) p.are.whole (subst (λ (j : ℕ). j < length numbers → get_or numbers j 0 ≢ n) at other))))
+  where
+    low : (l : List ℕ) → AllByRecursion (λ m. m < n) l → AllByRecursion (λ m. m ≢ n) l
+    low [] all = tt
+    low (m ∷ l) all = ((λ e. let lt = all.0 in absurd (omega (arith, lt, e))), low l all.1)
+
+    later : (l : List ℕ) (m : ℕ) → n < m → AllByRecursion (λ j. m ≤ j) l → AllByRecursion (λ j. j ≢ n) l
+    later [] m lt all = tt
+    later (j ∷ l) m lt all = ((λ e. let le = all.0 in absurd (omega (arith, lt, le, e))), later l m lt all.1)
+
+    seam : (front rest : List ℕ) (m : ℕ) → get_or (front ++ m ∷ rest) (length front) 0 ≡ m
+    seam [] rest m = refl
+    seam (j ∷ front) rest m = seam front rest m
+
+    longer : (front rest : List ℕ) (m : ℕ) → length front < length (front ++ m ∷ rest)
+    longer front rest m = omega (arith, length-append front (m ∷ rest))
+
+    high : (front rest : List ℕ) → AllByRecursion (λ m. n ≤ m) rest → Ascend rest → (length front < length (front ++ rest) → get_or (front ++ rest) (length front) 0 ≢ n) → AllByRecursion (λ m. m ≢ n) rest
+    high front [] above up other = tt
+    high front (m ∷ rest) above up other =
+        let differs : m ≢ n = λ is. other (longer front rest m) (seam front rest m ∙ is) in
+        let le : n ≤ m = above.0 in
+        let lt : n < m = ⊎_elim (λ (lt : n < m). lt) (λ (ge : m ≤ n). absurd (differs (omega (arith, le, ge)))) (cases_lt n m) in
+        (differs, later rest m lt up.0)
+
+-- the numbers after a gap, where zero is none of them
+pub part_one : (n m : ℕ) (front rest now : List ℕ) → m ≡ max n 1 → PartAt n front rest (front ++ rest) → now ≡ front ++ map suc rest → PartAt m front (map suc rest) now
+part_one n m front rest now e p is = record { whole = is; below = low front p.below; above = high rest p.above }
+  where
+    low : (l : List ℕ) → AllByRecursion (λ j. j < n) l → AllByRecursion (λ j. j < m) l
+    low [] all = tt
+    low (j ∷ l) all = (let lt = all.0 in omega (arith, lt, e), low l all.1)
+
+    high : (l : List ℕ) → AllByRecursion (λ j. n ≤ j) l → AllByRecursion (λ j. m ≤ j) (map suc l)
+    high [] all = tt
+    high (j ∷ l) all = (let le = all.0 in omega (arith, le, e), high l all.1)

@@ -1,2 +1,3 @@
 pub mod EntryTable
+pub mod Moves
 pub mod Numbers

@@ -1,5 +1,5 @@
 -- Numbers in ascending order, where one comes or goes, and those that the items of a kind have.
-use Rattle.std.specs.Prelude.{ℕ, Bool, ◌≡◌, ◌<◌, ◌≤◌, ◌+◌, ◌-◌, ◌^◌, ⊤, nat_lt, min, List, [], ◌∷◌, ◌++◌, length, filter, take, drop, map}
+use Rattle.std.specs.Prelude.{ℕ, Bool, ◌≡◌, ◌<◌, ◌≤◌, ◌+◌, ◌^◌, ⊤, nat_lt, List, [], ◌∷◌, ◌++◌, length, filter, map}
 use Rattle.std.specs.List.{AllByRecursion, enumerate_from}
 use Rattle.bib_spec.specs.Tree.{Tree}
 use Rattle.bib_spec.specs.Reading.{Item}
@@ -22,18 +22,6 @@ pub record PartAt (n : ℕ) (front rest numbers : List ℕ) : Type 0 where
 -- a machine has the next of each of these numbers
 abbrev pub HaveNext : List ℕ → Type 0
 HaveNext numbers = AllByRecursion (λ m. m + 1 < 2 ^ 64) numbers
-
--- the next number, as far as a machine has one
-abbrev pub raised : ℕ → ℕ
-raised m = min (m + 1) (2 ^ 64 - 1)
-
--- the number before it, if there is one
-abbrev pub lowered : ℕ → ℕ
-lowered m = m - 1
-
--- the numbers, where those from place k on are moved
-abbrev pub moved_from : (ℕ → ℕ) → ℕ → List ℕ → List ℕ
-moved_from move k numbers = take k numbers ++ map move (drop k numbers)
 
 -- ---- items of a kind
 

@@ -1,16 +1,17 @@
 //! Numbers in ascending order.
 
 ghost use Rattle.std.specs.Prelude.{◌≡◌, ◌≤◌, ◌<◌, ◌+◌, ◌^◌, ℕ, List, length};
-ghost use Rattle.bib_entries.specs.Numbers.{PartAt, HaveNext, raised, lowered, moved_from};
+ghost use Rattle.bib_entries.specs.Numbers.{PartAt, HaveNext};
 
+use crate::paged::Paged;
 use std::alloc::{AllocError, Global};
 use std::marker::Model;
 
 /// The numbers that the items of a kind have among all items, in order. When an item comes or goes, the numbers of those
-/// after it change, which takes one step each.
+/// after it change, which takes a step for each page of up to 512 numbers, and some for the numbers of one.
 #[derive(Drop)]
 pub struct Numbers {
-    list: Vec<usize>,
+    list: Paged,
 }
 
 impl Model for Numbers {
@@ -19,45 +20,15 @@ impl Model for Numbers {
 
     ghost Value = { List ℕ };
 
-    ghost view = { λ numbers. numbers.list.items };
+    ghost view = { λ numbers. numbers.list };
 
-    ghost invariant = { λ numbers. Ascend numbers.list.items };
-}
-
-/// Makes the numbers from place `from` on one greater. The greatest that there is stays.
-fn raise(numbers: &mut [usize], from: usize)
-    requires { from ≤ length numbers.old }
-    ensures { numbers.new ≡ moved_from raised from numbers.old }
-{
-    'pass: for i in from..numbers.len() {
-        numbers[i] = numbers[i].saturating_add(1);
-    }
-}
-
-/// Makes the numbers from place `from` on one less. Zero stays.
-fn lower(numbers: &mut [usize], from: usize)
-    requires { from ≤ length numbers.old }
-    ensures { numbers.new ≡ moved_from lowered from numbers.old }
-{
-    'pass: for i in from..numbers.len() {
-        numbers[i] = numbers[i].saturating_sub(1);
-    }
-}
-
-/// How many of the numbers are below `n`.
-fn count_below(numbers: &[usize], n: usize) -> usize
-    ensures within { result ≤ length numbers.now }
-    ensures below { (front rest : List ℕ) → PartAt n front rest numbers.now → result ≡ length front }
-{
-    // most numbers come last
-    if numbers.last().is_none_or(|last| *last < n) {
-        return numbers.len();
-    }
-    numbers.partition_point(|m| *m < n)
+    ghost invariant = { λ numbers. Ascend numbers.list };
 }
 
 impl Numbers {
-    ghost use Rattle.std.specs.Prelude.{[], ◌++◌, ◌∷◌, suc, map, Some, slice_get, OnOk, OnErr};
+    ghost use Rattle.std.specs.Prelude.{[], ◌++◌, ◌∷◌, suc, map, Some, slice_get, OnOk, OnErr, IsTrue, IsFalse, ◌≢◌};
+    ghost use Rattle.std.specs.List.{AllByRecursion};
+    ghost use Rattle.std.specs.Option.{IfSome, IfNone};
     ghost use Rattle.bib_entries.specs.Numbers.{rank_in};
 
     /// No numbers. It asks for no memory.
@@ -65,30 +36,23 @@ impl Numbers {
         ensures { result ≡ [] }
     {
         Numbers {
-            list: Vec::new(alloc),
+            list: Paged::new(alloc),
         }
-    }
-
-    /// The numbers.
-    pub fn as_slice(&self) -> &[usize]
-        ensures { result.now ≡ self.now }
-    {
-        self.list.as_slice()
     }
 
     /// How many numbers there are.
     pub fn count(&self) -> usize
         ensures { result ≡ length self.now }
     {
-        self.list.len()
+        self.list.count()
     }
 
-    /// Number `n` in order, counted from 0.
+    /// Number `n` in order, counted from 0. It takes time in the logarithm of their count.
     pub fn get(&self, n: usize) -> usize
         requires { n < length self.now }
         ensures { slice_get self.now n ≡ Some result }
     {
-        self.list[n]
+        self.list.get(n)
     }
 
     /// How many numbers are below `n`. It takes time in the logarithm of their count.
@@ -97,19 +61,47 @@ impl Numbers {
         ensures below { (front rest : List ℕ) → PartAt n front rest self.now → result ≡ length front }
         ensures counted { result ≡ rank_in n self.now }
     {
-        count_below(self.list.as_slice(), n)
+        self.list.count_below(n)
     }
 
-    /// Puts in number `n`, of an item that comes: those from `n` on are one greater then. Where memory is refused,
-    /// nothing changes.
+    /// Which in order, counted from 0, the number `n` is, if it is one of them.
+    pub fn position(&self, n: usize) -> Option<usize>
+        ensures found { IfSome result (λ k. slice_get self.now k ≡ Some n) }
+        ensures none { IfNone result (AllByRecursion (λ m. m ≢ n) self.now) }
+    {
+        let k = self.list.count_below(n);
+        if k == self.list.count() {
+            return None;
+        }
+        if self.list.get(k) == n { Some(k) } else { None }
+    }
+
+    /// Whether the greatest number that a machine has is one of them. None is greater.
+    fn has_greatest(&self) -> bool
+        ensures fit { AllByRecursion (λ m. m < 2 ^ 64) self.now }
+        ensures none { IsFalse result → HaveNext self.now }
+        ensures some { IsTrue result → (n : ℕ) (front rest : List ℕ) → n < 2 ^ 64 → PartAt n front rest self.now → HaveNext rest → ⊥ }
+    {
+        let count = self.list.count();
+        if count == 0 {
+            return false;
+        }
+        self.list.get(count - 1) == usize::MAX
+    }
+
+    /// Puts in number `n`, of an item that comes: those from `n` on are one greater then. Where memory is refused, or the
+    /// last of them has no next, nothing changes.
     pub fn insert(&mut self, n: usize) -> Result<(), AllocError>
         ensures ok { OnOk result ((front rest : List ℕ) → PartAt n front rest self.old → HaveNext rest → self.new ≡ front ++ n ∷ map suc rest) }
         ensures count { OnOk result (length self.new ≡ suc (length self.old)) }
         ensures err { OnErr result (self.new ≡ self.old) }
     {
-        let k = count_below(self.list.as_slice(), n);
+        if self.has_greatest() {
+            return Err(AllocError);
+        }
+        let k = self.list.count_below(n);
         self.list.insert(k, n)?;
-        raise(self.list.as_mut_slice(), k + 1);
+        self.list.shift_from(k + 1, 1);
         Ok(())
     }
 
@@ -118,21 +110,25 @@ impl Numbers {
         ensures taken { (front rest : List ℕ) → PartAt n front rest (front ++ rest) → HaveNext rest → self.old ≡ front ++ n ∷ map suc rest → self.new ≡ front ++ rest }
         ensures count { length self.old ≤ length self.new + 1 }
     {
-        let k = count_below(self.list.as_slice(), n);
-        if k < self.list.len() {
+        let k = self.list.count_below(n);
+        if k < self.list.count() {
             self.list.remove(k);
             self.close(n);
         }
     }
 
-    /// Makes way for an item that comes, of another kind: numbers from `n` on are one greater then.
+    /// Makes way for an item that comes, of another kind: numbers from `n` on are one greater then, if the last of them has
+    /// a next.
     pub fn make_way(&mut self, n: usize)
         ensures moved { (front rest : List ℕ) → PartAt n front rest self.old → HaveNext rest → self.new ≡ front ++ map suc rest }
         ensures count { length self.new ≡ length self.old }
         ensures rank { rank_in n self.new ≡ rank_in n self.old }
     {
-        let k = count_below(self.list.as_slice(), n);
-        raise(self.list.as_mut_slice(), k);
+        if self.has_greatest() {
+            return;
+        }
+        let k = self.list.count_below(n);
+        self.list.shift_from(k, 1);
     }
 
     /// Closes the gap of an item that goes, of another kind: numbers after `n` are one less then.
@@ -140,7 +136,10 @@ impl Numbers {
         ensures moved { (front rest : List ℕ) → PartAt n front rest (front ++ rest) → HaveNext rest → self.old ≡ front ++ map suc rest → self.new ≡ front ++ rest }
         ensures count { length self.new ≡ length self.old }
     {
-        let k = count_below(self.list.as_slice(), n);
-        lower(self.list.as_mut_slice(), k);
+        // they are numbers of a machine
+        let _ = self.has_greatest();
+        // zero stays
+        let k = self.list.count_below(n.max(1));
+        self.list.shift_from(k, usize::MAX);
     }
 }

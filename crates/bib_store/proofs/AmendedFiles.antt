@@ -2,13 +2,7 @@
 use Rattle.std.proofs.Common.{◌≡◌, ℕ, ◌+◌, ◌-◌, ◌<◌, ◌≤◌, true, false, List, [], ◌∷◌, ◌++◌, length, take, drop, map, set, slice_get, get_or, Option, Some, None, refl, sym, ◌∙◌, ap, ap₂, subst, arith, take-append-drop, append_assoc}
 use Rattle.std.proofs.lemmas.Option.{slice_get-get_or, slice_get_within, get_or_from_slice_get}
 use Rattle.std.proofs.lemmas.List.{drop_more, take-set, drop-set, length-take-le}
-use Rattle.std.proofs.lemmas.Cmp.{ranked}
 use Rattle.std.specs.Prelude.{Result, Ok, Err, IfOk, IfErr, OnOk, IfSome}
-use Rattle.std.proofs.Common.{Ordering, Equal}
-use Rattle.std.specs.Ordering.{nat_cmp, MatchOrdering}
-use Rattle.std.specs.Result.{result_ok}
-use Rattle.std.specs.List.{HoldsAt}
-use Rattle.std.specs.List.Sorted.{IsSearchInRange}
 use Rattle.bib_spec.specs.Bytes.{name_limit}
 use Rattle.bib_spec.specs.Text.{Text}
 use Rattle.bib_spec.specs.Tree.{Tree, CommentTree, DefinitionTree, PreambleTree, EntryTree, Entry, IsTree, tree_bytes, opening_bytes}
@@ -104,16 +98,7 @@ pub entry_exceeds : (m : Macros) (v : View) (fields : List Field) (r : Result (O
 entry_exceeds m v fields (Ok text) same long = tt
 entry_exceeds m v fields (Err fault) same long = λ n is i tree entry seen. entry_texts m v (Some n) (λ before rows are e. long n is before rows are (same ∙ e)) i tree entry seen
 
--- ---- the entry's number
-
-same_number : (x y : ℕ) → nat_cmp x y ≡ Equal → x ≡ y
-same_number x y e = subst (λ (o : Ordering). MatchOrdering o (x < y) (x ≡ y) (y < x)) e (ranked x y (nat_cmp x y) refl)
-
-pub number_found : (entries : List ℕ) (n : ℕ) (P : ℕ → Type 0) (r : Result ℕ ℕ) (o : Option ℕ) → o ≡ result_ok r → IsSearchInRange r (length entries) → IfOk r (HoldsAt (λ y. nat_cmp y n ≡ Equal) entries)
-    → ((m : ℕ) → slice_get entries m ≡ Some n → P m) → IfSome o P
-number_found entries n P (Ok m) o is bound at then =
-    subst (λ (a : Option ℕ). IfSome a P) (sym is) (then m (slice_get-get_or entries m n bound ∙ ap Some (same_number (get_or entries m n) n (at n))))
-number_found entries n P (Err m) o is bound at then = subst (λ (a : Option ℕ). IfSome a P) (sym is) tt
+-- ---- one number of all
 
 pub at_number : {E : Type 0} (r : Result (Unit {0}) E) (P : ℕ → Type 0) (n : ℕ) → OnOk r ((k : ℕ) → P k) → OnOk r (P n)
 at_number (Ok u) P n h = h n

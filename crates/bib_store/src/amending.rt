@@ -24,7 +24,7 @@ use crate::crossrefs::entry_crossref;
 use crate::item_fault::ItemFault;
 use crate::tables::Tables;
 use bib_definitions::Definitions;
-use bib_entries::EntryTable;
+use bib_entries::{EntryTable, Numbers};
 use bib_items::{ItemList, StoreFault};
 use bib_scan::{ItemView, Kind, NAME_LIMIT, Text};
 use std::alloc::Global;
@@ -37,7 +37,7 @@ fn have_one_key(old: &ItemView<'_>, new: &ItemView<'_>) -> bool
 }
 
 /// The number among the entries of the one that the change replaces, if that is all it does and the new one has its key.
-pub(crate) fn amended<L: ItemList>(items: &L, entries: &[usize], change: &Change) -> Option<usize>
+pub(crate) fn amended<L: ItemList>(items: &L, entries: &Numbers, change: &Change) -> Option<usize>
     requires window { IsWindow (L.items items.now) change.now.window }
     requires layout { IsLayoutOf change.now.text change.now.layout }
     ensures { IfSome result (IsAmendment (L.items items.now) entries.now change.now) }
@@ -51,7 +51,7 @@ pub(crate) fn amended<L: ItemList>(items: &L, entries: &[usize], change: &Change
     if !have_one_key(&old, &new) {
         return None;
     }
-    entries.binary_search(&window.from).ok()
+    entries.position(window.from)
 }
 
 /// What the crossref of the entry that comes says.

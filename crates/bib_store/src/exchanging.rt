@@ -42,7 +42,7 @@ pub(crate) fn exchange<L: ItemList>(
     ensures only { IfErr result (λ fault. (fault ≡ BadSplice) ⊎ (fault ≡ Memory)) }
     ensures err { OnErr result ((L.items items.new ≡ L.items items.old) × SayTheSameOf (L.items items.old) tables.old tables.new) }
 {
-    if let Some(m) = amended(&*items, tables.entries.as_slice(), change) {
+    if let Some(m) = amended(&*items, &tables.entries, change) {
         return amend(alloc, items, tables, change, m);
     }
     exchange_all(alloc, front_len, items, tables, change)

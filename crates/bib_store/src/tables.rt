@@ -112,8 +112,8 @@ impl Tables {
     }
 
     /// Puts in item `n`, which is no definition, before the items that had its number and the greater ones. It
-    /// takes time in the item's length, and a step for each entry, preamble and definition after it. Where it is refused,
-    /// the tables say what they said.
+    /// takes time in the item's length, a few steps for each page of entries, preambles and definitions, and some for
+    /// those of one page. Where it is refused, the tables say what they said.
     pub(crate) fn insert(
         &mut self,
         alloc: Global,

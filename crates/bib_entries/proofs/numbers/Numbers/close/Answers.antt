@@ -1,18 +1,27 @@
-use Rattle.std.proofs.Common.{◌≡◌, ℕ, List, ◌++◌, ◌∙◌, length, take, drop, suc, map, sym, ap, ap₂, subst}
-use Rattle.bib_entries.specs.Numbers.{PartAt, Ascend, lowered, moved_from}
-use Rattle.bib_entries.proofs.MovedNumbers.{moved_rest, map-lowered, part_gap, written_moved, ascend_lowered}
+use Rattle.std.proofs.Common.{◌≡◌, ◌<◌, ◌^◌, ℕ, List, ◌++◌, ◌∙◌, suc, map, sym, ap, ap₂, subst, arith}
+use Rattle.std.specs.List.{AllByRecursion}
+use Rattle.bib_entries.specs.Numbers.{Ascend, rank_in}
+use Rattle.bib_entries.specs.Moves.{moved_from}
+use Rattle.bib_entries.proofs.MovedNumbers.{lowered, moved_rest, map-lowered, less_one, above_rank, ends, part_one, ascend_lowered}
 use Rattle.bib_entries.proofs.numbers.Numbers.close.Goals as goal
 
-ends : (c : goal.After-self-1) (front rest : List ℕ) → PartAt c.args.n front rest c.self.inside.list.items → c.count_below-k.result ≡ length front
-ends c front rest p = c.count_below-k.ensures.below front rest (subst (PartAt c.args.n front rest) (sym c.as_slice.ensures.value) p)
+rank : (c : goal.After-shift_from) → c.count_below-k.result ≡ rank_in c.max.result c.self.inside.list
+rank c = c.count_below-k.ensures.counted c.self.invariant
 
-written : (c : goal.After-self-1) → take c.self.inside.list.len (c.lower.new.numbers ++ drop (length c.lower.new.numbers) c.self.inside.list.items) ≡ moved_from lowered c.count_below-k.result c.self.inside.list.items
-written c = written_moved lowered c.self.inside.list.len c.count_below-k.result c.self.inside.list.items c.as_mut_slice.result.now c.lower.new.numbers c.self.inside.list.ok.0 c.as_mut_slice.ensures.value c.lower.ensures
+now : (c : goal.After-shift_from) → c.shift_from.new.self ≡ moved_from lowered c.count_below-k.result c.self.inside.list
+now c =
+    c.shift_from.ensures
+    ∙ less_one c.max.result c.self.inside.list c.count_below-k.result (omega (arith, c.max.ensures))
+    (above_rank c.max.result c.count_below-k.result c.self.inside.list c.self.invariant (rank c))
+    (subst (AllByRecursion (λ m. m < 2 ^ 64)) (sym c.self.view_is) c.has_greatest.ensures.fit)
 
 pub invariant_of-self : goal.invariant_of-self
-invariant_of-self c = subst Ascend (sym (written c)) (ascend_lowered c.args.n c.count_below-k.result c.self.inside.list.items c.self.invariant (ends c))
+invariant_of-self c = subst Ascend (sym (now c)) (ascend_lowered c.max.result c.count_below-k.result c.self.inside.list c.self.invariant (rank c))
 
 pub returns-clause-moved : goal.returns-clause-moved
 returns-clause-moved c front rest p fit is =
-    let inside = part_gap c.args.n front rest c.self.inside.list.items p (c.self.view_is ∙ is) in
-    written c ∙ ap₂ (λ (j : ℕ) (l : List ℕ). moved_from lowered j l) (ends c front (map suc rest) inside) inside.whole ∙ moved_rest lowered front (map suc rest) ∙ ap (λ (l : List ℕ). front ++ l) (map-lowered rest)
+    let inside = part_one c.args.n c.max.result front rest c.self.inside.list c.max.ensures p (c.self.view_is ∙ is) in
+    now c
+    ∙ ap₂ (λ (j : ℕ) (l : List ℕ). moved_from lowered j l) (ends c.max.result c.count_below-k.result c.self.inside.list c.self.invariant (rank c) front (map suc rest) inside) inside.whole
+    ∙ moved_rest lowered front (map suc rest)
+    ∙ ap (λ (l : List ℕ). front ++ l) (map-lowered rest)

@@ -1,22 +1,22 @@
-use Rattle.std.proofs.Common.{◌≡◌, ℕ, List, ◌++◌, ◌∙◌, length, take, drop, sym, ap, ap₂, subst}
-use Rattle.bib_entries.specs.Numbers.{PartAt, Ascend, rank_in, raised, moved_from}
-use Rattle.bib_entries.proofs.MovedNumbers.{moved_rest, map-raised, written_moved, ascend_raised, rank_raised}
+use Rattle.std.proofs.Common.{refl, ◌≡◌, ◌<◌, ◌+◌, ◌^◌, ℕ, List, ◌∙◌, suc, sym, ap, ap₂, subst}
+use Rattle.bib_entries.specs.Numbers.{PartAt, Ascend, HaveNext, rank_in}
+use Rattle.bib_entries.specs.Moves.{moved_from}
+use Rattle.bib_entries.proofs.MovedNumbers.{moved_rest, plus_one, rest_has, ends, ascend_raised, rank_raised}
 use Rattle.bib_entries.proofs.numbers.Numbers.make_way.Goals as goal
 
-ends : (c : goal.After-self-1) (front rest : List ℕ) → PartAt c.args.n front rest c.self.inside.list.items → c.count_below-k.result ≡ length front
-ends c front rest p = c.count_below-k.ensures.below front rest (subst (PartAt c.args.n front rest) (sym c.as_slice.ensures.value) p)
+rank : (c : goal.After-shift_from) → c.count_below-k.result ≡ rank_in c.args.n c.self.inside.list
+rank c = c.count_below-k.ensures.counted c.self.invariant
 
-written : (c : goal.After-self-1) → take c.self.inside.list.len (c.raise.new.numbers ++ drop (length c.raise.new.numbers) c.self.inside.list.items) ≡ moved_from raised c.count_below-k.result c.self.inside.list.items
-written c = written_moved raised c.self.inside.list.len c.count_below-k.result c.self.inside.list.items c.as_mut_slice.result.now c.raise.new.numbers c.self.inside.list.ok.0 c.as_mut_slice.ensures.value c.raise.ensures
+now : (c : goal.After-shift_from) → c.shift_from.new.self ≡ moved_from suc c.count_below-k.result c.self.inside.list
+now c = c.shift_from.ensures ∙ plus_one c.self.inside.list c.count_below-k.result (rest_has (λ m. m + 1 < 2 ^ 64) c.count_below-k.result c.self.inside.list (subst HaveNext (sym c.self.view_is) (c.if-has_greatest.ensures.none refl)))
 
 pub invariant_of-self : goal.invariant_of-self
-invariant_of-self c = subst Ascend (sym (written c)) (ascend_raised c.args.n c.count_below-k.result c.self.inside.list.items c.self.invariant (ends c) c.ranges.n.fits)
+invariant_of-self c = subst Ascend (sym (now c)) (ascend_raised c.args.n c.count_below-k.result c.self.inside.list c.self.invariant (rank c))
 
 pub returns-clause-rank : goal.returns-clause-rank
-returns-clause-rank c =
-    ap (rank_in c.args.n) (written c) ∙ rank_raised c.args.n c.count_below-k.result c.self.inside.list.items c.self.invariant (ends c) c.ranges.n.fits ∙ ap (rank_in c.args.n) c.self.view_is
+returns-clause-rank c = ap (rank_in c.args.n) (now c) ∙ rank_raised c.args.n c.count_below-k.result c.self.inside.list c.self.invariant (rank c) ∙ ap (rank_in c.args.n) c.self.view_is
 
 pub returns-clause-moved : goal.returns-clause-moved
 returns-clause-moved c front rest p fit =
     let inside = subst (PartAt c.args.n front rest) (sym c.self.view_is) p in
-    written c ∙ ap₂ (λ (j : ℕ) (l : List ℕ). moved_from raised j l) (ends c front rest inside) inside.whole ∙ moved_rest raised front rest ∙ ap (λ (l : List ℕ). front ++ l) (map-raised rest fit)
+    now c ∙ ap₂ (λ (j : ℕ) (l : List ℕ). moved_from suc j l) (ends c.args.n c.count_below-k.result c.self.inside.list c.self.invariant (rank c) front rest inside) inside.whole ∙ moved_rest suc front rest
