@@ -3,6 +3,7 @@ use Rattle.std.proofs.Common.{◌≡◌, ℕ, zero, suc, ◌+◌, cond, Bool, Li
 use Rattle.std.specs.List.{flat_map, All}
 use Rattle.std.specs.Option.{option_or}
 use Rattle.std.proofs.lemmas.Option.{none-some}
+use Rattle.std.proofs.lemmas.List.{map-append}
 use Rattle.std.proofs.lemmas.List.Elements.{All-head, All-tail}
 use Rattle.bib_spec.specs.Bytes.{name_limit}
 use Rattle.bib_spec.specs.Text.{Text}
@@ -30,6 +31,14 @@ trees items = map (λ (i : Item). i.tree) items
 
 abbrev pub bodies : List Item → List Text
 bodies items = map (λ (i : Item). tree_bytes i.tree) items
+
+-- what stands before and after them stays
+pub trees_between : (before xs ys after : List Item) → trees xs ≡ trees ys → trees (before ++ (xs ++ after)) ≡ trees (before ++ (ys ++ after))
+trees_between before xs ys after e =
+    let tree = λ (i : Item). i.tree in
+    map-append tree before (xs ++ after)
+    ∙ ap (λ (l : List Tree). trees before ++ l) (map-append tree xs after ∙ ap (λ (l : List Tree). l ++ trees after) e ∙ sym (map-append tree ys after))
+    ∙ sym (map-append tree before (ys ++ after))
 
 -- trees with the same bytes are the same
 pub trees_of : (xs ys : List Item) → All (IsItem name_limit) xs → All (IsItem name_limit) ys → bodies xs ≡ bodies ys → trees xs ≡ trees ys

@@ -79,6 +79,20 @@ body_between items from to k body low high within is =
     ∙ ap (λ (i : Item). i.body) (get_or-take (to - from) (drop from items) n (item [] []) (omega (arith, low, high)) ∙ get_or-drop from items n (item [] []) ∙ ap (λ (j : ℕ). get_or items j (item [] [])) back)
     ∙ sym is)
 
+only_of : (xs : List Text) (x : Text) → length xs ≡ 1 → slice_get xs 0 ≡ Some x → xs ≡ x ∷ []
+only_of [] x one at = absurd (omega (arith, one))
+only_of (y ∷ []) x one at = ap (λ (z : Text). z ∷ []) (same_Some y x at)
+only_of (y ∷ z ∷ xs) x one at = absurd (omega (arith, one))
+
+-- one item alone
+pub one_between : (items : List Item) (n : ℕ) (body : Text) → n < length items → body ≡ (item_at items n).body → bodies_between n (n + 1) items ≡ body ∷ []
+one_between items n body within is =
+    let one : n + 1 - n ≡ 1 = omega arith in
+    let none : n - n ≡ 0 = omega arith in
+    only_of (bodies_between n (n + 1) items) body
+    (length-between items n (n + 1) (omega arith) (omega (arith, within)) ∙ one)
+    (ap (slice_get (bodies_between n (n + 1) items)) (sym none) ∙ body_between items n (n + 1) n body (omega arith) (omega arith) (omega (arith, within)) is)
+
 take_none : {X : Type 0} (k : ℕ) (xs : List X) → xs ≡ [] → take k xs ≡ []
 take_none zero xs e = refl
 take_none (suc k) [] e = refl

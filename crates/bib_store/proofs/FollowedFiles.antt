@@ -2,7 +2,7 @@
 use Rattle.std.proofs.Common.{◌≡◌, ◌≢◌, ℕ, ◌+◌, ◌-◌, ◌≤◌, ◌<◌, ◌^◌, List, [], ◌∷◌, ◌++◌, length, map, take, drop, None, sym, subst, ◌∙◌, ap, ap₂, refl, arith, append_assoc, length-append, take-append-drop}
 use Rattle.std.specs.List.{AllByRecursion, All, flat_map}
 use Rattle.std.specs.Option.{option_or}
-use Rattle.std.proofs.lemmas.List.{map-append, length-map, take-map, drop-map, length-take-le, length-drop, drop-drop}
+use Rattle.std.proofs.lemmas.List.{map-append, length-map, take-map, drop-map, drop_at, length-take-le, length-drop, drop-drop}
 use Rattle.std.proofs.lemmas.List.Elements.{All-head, All-tail, All-take, All-drop}
 use Rattle.bib_spec.specs.Bytes.{name_limit}
 use Rattle.bib_spec.specs.Text.{Text}
@@ -20,12 +20,12 @@ use Rattle.bib_definitions.specs.Definitions.{texts_at}
 use Rattle.bib_store.specs.ItemTexts.{first_too_long}
 use Rattle.bib_store.specs.Beside.{AreTablesOf}
 use Rattle.bib_store.specs.Stored.{IsKeptAs}
-use Rattle.bib_store.specs.Windows.{ArePut, joined}
-use Rattle.bib_store.specs.Following.{bodies_between, AreItemsOf, AreOthersOf, DefineNothing, HaveShortTexts}
+use Rattle.bib_store.specs.Windows.{IsLead, ArePut, joined}
+use Rattle.bib_store.specs.Following.{bodies_between, AreItemsOf, AreOthersOf, DefineNothing, DefineNothingBetween, HaveShortTexts}
 use Rattle.bib_store.proofs.KeptItems.{count_kept}
 use Rattle.bib_store.proofs.ItemsMore.{raw_texts-append, first-append}
 use Rattle.bib_store.proofs.Amended.{none_both, fit_parts, fit_joined}
-use Rattle.bib_store.proofs.Appended.{fit_alike}
+use Rattle.bib_store.proofs.Appended.{trees, trees_of, trees_between, tables_alike, fit_alike}
 use Rattle.bib_definitions.proofs.MacrosAfter.{macros_in_front}
 
 -- ---- items
@@ -123,156 +123,258 @@ exchanged_shorts : (there : ℕ) (before new after : List reading.Item) → Defi
 exchanged_shorts there before new after plain fits =
     shorts_of (there + length (flat_map item_bytes before)) (macros_at months before (length before)) new after plain (parts_fit there before (new ++ after) fits).1
 
+-- ---- a list in parts
+
+-- up to a number, so many from there, those after them up to another number, and the rest
+pub four_parts : {X : Type 0} (from many to : ℕ) (xs : List X) → from + many ≤ to → xs ≡ take from xs ++ (take many (drop from xs) ++ (take (to - (from + many)) (drop (from + many) xs) ++ drop to xs))
+four_parts {X} from many to xs order =
+    let sum : from + many + (to - (from + many)) ≡ to = omega (arith, order) in
+    let last : drop (from + many) xs ≡ take (to - (from + many)) (drop (from + many) xs) ++ drop to xs
+    = sym (take-append-drop (to - (from + many)) (drop (from + many) xs))
+    ∙ ap (λ (l : List X). take (to - (from + many)) (drop (from + many) xs) ++ l) (drop-drop (to - (from + many)) (from + many) xs ∙ ap (λ (n : ℕ). drop n xs) sum) in
+    sym (take-append-drop from xs)
+    ∙ ap (λ (l : List X). take from xs ++ l)
+    (sym (take-append-drop many (drop from xs)) ∙ ap (λ (l : List X). take many (drop from xs) ++ l) (drop-drop many from xs ∙ last))
+
 -- ---- a change
 
-module _ (c : Change) (old now : List Item) (count : ℕ) (put : ArePut c old now count) (front : Text) (db inner : Reading) (t : Tables) (k : IsKeptAs db front old t) (reads : Reads c.text inner)
-    (few : length now < 2 ^ 64)
-    (plain : (all : List reading.Item) → AreItemsOf (bodies_between c.window.from (c.window.to + count) now) all → DefineNothing all) where
+module _ (c : Change) (old now : List Item) (count lead : ℕ) (put : ArePut c old now count) (front : Text) (db inner : Reading) (t : Tables) (k : IsKeptAs db front old t) (reads : Reads c.text inner)
+    (few : length now < 2 ^ 64) (is : IsLead c.window count lead now)
+    (come_plain : DefineNothingBetween (c.window.from + lead) (c.window.from + count) now) (gone_plain : DefineNothingBetween (c.window.from + count + lead) (c.window.to + count) now) where
+  abbrev from : ℕ
+  from = c.window.from
+
+  abbrev to : ℕ
+  to = c.window.to
+
   abbrev before : List reading.Item
-  before = take c.window.from db.items
+  before = take from db.items
+
+  -- those that stay, as they were
+  abbrev stay : List reading.Item
+  stay = take lead (drop from db.items)
 
   abbrev gone : List reading.Item
-  gone = take (c.window.to - c.window.from) (drop c.window.from db.items)
+  gone = take (to - (from + lead)) (drop (from + lead) db.items)
 
   abbrev after : List reading.Item
-  after = drop c.window.to db.items
+  after = drop to db.items
+
+  -- those that stay, with their new trails
+  abbrev again : List reading.Item
+  again = take lead inner.items
+
+  abbrev come : List reading.Item
+  come = drop lead inner.items
+
+  abbrev kept : List reading.Item
+  kept = before ++ stay
 
   size : length old ≡ length db.items
   size = count_kept db front old t k
 
-  within : c.window.to ≤ length db.items
+  within : to ≤ length db.items
   within = let w = put.window.within in omega (arith, w, size)
 
-  order : c.window.from ≤ c.window.to
-  order = put.window.ordered
+  order : from + lead ≤ to
+  order = is.go
 
   counted : count ≡ length inner.items
   counted = put.counted inner reads
 
-  long_before : length before ≡ c.window.from
-  long_before = length-take-le c.window.from db.items (omega (arith, order, within))
+  long_before : length before ≡ from
+  long_before = length-take-le from db.items (omega (arith, order, within))
 
-  long_gone : length gone ≡ c.window.to - c.window.from
-  long_gone = length-take-le (c.window.to - c.window.from) (drop c.window.from db.items) (omega (arith, order, within, length-drop c.window.from db.items))
+  long_stay : length stay ≡ lead
+  long_stay = length-take-le lead (drop from db.items) (omega (arith, order, within, length-drop from db.items))
 
-  after_is : drop (c.window.to - c.window.from) (drop c.window.from db.items) ≡ after
-  after_is =
-      let sum : c.window.from + (c.window.to - c.window.from) ≡ c.window.to = omega (arith, order) in
-      drop-drop (c.window.to - c.window.from) c.window.from db.items ∙ ap (λ (n : ℕ). drop n db.items) sum
+  long_kept : length kept ≡ from + lead
+  long_kept = omega (arith, long_before, long_stay, length-append before stay)
 
-  old_parts : db.items ≡ before ++ (gone ++ after)
-  old_parts =
-      sym (take-append-drop c.window.from db.items)
-      ∙ ap (λ (l : List reading.Item). before ++ l) (sym (take-append-drop (c.window.to - c.window.from) (drop c.window.from db.items)) ∙ ap (λ (l : List reading.Item). gone ++ l) after_is)
+  long_gone : length gone ≡ to - (from + lead)
+  long_gone = length-take-le (to - (from + lead)) (drop (from + lead) db.items) (omega (arith, order, within, length-drop (from + lead) db.items))
 
-  now_parts : now ≡ all_stored before ++ (all_stored inner.items ++ (all_stored gone ++ all_stored after))
+  long_again : length again ≡ lead
+  long_again = let low = is.come in length-take-le lead inner.items (omega (arith, low, counted))
+
+  long_come : length come ≡ count - lead
+  long_come = omega (arith, counted, length-drop lead inner.items)
+
+  old_parts : db.items ≡ before ++ (stay ++ (gone ++ after))
+  old_parts = four_parts from lead to db.items order
+
+  kept_parts : db.items ≡ kept ++ (gone ++ after)
+  kept_parts = old_parts ∙ sym (append_assoc before stay (gone ++ after))
+
+  new_parts : inner.items ≡ again ++ come
+  new_parts = sym (take-append-drop lead inner.items)
+
+  stored_old : drop from old ≡ all_stored stay ++ (all_stored gone ++ all_stored after)
+  stored_old =
+      ap (drop from) k.items ∙ drop-map stored from db.items
+      ∙ ap all_stored (ap (drop from) old_parts ∙ drop_at before (stay ++ (gone ++ after)) from long_before)
+      ∙ map-append stored stay (gone ++ after)
+      ∙ ap (λ (l : List Item). all_stored stay ++ l) (map-append stored gone after)
+
+  stored_new : all_stored inner.items ≡ all_stored again ++ all_stored come
+  stored_new = ap all_stored new_parts ∙ map-append stored again come
+
+  now_parts : now ≡ all_stored before ++ ((all_stored again ++ all_stored come) ++ (all_stored stay ++ (all_stored gone ++ all_stored after)))
   now_parts =
-      let rest : drop c.window.from db.items ≡ gone ++ after = sym (take-append-drop (c.window.to - c.window.from) (drop c.window.from db.items)) ∙ ap (λ (l : List reading.Item). gone ++ l) after_is in
       put.put inner reads
-      ∙ ap₂ (λ (a b : List Item). a ++ (all_stored inner.items ++ b))
-      (ap (take c.window.from) k.items ∙ take-map stored c.window.from db.items)
-      (ap (drop c.window.from) k.items ∙ drop-map stored c.window.from db.items ∙ ap all_stored rest ∙ map-append stored gone after)
+      ∙ ap₂ (λ (a b : List Item). a ++ b) (ap (take from) k.items ∙ take-map stored from db.items)
+      (ap₂ (λ (a b : List Item). a ++ b) stored_new stored_old)
 
-  length_stored : (items : List reading.Item) → length (all_stored items) ≡ length items
-  length_stored items = length-map items stored
+  -- ---- bodies
 
-  pub new_bodies : bodies_between c.window.from (c.window.from + count) now ≡ map (λ (i : reading.Item). tree_bytes i.tree) inner.items
-  new_bodies =
-      ap (bodies_between c.window.from (c.window.from + count)) now_parts
-      ∙ stretch (all_stored before) (all_stored inner.items) (all_stored gone ++ all_stored after) c.window.from (c.window.from + count)
-      (sym long_before ∙ sym (length_stored before)) (omega (arith, long_before, length_stored before, counted, length_stored inner.items))
-      ∙ bodies-stored inner.items
+  stretch_of : (a b d : List reading.Item) (from to : ℕ) → now ≡ all_stored a ++ (all_stored b ++ all_stored d) → from ≡ length a → to ≡ length a + length b
+      → bodies_between from to now ≡ map (λ (i : reading.Item). tree_bytes i.tree) b
+  stretch_of a b d from to parts low high =
+      ap (bodies_between from to) parts
+      ∙ stretch (all_stored a) (all_stored b) (all_stored d) from to (low ∙ sym (length-map a stored)) (omega (arith, high, length-map a stored, length-map b stored))
+      ∙ bodies-stored b
 
-  pub gone_bodies : bodies_between (c.window.from + count) (c.window.to + count) now ≡ map (λ (i : reading.Item). tree_bytes i.tree) gone
+  all_parts : now ≡ all_stored (before ++ (again ++ (come ++ (stay ++ (gone ++ after)))))
+  all_parts =
+      now_parts
+      ∙ sym (map-append stored before (again ++ (come ++ (stay ++ (gone ++ after))))
+      ∙ ap (λ (l : List Item). all_stored before ++ l)
+      (map-append stored again (come ++ (stay ++ (gone ++ after)))
+      ∙ ap (λ (l : List Item). all_stored again ++ l)
+      (map-append stored come (stay ++ (gone ++ after))
+      ∙ ap (λ (l : List Item). all_stored come ++ l) (map-append stored stay (gone ++ after) ∙ ap (λ (l : List Item). all_stored stay ++ l) (map-append stored gone after)))
+      ∙ sym (append_assoc (all_stored again) (all_stored come) (all_stored stay ++ (all_stored gone ++ all_stored after)))))
+
+  -- the items of the list in three parts
+  parted : (a b d : List reading.Item) → before ++ (again ++ (come ++ (stay ++ (gone ++ after)))) ≡ a ++ (b ++ d) → now ≡ all_stored a ++ (all_stored b ++ all_stored d)
+  parted a b d e = all_parts ∙ ap all_stored e ∙ map-append stored a (b ++ d) ∙ ap (λ (l : List Item). all_stored a ++ l) (map-append stored b d)
+
+  again_bodies : bodies_between from (from + lead) now ≡ map (λ (i : reading.Item). tree_bytes i.tree) again
+  again_bodies = stretch_of before again (come ++ (stay ++ (gone ++ after))) from (from + lead) (parted before again (come ++ (stay ++ (gone ++ after))) refl)
+      (sym long_before) (omega (arith, long_before, long_again))
+
+  come_bodies : bodies_between (from + lead) (from + count) now ≡ map (λ (i : reading.Item). tree_bytes i.tree) come
+  come_bodies =
+      let low = is.come in
+      stretch_of (before ++ again) come (stay ++ (gone ++ after)) (from + lead) (from + count)
+      (parted (before ++ again) come (stay ++ (gone ++ after)) (sym (append_assoc before again (come ++ (stay ++ (gone ++ after))))))
+      (omega (arith, long_before, long_again, length-append before again)) (omega (arith, low, long_before, long_again, long_come, length-append before again))
+
+  stay_bodies : bodies_between (from + count) (from + count + lead) now ≡ map (λ (i : reading.Item). tree_bytes i.tree) stay
+  stay_bodies =
+      let low = is.come in
+      stretch_of (before ++ (again ++ come)) stay (gone ++ after) (from + count) (from + count + lead)
+      (parted (before ++ (again ++ come)) stay (gone ++ after) (simp append_assoc))
+      (omega (arith, low, long_before, long_again, long_come, length-append before (again ++ come), length-append again come))
+      (omega (arith, low, long_before, long_again, long_come, long_stay, length-append before (again ++ come), length-append again come))
+
+  gone_bodies : bodies_between (from + count + lead) (to + count) now ≡ map (λ (i : reading.Item). tree_bytes i.tree) gone
   gone_bodies =
-      ap (bodies_between (c.window.from + count) (c.window.to + count)) (now_parts ∙ sym (append_assoc (all_stored before) (all_stored inner.items) (all_stored gone ++ all_stored after)))
-      ∙ stretch (all_stored before ++ all_stored inner.items) (all_stored gone) (all_stored after) (c.window.from + count) (c.window.to + count)
-      (omega (arith, long_before, length_stored before, counted, length_stored inner.items, length-append (all_stored before) (all_stored inner.items)))
-      (omega (arith, order, long_before, length_stored before, counted, length_stored inner.items, length-append (all_stored before) (all_stored inner.items), long_gone, length_stored gone))
-      ∙ bodies-stored gone
+      let low = is.come in
+      let o = order in
+      stretch_of (before ++ (again ++ (come ++ stay))) gone after (from + count + lead) (to + count)
+      (parted (before ++ (again ++ (come ++ stay))) gone after (simp append_assoc))
+      (omega (arith, low, long_before, long_again, long_come, long_stay, length-append before (again ++ (come ++ stay)), length-append again (come ++ stay), length-append come stay))
+      (omega (arith, low, o, long_before, long_again, long_come, long_stay, long_gone, length-append before (again ++ (come ++ stay)), length-append again (come ++ stay), length-append come stay))
 
-  all_bodies : bodies_between c.window.from (c.window.to + count) now ≡ map (λ (i : reading.Item). tree_bytes i.tree) (inner.items ++ gone)
-  all_bodies =
-      ap (bodies_between c.window.from (c.window.to + count))
-      (now_parts ∙ ap (λ (l : List Item). all_stored before ++ l) (sym (append_assoc (all_stored inner.items) (all_stored gone) (all_stored after))
-      ∙ ap (λ (l : List Item). l ++ all_stored after) (sym (map-append stored inner.items gone))))
-      ∙ stretch (all_stored before) (all_stored (inner.items ++ gone)) (all_stored after) c.window.from (c.window.to + count)
-      (sym long_before ∙ sym (length_stored before))
-      (omega (arith, order, long_before, length_stored before, counted, length-append inner.items gone, length_stored (inner.items ++ gone), long_gone))
-      ∙ bodies-stored (inner.items ++ gone)
+  good_db : (many at : ℕ) → All (IsItem name_limit) (take many (drop at db.items))
+  good_db many at = All-take (IsItem name_limit) many (drop at db.items) (All-drop (IsItem name_limit) at db.items k.opens.reads.items)
 
-  good_new : AllByRecursion (λ i. IsTree name_limit i.tree) inner.items
-  good_new = trees_good inner.items reads.items
+  -- those that stay have the trees that they had
+  same_trees : trees stay ≡ trees again
+  same_trees =
+      trees_of stay again (good_db lead from) (All-take (IsItem name_limit) lead inner.items reads.items) (sym stay_bodies ∙ sym is.same ∙ again_bodies)
 
-  good_gone : AllByRecursion (λ i. IsTree name_limit i.tree) gone
-  good_gone = trees_good gone (All-take (IsItem name_limit) (c.window.to - c.window.from) (drop c.window.from db.items) (All-drop (IsItem name_limit) c.window.from db.items k.opens.reads.items))
+  -- the file's items, but for the trails of those that stay
+  same_file : trees (kept ++ (come ++ after)) ≡ trees (before ++ (inner.items ++ after))
+  same_file =
+      ap trees (append_assoc before stay (come ++ after))
+      ∙ trees_between before stay again (come ++ after) same_trees
+      ∙ ap (λ (l : List reading.Item). trees (before ++ l)) (sym (append_assoc again come after) ∙ ap (λ (l : List reading.Item). l ++ after) (sym new_parts))
 
-  plain_both : (DefineNothing inner.items) × (DefineNothing gone)
-  plain_both = others_split inner.items gone (plain (inner.items ++ gone) (record { trees = both_good inner.items gone good_new good_gone; same = sym all_bodies }))
+  come_others : AreOthersOf (bodies_between (from + lead) (from + count) now) come
+  come_others =
+      let are : AreItemsOf (bodies_between (from + lead) (from + count) now) come = record { trees = trees_good come (All-drop (IsItem name_limit) lead inner.items reads.items); same = sym come_bodies } in
+      record { are = are; others = come_plain come are }
 
-  pub new_others : AreOthersOf (bodies_between c.window.from (c.window.from + count) now) inner.items
-  new_others = record { are = record { trees = good_new; same = sym new_bodies }; others = plain_both.0 }
+  gone_others : AreOthersOf (bodies_between (from + count + lead) (to + count) now) gone
+  gone_others =
+      let are : AreItemsOf (bodies_between (from + count + lead) (to + count) now) gone = record { trees = trees_good gone (good_db (to - (from + lead)) (from + lead)); same = sym gone_bodies } in
+      record { are = are; others = gone_plain gone are }
 
-  pub gone_others : AreOthersOf (bodies_between (c.window.from + count) (c.window.to + count) now) gone
-  gone_others = record { are = record { trees = good_gone; same = sym gone_bodies }; others = plain_both.1 }
+  -- ---- numbers
 
   -- so many items fit
-  all_fit : c.window.from + (length inner.items + length (gone ++ after)) < 2 ^ 64
+  all_fit : from + lead + (length come + length (gone ++ after)) < 2 ^ 64
   all_fit =
       let all = ap (length {A = Item}) now_parts in
       omega (
         arith,
         few,
         all,
-        length-append (all_stored before) (all_stored inner.items ++ (all_stored gone ++ all_stored after)),
-        length-append (all_stored inner.items) (all_stored gone ++ all_stored after),
+        length-append (all_stored before) ((all_stored again ++ all_stored come) ++ (all_stored stay ++ (all_stored gone ++ all_stored after))),
+        length-append (all_stored again ++ all_stored come) (all_stored stay ++ (all_stored gone ++ all_stored after)),
+        length-append (all_stored again) (all_stored come),
+        length-append (all_stored stay) (all_stored gone ++ all_stored after),
         length-append (all_stored gone) (all_stored after),
-        length_stored before,
-        length_stored inner.items,
-        length_stored gone,
-        length_stored after,
+        length-map before stored,
+        length-map again stored,
+        length-map come stored,
+        length-map stay stored,
+        length-map gone stored,
+        length-map after stored,
         length-append gone after,
         long_before,
+        long_again,
       )
 
-  rest_fit : c.window.from + count + (length gone + length after) < 2 ^ 64
-  rest_fit = let all = all_fit in omega (arith, all, counted, length-append gone after)
+  rest_fit : from + count + (length gone + length after) < 2 ^ 64
+  rest_fit = let all = all_fit in let low = is.come in omega (arith, all, low, long_come, length-append gone after)
 
-  sees : texts_at t.definitions c.window.from ≡ macros_at months before (length before)
+  sees : texts_at t.definitions (from + lead) ≡ macros_at months kept (length kept)
   sees =
-      let low : c.window.from ≤ length before = omega (arith, long_before) in
-      k.tables.definitions.texts c.window.from ∙ ap (λ (l : List reading.Item). macros_at months l c.window.from) old_parts ∙ macros_in_front months before (gone ++ after) c.window.from low
-      ∙ ap (macros_at months before) (sym long_before)
+      let low : from + lead ≤ length kept = omega (arith, long_kept) in
+      k.tables.definitions.texts (from + lead) ∙ ap (λ (l : List reading.Item). macros_at months l (from + lead)) kept_parts ∙ macros_in_front months kept (gone ++ after) (from + lead) low
+      ∙ ap (macros_at months kept) (sym long_kept)
+
+  old_tables : AreTablesOf (kept ++ (gone ++ after)) t
+  old_tables = subst (λ (l : List reading.Item). AreTablesOf l t) kept_parts k.tables
+
+  -- ---- what is said then
 
   pub followed_tables : (learnt forgot : Tables)
-      → ((before new after : List reading.Item) → length before ≡ c.window.from → AreOthersOf (bodies_between c.window.from (c.window.from + count) now) new → c.window.from + (length new + length after) < 2 ^ 64 →
+      → ((before new after : List reading.Item) → length before ≡ from + lead → AreOthersOf (bodies_between (from + lead) (from + count) now) new → from + lead + (length new + length after) < 2 ^ 64 →
       AreTablesOf (before ++ after) t → AreTablesOf (before ++ (new ++ after)) learnt)
-      → ((before gone after : List reading.Item) → length before ≡ c.window.from + count → AreOthersOf (bodies_between (c.window.from + count) (c.window.to + count) now) gone → c.window.from + count + (length gone + length after) < 2 ^ 64 →
+      → ((before gone after : List reading.Item) → length before ≡ from + count → AreOthersOf (bodies_between (from + count + lead) (to + count) now) gone → from + count + (length gone + length after) < 2 ^ 64 →
       AreTablesOf (before ++ (gone ++ after)) learnt → AreTablesOf (before ++ after) forgot)
       → AreTablesOf (before ++ (inner.items ++ after)) forgot
   followed_tables learnt forgot learn forget =
-      let first = learn before inner.items (gone ++ after) long_before new_others all_fit (subst (λ (l : List reading.Item). AreTablesOf l t) old_parts k.tables) in
-      let far : length (before ++ inner.items) ≡ c.window.from + count = omega (arith, length-append before inner.items, long_before, counted) in
-      let second = forget (before ++ inner.items) gone after far gone_others rest_fit (subst (λ (l : List reading.Item). AreTablesOf l learnt) (sym (append_assoc before inner.items (gone ++ after))) first) in
-      subst (λ (l : List reading.Item). AreTablesOf l forgot) (append_assoc before inner.items after) second
+      let low = is.come in
+      let first = learn kept come (gone ++ after) long_kept come_others all_fit old_tables in
+      let far : length (kept ++ come) ≡ from + count = omega (arith, low, length-append kept come, long_kept, long_come) in
+      let second = forget (kept ++ come) gone after far gone_others rest_fit (subst (λ (l : List reading.Item). AreTablesOf l learnt) (sym (append_assoc kept come (gone ++ after))) first) in
+      tables_alike (kept ++ (come ++ after)) (before ++ (inner.items ++ after)) forgot same_file (subst (λ (l : List reading.Item). AreTablesOf l forgot) (append_assoc kept come after) second)
 
-  pub followed_fits : (short : (new : List reading.Item) → AreOthersOf (bodies_between c.window.from (c.window.from + count) now) new → HaveShortTexts (texts_at t.definitions c.window.from) new)
+  pub followed_fits : (short : (new : List reading.Item) → AreOthersOf (bodies_between (from + lead) (from + count) now) new → HaveShortTexts (texts_at t.definitions (from + lead)) new)
       → too_long_at (joined c.window db inner) ≡ None
   followed_fits short =
-      exchanged_fits (length db.front) (length (joined c.window db inner).front) before gone inner.items after plain_both.1 plain_both.0
-      (subst (λ (m : Macros). HaveShortTexts m inner.items) sees (short inner.items new_others))
-      (subst (λ (l : List reading.Item). first_too_long (raw_texts_from (length db.front) months l) ≡ None) old_parts k.opens.texts)
+      let there = length (joined c.window db inner).front in
+      fit_alike there there months (kept ++ (come ++ after)) (before ++ (inner.items ++ after)) same_file
+      (exchanged_fits (length db.front) there kept gone come after gone_others.others come_others.others
+      (subst (λ (m : Macros). HaveShortTexts m come) sees (short come come_others))
+      (subst (λ (l : List reading.Item). first_too_long (raw_texts_from (length db.front) months l) ≡ None) kept_parts k.opens.texts))
 
-  pub followed_refused : ((new : List reading.Item) → AreOthersOf (bodies_between c.window.from (c.window.from + count) now) new → HaveShortTexts (texts_at t.definitions c.window.from) new → ⊥)
+  pub followed_refused : ((new : List reading.Item) → AreOthersOf (bodies_between (from + lead) (from + count) now) new → HaveShortTexts (texts_at t.definitions (from + lead)) new → ⊥)
       → too_long_at (joined c.window db inner) ≡ None → ⊥
   followed_refused over fits =
-      over inner.items new_others
-      (subst (λ (m : Macros). HaveShortTexts m inner.items) (sym sees) (exchanged_shorts (length (joined c.window db inner).front) before inner.items after plain_both.0 fits))
+      let there = length (joined c.window db inner).front in
+      over come come_others
+      (subst (λ (m : Macros). HaveShortTexts m come) (sym sees)
+      (exchanged_shorts there kept come after come_others.others (fit_alike there there months (before ++ (inner.items ++ after)) (kept ++ (come ++ after)) (sym same_file) fits)))
 
   pub followed_back : (back : Tables)
-      → ((before new after : List reading.Item) → length before ≡ c.window.from → AreOthersOf (bodies_between c.window.from (c.window.from + count) now) new → c.window.from + (length new + length after) < 2 ^ 64 →
+      → ((before new after : List reading.Item) → length before ≡ from + lead → AreOthersOf (bodies_between (from + lead) (from + count) now) new → from + lead + (length new + length after) < 2 ^ 64 →
       AreTablesOf (before ++ after) t → AreTablesOf (before ++ after) back)
       → AreTablesOf db.items back
   followed_back back same =
-      subst (λ (l : List reading.Item). AreTablesOf l back) (sym old_parts)
-      (same before inner.items (gone ++ after) long_before new_others all_fit (subst (λ (l : List reading.Item). AreTablesOf l t) old_parts k.tables))
+      subst (λ (l : List reading.Item). AreTablesOf l back) (sym kept_parts) (same kept come (gone ++ after) long_kept come_others all_fit old_tables)

@@ -15,8 +15,7 @@ use Rattle.bib_store.specs.declared.window.Window.{Window}
 use Rattle.bib_store.specs.Beside.{AreTablesOf, AreTables}
 use Rattle.bib_definitions.specs.Definitions.{texts_at}
 use Rattle.bib_store.specs.ItemTexts.{first_too_long}
-use Rattle.bib_store.specs.Following.{bodies_between, AreItemsOf, AreOthersOf, HaveShortTexts}
-use Rattle.bib_store.specs.Runs.{DefineNothingBetween}
+use Rattle.bib_store.specs.Following.{bodies_between, AreItemsOf, AreOthersOf, DefineNothingBetween, HaveShortTexts}
 use Rattle.bib_store.specs.Stored.{file_of, IsKept}
 use Rattle.bib_store.specs.Windows.{IsWindow, exchanged, joined, bytes_before, bytes_behind}
 use Rattle.bib_store.proofs.Changes.{len-around}

@@ -9,8 +9,8 @@ use Rattle.bib_spec.specs.Pieces.{Piece, Fit, applied}
 use Rattle.bib_items.specs.declared.list.Item.{Item}
 use Rattle.bib_items.specs.Items.{kept_bytes, all_stored, without_range}
 use Rattle.bib_store.specs.declared.change.Change.{Change}
-use Rattle.bib_store.specs.Following.{AreItemsOf}
-use Rattle.bib_store.specs.Runs.{IsRunChange, DefineNothingBetween, LeadWithin}
+use Rattle.bib_store.specs.Following.{AreItemsOf, DefineNothingBetween}
+use Rattle.bib_store.specs.Runs.{IsRunChange, LeadWithin}
 use Rattle.bib_store.specs.Shifting.{all_moved_back, FitBehind}
 use Rattle.bib_store.specs.Stored.{file_of}
 use Rattle.bib_store.specs.Windows.{IsWindow, front_before, front_within, bytes_before, bytes_within, bytes_behind}

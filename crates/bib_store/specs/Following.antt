@@ -33,3 +33,7 @@ pub record AreOthersOf (bodies : List Text) (items : List reading.Item) : Type 0
 -- no raw text of theirs is too long, where macros stand for these texts
 abbrev pub HaveShortTexts : Macros → List reading.Item → Type 0
 HaveShortTexts macros items = AllByRecursion (λ i. first_too_long (placed_texts macros i.tree) ≡ None) items
+
+-- none of the items from one number up to another is a definition
+abbrev pub DefineNothingBetween : ℕ → ℕ → List Item → Type 0
+DefineNothingBetween from to items = (all : List reading.Item) → AreItemsOf (bodies_between from to items) all → DefineNothing all

@@ -1,14 +1,13 @@
 -- Pieces whose runs lie apart: what each run touches is replaced, and what stands between them stays.
 use Rattle.std.specs.Prelude.{ℕ, ◌≡◌, ◌≤◌, false, List, ◌++◌, length, take, drop}
 use Rattle.bib_spec.specs.Text.{Text}
-use Rattle.bib_spec.specs.Reading as reading
 use Rattle.bib_spec.specs.Reading.{Reading, Reads}
 use Rattle.bib_spec.specs.Pieces.{Piece, Fit, applied}
 use Rattle.bib_items.specs.declared.list.Item.{Item}
 use Rattle.bib_items.specs.Items.{all_stored}
 use Rattle.bib_store.specs.declared.change.Change.{Change}
 use Rattle.bib_store.specs.declared.tables.Tables.{Tables}
-use Rattle.bib_store.specs.Following.{bodies_between, AreItemsOf, DefineNothing}
+use Rattle.bib_store.specs.Following.{DefineNothingBetween}
 use Rattle.bib_store.specs.Shifting.{all_moved_back, FitBehind}
 use Rattle.bib_store.specs.Stored.{file_of, IsKept}
 use Rattle.bib_store.specs.Windows.{IsChange, bytes_before, bytes_within}
@@ -17,10 +16,6 @@ use Rattle.bib_store.specs.Windows.{IsChange, bytes_before, bytes_within}
 pub record LieIn (pieces : List Piece) (front : Text) (items : List Item) (c : Change) : Type 0 where
   pub fit : FitBehind (length (bytes_before c.window front items)) pieces (bytes_within c.window front items)
   pub text : c.text ≡ applied (all_moved_back (length (bytes_before c.window front items)) pieces) (bytes_within c.window front items)
-
--- none of the items from one number up to another is a definition
-abbrev pub DefineNothingBetween : ℕ → ℕ → List Item → Type 0
-DefineNothingBetween from to items = (all : List reading.Item) → AreItemsOf (bodies_between from to items) all → DefineNothing all
 
 -- The change that a run of pieces makes: they lie in its window, among the first n items and after the front. No item
 -- there is a definition.

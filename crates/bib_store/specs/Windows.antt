@@ -1,5 +1,5 @@
 -- A window on a file: items that lie together, and maybe the front before them.
-use Rattle.std.specs.Prelude.{ℕ, ◌≡◌, ◌≤◌, Bool, true, false, List, [], ◌++◌, length, take, drop}
+use Rattle.std.specs.Prelude.{ℕ, ◌≡◌, ◌+◌, ◌≤◌, Bool, true, false, List, [], ◌++◌, length, take, drop}
 use Rattle.std.specs.List.{flat_map, between}
 use Rattle.bib_spec.specs.Bytes.{file_limit}
 use Rattle.bib_spec.specs.Text.{Text}
@@ -14,6 +14,7 @@ use Rattle.bib_store.specs.declared.tables.Tables.{Tables}
 use Rattle.bib_items.specs.Items.{kept_bytes, all_stored}
 use Rattle.bib_store.specs.Stored.{file_of, IsKeptAs}
 use Rattle.bib_store.specs.Beside.{HasItems}
+use Rattle.bib_store.specs.Following.{bodies_between}
 
 -- the window lies in the items, and it begins the file if it has the front
 pub record IsWindow (items : List Item) (w : Window) : Type 0 where
@@ -93,3 +94,10 @@ pub record ArePut (c : Change) (old now : List Item) (count : ℕ) : Type 0 wher
   pub window : IsWindow old c.window
   pub counted : (inner : Reading) → Reads c.text inner → count ≡ length inner.items
   pub put : (inner : Reading) → Reads c.text inner → now ≡ take c.window.from old ++ (all_stored inner.items ++ drop c.window.from old)
+
+-- So many items of the change, which has this count of them, have the bodies of the first in the window, before which they
+-- stand: of those the trails alone change.
+pub record IsLead (w : Window) (count lead : ℕ) (now : List Item) : Type 0 where
+  pub come : lead ≤ count
+  pub go : w.from + lead ≤ w.to
+  pub same : bodies_between w.from (w.from + lead) now ≡ bodies_between (w.from + count) (w.from + count + lead) now

@@ -1,22 +1,22 @@
 //! Exchanging items for others.
 
 ghost use Rattle.std.specs.Prelude.{◌≡◌, ◌+◌, ◌≤◌, ◌⊎◌, ℕ, List, None, length, IsTrue, IfOk, IfErr, OnOk, OnErr};
-ghost use Rattle.bib_spec.specs.Reading as reading;
 ghost use Rattle.bib_spec.specs.Reading.{Reading, Reads};
 ghost use Rattle.bib_spec.specs.Texts.{too_long_at};
 ghost use Rattle.bib_scan.specs.Layout.{IsLayoutOf};
 ghost use Rattle.bib_store.specs.Beside.{AreTables, HasItems};
-ghost use Rattle.bib_store.specs.Following.{bodies_between, AreItemsOf, DefineNothing};
+ghost use Rattle.bib_store.specs.Following.{DefineNothingBetween};
 ghost use Rattle.bib_items.specs.Items.{without_range};
 ghost use Rattle.bib_store.specs.Stored.{SayTheSameOf};
 ghost use Rattle.bib_items.specs.declared.list.Item.{Item};
-ghost use Rattle.bib_store.specs.Windows.{IsWindow, ArePut, OfJoined, exchanged};
+ghost use Rattle.bib_store.specs.Windows.{IsWindow, IsLead, ArePut, OfJoined, exchanged};
 ghost use Rattle.bib_items.specs.declared.fault.StoreFault.TheVariants.{Memory, BadSplice};
 
 use crate::amending::{amend, amended};
 use crate::change::Change;
 use crate::following::{are_others, forget, learn};
 use crate::tables::Tables;
+use crate::window::Window;
 use bib_items::{ItemList, StoreFault};
 use std::alloc::Global;
 
@@ -85,7 +85,7 @@ fn exchange_all<L: ItemList>(
 
 /// Lets the tables say what holds once the items of a change, of this count, have replaced those of its window, which
 /// stand after them still. Where few come and go, and none defines a macro, the tables follow them; else they are made
-/// again. Where it is refused, the tables say what they said.
+/// again. An item that only gets another trail neither comes nor goes. Where it is refused, the tables say what they said.
 fn renew<L: ItemList>(
     alloc: Global,
     front_len: usize,
@@ -102,37 +102,62 @@ fn renew<L: ItemList>(
     ensures only { IfErr result (λ fault. (fault ≡ BadSplice) ⊎ (fault ≡ Memory)) }
     ensures err { OnErr result ((old : List Item) → (inner : Reading) → Reads change.now.text inner → ArePut change.now old (L.items items.now) count → SayTheSameOf old tables.old tables.new) }
 {
-    if can_follow(items, change, count) {
-        return follow(alloc, items, tables, change, count);
+    let lead = lead_of(items, change.window, count);
+    if can_follow(items, change.window, count, lead) {
+        return follow(alloc, items, tables, change, count, lead);
     }
     *tables = remake(alloc, front_len, items, change, count)?;
     Ok(())
 }
 
-/// Whether the tables may follow: few items come and go, and none of them defines a macro.
-pub(crate) fn can_follow<L: ItemList>(items: &L, change: &Change, count: usize) -> bool
-    requires ordered { change.now.window.from ≤ change.now.window.to }
-    requires within { change.now.window.to + count ≤ length (L.items items.now) }
-    ensures others { IsTrue result → (all : List reading.Item) → AreItemsOf (bodies_between change.now.window.from (change.now.window.to + count) (L.items items.now)) all → DefineNothing all }
+/// How many of the items that come stay as they were but for their trails, with which they come before those of the
+/// window: the first, where it has the body of the first in the window. It takes a step for each byte of that body.
+pub(crate) fn lead_of<L: ItemList>(items: &L, window: Window, count: usize) -> usize
+    requires ordered { window.from ≤ window.to }
+    requires within { window.to + count ≤ length (L.items items.now) }
+    ensures { IsLead window count result (L.items items.now) }
 {
-    let window = change.window;
     // so many items fit
     let _ = items.count();
-    let most = count.max(window.to - window.from);
-    most <= FOLLOWED_LIMIT && are_others(items, window.from, window.to + count)
+    if count == 0 || window.from == window.to {
+        return 0;
+    }
+    if items.body(window.from) == items.body(window.from + count) {
+        return 1;
+    }
+    0
 }
 
-/// Lets the tables follow the items of a change that come, of this count, and those of its window that go.
+/// Whether the tables may follow: few items come and go, and but for those of the lead none of them defines a macro.
+pub(crate) fn can_follow<L: ItemList>(items: &L, window: Window, count: usize, lead: usize) -> bool
+    requires within { window.to + count ≤ length (L.items items.now) }
+    requires lead { IsLead window count lead (L.items items.now) }
+    ensures come { IsTrue result → DefineNothingBetween (window.from + lead) (window.from + count) (L.items items.now) }
+    ensures gone { IsTrue result → DefineNothingBetween (window.from + count + lead) (window.to + count) (L.items items.now) }
+{
+    // so many items fit
+    let _ = items.count();
+    let first_old = window.from + count;
+    let most = count.max(window.to - window.from);
+    most <= FOLLOWED_LIMIT
+        && are_others(items, window.from + lead, first_old)
+        && are_others(items, first_old + lead, window.to + count)
+}
+
+/// Lets the tables follow the items of a change that come, of this count, and those of its window that go. Those of the
+/// lead stay in the tables.
 fn follow<L: ItemList>(
     alloc: Global,
     items: &L,
     tables: &mut Tables,
     change: &Change,
     count: usize,
+    lead: usize,
 ) -> Result<(), StoreFault>
-    requires ordered { change.now.window.from ≤ change.now.window.to }
     requires within { change.now.window.to + count ≤ length (L.items items.now) }
-    requires others { (all : List reading.Item) → AreItemsOf (bodies_between change.now.window.from (change.now.window.to + count) (L.items items.now)) all → DefineNothing all }
+    requires lead { IsLead change.now.window count lead (L.items items.now) }
+    requires come { DefineNothingBetween (change.now.window.from + lead) (change.now.window.from + count) (L.items items.now) }
+    requires gone { DefineNothingBetween (change.now.window.from + count + lead) (change.now.window.to + count) (L.items items.now) }
     ensures tables { OnOk result ((old : List Item) → (front_len : ℕ) → ArePut change.now old (L.items items.now) count → OfJoined change.now front_len old tables.old (λ db. AreTables db tables.new × (too_long_at db ≡ None))) }
     ensures len { OnOk result (tables.new.file_len ≡ change.now.file_len) }
     ensures refused { IfErr result (λ fault. fault ≡ BadSplice → (old : List Item) → (front_len : ℕ) → ArePut change.now old (L.items items.now) count → OfJoined change.now front_len old tables.old (λ db. too_long_at db ≡ None → ⊥)) }
@@ -142,10 +167,12 @@ fn follow<L: ItemList>(
     let window = change.window;
     // so many items fit
     let _ = items.count();
+    let first = window.from + lead;
     let first_old = window.from + count;
-    match learn(alloc, tables, items, window.from, window.from, first_old) {
+    match learn(alloc, tables, items, first, first, first_old) {
         Ok(()) => {
-            forget(tables, items, first_old, first_old, window.to + count);
+            let to = window.to + count;
+            forget(tables, items, first_old, first_old + lead, to);
             tables.file_len = change.file_len;
             Ok(())
         }

@@ -8,8 +8,8 @@ ghost use Rattle.bib_scan.specs.Layout.{IsLayoutOf};
 ghost use Rattle.bib_items.specs.Items.{without_range};
 ghost use Rattle.bib_store.specs.Beside.{AreTablesOf};
 ghost use Rattle.bib_definitions.specs.Definitions.{texts_at};
-ghost use Rattle.bib_store.specs.Following.{bodies_between, AreItemsOf, AreOthersOf, HaveShortTexts};
-ghost use Rattle.bib_store.specs.Runs.{IsRunChange, DefineNothingBetween, ComeBefore, StaysKept, LeadWithin};
+ghost use Rattle.bib_store.specs.Following.{bodies_between, AreItemsOf, AreOthersOf, DefineNothingBetween, HaveShortTexts};
+ghost use Rattle.bib_store.specs.Runs.{IsRunChange, ComeBefore, StaysKept, LeadWithin};
 ghost use Rattle.bib_store.specs.Stored.{IsKept};
 
 use crate::change::{Change, change_near};
@@ -37,7 +37,7 @@ fn run_change<L: ItemList>(
     let Some(change) = change_near(alloc, front, items, tables.file_len, run)? else {
         return Err(StoreFault::BadSplice);
     };
-    if change.window.with_front || change.window.to > n || !can_follow(items, &change, 0) {
+    if change.window.with_front || change.window.to > n || !can_follow(items, change.window, 0, 0) {
         return Err(StoreFault::BadSplice);
     }
     Ok(change)

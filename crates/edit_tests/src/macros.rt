@@ -2,12 +2,16 @@
 
 use crate::rows::{makes, refuses};
 use crate::splicing::{is_piece, planned, text};
+use crate::turns::{Turn, after, is_file};
 use bib_edit::Edit;
 use std::test::Fail;
 
 const MONTH: &[u8] = b"@string{jan = jan # { x}}@misc{a, month = jan}";
 
 const TWICE: &[u8] = b"@string{p={A}}@misc{a,t=p}@string{p={B}}@misc{b,t=p}";
+
+const BESIDE: &[u8] =
+    b"@string{m={x}}\n@misc{a}\n@misc{b,t=n}\n@string{n=m # {y}}\n@misc{c,t=n}\n@misc{d,t=n}\n";
 
 const PARTS: &[u8] = b"@misc{a, t = {x} # \"x\"}";
 
@@ -75,5 +79,49 @@ fn a_text_in_braces_and_in_quotes_gets_one_name(rt: HostRuntime) -> Result<(), F
     assert!(rt; refuses(alloc, 38, PARTS, b"introduce\tmay\tx")?);
     assert!(rt; refuses(alloc, 35, PARTS, b"introduce\tm\ty")?);
     assert!(rt; refuses(alloc, 33, PARTS, b"introduce\tm\t}")?);
+    Ok(())
+}
+
+#[test]
+fn an_entry_goes_from_beside_a_definition_and_comes_back(rt: HostRuntime) -> Result<(), Fail> {
+    let turns = [
+        Turn::Script(b"remove\ta"),
+        Turn::Script(b"remove\tc\ninline\tn"),
+        Turn::Undo(3),
+        Turn::Redo(3),
+    ];
+    let left = after(rt.alloc(), BESIDE, turns.as_slice())?;
+    let without =
+        b"@string{m={x}}\n\n@misc{b,t=n}\n@string{n=m # {y}}\n@misc{c,t=n}\n@misc{d,t=n}\n";
+    let inlined = b"@string{m={x}}\n\n@misc{b,t=n}\n\n\n@misc{d,t={xy}}\n";
+    assert!(rt; is_file(&left, 0, without));
+    assert!(rt; is_file(&left, 1, inlined));
+    assert!(rt; is_file(&left, 2, BESIDE));
+    assert!(rt; is_file(&left, 3, inlined));
+    Ok(())
+}
+
+#[test]
+fn an_entry_moves_away_from_a_definition_and_back(rt: HostRuntime) -> Result<(), Fail> {
+    let turns = [
+        Turn::Script(b"move\ta\t5"),
+        Turn::Script(b"move\tc\t1\ninline\tn"),
+        Turn::Undo(3),
+        Turn::Redo(2),
+        Turn::Script(b"move\ta\t1"),
+    ];
+    let left = after(rt.alloc(), BESIDE, turns.as_slice())?;
+    let moved =
+        b"@string{m={x}}\n\n@misc{b,t=n}\n@string{n=m # {y}}\n@misc{c,t=n}\n@misc{d,t=n}\n@misc{a}\n";
+    let inlined = b"@string{m={x}}\n\n@misc{c,t=n}\n@misc{b,t=n}\n\n\n@misc{d,t={xy}}\n@misc{a}\n";
+    let both =
+        b"@string{m={x}}\n\n@misc{c,t=n}\n@misc{b,t=n}\n@string{n=m # {y}}\n\n@misc{d,t=n}\n@misc{a}\n";
+    let back =
+        b"@string{m={x}}\n\n@misc{a}\n@misc{c,t=n}\n@misc{b,t=n}\n@string{n=m # {y}}\n\n@misc{d,t=n}\n\n";
+    assert!(rt; is_file(&left, 0, moved));
+    assert!(rt; is_file(&left, 1, inlined));
+    assert!(rt; is_file(&left, 2, BESIDE));
+    assert!(rt; is_file(&left, 3, both));
+    assert!(rt; is_file(&left, 4, back));
     Ok(())
 }
