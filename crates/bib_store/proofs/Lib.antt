@@ -35,4 +35,5 @@ pub mod Appended
 pub mod Renewed
 pub mod RunPieces
 pub mod KeptRuns
+pub mod BroughtIn
 pub mod LedRuns
