@@ -1,9 +1,7 @@
 -- The items of a change before those of its window: which of them come, which go, and which stay with other trails.
-use Rattle.std.proofs.Common.{◌≡◌, ℕ, ◌+◌, ◌-◌, ◌≤◌, ◌<◌, ◌^◌, List, ◌++◌, length, map, take, drop, refl, sym, subst, ◌∙◌, ap, ap₂, arith, append_assoc, length-append, length-drop, take-append-drop}
-use Rattle.std.specs.List.{All, between}
+use Rattle.std.proofs.Common.{◌≡◌, ℕ, ◌+◌, ◌-◌, ◌≤◌, ◌<◌, ◌^◌, List, ◌++◌, length, take, drop, sym, subst, ◌∙◌, ap, ap₂, arith, append_assoc, length-append, length-drop, take-append-drop}
+use Rattle.std.specs.List.{between}
 use Rattle.std.proofs.lemmas.List.{take_at, drop_at, drop-drop, take-take, drop-take, take-append-le, drop-append-le, length-take-le}
-use Rattle.bib_spec.specs.Bytes.{name_limit}
-use Rattle.bib_spec.specs.Text.{Text}
 use Rattle.bib_spec.specs.Reading as reading
 use Rattle.bib_spec.specs.Reading.{Reading, Reads, IsItem}
 use Rattle.bib_items.specs.declared.list.Item.{Item}
@@ -13,7 +11,7 @@ use Rattle.bib_store.specs.declared.tables.Tables.{Tables}
 use Rattle.bib_store.specs.Beside.{AreTablesOf}
 use Rattle.bib_definitions.specs.Definitions.{texts_at}
 use Rattle.bib_store.specs.Following.{bodies_between, AreOthersOf, DefineNothingBetween, HaveShortTexts}
-use Rattle.bib_store.specs.Runs.{AreFollowed, StayFollowed}
+use Rattle.bib_store.specs.Runs.{AreFollowed}
 use Rattle.bib_store.specs.Windows.{ArePut, IsLead}
 use Rattle.bib_store.proofs.KeptItems.{length-stored}
 use Rattle.bib_store.proofs.KeptRuns.{bodies_in, parts_of, good_first, good_last, come_followed, come_back, followed_alike}

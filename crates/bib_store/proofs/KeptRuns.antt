@@ -1,13 +1,12 @@
 -- Tables that follow while items come into a list, or go from it.
 use Rattle.std.proofs.Common.{◌≡◌, ℕ, ◌+◌, ◌-◌, ◌≤◌, ◌<◌, ◌^◌, List, [], ◌++◌, length, map, take, drop, None, refl, sym, subst, ◌∙◌, ap, ap₂, arith, append_assoc, length-append, length-drop, take-append-drop}
-use Rattle.std.specs.List.{All, between, flat_map}
-use Rattle.std.proofs.lemmas.List.{append-nil, map-append, length-map, take-map, drop-map, take_at, drop_at, length-take-le, drop-drop, take-take, drop-take}
+use Rattle.std.specs.List.{All, flat_map}
+use Rattle.std.proofs.lemmas.List.{map-append, take-map, drop-map, take_at, drop_at, take-take}
 use Rattle.std.proofs.lemmas.List.Concat.{flat_map-append}
 use Rattle.std.proofs.lemmas.List.Elements.{All-append, All-take, All-drop}
 use Rattle.bib_spec.specs.Bytes.{name_limit, file_limit}
 use Rattle.bib_spec.specs.Text.{Text}
 use Rattle.bib_spec.specs.Clean.{IsClean}
-use Rattle.bib_spec.specs.Tree.{tree_bytes}
 use Rattle.bib_spec.specs.Reading as reading
 use Rattle.bib_spec.specs.Reading.{Reading, Reads, IsItem, item_bytes, bytes_of}
 use Rattle.bib_spec.specs.Texts.{Macros, months, macros_at, raw_texts_from}
@@ -17,7 +16,7 @@ use Rattle.bib_store.specs.declared.tables.Tables.{Tables}
 use Rattle.bib_store.specs.Beside.{AreTablesOf}
 use Rattle.bib_definitions.specs.Definitions.{texts_at}
 use Rattle.bib_store.specs.ItemTexts.{first_too_long}
-use Rattle.bib_store.specs.Following.{bodies_between, AreItemsOf, AreOthersOf, DefineNothing, HaveShortTexts}
+use Rattle.bib_store.specs.Following.{AreItemsOf, AreOthersOf, DefineNothing, HaveShortTexts}
 use Rattle.bib_store.specs.Runs.{IsMeasured, AreFollowed}
 use Rattle.bib_store.specs.Stored.{file_of, IsKept}
 use Rattle.bib_store.proofs.Appended.{trees, trees_of, trees_between, tables_alike, fit_alike}

@@ -1,5 +1,5 @@
 -- Runs of pieces, of which the last is put in first and taken out last.
-use Rattle.std.proofs.Common.{◌≡◌, ℕ, ◌+◌, ◌-◌, ◌≤◌, Bool, List, [], ◌∷◌, ◌++◌, length, map, take, drop, refl, sym, subst, ◌∙◌, ap, ap₂, arith, append_assoc, length-append, length-drop, take-append-drop}
+use Rattle.std.proofs.Common.{◌≡◌, ℕ, ◌+◌, ◌-◌, ◌≤◌, Bool, List, [], ◌∷◌, ◌++◌, length, take, drop, refl, sym, subst, ◌∙◌, ap, ap₂, arith, append_assoc, length-append, length-drop, take-append-drop}
 use Rattle.std.specs.List.{between, flat_map}
 use Rattle.std.proofs.lemmas.List.{take_all, take_at, drop_at, drop-drop, append-nil, drop-append-le, length-take-le, take-take, drop-take}
 use Rattle.std.proofs.lemmas.List.Concat.{flat_map-append}

@@ -1,9 +1,8 @@
-use Rattle.std.proofs.Common.{◌+◌, ◌-◌, ◌≤◌, ◌<◌, ◌∙◌, ℕ, length, refl, sym, ap, subst, arith, rules}
+use Rattle.std.proofs.Common.{◌+◌, ◌≤◌, ◌<◌, ◌∙◌, ℕ, length, refl, sym, ap, arith, rules}
 use Rattle.std.proofs.lemmas.Bool.{eqb-true}
 use Rattle.bib_items.specs.declared.list.Item.{Item}
 use Rattle.bib_items.specs.Items.{all_stored, without_range}
 use Rattle.bib_items.proofs.Filled.{without-put}
-use Rattle.bib_store.specs.Following.{DefineNothingBetween}
 use Rattle.bib_store.proofs.Answered.{err_always}
 use Rattle.bib_store.proofs.BroughtIn.{long_new, long_now}
 use Rattle.bib_store.proofs.LedRuns.{none_lead, longer_back, long_led, old_place, old_others, run_led, run_back}

@@ -1,4 +1,4 @@
-use Rattle.std.proofs.Common.{◌+◌, ◌-◌, ◌≤◌, ◌∙◌, ℕ, List, length, refl, sym, ap, arith}
+use Rattle.std.proofs.Common.{◌∙◌, ℕ, List, length, refl, sym, ap, arith}
 use Rattle.bib_items.specs.declared.list.Item.{Item}
 use Rattle.bib_store.specs.Stored.{file_of}
 use Rattle.bib_store.proofs.Exchanges.{put_of, are_put, taken-new}
