@@ -1,89 +1,101 @@
--- A file that stays kept while items come into its list, or go from it, where the tables follow.
-use Rattle.std.proofs.Common.{◌≡◌, ℕ, ◌+◌, ◌-◌, ◌≤◌, ◌<◌, ◌^◌, false, List, [], ◌++◌, length, take, drop, None, refl, sym, subst, ◌∙◌, ap, ap₂, arith, length-append, length-drop, take-append-drop}
-use Rattle.std.specs.List.{All, between, flat_map}
-use Rattle.std.proofs.lemmas.List.{map-append, take-map, drop-map, length-take-le, drop-drop, take-take, drop-take}
-use Rattle.std.proofs.lemmas.List.Elements.{All-take, All-drop}
+-- Tables that follow while items come into a list, or go from it.
+use Rattle.std.proofs.Common.{◌≡◌, ℕ, ◌+◌, ◌-◌, ◌≤◌, ◌<◌, ◌^◌, List, [], ◌++◌, length, map, take, drop, None, refl, sym, subst, ◌∙◌, ap, ap₂, arith, append_assoc, length-append, length-drop, take-append-drop}
+use Rattle.std.specs.List.{All, flat_map}
+use Rattle.std.proofs.lemmas.List.{map-append, take-map, drop-map, take_at, drop_at, take-take}
+use Rattle.std.proofs.lemmas.List.Concat.{flat_map-append}
+use Rattle.std.proofs.lemmas.List.Elements.{All-append, All-take, All-drop}
 use Rattle.bib_spec.specs.Bytes.{name_limit, file_limit}
 use Rattle.bib_spec.specs.Text.{Text}
+use Rattle.bib_spec.specs.Clean.{IsClean}
 use Rattle.bib_spec.specs.Reading as reading
-use Rattle.bib_spec.specs.Reading.{Reading, Reads, IsItem, bytes_of}
-use Rattle.bib_spec.specs.Texts.{Macros, months, macros_at, raw_texts_from, too_long_at}
+use Rattle.bib_spec.specs.Reading.{Reading, Reads, IsItem, item_bytes, bytes_of}
+use Rattle.bib_spec.specs.Texts.{Macros, months, macros_at, raw_texts_from}
 use Rattle.bib_items.specs.declared.list.Item.{Item}
 use Rattle.bib_items.specs.Items.{kept_bytes, stored, all_stored, without_range}
 use Rattle.bib_store.specs.declared.tables.Tables.{Tables}
-use Rattle.bib_store.specs.declared.window.Window.{Window}
-use Rattle.bib_store.specs.Beside.{AreTablesOf, AreTables}
+use Rattle.bib_store.specs.Beside.{AreTablesOf}
 use Rattle.bib_definitions.specs.Definitions.{texts_at}
 use Rattle.bib_store.specs.ItemTexts.{first_too_long}
-use Rattle.bib_store.specs.Following.{bodies_between, AreItemsOf, AreOthersOf, DefineNothingBetween, HaveShortTexts}
+use Rattle.bib_store.specs.Following.{AreItemsOf, AreOthersOf, DefineNothing, HaveShortTexts}
+use Rattle.bib_store.specs.Runs.{IsMeasured, AreFollowed}
 use Rattle.bib_store.specs.Stored.{file_of, IsKept}
-use Rattle.bib_store.specs.Windows.{IsWindow, exchanged, joined, bytes_before, bytes_behind}
-use Rattle.bib_store.proofs.Changes.{len-around}
-use Rattle.bib_store.proofs.FollowedFiles.{stretch, bodies-stored, trees_good, exchanged_fits}
+use Rattle.bib_store.proofs.Appended.{trees, trees_of, trees_between, tables_alike, fit_alike}
+use Rattle.bib_store.proofs.FollowedFiles.{bodies-stored, trees_good, exchanged_fits}
 use Rattle.bib_definitions.proofs.MacrosAfter.{macros_in_front}
-use Rattle.bib_store.proofs.KeptItems.{count_kept, length-stored, file-stored}
-use Rattle.bib_store.proofs.SplicedFiles.{stored-joined, bytes-joined, items-joined}
-use Rattle.bib_store.proofs.WindowLaws.{bytes-split, none_joined}
+use Rattle.bib_store.proofs.KeptItems.{length-stored, file-stored, bytes-stored}
+use Rattle.bib_store.proofs.WindowLaws.{bytes-split}
 
--- the window from one number up to another, after the front
-abbrev pub part : ℕ → ℕ → Window
-part from to = record { from = from; to = to; with_front = false; place = 0 }
+-- ---- a file
 
-part_is : (items : List Item) (from to : ℕ) → from ≤ to → to ≤ length items → IsWindow items (part from to)
-part_is items from to order within = record { ordered = order; within = within; begins = λ e. cc }
+-- a file that is kept is followed and measured
+pub followed_of : (front : Text) (items : List Item) (t : Tables) → IsKept front items t → AreFollowed items t
+followed_of front items t k = record {
+  all = k.db.items;
+  good = k.is.opens.reads.items;
+  same = k.is.items;
+  tables = k.is.tables;
+  texts = fit_alike (length k.db.front) 0 months k.db.items k.db.items refl k.is.opens.texts;
+}
 
-abbrev no_items : Reading
-no_items = record { front = []; items = [] }
+pub measured_of : (front : Text) (items : List Item) (t : Tables) → IsKept front items t → IsMeasured front items t
+measured_of front items t k =
+    let len = k.is.len in
+    let short = k.is.opens.short in
+    record { len = len; short = omega (arith, len, short) }
 
--- ---- the file
-
--- with the items of a reading in the place of those in the window, and their tables, a file is kept
-kept_after : (from to : ℕ) (front : Text) (old now : List Item) (t new : Tables) (inner : Reading) (k : IsKept front old t) → All (IsItem name_limit) inner.items
-    → now ≡ exchanged (part from to) inner.items old → AreTables (joined (part from to) k.db inner) new → too_long_at (joined (part from to) k.db inner) ≡ None
-    → new.file_len ≡ length (file_of front now) → length (file_of front now) ≤ file_limit → IsKept front now new
-kept_after from to front old now t new inner k good is tables texts len short =
-    let db : Reading = joined (part from to) k.db inner in
-    let items : now ≡ all_stored db.items = is ∙ sym (stored-joined (part from to) k.db inner old k.is.items) in
-    let bytes : bytes_of db ≡ file_of front now = sym (file-stored db) ∙ ap₂ file_of (sym k.is.front) (sym items) in
+-- with the same front, others that are followed and measured are kept
+pub kept_again : (front : Text) (items new : List Item) (t u : Tables) → IsKept front items t → AreFollowed new u → IsMeasured front new u → IsKept front new u
+kept_again front items new t u k f m =
+    let db : Reading = record { front = front; items = f.all } in
+    let bytes : bytes_of db ≡ file_of front new = sym (file-stored db) ∙ ap (file_of front) (sym f.same) in
+    let len = m.len in
+    let short = m.short in
     record {
       db = db;
       is = record {
         opens = record {
-          reads = record {
-            bytes = bytes;
-            front = k.is.opens.reads.front;
-            items = items-joined name_limit (part from to) k.db inner k.is.opens.reads.items good;
-          };
-          short = short;
-          texts = texts;
+          reads = record { bytes = bytes; front = subst IsClean (sym k.is.front) k.is.opens.reads.front; items = f.good };
+          short = omega (arith, len, short);
+          texts = fit_alike 0 (length front) months f.all f.all refl f.texts;
         };
-        front = k.is.front;
-        items = items;
-        tables = tables;
+        front = refl;
+        items = f.same;
+        tables = f.tables;
         len = len;
       };
     }
 
--- how long it is
-len-after : (from to : ℕ) (front : Text) (old : List Item) (inner : Reading) → from ≤ to → to ≤ length old → inner.front ≡ []
-    → length (file_of front (exchanged (part from to) inner.items old)) ≡ length (bytes_before (part from to) front old) + (length (bytes_of inner) + length (bytes_behind (part from to) old))
-len-after from to front old inner order within begins =
-    ap length (bytes-joined (part from to) front old inner (part_is old from to order within) (λ e. begins))
-    ∙ length-append (bytes_before (part from to) front old) (bytes_of inner ++ bytes_behind (part from to) old)
-    ∙ ap (λ n. length (bytes_before (part from to) front old) + n) (length-append (bytes_of inner) (bytes_behind (part from to) old))
+-- ---- how long it is
 
--- the bytes of the items up to a number, less those up to an earlier one, are those between
-pub len-between : (items : List Item) (from to : ℕ) → from ≤ to
-    → length (flat_map kept_bytes (take to items)) ≡ length (flat_map kept_bytes (take from items)) + length (flat_map kept_bytes (between from to items))
-len-between items from to order =
-    let whole : from + (to - from) ≡ to = omega arith in
-    ap length (sym (bytes-split (take to items) from))
-    ∙ length-append (flat_map kept_bytes (take from (take to items))) (flat_map kept_bytes (drop from (take to items)))
-    ∙ ap₂ (λ (a b : List Item). length (flat_map kept_bytes a) + length (flat_map kept_bytes b))
-    (take-take from to items order)
-    (ap (λ n. drop from (take n items)) (sym whole) ∙ drop-take from (to - from) items)
+pub come_len : (front : Text) (old now : List Item) (new : List reading.Item) (from : ℕ) → now ≡ take from old ++ (all_stored new ++ drop from old)
+    → length (file_of front now) ≡ length (file_of front old) + length (flat_map kept_bytes (all_stored new))
+come_len front old now new from put =
+    let first : Text = flat_map kept_bytes (take from old) in
+    let last : Text = flat_map kept_bytes (drop from old) in
+    let mid : Text = flat_map kept_bytes (all_stored new) in
+    let bytes : flat_map kept_bytes now ≡ first ++ (mid ++ last)
+    = ap (flat_map kept_bytes) put ∙ flat_map-append kept_bytes (take from old) (all_stored new ++ drop from old) ∙ ap (λ (l : Text). first ++ l) (flat_map-append kept_bytes (all_stored new) (drop from old)) in
+    omega (
+      arith,
+      ap (length {A = ℕ}) bytes,
+      ap (length {A = ℕ}) (bytes-split old from),
+      length-append front (flat_map kept_bytes now),
+      length-append front (flat_map kept_bytes old),
+      length-append first last,
+      length-append first (mid ++ last),
+      length-append mid last,
+    )
 
--- they are no more than the file's
+-- measured with a text more
+pub come_measured : (front : Text) (old now : List Item) (t u : Tables) (inner : Reading) (from : ℕ) (text : Text) → IsMeasured front old t → now ≡ take from old ++ (all_stored inner.items ++ drop from old)
+    → Reads text inner → inner.front ≡ [] → u.file_len ≡ t.file_len + length text → u.file_len ≤ file_limit → IsMeasured front now u
+come_measured front old now t u inner from text m put reads begins len short =
+    let bytes : flat_map kept_bytes (all_stored inner.items) ≡ text
+    = bytes-stored inner.items ∙ ap (λ (x : Text). x ++ flat_map item_bytes inner.items) (sym begins) ∙ reads.bytes in
+    let was = m.len in
+    record { len = omega (arith, len, was, come_len front old now inner.items from put, ap (length {A = ℕ}) bytes); short = short }
+
+-- the bytes of the items before a number are no more than the file's
 pub len-within : (front : Text) (items : List Item) (to : ℕ) → length (flat_map kept_bytes (take to items)) ≤ length (file_of front items)
 len-within front items to =
     omega (
@@ -93,150 +105,213 @@ len-within front items to =
       length-append front (flat_map kept_bytes items),
     )
 
+-- and no fewer than those before an earlier one
+pub len-ordered : (items : List Item) (from to : ℕ) → from ≤ to → length (flat_map kept_bytes (take from items)) ≤ length (flat_map kept_bytes (take to items))
+len-ordered items from to order =
+    let first = take-take from to items order in
+    omega (
+      arith,
+      ap (λ (l : List Item). length (flat_map kept_bytes l)) first,
+      ap (length {A = ℕ}) (bytes-split (take to items) from),
+      length-append (flat_map kept_bytes (take from (take to items))) (flat_map kept_bytes (drop from (take to items))),
+    )
+
+pub go_len : (front : Text) (old : List Item) (from to : ℕ) → from ≤ to
+    → length (file_of front (without_range from to old)) ≡ length (file_of front old) - (length (flat_map kept_bytes (take to old)) - length (flat_map kept_bytes (take from old)))
+go_len front old from to order =
+    let first : Text = flat_map kept_bytes (take from old) in
+    let last : Text = flat_map kept_bytes (drop to old) in
+    omega (
+      arith,
+      ap (length {A = ℕ}) (flat_map-append kept_bytes (take from old) (drop to old)),
+      ap (length {A = ℕ}) (bytes-split old to),
+      length-append front (flat_map kept_bytes (without_range from to old)),
+      length-append front (flat_map kept_bytes old),
+      length-append first last,
+      length-append (flat_map kept_bytes (take to old)) last,
+      len-ordered old from to order,
+    )
+
+-- ---- items that are kept, in two parts
+
+-- items that are kept as these two lists
+pub record AreParts (a b : List Item) (all : List reading.Item) : Type 0 where
+  pub first : List reading.Item
+  pub last : List reading.Item
+  pub whole : all ≡ first ++ last
+  pub first_is : all_stored first ≡ a
+  pub last_is : all_stored last ≡ b
+
+pub parts_of : (a b : List Item) (all : List reading.Item) → a ++ b ≡ all_stored all → AreParts a b all
+parts_of a b all e = record {
+  first = take (length a) all;
+  last = drop (length a) all;
+  whole = sym (take-append-drop (length a) all);
+  first_is = sym (take-map stored (length a) all) ∙ ap (take (length a)) (sym e) ∙ take_at a b (length a) refl;
+  last_is = sym (drop-map stored (length a) all) ∙ ap (drop (length a)) (sym e) ∙ drop_at a b (length a) refl;
+}
+
+abbrev pub bodies_in : List Item → List Text
+bodies_in items = map (λ (i : Item). i.body) items
+
+pub good_first : (xs ys all : List reading.Item) → all ≡ xs ++ ys → All (IsItem name_limit) all → All (IsItem name_limit) xs
+good_first xs ys all e good =
+    subst (All (IsItem name_limit)) (ap (take (length xs)) e ∙ take_at xs ys (length xs) refl) (All-take (IsItem name_limit) (length xs) all good)
+
+pub good_last : (xs ys all : List reading.Item) → all ≡ xs ++ ys → All (IsItem name_limit) all → All (IsItem name_limit) ys
+good_last xs ys all e good =
+    subst (All (IsItem name_limit)) (ap (drop (length xs)) e ∙ drop_at xs ys (length xs) refl) (All-drop (IsItem name_limit) (length xs) all good)
+
+long_parts : (a : List Item) (xs : List reading.Item) → all_stored xs ≡ a → length xs ≡ length a
+long_parts a xs e = sym (length-stored xs) ∙ ap (length {A = Item}) e
+
+-- tables that say as much follow as well
+pub followed_same : (items new : List Item) (t u : Tables) → AreFollowed items t → items ≡ new → ((all : List reading.Item) → AreTablesOf all t → AreTablesOf all u) → AreFollowed new u
+followed_same items new t u f e same = record { all = f.all; good = f.good; same = sym e ∙ f.same; tables = same f.all f.tables; texts = f.texts }
+
+-- ---- items with other trails
+
+-- between the same neighbours, with the same bodies
+pub followed_alike : (before old new after : List Item) (t : Tables) (news : List reading.Item) → AreFollowed (before ++ (old ++ after)) t → all_stored news ≡ new → All (IsItem name_limit) news
+    → bodies_in old ≡ bodies_in new → AreFollowed (before ++ (new ++ after)) t
+followed_alike before old new after t news f news_are news_good same =
+    let p = parts_of before (old ++ after) f.all f.same in
+    let q = parts_of old after p.last (sym p.last_is) in
+    let rest_good = good_last p.first p.last f.all p.whole f.good in
+    let alike : trees q.first ≡ trees news
+    = trees_of q.first news (good_first q.first q.last p.last q.whole rest_good) news_good
+    (sym (bodies-stored q.first) ∙ ap bodies_in q.first_is ∙ same ∙ ap bodies_in (sym news_are) ∙ bodies-stored news) in
+    let whole : f.all ≡ p.first ++ (q.first ++ q.last) = p.whole ∙ ap (λ (l : List reading.Item). p.first ++ l) q.whole in
+    let trees_are : trees f.all ≡ trees (p.first ++ (news ++ q.last)) = ap trees whole ∙ trees_between p.first q.first news q.last alike in
+    record {
+      all = p.first ++ (news ++ q.last);
+      good = All-append (IsItem name_limit) p.first (news ++ q.last) (good_first p.first p.last f.all p.whole f.good) (All-append (IsItem name_limit) news q.last news_good (good_last q.first q.last p.last q.whole rest_good));
+      same =
+          sym (map-append stored p.first (news ++ q.last)
+          ∙ ap₂ (λ (x y : List Item). x ++ y) p.first_is (map-append stored news q.last ∙ ap₂ (λ (x y : List Item). x ++ y) news_are q.last_is));
+      tables = tables_alike f.all (p.first ++ (news ++ q.last)) t trees_are f.tables;
+      texts = fit_alike 0 0 months f.all (p.first ++ (news ++ q.last)) trees_are f.texts;
+    }
+
 -- ---- items that come
 
-module _ (front : Text) (old now : List Item) (t : Tables) (from to : ℕ) (inner : Reading) (k : IsKept front old t) (within : from ≤ length old) (count : to ≡ from + length inner.items)
-    (put : now ≡ take from old ++ (all_stored inner.items ++ drop from old)) (good : All (IsItem name_limit) inner.items) (few : length now < 2 ^ 64) where
-  abbrev before : List reading.Item
-  before = take from k.db.items
+-- Items come after these and after the lead, which has the bodies of the first of them: with those it gets their trails.
+module _ (before stay after rest : List Item) (new : List reading.Item) (at : ℕ) (t : Tables) (bodies : List Text)
+    (f : AreFollowed (before ++ (stay ++ (after ++ rest))) t) (good : All (IsItem name_limit) new) (low : length stay ≤ length new) (long : at ≡ length before + length stay)
+    (same : bodies_in stay ≡ bodies_in (take (length stay) (all_stored new))) (bodies_are : bodies ≡ bodies_in (drop (length stay) (all_stored new)))
+    (plain : (all : List reading.Item) → AreItemsOf bodies all → DefineNothing all) (few : length before + (length new + (length after + length rest)) < 2 ^ 64) where
+  abbrev lead : ℕ
+  lead = length stay
 
-  abbrev after : List reading.Item
-  after = drop from k.db.items
+  abbrev p : AreParts before (stay ++ (after ++ rest)) f.all
+  p = parts_of before (stay ++ (after ++ rest)) f.all f.same
 
-  long_before : length before ≡ from
-  long_before = length-take-le from k.db.items (omega (arith, within, count_kept k.db front old t k.is))
+  abbrev q : AreParts stay (after ++ rest) p.last
+  q = parts_of stay (after ++ rest) p.last (sym p.last_is)
 
-  parts : k.db.items ≡ before ++ after
-  parts = sym (take-append-drop from k.db.items)
+  abbrev kept : List reading.Item
+  kept = p.first ++ q.first
 
-  now_parts : now ≡ all_stored before ++ (all_stored inner.items ++ all_stored after)
-  now_parts =
-      put
-      ∙ ap₂ (λ (a b : List Item). a ++ (all_stored inner.items ++ b))
-      (ap (take from) k.is.items ∙ take-map stored from k.db.items)
-      (ap (drop from) k.is.items ∙ drop-map stored from k.db.items)
+  abbrev come : List reading.Item
+  come = drop lead new
 
-  come_items : AreItemsOf (bodies_between from to now) inner.items
-  come_items = record {
-    trees = trees_good inner.items good;
-    same =
-        sym (ap (bodies_between from to) now_parts
-        ∙ stretch (all_stored before) (all_stored inner.items) (all_stored after) from to
-        (sym long_before ∙ sym (length-stored before)) (omega (arith, count, long_before, length-stored before, length-stored inner.items))
-        ∙ bodies-stored inner.items);
+  whole : f.all ≡ kept ++ q.last
+  whole = p.whole ∙ ap (λ (l : List reading.Item). p.first ++ l) q.whole ∙ sym (append_assoc p.first q.first q.last)
+
+  long_kept : length kept ≡ at
+  long_kept = omega (arith, long, length-append p.first q.first, long_parts before p.first p.first_is, long_parts stay q.first q.first_is)
+
+  come_are : AreItemsOf bodies come
+  come_are = record {
+    trees = trees_good come (All-drop (IsItem name_limit) lead new good);
+    same = sym (bodies_are ∙ ap bodies_in (drop-map stored lead new) ∙ bodies-stored come);
   }
 
-  come_fit : from + (length inner.items + length after) < 2 ^ 64
-  come_fit =
-      let all = ap (length {A = Item}) now_parts in
-      omega (arith, few, all, length-append (all_stored before) (all_stored inner.items ++ all_stored after), length-append (all_stored inner.items) (all_stored after), length-stored before, length-stored inner.items, length-stored after, long_before)
+  come_others : AreOthersOf bodies come
+  come_others = record { are = come_are; others = plain come come_are }
 
-  come_sees : texts_at t.definitions from ≡ macros_at months before (length before)
-  come_sees =
-      let low : from ≤ length before = omega (arith, long_before) in
-      k.is.tables.definitions.texts from ∙ ap (λ (l : List reading.Item). macros_at months l from) parts ∙ macros_in_front months before after from low
-      ∙ ap (macros_at months before) (sym long_before)
+  come_fit : at + (length come + length q.last) < 2 ^ 64
+  come_fit = omega (arith, few, low, long, length-drop lead new, long_parts (after ++ rest) q.last q.last_is, length-append after rest)
 
-  -- they are in the tables
-  pub come_kept : (learnt new : Tables) (text : Text) → bytes_of inner ≡ text → inner.front ≡ [] → DefineNothingBetween from to now
-      → ((before new after : List reading.Item) → length before ≡ from → AreOthersOf (bodies_between from to now) new → from + (length new + length after) < 2 ^ 64 → AreTablesOf (before ++ after) t → AreTablesOf (before ++ (new ++ after)) learnt)
-      → ((new : List reading.Item) → AreOthersOf (bodies_between from to now) new → HaveShortTexts (texts_at t.definitions from) new)
-      → ((items : List reading.Item) → AreTablesOf items learnt → AreTablesOf items new)
-      → new.file_len ≡ t.file_len + length text → t.file_len + length text ≤ file_limit → IsKept front now new
-  come_kept learnt new text bytes begins others learn short same len limit =
-      let plain = others inner.items come_items in
-      let them : AreOthersOf (bodies_between from to now) inner.items = record { are = come_items; others = plain } in
-      let tables = same (before ++ (inner.items ++ after)) (learn before inner.items after long_before them come_fit (subst (λ (l : List reading.Item). AreTablesOf l t) parts k.is.tables)) in
-      let order : from ≤ from = omega arith in
-      let size = len-after from from front old inner order within begins in
-      let around = len-around (part from from) front old (part_is old from from order within) in
-      let none = ap (length {A = ℕ}) (none_joined old from []) in
-      let all = ap (λ (l : List Item). length (file_of front l)) put in
-      let long = ap (length {A = ℕ}) bytes in
-      let was = k.is.len in
-      kept_after from from front old now t new inner k good put tables
-      (exchanged_fits (length k.db.front) (length k.db.front) before [] inner.items after tt plain
-      (subst (λ (m : Macros). HaveShortTexts m inner.items) come_sees (short inner.items them))
-      (subst (λ (l : List reading.Item). first_too_long (raw_texts_from (length k.db.front) months l) ≡ None) parts k.is.opens.texts))
-      (omega (arith, len, was, all, size, around, none, long))
-      (omega (arith, limit, was, all, size, around, none, long))
+  old_tables : AreTablesOf (kept ++ q.last) t
+  old_tables = subst (λ (l : List reading.Item). AreTablesOf l t) whole f.tables
+
+  sees : texts_at t.definitions at ≡ macros_at months kept (length kept)
+  sees =
+      let inside : at ≤ length kept = omega (arith, long_kept) in
+      f.tables.definitions.texts at ∙ ap (λ (l : List reading.Item). macros_at months l at) whole ∙ macros_in_front months kept q.last at inside
+      ∙ ap (macros_at months kept) (sym long_kept)
+
+  -- they come without the trails of the lead
+  come_beside : (learnt : Tables)
+      → ((before new after : List reading.Item) → length before ≡ at → AreOthersOf bodies new → at + (length new + length after) < 2 ^ 64 → AreTablesOf (before ++ after) t → AreTablesOf (before ++ (new ++ after)) learnt)
+      → ((new : List reading.Item) → AreOthersOf bodies new → HaveShortTexts (texts_at t.definitions at) new)
+      → AreFollowed (before ++ (stay ++ (all_stored come ++ (after ++ rest)))) learnt
+  come_beside learnt learn short = record {
+    all = kept ++ (come ++ q.last);
+    good =
+        let last_good = good_last p.first p.last f.all p.whole f.good in
+        All-append (IsItem name_limit) kept (come ++ q.last)
+        (All-append (IsItem name_limit) p.first q.first (good_first p.first p.last f.all p.whole f.good) (good_first q.first q.last p.last q.whole last_good))
+        (All-append (IsItem name_limit) come q.last (All-drop (IsItem name_limit) lead new good) (good_last q.first q.last p.last q.whole last_good));
+    same =
+        sym (map-append stored kept (come ++ q.last)
+        ∙ ap₂ (λ (x y : List Item). x ++ y)
+        (map-append stored p.first q.first ∙ ap₂ (λ (x y : List Item). x ++ y) p.first_is q.first_is)
+        (map-append stored come q.last ∙ ap (λ (l : List Item). all_stored come ++ l) q.last_is)
+        ∙ append_assoc before stay (all_stored come ++ (after ++ rest)));
+    tables = learn kept come q.last long_kept come_others come_fit old_tables;
+    texts =
+        exchanged_fits 0 0 kept [] come q.last tt come_others.others (subst (λ (m : Macros). HaveShortTexts m come) sees (short come come_others))
+        (subst (λ (l : List reading.Item). first_too_long (raw_texts_from 0 months l) ≡ None) whole f.texts);
+  }
+
+  pub come_followed : (learnt : Tables)
+      → ((before new after : List reading.Item) → length before ≡ at → AreOthersOf bodies new → at + (length new + length after) < 2 ^ 64 → AreTablesOf (before ++ after) t → AreTablesOf (before ++ (new ++ after)) learnt)
+      → ((new : List reading.Item) → AreOthersOf bodies new → HaveShortTexts (texts_at t.definitions at) new)
+      → AreFollowed (before ++ (all_stored new ++ (after ++ rest))) learnt
+  come_followed learnt learn short =
+      let again : List Item = take lead (all_stored new) in
+      let parts : again ++ all_stored come ≡ all_stored new
+      = ap (λ (l : List Item). again ++ l) (sym (drop-map stored lead new)) ∙ take-append-drop lead (all_stored new) in
+      subst (λ (l : List Item). AreFollowed (before ++ l) learnt)
+      (sym (append_assoc again (all_stored come) (after ++ rest)) ∙ ap (λ (l : List Item). l ++ (after ++ rest)) parts)
+      (followed_alike before stay again (all_stored come ++ (after ++ rest)) learnt (take lead new) (come_beside learnt learn short)
+      (sym (take-map stored lead new)) (All-take (IsItem name_limit) lead new good) same)
 
   -- the tables say what they said
   pub come_back : (back : Tables)
-      → ((before new after : List reading.Item) → length before ≡ from → AreItemsOf (bodies_between from to now) new → from + (length new + length after) < 2 ^ 64 → AreTablesOf (before ++ after) t → AreTablesOf (before ++ after) back)
-      → back.file_len ≡ t.file_len → IsKept front old back
-  come_back back same len = record {
-    db = k.db;
-    is = record {
-      opens = k.is.opens;
-      front = k.is.front;
-      items = k.is.items;
-      tables = subst (λ (l : List reading.Item). AreTablesOf l back) (sym parts) (same before inner.items after long_before come_items come_fit (subst (λ (l : List reading.Item). AreTablesOf l t) parts k.is.tables));
-      len = len ∙ k.is.len;
-    };
+      → ((before new after : List reading.Item) → length before ≡ at → AreOthersOf bodies new → at + (length new + length after) < 2 ^ 64 → AreTablesOf (before ++ after) t → AreTablesOf (before ++ after) back)
+      → AreFollowed (before ++ (stay ++ (after ++ rest))) back
+  come_back back same = record {
+    all = f.all;
+    good = f.good;
+    same = f.same;
+    tables = subst (λ (l : List reading.Item). AreTablesOf l back) (sym whole) (same kept come q.last long_kept come_others come_fit old_tables);
+    texts = f.texts;
   }
 
 -- ---- items that go
 
-module _ (front : Text) (old now : List Item) (t : Tables) (from to : ℕ) (k : IsKept front old t) (order : from ≤ to) (within : to ≤ length old) (out : now ≡ without_range from to old) (few : length old < 2 ^ 64)
-    (others : DefineNothingBetween from to old) where
-  abbrev first : List reading.Item
-  first = take from k.db.items
-
-  abbrev gone : List reading.Item
-  gone = take (to - from) (drop from k.db.items)
-
-  abbrev rest : List reading.Item
-  rest = drop to k.db.items
-
-  size : length old ≡ length k.db.items
-  size = count_kept k.db front old t k.is
-
-  long_first : length first ≡ from
-  long_first = length-take-le from k.db.items (omega (arith, order, within, size))
-
-  long_gone : length gone ≡ to - from
-  long_gone = length-take-le (to - from) (drop from k.db.items) (omega (arith, order, within, size, length-drop from k.db.items))
-
-  all_parts : k.db.items ≡ first ++ (gone ++ rest)
-  all_parts =
-      let sum : from + (to - from) ≡ to = omega (arith, order) in
-      sym (take-append-drop from k.db.items)
-      ∙ ap (λ (l : List reading.Item). first ++ l)
-      (sym (take-append-drop (to - from) (drop from k.db.items))
-      ∙ ap (λ (l : List reading.Item). gone ++ l) (drop-drop (to - from) from k.db.items ∙ ap (λ (n : ℕ). drop n k.db.items) sum))
-
-  old_parts : old ≡ all_stored first ++ (all_stored gone ++ all_stored rest)
-  old_parts = k.is.items ∙ ap all_stored all_parts ∙ map-append stored first (gone ++ rest) ∙ ap (λ (l : List Item). all_stored first ++ l) (map-append stored gone rest)
-
-  go_items : AreItemsOf (bodies_between from to old) gone
-  go_items = record {
-    trees = trees_good gone (All-take (IsItem name_limit) (to - from) (drop from k.db.items) (All-drop (IsItem name_limit) from k.db.items k.is.opens.reads.items));
-    same =
-        sym (ap (bodies_between from to) old_parts
-        ∙ stretch (all_stored first) (all_stored gone) (all_stored rest) from to
-        (sym long_first ∙ sym (length-stored first)) (omega (arith, order, long_first, long_gone, length-stored first, length-stored gone))
-        ∙ bodies-stored gone);
-  }
-
-  go_fit : from + (length gone + length rest) < 2 ^ 64
-  go_fit = omega (arith, few, order, within, size, long_gone, length-drop to k.db.items)
-
-  pub go_kept : (forgot new : Tables)
-      → ((before gone after : List reading.Item) → length before ≡ from → AreOthersOf (bodies_between from to old) gone → from + (length gone + length after) < 2 ^ 64 → AreTablesOf (before ++ (gone ++ after)) t → AreTablesOf (before ++ after) forgot)
-      → ((items : List reading.Item) → AreTablesOf items forgot → AreTablesOf items new)
-      → (len : ℕ) → len ≡ length (flat_map kept_bytes (take to old)) - length (flat_map kept_bytes (take from old)) → new.file_len ≡ t.file_len - len → IsKept front now new
-  go_kept forgot new forget same len taken left =
-      let plain = others gone go_items in
-      let tables = same (first ++ rest) (forget first gone rest long_first (record { are = go_items; others = plain }) go_fit (subst (λ (l : List reading.Item). AreTablesOf l t) all_parts k.is.tables)) in
-      let after = len-after from to front old no_items order within refl in
-      let around = len-around (part from to) front old (part_is old from to order within) in
-      let between_len = len-between old from to order in
-      let all = ap (λ (l : List Item). length (file_of front l)) out in
-      let was = k.is.len in
-      let limit = k.is.opens.short in
-      kept_after from to front old now t new no_items k (λ i d h. absurd (omega (arith, h))) out tables
-      (exchanged_fits (length k.db.front) (length k.db.front) first gone [] rest plain tt tt
-      (subst (λ (l : List reading.Item). first_too_long (raw_texts_from (length k.db.front) months l) ≡ None) all_parts k.is.opens.texts))
-      (omega (arith, left, taken, was, after, around, between_len, all))
-      (omega (arith, limit, after, around, all))
+pub go_followed : (before gone rest : List Item) (at : ℕ) (t forgot : Tables) (bodies : List Text) → AreFollowed (before ++ (gone ++ rest)) t → length before ≡ at → bodies ≡ bodies_in gone
+    → ((all : List reading.Item) → AreItemsOf bodies all → DefineNothing all) → at + (length gone + length rest) < 2 ^ 64
+    → ((before gone after : List reading.Item) → length before ≡ at → AreOthersOf bodies gone → at + (length gone + length after) < 2 ^ 64 → AreTablesOf (before ++ (gone ++ after)) t → AreTablesOf (before ++ after) forgot)
+    → AreFollowed (before ++ rest) forgot
+go_followed before gone rest at t forgot bodies f long bodies_are plain few forget =
+    let p = parts_of before (gone ++ rest) f.all f.same in
+    let q = parts_of gone rest p.last (sym p.last_is) in
+    let whole : f.all ≡ p.first ++ (q.first ++ q.last) = p.whole ∙ ap (λ (l : List reading.Item). p.first ++ l) q.whole in
+    let last_good = good_last p.first p.last f.all p.whole f.good in
+    let are : AreItemsOf bodies q.first = record {
+      trees = trees_good q.first (good_first q.first q.last p.last q.whole last_good);
+      same = sym (bodies_are ∙ ap bodies_in (sym q.first_is) ∙ bodies-stored q.first);
+    } in
+    let others = plain q.first are in
+    record {
+      all = p.first ++ q.last;
+      good = All-append (IsItem name_limit) p.first q.last (good_first p.first p.last f.all p.whole f.good) (good_last q.first q.last p.last q.whole last_good);
+      same = sym (map-append stored p.first q.last ∙ ap₂ (λ (x y : List Item). x ++ y) p.first_is q.last_is);
+      tables = forget p.first q.first q.last (long_parts before p.first p.first_is ∙ long) (record { are = are; others = others })
+          (omega (arith, few, long_parts gone q.first q.first_is, long_parts rest q.last q.last_is)) (subst (λ (l : List reading.Item). AreTablesOf l t) whole f.tables);
+      texts = exchanged_fits 0 0 p.first q.first [] q.last others tt tt (subst (λ (l : List reading.Item). first_too_long (raw_texts_from 0 months l) ≡ None) whole f.texts);
+    }

@@ -1,7 +1,7 @@
 -- Runs of pieces, of which the last is put in first and taken out last.
-use Rattle.std.proofs.Common.{◌≡◌, ℕ, ◌+◌, ◌-◌, ◌≤◌, Bool, List, [], ◌∷◌, ◌++◌, length, map, take, drop, refl, sym, subst, ◌∙◌, ap, ap₂, arith, append_assoc, length-append, length-drop, take-append-drop}
+use Rattle.std.proofs.Common.{◌≡◌, ℕ, ◌+◌, ◌-◌, ◌≤◌, Bool, List, [], ◌∷◌, ◌++◌, length, take, drop, refl, sym, subst, ◌∙◌, ap, ap₂, arith, append_assoc, length-append, length-drop, take-append-drop}
 use Rattle.std.specs.List.{between, flat_map}
-use Rattle.std.proofs.lemmas.List.{take_at, drop_at, drop-drop, append-nil, drop-append-le, length-take-le, take-take, drop-take}
+use Rattle.std.proofs.lemmas.List.{take_all, take_at, drop_at, drop-drop, append-nil, drop-append-le, length-take-le, take-take, drop-take}
 use Rattle.std.proofs.lemmas.List.Concat.{flat_map-append}
 use Rattle.bib_spec.specs.Text.{Text}
 use Rattle.bib_spec.specs.Reading.{Reading, Reads, item_bytes}
@@ -9,12 +9,16 @@ use Rattle.bib_spec.specs.Pieces.{Piece, Fit, applied}
 use Rattle.bib_items.specs.declared.list.Item.{Item}
 use Rattle.bib_items.specs.Items.{kept_bytes, all_stored, without_range}
 use Rattle.bib_store.specs.declared.change.Change.{Change}
+use Rattle.bib_store.specs.declared.tables.Tables.{Tables}
 use Rattle.bib_store.specs.Following.{AreItemsOf, DefineNothingBetween}
-use Rattle.bib_store.specs.Runs.{IsRunChange, LeadWithin}
+use Rattle.bib_store.specs.Runs.{IsRunChange, AreBroughtIn, AreFollowed, StayFollowed, FollowBroughtIn, LeadWithin}
 use Rattle.bib_store.specs.Shifting.{all_moved_back, FitBehind}
 use Rattle.bib_store.specs.Stored.{file_of}
 use Rattle.bib_store.specs.Windows.{IsWindow, front_before, front_within, bytes_before, bytes_within, bytes_behind}
+use Rattle.bib_store.proofs.BroughtIn as brought_in
+use Rattle.bib_store.proofs.BroughtIn.{long_new, long_before, long_gone, long_now, before_put, come_put, gone_at, gone_put, trails_back}
 use Rattle.bib_store.proofs.KeptItems.{bytes-stored}
+use Rattle.bib_store.proofs.KeptRuns.{bodies_in}
 use Rattle.bib_store.proofs.RunPieces.{both_fit, both_applied}
 use Rattle.bib_store.proofs.WindowLaws.{file-around}
 
@@ -28,19 +32,27 @@ between-first items from to n order within =
     ∙ take-take (to - from) (n - from) (drop from items) low
 
 -- no pieces lead to what is there
-pub none_lead : (ps : List Piece) (front : Text) (n : ℕ) (items : List Item) → length ps ≡ 0 → LeadWithin ps front n items items
-none_lead [] front n items none = record { first = take n items; stay = sym (take-append-drop n items); fit = record { ascending = tt; standing = tt }; made = refl }
-none_lead (p ∷ ps) front n items none = absurd (omega (arith, none))
+pub none_lead : (ps : List Piece) (front : Text) (n : ℕ) (items : List Item) (t : Tables) → length ps ≡ 0 → LeadWithin ps front n items t items t
+none_lead [] front n items t none = record {
+  first = take n items;
+  stay = sym (take-append-drop n items);
+  fit = record { ascending = tt; standing = tt };
+  made = refl;
+  followed = λ rest room f. f;
+}
+none_lead (p ∷ ps) front n items t none = absurd (omega (arith, none))
 
--- among all items, they lead from the file to the file
-pub all_led : (ps : List Piece) (front : Text) (n : ℕ) (old new : List Item) → n ≡ length old → LeadWithin ps front n old new
-    → Fit ps (file_of front old) × (file_of front new ≡ applied ps (file_of front old))
-all_led ps front n old new e led =
+-- among all items, they lead from the file to the file, which the tables follow
+pub all_led : (ps : List Piece) (front : Text) (n : ℕ) (old new : List Item) (t new_t : Tables) → n ≡ length old → LeadWithin ps front n old t new new_t
+    → Fit ps (file_of front old) × (file_of front new ≡ applied ps (file_of front old)) × (AreFollowed old t → AreFollowed new new_t)
+all_led ps front n old new t new_t e led =
     let all : take n old ≡ old = ap (λ m. take m old) e ∙ take_whole old in
     let none : drop n old ≡ [] = ap (λ m. drop m old) e ∙ drop_whole old in
     let new_is : new ≡ led.first = led.stay ∙ ap (λ l. led.first ++ l) none ∙ append-nil led.first in (
       subst (λ (l : List Item). Fit ps (file_of front l)) all led.fit,
       ap (file_of front) new_is ∙ led.made ∙ ap (λ l. applied ps (file_of front l)) all,
+      λ f. subst (λ (l : List Item). AreFollowed l new_t) (append-nil led.first ∙ sym new_is)
+          (led.followed [] (omega arith) (subst (λ (l : List Item). AreFollowed l t) (sym (append-nil (take n old) ∙ all)) f)),
     )
   where
     take_whole : (items : List Item) → take (length items) items ≡ items
@@ -51,10 +63,27 @@ all_led ps front n old new e led =
     drop_whole [] = refl
     drop_whole (i ∷ items) = drop_whole items
 
+-- refused, the tables follow what is there still
+pub all_back : (n : ℕ) (old : List Item) (t new_t : Tables) → n ≡ length old → StayFollowed (length old - n) (take n old) t (take n old) new_t → AreFollowed old t → AreFollowed old new_t
+all_back n old t new_t e back f =
+    let all : take n old ++ [] ≡ old = append-nil (take n old) ∙ ap (λ m. take m old) e ∙ take_all (length old) old (omega arith) in
+    subst (λ (l : List Item). AreFollowed l new_t) all (back [] (omega arith) (subst (λ (l : List Item). AreFollowed l t) (sym all) f))
+
+-- where the tables follow the first items and any others still, they follow more of the first
+pub longer_back : (old : List Item) (t u : Tables) (to n : ℕ) → to ≤ n → n ≤ length old → StayFollowed (length old - to) (take to old) t (take to old) u → StayFollowed (length old - n) (take n old) t (take n old) u
+longer_back old t u to n order within back rest room f =
+    let prefix : List Item = take n old in
+    let after : List Item = drop to prefix ++ rest in
+    let whole : prefix ++ rest ≡ take to old ++ after
+    = ap (λ (l : List Item). l ++ rest) (sym (take-append-drop to prefix) ∙ ap (λ (l : List Item). l ++ drop to prefix) (take-take to n old order)) ∙ append_assoc (take to old) (drop to prefix) rest in
+    let long_prefix : length prefix ≡ n = length-take-le n old within in
+    let most : length after ≤ length old - to = omega (arith, order, room, within, long_prefix, length-append (drop to prefix) rest, length-drop to prefix) in
+    subst (λ (l : List Item). AreFollowed l u) (sym whole) (back after most (subst (λ (l : List Item). AreFollowed l t) whole f))
+
 -- ---- a run, and those before it
 
-module _ (front : Text) (old put led_items : List Item) (n : ℕ) (ps run : List Piece) (c : Change) (r : IsRunChange run front old n c) (inner : Reading) (reads : Reads c.text inner)
-    (within : n ≤ length old) (come : put ≡ take c.window.from old ++ (all_stored inner.items ++ drop c.window.from old)) (led : LeadWithin ps front c.window.from put led_items) where
+module _ (front : Text) (old put led_items : List Item) (t put_t led_t : Tables) (n count lead : ℕ) (ps run : List Piece) (c : Change) (r : IsRunChange run front old n c) (inner : Reading) (reads : Reads c.text inner)
+    (within : n ≤ length old) (brought : AreBroughtIn c old put count lead) (led : LeadWithin ps front c.window.from put put_t led_items led_t) where
   abbrev from : ℕ
   from = c.window.from
 
@@ -64,27 +93,29 @@ module _ (front : Text) (old put led_items : List Item) (n : ℕ) (ps run : List
   abbrev new : List Item
   new = all_stored inner.items
 
+  abbrev gone : List Item
+  gone = between (from + lead) to old
+
   order : from ≤ to
   order = r.change.window.ordered
 
-  long_before : length (take from old) ≡ from
-  long_before = let o = order in let h = r.to in length-take-le from old (omega (arith, o, h, within))
+  come : put ≡ take from old ++ (new ++ drop from old)
+  come = brought_in.put c old put count lead brought.put brought.leads inner reads
 
   put_before : take from put ≡ take from old
-  put_before = ap (take from) come ∙ take_at (take from old) (new ++ drop from old) from long_before
+  put_before = before_put c old put count lead brought.put brought.leads inner reads
+
+  long : length new ≡ count
+  long = long_new c old put count lead brought.put brought.leads inner reads
+
+  pub long_put : length put ≡ length old + count
+  long_put = long_now c old put count lead brought.put brought.leads inner reads
 
   put_behind : drop from put ≡ new ++ drop from old
-  put_behind = ap (drop from) come ∙ drop_at (take from old) (new ++ drop from old) from long_before
+  put_behind = ap (drop from) come ∙ drop_at (take from old) (new ++ drop from old) from (long_before c old put count lead brought.put brought.leads inner reads)
 
   led_parts : led_items ≡ (led.first ++ new) ++ drop from old
   led_parts = led.stay ∙ ap (λ l. led.first ++ l) put_behind ∙ sym (append_assoc led.first new (drop from old))
-
-  pub long_put : length put ≡ length old + length new
-  long_put =
-      let all = ap (length {A = Item}) come in
-      let o = order in
-      let h = r.to in
-      omega (arith, all, o, h, within, long_before, length-append (take from old) (new ++ drop from old), length-append new (drop from old), length-drop from old)
 
   pub long_led : length led_items ≡ length led.first + length new + (length old - from)
   long_led =
@@ -98,11 +129,14 @@ module _ (front : Text) (old put led_items : List Item) (n : ℕ) (ps run : List
   old_behind : (at : ℕ) → at ≡ length led.first + length new → drop at led_items ≡ drop from old
   old_behind at is = ap (drop at) led_parts ∙ drop_at (led.first ++ new) (drop from old) at (length-append led.first new ∙ sym is)
 
+  led_gone : (at end : ℕ) → at ≡ length led.first + length new → end ≡ at + (to - from) → between (at + lead) end led_items ≡ gone
+  led_gone at end is ends = gone_at c old put count lead brought.put brought.leads inner reads led_items at end (old_behind at is) ends
+
   -- they are the same
-  pub old_others : (at end : ℕ) → at ≡ length led.first + length new → end ≡ at + (to - from) → DefineNothingBetween at end led_items
+  pub old_others : (at end : ℕ) → at ≡ length led.first + length new → end ≡ at + (to - from) → DefineNothingBetween (at + lead) end led_items
   old_others at end is ends all are =
-      let size : end - at ≡ to - from = omega (arith, ends) in
-      r.others all (subst (λ (bodies : List Text). AreItemsOf bodies all) (ap₂ (λ (m : ℕ) (l : List Item). map (λ (i : Item). i.body) (take m l)) size (old_behind at is)) are)
+      brought.gone all
+      (subst (λ (bodies : List Text). AreItemsOf bodies all) (ap bodies_in (led_gone at end is ends ∙ sym (gone_put c old put count lead brought.put brought.leads inner reads))) are)
 
   -- what is left once they are gone
   abbrev prefix : List Item
@@ -120,13 +154,65 @@ module _ (front : Text) (old put led_items : List Item) (n : ℕ) (ps run : List
       (ap (λ m. drop m led_items) ends ∙ sym (drop-drop (to - from) at led_items) ∙ ap (drop (to - from)) (old_behind at is) ∙ drop-drop (to - from) from old ∙ ap (λ m. drop m old) sum ∙ behind)
       ∙ simp append_assoc
 
+  -- ---- the tables
+
+  long_prefix : length prefix ≡ n
+  long_prefix = length-take-le n old within
+
+  prefix_is : prefix ≡ take to old ++ drop to prefix
+  prefix_is = let h = r.to in sym (take-append-drop to prefix) ∙ ap (λ (l : List Item). l ++ drop to prefix) (take-take to n old h)
+
+  -- the items that came stand before those that go
+  module _ (brought_t : FollowBroughtIn c lead old t put_t) (rest : List Item) (room : length rest ≤ length old - n) (f : AreFollowed (prefix ++ rest) t) where
+    abbrev after : List Item
+    after = drop to prefix ++ rest
+
+    long_after : length after ≤ length old - to
+    long_after = let h = r.to in omega (arith, h, room, within, long_prefix, length-append (drop to prefix) rest, length-drop to prefix)
+
+    whole : prefix ++ rest ≡ take to old ++ after
+    whole = ap (λ (l : List Item). l ++ rest) prefix_is ∙ append_assoc (take to old) (drop to prefix) rest
+
+    pub before_run : AreFollowed (take to old ++ after) t
+    before_run = subst (λ (l : List Item). AreFollowed l t) whole f
+
+    pub with_run : AreFollowed (take from put ++ ((new ++ gone) ++ after)) put_t
+    with_run =
+        subst (λ (l : List Item). AreFollowed l put_t)
+        (append_assoc (take from old) (new ++ gone) after ∙ ap (λ (l : List Item). l ++ ((new ++ gone) ++ after)) (sym put_before))
+        (brought_t inner reads after long_after before_run)
+
+    pub few : length ((new ++ gone) ++ after) ≤ length put - from
+    few =
+        let a = long_put in
+        let b = long_after in
+        let d = long_gone c old put count lead brought.put brought.leads inner reads in
+        let h = brought.leads.go in
+        let w = r.to in
+        omega (arith, a, b, d, h, w, within, long, length-append (new ++ gone) after, length-append new gone)
+
+  run_followed : (new_t : Tables) (at end : ℕ) → at ≡ length led.first + length new → end ≡ at + (to - from) → FollowBroughtIn c lead old t put_t
+      → ((before : List Item) → length before ≡ at → StayFollowed (length led_items - end) (before ++ between (at + lead) end led_items) led_t before new_t)
+      → StayFollowed (length old - n) prefix t (led.first ++ (new ++ drop to prefix)) new_t
+  run_followed new_t at end is ends brought_t taken rest room f =
+      let after : List Item = drop to prefix ++ rest in
+      let g = led.followed ((new ++ gone) ++ after) (few brought_t rest room f) (with_run brought_t rest room f) in
+      let same : led.first ++ ((new ++ gone) ++ after) ≡ ((led.first ++ new) ++ between (at + lead) end led_items) ++ after
+      = (simp append_assoc) ∙ ap (λ (l : List Item). ((led.first ++ new) ++ l) ++ after) (sym (led_gone at end is ends)) in
+      let a = long_led in
+      let b = long_after brought_t rest room f in
+      let o = order in
+      let h = r.to in
+      subst (λ (l : List Item). AreFollowed l new_t) (simp append_assoc)
+      (taken (led.first ++ new) (length-append led.first new ∙ sym is) after (omega (arith, a, b, o, h, within, is, ends)) (subst (λ (l : List Item). AreFollowed l led_t) same g))
+
   -- ---- the file
 
   prefix_window : IsWindow prefix c.window
   prefix_window =
-      let long_prefix : length prefix ≡ n = length-take-le n old within in
       let h = r.to in
-      record { ordered = order; within = omega (arith, h, long_prefix); begins = r.change.window.begins }
+      let long = long_prefix in
+      record { ordered = order; within = omega (arith, h, long); begins = r.change.window.begins }
 
   abbrev first_bytes : Text
   first_bytes = file_of front (take from old)
@@ -164,10 +250,12 @@ module _ (front : Text) (old put led_items : List Item) (n : ℕ) (ps run : List
       ∙ r.lie.text
       ∙ ap (λ (x : Text). applied (all_moved_back (length x) run) run_bytes) before_is
 
-  pub run_led : (all : List Piece) (after : List Item) (at end : ℕ) → all ≡ ps ++ run → at ≡ length led.first + length new → end ≡ at + (to - from) → after ≡ without_range at end led_items
-      → LeadWithin all front n old after
-  run_led all after at end pieces is ends out =
-      subst (λ (qs : List Piece). LeadWithin qs front n old after) (sym pieces)
+  pub run_led : (all : List Piece) (after : List Item) (new_t : Tables) (at end : ℕ) → all ≡ ps ++ run → at ≡ length led.first + length new → end ≡ at + (to - from) → after ≡ without_range at end led_items
+      → FollowBroughtIn c lead old t put_t
+      → ((before : List Item) → length before ≡ at → StayFollowed (length led_items - end) (before ++ between (at + lead) end led_items) led_t before new_t)
+      → LeadWithin all front n old t after new_t
+  run_led all after new_t at end pieces is ends out brought_t taken =
+      subst (λ (qs : List Piece). LeadWithin qs front n old t after new_t) (sym pieces)
       (record {
         first = led.first ++ (new ++ drop to prefix);
         stay = out ∙ left_parts at end is ends;
@@ -179,4 +267,51 @@ module _ (front : Text) (old put led_items : List Item) (n : ℕ) (ps run : List
             ∙ ap₂ (λ (x y : Text). x ++ (y ++ rest_bytes)) (led.made ∙ ap (λ (l : List Item). applied ps (file_of front l)) put_before) text_is
             ∙ sym (both_applied first_bytes run_bytes rest_bytes ps run first_fit run_fit)
             ∙ ap (applied (ps ++ run)) (sym prefix_parts);
+        followed = run_followed new_t at end is ends brought_t taken;
       })
+
+-- ---- a run, where one before it is refused
+
+pub run_back : (front : Text) (old put tried : List Item) (t put_t led_t back_t : Tables) (n count lead : ℕ) (run : List Piece) (c : Change) → IsRunChange run front old n c → (inner : Reading) → Reads c.text inner
+    → n ≤ length old → AreBroughtIn c old put count lead → tried ≡ put → FollowBroughtIn c lead old t put_t
+    → StayFollowed (length put - c.window.from) (take c.window.from put) put_t (take c.window.from put) led_t
+    → ((before : List Item) → length before ≡ c.window.from + lead
+    → StayFollowed (length tried - (c.window.from + count)) (before ++ between (c.window.from + lead) (c.window.from + count) tried) led_t before back_t)
+    → StayFollowed (length old - n) (take n old) t (take n old) back_t
+run_back front old put tried t put_t led_t back_t n count lead run c r inner reads within brought same brought_t back taken rest room f =
+    let from : ℕ = c.window.from in
+    let to : ℕ = c.window.to in
+    let new : List Item = all_stored inner.items in
+    let prefix : List Item = take n old in
+    let gone : List Item = between (from + lead) to old in
+    let after : List Item = drop to prefix ++ rest in
+    let long_prefix : length prefix ≡ n = length-take-le n old within in
+    let h = r.to in
+    let o = r.change.window.ordered in
+    let high = brought.leads.go in
+    let low = brought.leads.come in
+    let long = long_new c old put count lead brought.put brought.leads inner reads in
+    let all = long_now c old put count lead brought.put brought.leads inner reads in
+    let wide = long_gone c old put count lead brought.put brought.leads inner reads in
+    let before_long = long_before c old put count lead brought.put brought.leads inner reads in
+    let whole : prefix ++ rest ≡ take to old ++ after
+    = ap (λ (l : List Item). l ++ rest) (sym (take-append-drop to prefix) ∙ ap (λ (l : List Item). l ++ drop to prefix) (take-take to n old h)) ∙ append_assoc (take to old) (drop to prefix) rest in
+    let long_after : length after ≤ length old - to = omega (arith, h, room, within, long_prefix, length-append (drop to prefix) rest, length-drop to prefix) in
+    let start : AreFollowed (take to old ++ after) t = subst (λ (l : List Item). AreFollowed l t) whole f in
+    let head = before_put c old put count lead brought.put brought.leads inner reads in
+    let with_run : AreFollowed (take from put ++ ((new ++ gone) ++ after)) put_t
+    = subst (λ (l : List Item). AreFollowed l put_t) (append_assoc (take from old) (new ++ gone) after ∙ ap (λ (l : List Item). l ++ ((new ++ gone) ++ after)) (sym head))
+    (brought_t inner reads after long_after start) in
+    let few : length ((new ++ gone) ++ after) ≤ length put - from = omega (arith, all, long_after, wide, high, h, within, long, length-append (new ++ gone) after, length-append new gone) in
+    let g = back ((new ++ gone) ++ after) few with_run in
+    let again : List Item = take lead new in
+    let come : between (from + lead) (from + count) tried ≡ drop lead new
+    = ap (between (from + lead) (from + count)) same ∙ come_put c old put count lead brought.put brought.leads inner reads in
+    let parts : take from put ++ ((new ++ gone) ++ after) ≡ ((take from old ++ again) ++ between (from + lead) (from + count) tried) ++ (gone ++ after)
+    = ap₂ (λ (x y : List Item). x ++ ((y ++ gone) ++ after)) head (sym (take-append-drop lead new))
+    ∙ (simp append_assoc)
+    ∙ ap (λ (l : List Item). ((take from old ++ again) ++ l) ++ (gone ++ after)) (sym come) in
+    let size : length (take from old ++ again) ≡ from + lead = omega (arith, before_long, low, long, length-append (take from old) again, length-take-le lead new (omega (arith, low, long))) in
+    let most : length (gone ++ after) ≤ length tried - (from + count) = omega (arith, ap (length {A = Item}) same, all, long_after, wide, high, h, within, length-append gone after) in
+    let left = taken (take from old ++ again) size (gone ++ after) most (subst (λ (l : List Item). AreFollowed l led_t) parts g) in
+    subst (λ (l : List Item). AreFollowed l back_t) (sym whole) (trails_back c old put count lead brought.put brought.leads inner reads t back_t after start left)

@@ -35,6 +35,7 @@ pub mod Appended
 pub mod Renewed
 pub mod RunPieces
 pub mod KeptRuns
+pub mod BroughtIn
 pub mod LedRuns
 pub mod Glances
 pub mod ShortEntries

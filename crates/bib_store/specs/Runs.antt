@@ -1,42 +1,80 @@
 -- Pieces whose runs lie apart: what each run touches is replaced, and what stands between them stays.
-use Rattle.std.specs.Prelude.{ℕ, ◌≡◌, ◌≤◌, false, List, ◌++◌, length, take, drop}
+use Rattle.std.specs.Prelude.{ℕ, ◌≡◌, ◌+◌, ◌-◌, ◌≤◌, false, None, List, ◌++◌, length, take, drop, All}
+use Rattle.std.specs.List.{between}
+use Rattle.bib_spec.specs.Bytes.{name_limit, file_limit}
 use Rattle.bib_spec.specs.Text.{Text}
-use Rattle.bib_spec.specs.Reading.{Reading, Reads}
+use Rattle.bib_spec.specs.Reading as reading
+use Rattle.bib_spec.specs.Reading.{Reading, Reads, IsItem}
+use Rattle.bib_spec.specs.Texts.{months, raw_texts_from}
 use Rattle.bib_spec.specs.Pieces.{Piece, Fit, applied}
 use Rattle.bib_items.specs.declared.list.Item.{Item}
 use Rattle.bib_items.specs.Items.{all_stored}
 use Rattle.bib_store.specs.declared.change.Change.{Change}
 use Rattle.bib_store.specs.declared.tables.Tables.{Tables}
+use Rattle.bib_store.specs.Beside.{AreTablesOf}
 use Rattle.bib_store.specs.Following.{DefineNothingBetween}
+use Rattle.bib_store.specs.ItemTexts.{first_too_long}
 use Rattle.bib_store.specs.Shifting.{all_moved_back, FitBehind}
-use Rattle.bib_store.specs.Stored.{file_of, IsKept}
-use Rattle.bib_store.specs.Windows.{IsChange, bytes_before, bytes_within}
+use Rattle.bib_store.specs.Stored.{file_of}
+use Rattle.bib_store.specs.Windows.{IsLead, IsChange, ArePut, bytes_before, bytes_within}
 
 -- the pieces lie in the window of the change, and make its text of what stands there
 pub record LieIn (pieces : List Piece) (front : Text) (items : List Item) (c : Change) : Type 0 where
   pub fit : FitBehind (length (bytes_before c.window front items)) pieces (bytes_within c.window front items)
   pub text : c.text ≡ applied (all_moved_back (length (bytes_before c.window front items)) pieces) (bytes_within c.window front items)
 
--- The change that a run of pieces makes: they lie in its window, among the first n items and after the front. No item
--- there is a definition.
+-- The change that a run of pieces makes: they lie in its window, among the first n items and after the front.
 pub record IsRunChange (run : List Piece) (front : Text) (items : List Item) (n : ℕ) (c : Change) : Type 0 where
   pub change : IsChange run front items c
   pub lie : LieIn run front items c
   pub after_front : c.window.with_front ≡ false
   pub to : c.window.to ≤ n
-  pub others : DefineNothingBetween c.window.from c.window.to items
 
--- the items of a text come before item `at`
-abbrev pub ComeBefore : ℕ → Text → List Item → List Item → Type 0
-ComeBefore at text old new = (inner : Reading) → Reads text inner → new ≡ take at old ++ (all_stored inner.items ++ drop at old)
+-- The items of the change stand before those of its window, of which the first have the bodies of the lead; but for those
+-- none that comes or goes is a definition.
+pub record AreBroughtIn (c : Change) (old now : List Item) (count lead : ℕ) : Type 0 where
+  pub put : ArePut c old now count
+  pub leads : IsLead c.window count lead now
+  pub come : DefineNothingBetween (c.window.from + lead) (c.window.from + count) now
+  pub gone : DefineNothingBetween (c.window.from + count + lead) (c.window.to + count) now
 
--- where the old items and tables keep a file, the new ones keep one with the same front
-abbrev pub StaysKept : List Item → Tables → List Item → Tables → Type 0
-StaysKept items t new_items new_t = (front : Text) → IsKept front items t → IsKept front new_items new_t
+-- ---- how the tables follow
 
--- the pieces lead from the front and the first n items to the front and others, and the items after those stay
-pub record LeadWithin (pieces : List Piece) (front : Text) (n : ℕ) (old new : List Item) : Type 0 where
+-- the tables say how long the file is, which is not too long
+pub record IsMeasured (front : Text) (items : List Item) (t : Tables) : Type 0 where
+  pub len : t.file_len ≡ length (file_of front items)
+  pub short : t.file_len ≤ file_limit
+
+-- where the old tables measured the old items, the new ones measure the new items
+abbrev pub StaysMeasured : List Item → Tables → List Item → Tables → Type 0
+StaysMeasured items t new_items new_t = (front : Text) → IsMeasured front items t → IsMeasured front new_items new_t
+
+-- the items are those of a file, no raw text of theirs is too long, and but for the length the tables say what holds of them
+pub record AreFollowed (items : List Item) (t : Tables) : Type 0 where
+  pub all : List reading.Item
+  pub good : All (IsItem name_limit) all
+  pub same : items ≡ all_stored all
+  pub tables : AreTablesOf all t
+  pub texts : first_too_long (raw_texts_from 0 months all) ≡ None
+
+-- Where the old tables followed the old items and others after them, the new ones follow the new items and the same
+-- others, of which there are no more than so many. These needn't be those of the list: there the items that a run of
+-- pieces brought stand before those that it takes, and a definition stands twice of which only the trail changes.
+abbrev pub StayFollowed : ℕ → List Item → Tables → List Item → Tables → Type 0
+StayFollowed most items t new_items new_t = (rest : List Item) → length rest ≤ most → AreFollowed (items ++ rest) t → AreFollowed (new_items ++ rest) new_t
+
+-- the tables follow the items that a change brought before those of its window, in which those of the lead count no more
+abbrev pub FollowBroughtIn : Change → ℕ → List Item → Tables → Tables → Type 0
+FollowBroughtIn c lead old t new_t = (inner : Reading) → Reads c.text inner
+    → StayFollowed (length old - c.window.to) (take c.window.to old) t (take c.window.from old ++ (all_stored inner.items ++ between (c.window.from + lead) c.window.to old)) new_t
+
+-- ---- where the pieces lead
+
+-- The pieces lead from the front and the first n items to the front and others, which the tables follow, and the items
+-- after those stay.
+pub record LeadWithin (pieces : List Piece) (front : Text) (n : ℕ) (old : List Item) (t : Tables) (new : List Item) (new_t : Tables) : Type 0 where
   pub first : List Item
   pub stay : new ≡ first ++ drop n old
   pub fit : Fit pieces (file_of front (take n old))
   pub made : file_of front first ≡ applied pieces (file_of front (take n old))
+  pub followed : StayFollowed (length old - n) (take n old) t first new_t

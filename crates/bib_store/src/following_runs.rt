@@ -1,20 +1,21 @@
 //! Runs of pieces that lie apart. The items that they touch come and go run by run, and what stands between them stays.
 
-ghost use Rattle.std.specs.Prelude.{◌≡◌, ◌+◌, ◌-◌, ◌≤◌, ◌<◌, ◌^◌, ◌++◌, [], length, List, IfOk, OnOk, OnErr};
+ghost use Rattle.std.specs.Prelude.{◌≡◌, ◌+◌, ◌-◌, ◌≤◌, ◌<◌, ◌++◌, [], length, take, List, IfOk, OnOk, OnErr};
+ghost use Rattle.std.specs.List.{between};
 ghost use Rattle.bib_spec.specs.Text.{Text as Bytes};
-ghost use Rattle.bib_spec.specs.Reading as reading;
 ghost use Rattle.bib_spec.specs.Reading.{Reading, Reads};
 ghost use Rattle.bib_scan.specs.Layout.{IsLayoutOf};
+ghost use Rattle.bib_items.specs.declared.list.Item.{Item};
 ghost use Rattle.bib_items.specs.Items.{without_range};
-ghost use Rattle.bib_store.specs.Beside.{AreTablesOf};
-ghost use Rattle.bib_definitions.specs.Definitions.{texts_at};
-ghost use Rattle.bib_store.specs.Following.{bodies_between, AreItemsOf, AreOthersOf, DefineNothingBetween, HaveShortTexts};
-ghost use Rattle.bib_store.specs.Runs.{IsRunChange, ComeBefore, StaysKept, LeadWithin};
-ghost use Rattle.bib_store.specs.Stored.{IsKept};
+ghost use Rattle.bib_store.specs.Following.{DefineNothingBetween};
+ghost use Rattle.bib_store.specs.Runs.{IsRunChange, AreBroughtIn, IsMeasured, StaysMeasured, StayFollowed, FollowBroughtIn, LeadWithin};
+ghost use Rattle.bib_spec.specs.Pieces.{Fit, applied};
+ghost use Rattle.bib_store.specs.Stored.{file_of, IsKept};
+ghost use Rattle.bib_store.specs.Windows.{IsWindow, IsLead, ArePut};
 
 use crate::change::{Change, change_near};
-use crate::exchanging::{FOLLOWED_LIMIT, can_follow};
-use crate::following::{are_others, forget, learn};
+use crate::exchanging::{can_follow, lead_of};
+use crate::following::{forget, learn};
 use crate::tables::Tables;
 use bib_data::Piece;
 use bib_items::{ItemList, StoreFault};
@@ -22,7 +23,7 @@ use bib_scan::FILE_LIMIT;
 use std::alloc::Global;
 
 /// What replaces the window of a run that touches none but the first `n` items. Refused where the pieces don't serve
-/// there, or where the tables can't follow.
+/// there.
 fn run_change<L: ItemList>(
     alloc: Global,
     front: &[u8],
@@ -31,55 +32,67 @@ fn run_change<L: ItemList>(
     n: usize,
     run: &[Piece],
 ) -> Result<Change, StoreFault>
-    requires kept { IsKept front.now (L.items items.now) tables.now }
+    requires measured { IsMeasured front.now (L.items items.now) tables.now }
     ensures { IfOk result (IsRunChange run.now front.now (L.items items.now) n) }
 {
     let Some(change) = change_near(alloc, front, items, tables.file_len, run)? else {
         return Err(StoreFault::BadSplice);
     };
-    if change.window.with_front || change.window.to > n || !can_follow(items, change.window, 0, 0) {
+    if change.window.with_front || change.window.to > n {
         return Err(StoreFault::BadSplice);
     }
     Ok(change)
 }
 
-/// Puts items into the tables that the list has from number `from` up to `to`, before those that had these numbers and
-/// the greater ones. Refused where they are many or one is a definition; the tables then say what they said.
+/// Lets the tables follow the items that came for a change, of this count, before those of its window. Gives how many of
+/// them are the lead: with these the first of the window go at once, in the tables. Refused where the items are many or
+/// one is a definition, but for the lead; the tables then say what they said.
 fn learn_few<L: ItemList>(
     alloc: Global,
     tables: &mut Tables,
     items: &L,
-    from: usize,
-    to: usize,
-) -> Result<(), StoreFault>
-    requires ordered { from ≤ to }
-    requires within { to ≤ length (L.items items.now) }
-    ensures others { OnOk result (DefineNothingBetween from to (L.items items.now)) }
-    ensures tables { OnOk result ((before new after : List reading.Item) → length before ≡ from → AreOthersOf (bodies_between from to (L.items items.now)) new → from + (length new + length after) < 2 ^ 64 → AreTablesOf (before ++ after) tables.old → AreTablesOf (before ++ (new ++ after)) tables.new) }
-    ensures short { OnOk result ((new : List reading.Item) → AreOthersOf (bodies_between from to (L.items items.now)) new → HaveShortTexts (texts_at tables.old.definitions from) new) }
+    change: &Change,
+    count: usize,
+) -> Result<usize, StoreFault>
+    requires ordered { change.now.window.from ≤ change.now.window.to }
+    requires within { change.now.window.to + count ≤ length (L.items items.now) }
+    ensures lead { IfOk result (λ lead. IsLead change.now.window count lead (L.items items.now)) }
+    ensures come { IfOk result (λ lead. DefineNothingBetween (change.now.window.from + lead) (change.now.window.from + count) (L.items items.now)) }
+    ensures gone { IfOk result (λ lead. DefineNothingBetween (change.now.window.from + count + lead) (change.now.window.to + count) (L.items items.now)) }
+    ensures followed { IfOk result (λ lead. (old : List Item) → ArePut change.now old (L.items items.now) count → FollowBroughtIn change.now lead old tables.old tables.new) }
     ensures len { tables.new.file_len ≡ tables.old.file_len }
-    ensures err { OnErr result ((before new after : List reading.Item) → length before ≡ from → AreItemsOf (bodies_between from to (L.items items.now)) new → from + (length new + length after) < 2 ^ 64 → AreTablesOf (before ++ after) tables.old → AreTablesOf (before ++ after) tables.new) }
+    ensures back { OnErr result ((old : List Item) (inner : Reading) → Reads change.now.text inner → ArePut change.now old (L.items items.now) count → StayFollowed (length old - change.now.window.to) (take change.now.window.to old) tables.old (take change.now.window.to old) tables.new) }
 {
-    if to - from > FOLLOWED_LIMIT || !are_others(items, from, to) {
+    let window = change.window;
+    let lead = lead_of(items, window, count);
+    if !can_follow(items, window, count, lead) {
         return Err(StoreFault::BadSplice);
     }
-    learn(alloc, tables, items, from, from, to)
+    // so many items fit
+    let _ = items.count();
+    let first = window.from + lead;
+    match learn(alloc, tables, items, first, first, window.from + count) {
+        Ok(()) => Ok(lead),
+        Err(fault) => Err(fault),
+    }
 }
 
-/// Puts the items of a change before those of its window. Refused where they are many, one is a definition or has a text
-/// that is too long, or the file would be too long; nothing has changed then.
+/// Puts the items of a change before those of its window. Gives how many they are, and how many of them are the lead.
+/// Refused where they are many, one has a text that is too long or is a definition and not of the lead, or the file would
+/// be too long; nothing has changed then.
 fn bring_in<L: ItemList>(
     alloc: Global,
     items: &mut L,
     tables: &mut Tables,
     change: &Change,
-) -> Result<(), StoreFault>
-    requires within { change.now.window.from ≤ length (L.items items.old) }
+) -> Result<(usize, usize), StoreFault>
+    requires window { IsWindow (L.items items.old) change.now.window }
     requires layout { IsLayoutOf change.now.text change.now.layout }
     requires begins { (inner : Reading) → Reads change.now.text inner → inner.front ≡ [] }
-    ensures come { OnOk result (ComeBefore change.now.window.from change.now.text (L.items items.old) (L.items items.new)) }
-    ensures others { OnOk result (DefineNothingBetween change.now.window.from (change.now.window.from + (length (L.items items.new) - length (L.items items.old))) (L.items items.new)) }
-    ensures kept { StaysKept (L.items items.old) tables.old (L.items items.new) tables.new }
+    ensures brought { IfOk result (λ counts. AreBroughtIn change.now (L.items items.old) (L.items items.new) counts.0 counts.1) }
+    ensures measured { StaysMeasured (L.items items.old) tables.old (L.items items.new) tables.new }
+    ensures followed { IfOk result (λ counts. FollowBroughtIn change.now counts.1 (L.items items.old) tables.old tables.new) }
+    ensures back { OnErr result (StayFollowed (length (L.items items.old) - change.now.window.to) (take change.now.window.to (L.items items.old)) tables.old (take change.now.window.to (L.items items.old)) tables.new) }
     ensures err { OnErr result (L.items items.new ≡ L.items items.old) }
 {
     let from = change.window.from;
@@ -90,33 +103,43 @@ fn bring_in<L: ItemList>(
     }
     let old_count = items.count();
     items.insert_all(from, text, &change.layout)?;
-    let to = from + (items.count() - old_count);
-    match learn_few(alloc, tables, &*items, from, to) {
-        Ok(()) => {
+    let count = items.count() - old_count;
+    match learn_few(alloc, tables, &*items, change, count) {
+        Ok(lead) => {
             tables.file_len = file_len;
-            Ok(())
+            Ok((count, lead))
         }
         Err(fault) => {
-            items.remove_range(from, to);
+            items.remove_range(from, from + count);
             Err(fault)
         }
     }
 }
 
-/// Takes the items away from one number up to another, none of which is a definition.
+/// Takes the items away from one number up to another. Those of the lead, the first, don't stand in the tables; none of the
+/// others is a definition, and these go from the tables too, where they have number `at` and the greater ones.
 /// It asks for no memory.
-fn take_out<L: ItemList>(items: &mut L, tables: &mut Tables, from: usize, to: usize)
-    requires ordered { from ≤ to }
+fn take_out<L: ItemList>(
+    items: &mut L,
+    tables: &mut Tables,
+    at: usize,
+    from: usize,
+    lead: usize,
+    to: usize,
+)
+    requires low { at ≤ from + lead }
+    requires ordered { from + lead ≤ to }
     requires within { to ≤ length (L.items items.old) }
-    requires others { DefineNothingBetween from to (L.items items.old) }
-    requires kept { (front : Bytes) × IsKept front (L.items items.old) tables.old }
+    requires others { DefineNothingBetween (from + lead) to (L.items items.old) }
+    requires measured { (front : Bytes) × IsMeasured front (L.items items.old) tables.old }
     ensures items { L.items items.new ≡ without_range from to (L.items items.old) }
-    ensures kept { StaysKept (L.items items.old) tables.old (L.items items.new) tables.new }
+    ensures measured { StaysMeasured (L.items items.old) tables.old (L.items items.new) tables.new }
+    ensures followed { (before : List Item) → length before ≡ at → StayFollowed (length (L.items items.old) - to) (before ++ between (from + lead) to (L.items items.old)) tables.old before tables.new }
 {
     // so many items fit
     let _ = items.count();
     let len = items.start(to) - items.start(from);
-    forget(tables, &*items, from, from, to);
+    forget(tables, &*items, at, from + lead, to);
     items.remove_range(from, to);
     tables.file_len -= len;
 }
@@ -124,7 +147,7 @@ fn take_out<L: ItemList>(items: &mut L, tables: &mut Tables, from: usize, to: us
 /// Replaces what pieces touch among the first `n` items, run by run from the last to the first. The numbers of the pieces
 /// with which the runs begin are given. The items of a run come before those that it touches, and these go only once the
 /// runs before it are done: where one of them is refused, those that came go, and nothing has changed.
-pub(crate) fn follow_runs<L: ItemList>(
+fn follow_runs<L: ItemList>(
     alloc: Global,
     front: &[u8],
     items: &mut L,
@@ -133,10 +156,11 @@ pub(crate) fn follow_runs<L: ItemList>(
     starts: &[usize],
     pieces: &[Piece],
 ) -> Result<(), StoreFault>
-    requires kept { IsKept front.now (L.items items.old) tables.old }
+    requires measured { IsMeasured front.now (L.items items.old) tables.old }
     requires within { n ≤ length (L.items items.old) }
-    ensures kept { IsKept front.now (L.items items.new) tables.new }
-    ensures led { OnOk result (LeadWithin pieces.now front.now n (L.items items.old) (L.items items.new)) }
+    ensures measured { IsMeasured front.now (L.items items.new) tables.new }
+    ensures led { OnOk result (LeadWithin pieces.now front.now n (L.items items.old) tables.old (L.items items.new) tables.new) }
+    ensures back { OnErr result (StayFollowed (length (L.items items.old) - n) (take n (L.items items.old)) tables.old (take n (L.items items.old)) tables.new) }
     ensures err { OnErr result (L.items items.new ≡ L.items items.old) }
 {
     let Some((start, starts)) = starts.split_last() else {
@@ -150,17 +174,48 @@ pub(crate) fn follow_runs<L: ItemList>(
     let from = change.window.from;
     let touched = change.window.to - from;
     let old_count = items.count();
-    bring_in(alloc, items, tables, &change)?;
-    let to = from + (items.count() - old_count);
+    let (count, lead) = bring_in(alloc, items, tables, &change)?;
+    // so many items fit
+    let _ = items.count();
     match follow_runs(alloc, front, items, tables, from, starts, earlier) {
         Ok(()) => {
             let first_old = items.count() - (old_count - from);
-            take_out(items, tables, first_old, first_old + touched);
+            take_out(
+                items,
+                tables,
+                first_old,
+                first_old,
+                lead,
+                first_old + touched,
+            );
             Ok(())
         }
         Err(fault) => {
-            take_out(items, tables, from, to);
+            take_out(items, tables, from + lead, from, lead, from + count);
             Err(fault)
         }
+    }
+}
+
+/// Replaces what pieces touch, run by run. The numbers of the pieces with which the runs begin are given. Where it is
+/// refused, nothing has changed.
+pub(crate) fn replace_runs<L: ItemList>(
+    alloc: Global,
+    front: &[u8],
+    items: &mut L,
+    tables: &mut Tables,
+    starts: &[usize],
+    pieces: &[Piece],
+) -> Result<(), StoreFault>
+    requires kept { IsKept front.now (L.items items.old) tables.old }
+    ensures kept { IsKept front.now (L.items items.new) tables.new }
+    ensures fit { OnOk result (Fit pieces.now (file_of front.now (L.items items.old))) }
+    ensures made { OnOk result (file_of front.now (L.items items.new) ≡ applied pieces.now (file_of front.now (L.items items.old))) }
+    ensures err { OnErr result (L.items items.new ≡ L.items items.old) }
+{
+    let count = items.count();
+    match follow_runs(alloc, front, items, tables, count, starts, pieces) {
+        Ok(()) => Ok(()),
+        Err(fault) => Err(fault),
     }
 }

@@ -3,7 +3,7 @@
 use crate::change::{find_change, front_len, new_front, put_front};
 use crate::database::Database;
 use crate::exchanging::exchange;
-use crate::following_runs::follow_runs;
+use crate::following_runs::replace_runs;
 use crate::runs::run_starts;
 use bib_data::Piece;
 use bib_items::{ItemList, StoreFault};
@@ -16,12 +16,13 @@ impl<L: ItemList> Database<L> {
 
     /// Replaces pieces of the file, all at once. The items that the pieces touch are read again, but for one that they
     /// touch by its end alone where the rest is read without it: each run of neighbours alone, where at most 256 pieces
-    /// make 2 to 64 runs of at most 64 items each, none touches the front, and none has or gets a macro definition; else
-    /// all from the first to the last; and where that shows no file, the whole file. It takes time in the length of what
-    /// is read, and for each run a few steps for each page of items, and a step for each entry, preamble and macro
-    /// definition after it; and memory in the length of what is read. Where all is read in one run of which more than 64
-    /// items come or go, or one defines a macro, the tables of all items are made again: it takes time in the file's
-    /// length, and memory as opening it.
+    /// make 2 to 64 runs of at most 64 items each, none touches the front, and of macro definitions only the trails
+    /// change, where they are the first that a run touches; else all from the first to the last; and where that shows no
+    /// file, the whole file. It takes time in the length of what is read, and for each run a few steps for each page of
+    /// items, and a step for each entry, preamble and macro definition after it; and memory in the length of what is read.
+    /// Where all is read in one run of which more than 64 items come or go, or one defines a macro, the tables of all
+    /// items are made again: it takes time in the file's length, and memory as opening it. The first item neither comes
+    /// nor goes where only its trail changes.
     pub fn splice(&mut self, pieces: &[Piece]) -> Result<(), StoreFault>
         ensures fit { OnOk result (Fit pieces.now self.old) }
         ensures spliced { OnOk result (self.new ≡ applied pieces.now self.old) }
@@ -52,13 +53,11 @@ impl<L: ItemList> Database<L> {
             self.tables.file_len,
             pieces,
         )?;
-        let count = self.items.count();
-        follow_runs(
+        replace_runs(
             self.alloc,
             self.front.as_slice(),
             &mut self.items,
             &mut self.tables,
-            count,
             &starts,
             pieces,
         )

@@ -1,19 +1,41 @@
-use Rattle.std.proofs.Common.{◌-◌, ◌<◌, ◌^◌, length, refl, ap₂, arith}
-use Rattle.bib_store.proofs.KeptRuns.{go_kept, len-between, len-within}
+use Rattle.std.proofs.Common.{◌≡◌, ◌+◌, ◌-◌, ◌<◌, ◌≤◌, ◌^◌, ℕ, List, ◌++◌, length, drop, refl, ap, subst, append_assoc, length-drop, arith}
+use Rattle.std.specs.List.{between}
+use Rattle.std.proofs.lemmas.List.{length-take-le}
+use Rattle.bib_items.specs.declared.list.Item.{Item}
+use Rattle.bib_store.specs.Following.{bodies_between}
+use Rattle.bib_store.specs.Runs.{AreFollowed}
+use Rattle.bib_store.specs.Stored.{file_of}
+use Rattle.bib_store.proofs.KeptRuns.{followed_same, go_followed, go_len, len-ordered, len-within}
 use Rattle.bib_store.proofs.Walks.{with_len}
 use Rattle.bib_store.proofs.following_runs.take_out.Goals as goal
 
 pub overflow_sub-len : goal.overflow_sub-len
-overflow_sub-len g c = omega (arith, c.start.ensures, c.start-2.ensures, len-between (g.L.ItemList.items c.args.items.now) c.args.from c.args.to c.requires.ordered)
+overflow_sub-len g c = omega (arith, c.start.ensures, c.start-2.ensures, len-ordered (g.L.ItemList.items c.args.items.now) c.args.from c.args.to (omega (arith, c.requires.ordered)))
 
 pub overflow_sub-tables : goal.overflow_sub-tables
 overflow_sub-tables g c =
-    omega (arith, c.start.ensures, c.forget.ensures.len, c.requires.kept.1.is.len, len-within c.requires.kept.0 (g.L.ItemList.items c.args.items.now) c.args.to)
+    omega (arith, c.start.ensures, c.forget.ensures.len, c.requires.measured.1.len, len-within c.requires.measured.0 (g.L.ItemList.items c.args.items.now) c.args.to)
 
-pub returns-clause-kept : goal.returns-clause-kept
-returns-clause-kept g c = λ front k.
+pub returns-clause-measured : goal.returns-clause-measured
+returns-clause-measured g c = λ front m.
     let old = g.L.ItemList.items c.args.items.now in
+    let order : c.args.from ≤ c.args.to = omega (arith, c.requires.ordered) in
+    let len = m.len in
+    let short = m.short in
+    record {
+      len = omega (arith, c.start.ensures, c.start-2.ensures, c.forget.ensures.len, len, go_len front old c.args.from c.args.to order, ap (λ (l : List Item). length (file_of front l)) c.remove_range.ensures);
+      short = omega (arith, c.forget.ensures.len, short);
+    }
+
+pub returns-clause-followed : goal.returns-clause-followed
+returns-clause-followed g c = λ before long rest room f.
+    let old = g.L.ItemList.items c.args.items.now in
+    let from : ℕ = c.args.from + c.args.lead in
+    let to : ℕ = c.args.to in
+    let gone : List Item = between from to old in
     let few : length old < 2 ^ 64 = omega (arith, c.count.ensures, c.count.type_inv) in
-    go_kept front old (g.L.ItemList.items c.remove_range.new.self) c.args.tables.now c.args.from c.args.to k c.requires.ordered c.requires.within c.remove_range.ensures few c.requires.others
-    c.forget.new.tables _ c.forget.ensures.tables (λ items. with_len items c.forget.new.tables (c.forget.new.tables.file_len - (c.start.result - c.start-2.result)))
-    (c.start.result - c.start-2.result) (ap₂ ◌-◌ c.start.ensures c.start-2.ensures) (ap₂ ◌-◌ c.forget.ensures.len refl)
+    let wide : length gone ≡ to - from = length-take-le (to - from) (drop from old) (omega (arith, c.requires.ordered, c.requires.within, length-drop from old)) in
+    followed_same (before ++ rest) (before ++ rest) c.forget.new.tables _
+    (go_followed before gone rest c.args.at c.args.tables.now c.forget.new.tables (bodies_between from to old) (subst (λ (l : List Item). AreFollowed l c.args.tables.now) (append_assoc before gone rest) f) long refl c.requires.others
+    (omega (arith, few, wide, room, c.requires.low, c.requires.ordered, c.requires.within)) c.forget.ensures.tables)
+    refl (λ items. with_len items c.forget.new.tables (c.forget.new.tables.file_len - (c.start.result - c.start-2.result)))

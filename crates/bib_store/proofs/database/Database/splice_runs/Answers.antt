@@ -3,10 +3,9 @@ use Rattle.std.proofs.lemmas.Result.{on_ok_weaker}
 use Rattle.bib_spec.specs.Text.{Text}
 use Rattle.bib_spec.specs.Pieces.{Fit}
 use Rattle.bib_store.specs.Stored.{file_of}
-use Rattle.bib_store.proofs.LedRuns.{all_led}
 use Rattle.bib_store.proofs.database.Database.splice_runs.Goals as goal
 
 pub returns-clause-fit : goal.returns-clause-fit
-returns-clause-fit g c = on_ok_weaker c.follow_runs.result
-    (λ led. subst (Fit c.args.pieces.now) (ap (λ (f : Text). file_of f (g.L.ItemList.items c.self.inside.items)) c.as_slice-2.ensures ∙ c.self.view_is) (all_led _ _ _ _ _ c.count-count.ensures led).0)
-    c.follow_runs.ensures.led
+returns-clause-fit g c = on_ok_weaker c.replace_runs.result
+    (λ fit. subst (Fit c.args.pieces.now) (ap (λ (f : Text). file_of f (g.L.ItemList.items c.self.inside.items)) c.as_slice-2.ensures ∙ c.self.view_is) fit)
+    c.replace_runs.ensures.fit
