@@ -1,5 +1,5 @@
 -- `labels`: short names for the entries that keys cite. (dialect)
-use Rattle.std.specs.Prelude.{ℕ, List, ◌++◌, map, filter_map, option_map, zip, codes}
+use Rattle.std.specs.Prelude.{ℕ, ◌≡◌, List, ◌++◌, map, filter_map, option_map, zip, codes}
 use Rattle.std.specs.List.{flat_map}
 use Rattle.bib_spec.specs.Text.{Text}
 use Rattle.bib_spec.specs.Reading.{Reading}
@@ -32,3 +32,14 @@ label_lines entries list = flat_map label_line (labelled (records_at entries lis
 -- `labels F KEY..`: the labels of the entries that the keys cite, each with its key
 abbrev pub labels_answer : List Text → Reading → Answer
 labels_answer = cited_answer label_lines
+
+-- ---- what is kept of the records
+
+-- a label, a tab, and a key, a line
+abbrev pub keyed_line : Text × Text → Text
+keyed_line labelled = labelled.0 ++ (codes "\t" ++ (labelled.1 ++ codes "\n"))
+
+-- the label bases of these records, and their keys
+pub record AreToldOf (records : List Record) (bases keys : List Text) : Type 0 where
+  pub bases_are : bases ≡ map (λ r. label_base r.fields) records
+  pub keys_are : keys ≡ map (λ r. r.key) records
