@@ -1,6 +1,6 @@
 -- How many of the items so far pass a test.
-use Rattle.std.proofs.Common.{◌≡◌, ◌∙◌, ℕ, ◌+◌, ◌<◌, ◌≤◌, Bool, true, false, cond, List, length, take, drop, filter, Some, slice_get, count_by, sym, ap, ⊎_elim, arith, length-append}
-use Rattle.std.proofs.lemmas.Option.{slice_get_cases, same_Some}
+use Rattle.std.proofs.Common.{◌≡◌, ◌∙◌, ℕ, zero, suc, ◌+◌, ◌<◌, ◌≤◌, Bool, true, false, cond, List, [], ◌∷◌, length, take, drop, filter, Some, slice_get, count_by, sym, ap, ⊎_elim, arith, length-append}
+use Rattle.std.proofs.lemmas.Option.{slice_get_cases, same_Some, none-some}
 use Rattle.std.proofs.lemmas.List.{take_all, take-append-drop}
 use Rattle.std.proofs.lemmas.List.Sums.{length-filter}
 use Rattle.std.proofs.lemmas.List.Filters.{length-filter_more}
@@ -64,3 +64,16 @@ items_counted test items n told count within tells before =
 pub counted_small : (told : Bool) (count n : ℕ) → count ≤ n → count + cond told 1 0 ≤ n + 1
 counted_small true count n small = omega (arith, small)
 counted_small false count n small = omega (arith, small)
+
+-- an item that passes stands among those that do by the number of them before it
+pub among_passing : (test : Item → Bool) (items : List Item) (n : ℕ) (x : Item) → slice_get items n ≡ Some x → test x ≡ true
+    → slice_get (filter test items) (length (filter test (take n items))) ≡ Some x
+among_passing test [] n x at is = absurd (none-some x at)
+among_passing test (i ∷ items) zero x at is =
+    ap (λ (b : Bool). slice_get (cond b (i ∷ filter test items) (filter test items)) 0) (ap test (same_Some i x at) ∙ is) ∙ at
+among_passing test (i ∷ items) (suc n) x at is = one (test i) (among_passing test items n x at is)
+  where
+    one : (b : Bool) → slice_get (filter test items) (length (filter test (take n items))) ≡ Some x
+        → slice_get (cond b (i ∷ filter test items) (filter test items)) (length (cond b (i ∷ filter test (take n items)) (filter test (take n items)))) ≡ Some x
+    one true h = h
+    one false h = h

@@ -7,14 +7,15 @@ use Rattle.bib_spec.specs.Text.{Text}
 use Rattle.bib_spec.specs.Tree.{Tree, CommentTree, DefinitionTree, PreambleTree, EntryTree, Row, Assignment, IsTree, IsRow, IsAssignment, value_bytes, row_bytes}
 use Rattle.bib_spec.specs.Reading.{Item, Reading, Reads, IsItem}
 use Rattle.bib_spec.specs.Texts.{months, macros_at}
-use Rattle.bib_spec.specs.Records.{entries_of, crossref_text, target, is_repeated}
+use Rattle.bib_spec.specs.Records.{texts_of, entries_of, crossref_text, target, is_repeated}
 use Rattle.bib_scan.specs.View.{View, Field, view_of, fields_of, fields_behind, kind_of, key_of}
 use Rattle.bib_scan.specs.declared.view.Kind.{Kind}
-use Rattle.bib_store.specs.Meaning.{is_entry_tree}
+use Rattle.bib_store.specs.Meaning.{is_entry_tree, entry_items}
 use Rattle.bib_value.proofs.Entries.{name_short}
 use Rattle.bib_run.specs.Check.{Assigned, row_assigned, assigned, defined_in, field_reports, of_entry, repeated_report, crossref_report, item_reports, reports_on, entries_before}
-use Rattle.bib_run.proofs.ItemCounts.{number_within}
-use Rattle.bib_run.specs.Fields.{Views, IsFieldOf, AreFieldsOf, AreSound}
+use Rattle.bib_run.proofs.ItemCounts.{number_within, among_passing}
+use Rattle.bib_store.proofs.EntryItems.{entry_of_item, key_seen}
+use Rattle.bib_run.specs.Fields.{Views, IsKeyOf, IsFieldOf, AreFieldsOf, AreSound}
 
 field_of_assignment : (a : Assignment) (field : Field) → IsAssignment name_limit a → field.name ≡ a.name → field.value ≡ value_bytes a.value
     → IsFieldOf (a.name, a.value) field
@@ -84,6 +85,15 @@ pub entry_within : (db : Reading) (n : ℕ) (view : View) (entries : ℕ) (is : 
 entry_within db n view entries is entry before =
     let within = number_within db n is.item (slice_get_within db.items n is.item is.at) is.at entry in
     omega (arith, within, before)
+
+-- and its key is that of the entry
+pub entry_key : (db : Reading) (n : ℕ) (view : View) (entries : ℕ) (is : IsViewed db n view) → is_entry_tree is.item.tree ≡ true → entries ≡ entries_before db n
+    → (key : Text) → key ≡ view.key → IsKeyOf db entries key
+entry_key db n view entries is entry before key key_is =
+    let at : slice_get (entry_items db.items) entries ≡ Some is.item =
+    ap (slice_get (entry_items db.items)) before ∙ among_passing (λ i. is_entry_tree i.tree) db.items n is.item is.at entry in
+    let e = entry_of_item db entries is.item at in
+    (texts_of (macros_at months db.items e.number) e.entry, e.texts, sym (key_seen db entries is.item e key view key_is is.view_is))
 
 -- ---- the reports on an item
 

@@ -2,6 +2,8 @@
 use Rattle.std.specs.Prelude.{ℕ, ◌≡◌, ◌≤◌, List, Some, length, slice_get}
 use Rattle.std.specs.List.{AllByRecursion, AllZip}
 use Rattle.bib_spec.specs.Bytes.{name_limit}
+use Rattle.bib_spec.specs.Text.{Text}
+use Rattle.bib_spec.specs.Records.{EntryTexts, entries_of}
 use Rattle.bib_spec.specs.Tree.{IsValue, value_bytes}
 use Rattle.bib_spec.specs.Reading.{IsValueWithin}
 use Rattle.bib_spec.specs.Reading.{Item, Reading}
@@ -11,6 +13,10 @@ use Rattle.bib_run.specs.Check.{Assigned}
 -- item n is seen so
 abbrev pub Views : Reading → ℕ → View → Type 0
 Views db n view = (item : Item) → slice_get db.items n ≡ Some item → view ≡ view_of item
+
+-- entry n has this key
+abbrev pub IsKeyOf : Reading → ℕ → Text → Type 0
+IsKeyOf db n key = (entry : EntryTexts) × (slice_get (entries_of db) n ≡ Some entry) × (entry.key ≡ key)
 
 -- the field has this name and the bytes of this value
 pub record IsFieldOf (a : Assigned) (field : Field) : Type 0 where

@@ -8,11 +8,11 @@ use bib_scan::ReadFault;
 use bib_store::{Database, Paged};
 use std::alloc::Global;
 
-/// Opens the file. The bytes are kept once, in its items.
+/// Opens the file. The bytes are kept once, in its items; their own memory is given back.
 pub fn open(alloc: Global, file: Vec<u8>) -> Result<Database<Paged>, ReadFault>
     ensures opened { IfOk result (λ db. db ≡ file.items) }
     ensures file { OnOk result (IsOpenable file.items) }
     ensures fault { IfErr result (λ fault. IsOpenFault file.items fault.kind fault.place) }
 {
-    Database::open_bytes(alloc, file.as_slice(), Paged::new(alloc))
+    Database::open_file(alloc, file, Paged::new(alloc))
 }

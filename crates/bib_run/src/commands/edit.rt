@@ -24,7 +24,7 @@ pub fn answer_edit(
 ) -> Result<Answer, AllocError>
     ensures { IfOk result (IsEditAnswer file.items (option_map (λ text. text.now) journal.entry) input.now) }
 {
-    let mut session = match Session::open(alloc, file.as_slice(), journal, Paged::new(alloc)) {
+    let mut session = match Session::open_file(alloc, file, journal, Paged::new(alloc)) {
         Ok(session) => session,
         Err(fault) => return unopened(alloc, fault),
     };

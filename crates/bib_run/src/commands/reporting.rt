@@ -5,12 +5,13 @@ ghost use Rattle.std.specs.Option.{option_copied};
 ghost use Rattle.bib_spec.specs.Bytes.{name_limit};
 ghost use Rattle.bib_spec.specs.Text.{Text, folded};
 ghost use Rattle.bib_spec.specs.Reading.{IsValueWithin};
+ghost use Rattle.bib_spec.specs.Records.{entries_of, is_repeated};
 ghost use Rattle.bib_scan.specs.PartView.{part_view};
 ghost use Rattle.bib_value.specs.Macros.{is_own};
 ghost use Rattle.bib_value.specs.Raw.{OfValue};
 ghost use Rattle.bib_store.specs.Meaning.{OfReading, IsItemNumber};
 ghost use Rattle.bib_run.specs.Check.{Assigned, report, report_both, use_report, use_reports, defined_in, extra_report, field_reports, of_entry, repeated_report, target_report, crossref_report, entries_before, reports_on};
-ghost use Rattle.bib_run.specs.Fields.{Views, AreFieldsOf, AreSound};
+ghost use Rattle.bib_run.specs.Fields.{Views, IsKeyOf, AreFieldsOf, AreSound};
 ghost use Rattle.bib_run.specs.Seen.{HaveSeen};
 
 use crate::answers::MEMORY;
@@ -43,7 +44,7 @@ pub fn add_item_reports<'a>(
         add_field_reports(alloc, out, item, &macros, names)?;
         return Ok(());
     }
-    add_repeated(out, db.is_repeated(entries), item.key())?;
+    add_repeated(out, is_repeated(db, entries, item.key()), item.key())?;
     add_field_reports(alloc, out, item, &macros, names)?;
     add_crossref(
         out,
@@ -184,6 +185,17 @@ fn is_own(name: &[u8], own: Option<&[u8]>) -> bool
 }
 
 // ---- entries
+
+/// Whether an earlier entry has the key of this one, folded. The key is at hand: the entry is not looked up again.
+fn is_repeated(db: &Database<Paged>, number: usize, key: &[u8]) -> bool
+    requires { OfReading db.now (λ r. IsKeyOf r number key.now) }
+    ensures { OfReading db.now (λ r. result ≡ is_repeated (entries_of r) number) }
+{
+    match db.find(key) {
+        Ok(first) => first < number,
+        Err(_) => false,
+    }
+}
 
 fn add_repeated(out: &mut Vec<u8>, repeated: bool, key: &[u8]) -> Result<(), AllocError>
     ensures { OnOk result (out.new.items ≡ out.old.items ++ repeated_report repeated key.now) }

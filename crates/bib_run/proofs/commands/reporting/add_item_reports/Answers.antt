@@ -1,7 +1,7 @@
 use Rattle.std.proofs.Common.{◌≡◌, ◌∙◌, ◌++◌, [], true, false, rules, sym, ap}
 use Rattle.bib_spec.specs.Texts.{Macros}
 use Rattle.bib_run.specs.Check.{assigned, defined_in, field_reports}
-use Rattle.bib_run.proofs.ItemFields.{IsViewed, viewed, viewed_sound, told_entry, entry_within, other_reported, entry_reported}
+use Rattle.bib_run.proofs.ItemFields.{IsViewed, viewed, viewed_sound, told_entry, entry_within, entry_key, other_reported, entry_reported}
 use Rattle.bib_run.proofs.commands.reporting.add_item_reports.Goals as goal
 
 pub add_field_reports-requires : goal.add_field_reports-requires
@@ -21,7 +21,7 @@ pub is_repeated-requires : goal.is_repeated-requires
 is_repeated-requires c r reads =
     let is : IsViewed r c.args.n c.args.item.now = viewed c.args.db.now r c.args.n c.args.item.now reads (c.requires.item r reads) (c.requires.seen r reads) in
     let told : c.is_same_kind.result ≡ true = search rules in
-    entry_within r c.args.n c.args.item.now c.args.entries is (sym (told_entry r c.args.n c.args.item.now c.kind.result c.is_same_kind.result is c.kind.ensures c.is_same_kind.ensures) ∙ told) (c.requires.entries r reads)
+    entry_key r c.args.n c.args.item.now c.args.entries is (sym (told_entry r c.args.n c.args.item.now c.kind.result c.is_same_kind.result is c.kind.ensures c.is_same_kind.ensures) ∙ told) (c.requires.entries r reads) c.key.result.now c.key.ensures
 
 pub add_field_reports-requires-2 : goal.add_field_reports-requires-2
 add_field_reports-requires-2 c =
@@ -48,8 +48,8 @@ returns c r reads =
       c.in_ok-add_crossref.ensures,
       c.in_ok-add_field_reports-2.ensures (assigned is.item.tree) is.fields,
       c.in_ok-add_repeated.ensures,
+      c.key-3.ensures,
       c.key-2.ensures,
-      c.key.ensures,
       c.is_repeated.ensures r reads,
       c.crossref_text.ensures r reads,
       c.target.ensures r reads,
