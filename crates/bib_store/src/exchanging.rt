@@ -20,8 +20,8 @@ use crate::window::Window;
 use bib_items::{ItemList, StoreFault};
 use std::alloc::Global;
 
-/// Tables follow so many items that come, and so many that go. Each takes a step for every entry and definition after it,
-/// so that for more of them it costs less to make the tables again.
+/// Tables follow so many items that come, and so many that go. Each takes some steps for each page of the tables, so that
+/// for more of them it costs less to make the tables again.
 pub(crate) const FOLLOWED_LIMIT: usize = 64;
 
 /// Puts the items of a change in place of those in its window, and lets the tables say what holds of all items then. It
