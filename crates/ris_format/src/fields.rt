@@ -4,7 +4,7 @@ ghost use Rattle.std.specs.Prelude.{◌≡◌, ◌++◌, ◌∷◌, [], OnOk, If
 ghost use Rattle.ris_format.specs.Mapping.{is_filled, has_text, text_of, field, later_names, field_names, ris_names};
 
 use crate::kinds::{Kind, is};
-use crate::text::{copy, has_bytes};
+use crate::text::{copy, copy_with_room, has_bytes};
 use bib_scan::Text;
 use std::alloc::{AllocError, Global};
 
@@ -38,7 +38,7 @@ pub(crate) fn push_field(
 {
     if has_bytes(text) {
         let name = copy(alloc, name)?;
-        let text = copy(alloc, text)?;
+        let text = copy_with_room(alloc, text)?;
         fields.push((name, text))?;
     }
     Ok(())

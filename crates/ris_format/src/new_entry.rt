@@ -9,6 +9,7 @@ use crate::text::{balances, in_braces};
 use bib_data::{NewEntry, Record};
 use bib_scan::{Seq, Text};
 use std::alloc::{AllocError, Global};
+use std::mem;
 
 /// Whether each text is balanced.
 fn are_balanced(entry: &Record) -> bool
@@ -26,7 +27,8 @@ fn are_balanced(entry: &Record) -> bool
 fn brace(alloc: Global, field: &mut (Text, Text)) -> Result<(), AllocError>
     ensures { OnOk result (field.new ≡ value_field field.old) }
 {
-    field.1 = in_braces(alloc, field.1.as_slice())?;
+    let text = mem::replace(&mut field.1, Seq::from_vec(Vec::new(alloc)));
+    field.1 = in_braces(text)?;
     Ok(())
 }
 

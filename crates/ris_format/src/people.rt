@@ -9,7 +9,9 @@ ghost use Rattle.bib_names.specs.Label.{balances, listed_names};
 use crate::braces::Braces;
 use crate::keeping::Kept;
 use crate::kinds::is;
-use crate::text::{balances, copy, has_bytes, in_braces, join, piece_between, with_comma};
+use crate::text::{
+    balances, copy, copy_with_room, has_bytes, in_braces, join, piece_between, with_comma,
+};
 use bib_names::{Name, NameFault, Word, split_name, split_names};
 use bib_scan::{Seq, Text};
 use std::alloc::{AllocError, Global};
@@ -299,7 +301,7 @@ fn read_balanced(alloc: Global, value: &[u8]) -> Result<Text, AllocError>
 {
     let pieces = name_pieces(alloc, value)?;
     if is_opaque(alloc, value, pieces.len())? {
-        return in_braces(alloc, value);
+        return in_braces(copy_with_room(alloc, value)?);
     }
     person_of(pieces.as_slice()).bib_name(alloc)
 }

@@ -37,6 +37,15 @@ pub(crate) fn balances(text: &[u8]) -> bool
     is_balanced(text)
 }
 
+/// A copy of the text, with room for braces around it.
+pub(crate) fn copy_with_room(alloc: Global, text: &[u8]) -> Result<Text, AllocError>
+    ensures { IfOk result (λ t. t ≡ text.now) }
+{
+    let mut out = Vec::with_capacity(alloc, text.len() + 2)?;
+    out.extend_from_slice(text)?;
+    Ok(Seq::from_vec(out))
+}
+
 /// A copy of the text.
 pub(crate) fn copy(alloc: Global, text: &[u8]) -> Result<Text, AllocError>
     ensures { IfOk result (λ t. t ≡ text.now) }
@@ -56,15 +65,14 @@ pub(crate) fn with_comma(alloc: Global, text: &[u8], more: &[u8]) -> Result<Text
     Ok(Seq::from_vec(out))
 }
 
-/// The text in braces.
-pub(crate) fn in_braces(alloc: Global, text: &[u8]) -> Result<Text, AllocError>
-    ensures { IfOk result (λ t. t ≡ in_braces text.now) }
+/// The text in braces. It takes memory only where the text has no room for them.
+pub(crate) fn in_braces(text: Text) -> Result<Text, AllocError>
+    ensures { IfOk result (λ t. t ≡ in_braces text) }
 {
-    let mut out = Vec::with_capacity(alloc, text.len() + 2)?;
-    out.push(b'{')?;
-    out.extend_from_slice(text)?;
-    out.push(b'}')?;
-    Ok(Seq::from_vec(out))
+    let mut bytes = text.into_vec();
+    bytes.insert(0, b'{')?;
+    bytes.push(b'}')?;
+    Ok(Seq::from_vec(bytes))
 }
 
 /// The texts, with this text between each two.
