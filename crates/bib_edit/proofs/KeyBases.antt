@@ -6,7 +6,7 @@ use Rattle.bib_spec.specs.Text.{Text}
 use Rattle.bib_spec.specs.MadeKeys.{base_limit}
 use Rattle.bib_spec.specs.Records.{EntryTexts, Record, default_depth, record_of, expanded}
 use Rattle.bib_store.specs.Choosing.{chosen, with_chosen}
-use Rattle.bib_names.specs.Label.{Fields, label_base, label_names, or_anon, key_base}
+use Rattle.bib_names.specs.Label.{Fields, label_names, or_anon, key_base}
 use Rattle.bib_names.proofs.LabelFields.{base_kept}
 use Rattle.edit_spec.specs.Edits as edits
 use Rattle.edit_spec.specs.EditLaws.{HasKeyBase}

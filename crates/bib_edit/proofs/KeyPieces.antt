@@ -1,26 +1,22 @@
 -- The pieces of entries that get new keys are those of the edit's chunks.
-use Rattle.std.proofs.Common.{◌≡◌, ℕ, suc, ◌+◌, ◌≤◌, ◌<◌, Bool, true, false, List, [], ◌∷◌, ◌++◌, Option, Some, None, length, drop, find, slice_get, option_and_then, scan, ⊎_elim, refl, sym, ◌∙◌, ap, ap₂, subst, arith, add-one, append_assoc, append-nil, length-append, zero-add}
+use Rattle.std.proofs.Common.{◌≡◌, ℕ, suc, ◌+◌, ◌≤◌, true, false, List, [], ◌∷◌, ◌++◌, Option, Some, None, length, find, option_and_then, scan, ⊎_elim, refl, sym, ◌∙◌, ap, ap₂, subst, arith, add-one, append_assoc, append-nil, length-append}
 use Rattle.std.specs.List.{flat_map}
-use Rattle.std.proofs.Math.ListN.{drop_of_length-le}
 use Rattle.std.proofs.lemmas.Bool.{cases_Bool, cond-true, cond-false, false≢true}
 use Rattle.bib_spec.specs.Bytes.{file_limit, comma}
 use Rattle.bib_spec.specs.Text.{Text, same}
 use Rattle.bib_spec.specs.Tree.{Value, Row, Entry, Tree, CommentTree, DefinitionTree, PreambleTree, EntryTree, value_bytes, row_bytes, opening_bytes, tree_bytes, entry_bytes}
-use Rattle.bib_spec.specs.Reading.{Item, Reading, item_bytes, bytes_of}
+use Rattle.bib_spec.specs.Reading.{Item, item_bytes}
 use Rattle.bib_spec.specs.Texts.{row_start}
-use Rattle.bib_spec.specs.Records.{EntryTexts, entries_of, crossref, target}
+use Rattle.bib_spec.specs.Records.{EntryTexts, crossref, target}
 use Rattle.bib_spec.specs.Pieces.{Piece, Chunk, Kept, Replaced, old_of, pieces_from, end_of}
 use Rattle.edit_spec.specs.Edits.{in_braces, next_number}
 use Rattle.edit_spec.specs.EditChunks.{token, kept_rows, value_replaced, crossref_chunks, behind_rows, entry_chunks, tree_key_chunks, item_key_chunks}
 use Rattle.edit_spec.proofs.TreeChunks.{read, old-read, last-read, entry-read, token_old, rows-kept, row-parts}
 use Rattle.bib_scan.specs.View.{Field, field_behind, fields_behind, View, view_of}
-use Rattle.bib_store.specs.Meaning.{is_entry_tree, entry_items}
-use Rattle.bib_store.proofs.EntryItems.{length-entry_items}
+use Rattle.bib_store.specs.Meaning.{is_entry_tree}
 use Rattle.bib_edit.specs.Addressing.{is_field}
 use Rattle.bib_edit.specs.Definitions.{braced}
-use Rattle.bib_edit.specs.NewKeys.{key_of, new_target, key_piece, value_piece, crossref_piece, entry_item, IsEntrySeen, rekeying}
-use Rattle.bib_edit.specs.declared.new_keys.NewKeys.{NewKeys}
-use Rattle.bib_edit.proofs.Walks.{next-of}
+use Rattle.bib_edit.specs.NewKeys.{key_piece, value_piece, crossref_piece, entry_item, IsEntrySeen}
 use Rattle.bib_edit.proofs.PieceLists.{pieces-append, pieces-kept_rows}
 use Rattle.bib_edit.proofs.SettingPieces.{value-place}
 

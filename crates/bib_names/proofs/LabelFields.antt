@@ -1,5 +1,5 @@
 -- Labels are made of some fields alone.
-use Rattle.std.proofs.Common.{◌≡◌, ◌∙◌, ℕ, ◌==◌, length, Bool, true, false, cond, List, [], ◌∷◌, ◌++◌, filter, Option, None, Some, codes, refl, ap}
+use Rattle.std.proofs.Common.{◌≡◌, ◌∙◌, ◌==◌, length, Bool, true, false, cond, List, [], ◌∷◌, ◌++◌, filter, Option, Some, codes, refl, ap}
 use Rattle.std.specs.List.{find, list_any}
 use Rattle.std.specs.Option.{option_map_or}
 use Rattle.std.specs.Char.{is_ascii_digit}

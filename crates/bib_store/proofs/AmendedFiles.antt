@@ -2,7 +2,7 @@
 use Rattle.std.proofs.Common.{◌≡◌, ℕ, ◌+◌, ◌-◌, ◌<◌, ◌≤◌, true, false, List, [], ◌∷◌, ◌++◌, length, take, drop, map, set, slice_get, get_or, Option, Some, None, refl, sym, ◌∙◌, ap, ap₂, subst, arith, take-append-drop, append_assoc}
 use Rattle.std.proofs.lemmas.Option.{slice_get-get_or, slice_get_within, get_or_from_slice_get}
 use Rattle.std.proofs.lemmas.List.{drop_more, take-set, drop-set, length-take-le}
-use Rattle.std.specs.Prelude.{Result, Ok, Err, IfOk, IfErr, OnOk, IfSome}
+use Rattle.std.specs.Prelude.{Result, Ok, Err, IfErr, OnOk}
 use Rattle.bib_spec.specs.Bytes.{name_limit}
 use Rattle.bib_spec.specs.Text.{Text}
 use Rattle.bib_spec.specs.Tree.{Tree, CommentTree, DefinitionTree, PreambleTree, EntryTree, Entry, IsTree, tree_bytes, opening_bytes}
@@ -26,10 +26,10 @@ use Rattle.bib_items.specs.Items.{item, item_at, stored, all_stored}
 use Rattle.bib_definitions.specs.Definitions.{texts_at}
 use Rattle.bib_store.specs.ItemTexts.{first_too_long, placed_texts, row_texts, crossref_in, OfRows}
 use Rattle.bib_store.specs.Beside.{AreTables, AreTablesOf, SayTheSame}
-use Rattle.bib_store.specs.Stored.{IsKeptAs, IsKept, SayTheSameOf}
+use Rattle.bib_store.specs.Stored.{IsKeptAs, SayTheSameOf}
 use Rattle.bib_store.specs.Windows.{IsWindow, OfJoined, exchanged, joined}
 use Rattle.bib_store.specs.Amending.{HaveOneKey, IsAmendment, OfComing}
-use Rattle.bib_store.proofs.TableSteps.{other_kind, entries_counted, named_kept}
+use Rattle.bib_store.proofs.TableSteps.{other_kind, named_kept}
 use Rattle.bib_definitions.proofs.MacrosAfter.{macros_taken}
 use Rattle.bib_store.proofs.RowTexts.{cons_parts}
 use Rattle.bib_store.proofs.EntryItems.{entry_tree}

@@ -1,12 +1,12 @@
 -- The first crossref of an entry: where its word does not stand in the entry's bytes there is none, and else it is found row by row.
-use Rattle.std.proofs.Common.{◌≡◌, ℕ, true, false, List, [], ◌∷◌, ◌++◌, length, map, Option, Some, None, refl, sym, ◌∙◌, ap, subst, arith, append_assoc, All}
+use Rattle.std.proofs.Common.{◌≡◌, true, false, List, [], ◌∷◌, ◌++◌, length, map, Option, Some, None, refl, sym, ◌∙◌, ap, subst, arith, append_assoc, All}
 use Rattle.std.specs.List.{flat_map}
 use Rattle.std.specs.Option.{option_or}
 use Rattle.std.proofs.lemmas.Bool.{cond-true, cond-false}
 use Rattle.std.proofs.lemmas.List.Elements.{All-head, All-tail}
 use Rattle.bib_spec.specs.Bytes.{comma, equals_sign, name_limit}
 use Rattle.bib_spec.specs.Text.{Text, same}
-use Rattle.bib_spec.specs.Tree.{Tree, Row, Entry, EntryTree, IsRow, IsTree, value_bytes, row_bytes, opening_bytes, last_comma_bytes, close_byte, entry_bytes, tree_bytes}
+use Rattle.bib_spec.specs.Tree.{Tree, Row, Entry, EntryTree, IsRow, IsTree, value_bytes, row_bytes, opening_bytes, last_comma_bytes, close_byte, tree_bytes}
 use Rattle.bib_spec.specs.Reading.{Item}
 use Rattle.bib_spec.specs.Texts.{Macros, raw_text, field_text}
 use Rattle.bib_spec.specs.Records.{crossref, crossref_text, entry_in}

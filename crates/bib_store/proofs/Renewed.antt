@@ -1,5 +1,5 @@
 -- An entry that comes anew, with another crossref, before the old one goes.
-use Rattle.std.proofs.Common.{◌≡◌, ℕ, zero, suc, ◌+◌, ◌<◌, ◌≤◌, List, [], ◌∷◌, Option, Some, None, length, insert, set, slice_get, sym, ◌∙◌, ap, ap₂, subst, refl, arith}
+use Rattle.std.proofs.Common.{◌≡◌, ℕ, zero, suc, ◌+◌, ◌<◌, List, [], ◌∷◌, Option, Some, length, insert, set, slice_get, sym, ◌∙◌, ap, subst, refl, arith}
 use Rattle.std.specs.Prelude.{remove}
 use Rattle.std.specs.Option.{option_flatten}
 use Rattle.std.proofs.lemmas.Option.{none-some, same_Some, slice_get_within}

@@ -1,10 +1,10 @@
 -- How long the texts of an entry are, at most.
-use Rattle.std.proofs.Common.{◌≡◌, ℕ, ◌+◌, ◌*◌, ◌<◌, ◌≤◌, true, List, [], ◌∷◌, ◌++◌, length, map, max, Option, Some, None, unwrap_or, refl, sym, ◌∙◌, ap, subst, arith, length-append, All}
+use Rattle.std.proofs.Common.{◌≡◌, ℕ, ◌+◌, ◌*◌, ◌<◌, ◌≤◌, true, List, [], ◌∷◌, ◌++◌, length, map, Option, Some, None, unwrap_or, refl, ◌∙◌, ap, subst, arith, length-append, All}
 use Rattle.std.specs.List.{flat_map}
 use Rattle.std.proofs.Math.Nat.{le-mul_of_pos_right, mul-le-mul_right, add-mul}
 use Rattle.std.proofs.lemmas.List.Elements.{All-head, All-tail}
-use Rattle.bib_spec.specs.Bytes.{name_limit, comma, equals_sign, hash, open_brace, close_brace, quote}
-use Rattle.bib_spec.specs.Text.{Text, folded, is_name_within}
+use Rattle.bib_spec.specs.Bytes.{name_limit, comma, equals_sign, hash, close_brace, quote}
+use Rattle.bib_spec.specs.Text.{Text, folded}
 use Rattle.bib_spec.specs.Tree.{Tree, Part, Braced, Quoted, Digits, Macro, Link, Value, Row, Entry, EntryTree, IsPart, IsLink, IsValue, IsRow, IsTree, part_bytes, link_bytes, value_bytes, row_bytes, assignment_bytes, opening_bytes, behind_key_bytes, last_comma_bytes, close_byte, entry_bytes, tree_bytes}
 use Rattle.bib_spec.specs.Reading.{Item}
 use Rattle.bib_spec.specs.Texts.{Macros, part_text, raw_text, raw_limit, row_start}

@@ -1,4 +1,4 @@
-use Rattle.std.proofs.Common.{◌∙◌, sym, ap}
+use Rattle.std.proofs.Common.{◌∙◌, ap}
 use Rattle.std.specs.Prelude.{is_some}
 use Rattle.bib_spec.specs.Records.{entries_of}
 use Rattle.edit_spec.proofs.RenameKey.{new_key_parts}

@@ -1,5 +1,4 @@
 use Rattle.std.proofs.Common.{◌≡◌, ℕ, ◌≤◌, ◌<◌, ◌+◌, ◌∙◌, length, sym, subst, arith}
-use Rattle.bib_spec.specs.Bytes.{name_limit}
 use Rattle.bib_spec.specs.Records.{entries_of}
 use Rattle.bib_store.proofs.Parents.{named_within}
 use Rattle.bib_edit.specs.NewKeys.{AreQuiet, HavePieces}

@@ -1,4 +1,4 @@
-use Rattle.std.proofs.Common.{◌≡◌, ◌∙◌, ◌+◌, ◌-◌, ℕ, [], List, Option, Some, None, Bool, false, is_some, option_map, take, drop, sym, ap, arith}
+use Rattle.std.proofs.Common.{◌≡◌, ◌∙◌, ◌+◌, ◌-◌, ℕ, [], List, Option, Some, None, false, is_some, option_map, take, drop, sym, ap, arith}
 use Rattle.std.specs.List.{slice_range}
 use Rattle.std.specs.Option.{IfNone}
 use Rattle.bib_spec.specs.Text.{Text}
