@@ -31,6 +31,13 @@ class Report:
         self.failed += bool(complaints)
         self.passed += bool(runs) and not complaints
 
+    def add(self, other):
+        """Adds the trials of another report, of other kinds."""
+        self.passed += other.passed
+        self.failed += other.failed
+        self.calls.update(other.calls)
+        self.endings.update(other.endings)
+
     def table(self):
         for kind, calls in self.calls.items():
             each = ", ".join(f"{call} {count}" for call, count in calls.items())

@@ -2,22 +2,6 @@
 pub mod WholeFile
 pub mod Progress
 pub mod Endings
-pub mod Refusals
--- ---- what the commands find in a file
-pub mod ItemCounts
-pub mod ItemFields
-pub mod EntryNumbers
-pub mod Shown
-pub mod SeenSteps
-pub mod ReportSteps
--- ---- cited lists, labels and names
-pub mod MarkSteps
-pub mod CitedNumbers
-pub mod CitedLines
-pub mod LabelFields
-pub mod LabelLines
-pub mod NameLines
-pub mod LineLists
 -- ---- sessions
 pub mod SessionAnswers
 pub mod LogLemmas

@@ -6,9 +6,9 @@ use Rattle.bib_store.specs.Meaning.{IsOpenFault}
 use Rattle.bib_journal.specs.declared.fault.SessionFault.{SessionFault}
 use Rattle.bib_journal.specs.declared.fault.SessionFault.TheVariants.{Unopened, BadJournal, JournalMismatch}
 use Rattle.bib_journal.specs.Session.{RefusesOpen}
-use Rattle.bib_run.specs.declared.answers.Answer.{Answer}
-use Rattle.bib_run.specs.Messages.{refusal_line}
-use Rattle.bib_run.specs.Outcome.{answer_of}
+use Rattle.bib_answers.specs.declared.answers.Answer.{Answer}
+use Rattle.bib_answers.specs.Messages.{refusal_line}
+use Rattle.bib_answers.specs.Outcome.{answer_of}
 use Rattle.bib_run.specs.Sessions as why
 use Rattle.bib_run.specs.Sessions.{IsUnopenedAnswer, bad_journal_line, mismatch_line}
 

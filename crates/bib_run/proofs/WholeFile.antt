@@ -8,7 +8,7 @@ use Rattle.bib_spec.specs.Bytes.{file_limit}
 use Rattle.bib_spec.specs.Text.{Text}
 use Rattle.bib_spec.specs.Fault.{IsReadFault, too_long, no_reading, no_memory}
 use Rattle.bib_words.specs.declared.commands.Command.{Command}
-use Rattle.bib_run.specs.declared.answers.Answer.{Answer}
+use Rattle.bib_answers.specs.declared.answers.Answer.{Answer}
 use Rattle.bib_run.specs.Transfers.{ReadsUpTo, HasBytes}
 use Rattle.bib_spec.specs.Reading.{Reading}
 use Rattle.edit_spec.specs.Steps.{KeptSteps}
@@ -16,9 +16,10 @@ use Rattle.bib_data.specs.declared.request.Request.{Request}
 use Rattle.bib_data.specs.declared.request.Request.TheVariants.{Undo, Redo}
 use Rattle.bib_journal.specs.Session.{Opens}
 use Rattle.bib_store.specs.Meaning.{IsOpenFault}
-use Rattle.bib_run.specs.Opened as opening
-use Rattle.bib_run.specs.Opened.{AnswersFile, opened}
-use Rattle.bib_run.specs.Answers.{IsAnswer, IsCatAnswer, cat, of_reading, edit, import, undo, redo, log, forget, copied, refused}
+use Rattle.bib_answers.specs.Opened as opening
+use Rattle.bib_answers.specs.Opened.{AnswersFile, opened}
+use Rattle.bib_answers.specs.Cat.{IsCatAnswer, copied, refused}
+use Rattle.bib_run.specs.Answers.{IsAnswer, cat, of_reading, edit, import, undo, redo, log, forget}
 use Rattle.bib_script.specs.Script.{said_of}
 use Rattle.bib_run.specs.Inputs as inputs
 use Rattle.bib_run.specs.Inputs.{AnswersInput, answered}

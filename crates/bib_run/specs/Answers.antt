@@ -1,31 +1,23 @@
 -- What each command answers to the bytes of its sources.
-use Rattle.std.specs.Prelude.{◌≡◌, ◌≢◌, ◌≤◌, ℕ, List, [], length, drop, slice_index_or, codes, Option}
-use Rattle.bib_spec.specs.Bytes.{file_limit}
+use Rattle.std.specs.Prelude.{◌≡◌, List, [], drop, slice_index_or, codes, Option}
 use Rattle.bib_spec.specs.Text.{Text}
-use Rattle.bib_spec.specs.Reading.{Reading, HasReading}
-use Rattle.bib_spec.specs.Fault.{IsReadFault}
+use Rattle.bib_spec.specs.Reading.{Reading}
 use Rattle.bib_names.specs.Template.{Pattern}
 use Rattle.bib_words.specs.declared.commands.Command.{Command}
-use Rattle.bib_run.specs.declared.answers.Answer.{Answer}
-use Rattle.bib_run.specs.Messages.{refusal_line}
-use Rattle.bib_run.specs.Outcome.{answer_of}
-use Rattle.bib_run.specs.Opened.{AnswersFile}
-use Rattle.bib_run.specs.Check.{check_answer}
-use Rattle.bib_run.specs.Show.{show_answer}
-use Rattle.bib_run.specs.Cite.{cite_answer}
-use Rattle.bib_run.specs.Labels.{labels_answer}
+use Rattle.bib_answers.specs.declared.answers.Answer.{Answer}
+use Rattle.bib_answers.specs.Cat.{IsCatAnswer}
+use Rattle.bib_answers.specs.Opened.{AnswersFile}
+use Rattle.bib_answers.specs.Check.{check_answer}
+use Rattle.bib_answers.specs.Show.{show_answer}
+use Rattle.bib_answers.specs.Cite.{cite_answer}
+use Rattle.bib_answers.specs.Labels.{labels_answer}
 use Rattle.bib_run.specs.Ris.{ris_answer}
-use Rattle.bib_run.specs.Names.{Spells, names_answer}
+use Rattle.bib_answers.specs.Names.{Spells, names_answer}
 use Rattle.bib_data.specs.declared.request.Request.TheVariants.{Undo, Redo}
 use Rattle.bib_run.specs.EditAnswer.{IsEditAnswer}
 use Rattle.bib_run.specs.ImportAnswer.{IsImportAnswer}
 use Rattle.bib_run.specs.Turns.{IsTurnAnswer}
 use Rattle.bib_run.specs.Log.{IsLogAnswer, IsForgetAnswer}
-
--- `cat`: the file again, or, with nothing written, why it is no file (dialect)
-pub data IsCatAnswer (file : Text) : Answer → Type 0 where
-  copied : length file ≤ file_limit → HasReading file → IsCatAnswer file (answer_of file [] 0)
-  refused : (kind place : ℕ) → kind ≢ 10 → IsReadFault file kind place → IsCatAnswer file (answer_of [] (refusal_line kind place) 1)
 
 -- the word after the file
 abbrev pub key_word : Command → Text

@@ -10,7 +10,7 @@ use Rattle.bib_journal.specs.Faults.{fault_number}
 use Rattle.bib_journal.specs.Loading.{Saves}
 use Rattle.bib_journal.specs.Session.{Performs}
 use Rattle.bib_script.specs.Script.{Said, said_of}
-use Rattle.bib_run.specs.declared.answers.Answer.{Answer}
+use Rattle.bib_answers.specs.declared.answers.Answer.{Answer}
 use Rattle.bib_run.specs.SessionNames.{session_fault_name}
 use Rattle.bib_run.specs.Sessions.{outcome_left}
 use Rattle.bib_run.specs.Inputs.{AnswersInput}

@@ -15,9 +15,9 @@ use Rattle.bib_ris.specs.declared.fault.ImportFault.{ImportFault}
 use Rattle.bib_ris.specs.declared.fault.ImportFault.TheVariants as import_fault
 use Rattle.bib_ris.specs.declared.importing.Additions.{Additions}
 use Rattle.bib_ris.specs.Import.{AreAdditions, RefusesImport}
-use Rattle.bib_run.specs.declared.answers.Answer.{Answer}
-use Rattle.bib_run.specs.Messages.{placed_line}
-use Rattle.bib_run.specs.Outcome.{answer_of}
+use Rattle.bib_answers.specs.declared.answers.Answer.{Answer}
+use Rattle.bib_answers.specs.Messages.{placed_line}
+use Rattle.bib_answers.specs.Outcome.{answer_of}
 use Rattle.bib_run.specs.Sessions.{fault_line, outcome_left}
 use Rattle.bib_run.specs.Inputs.{AnswersInput}
 

@@ -4,9 +4,9 @@ use Rattle.bib_spec.specs.Bytes.{file_limit}
 use Rattle.bib_spec.specs.Text.{Text}
 use Rattle.edit_spec.specs.Steps.{KeptSteps}
 use Rattle.bib_journal.specs.Session.{Opens}
-use Rattle.bib_run.specs.declared.answers.Answer.{Answer}
-use Rattle.bib_run.specs.Messages.{refusal_line}
-use Rattle.bib_run.specs.Outcome.{answer_of}
+use Rattle.bib_answers.specs.declared.answers.Answer.{Answer}
+use Rattle.bib_answers.specs.Messages.{refusal_line}
+use Rattle.bib_answers.specs.Outcome.{answer_of}
 use Rattle.bib_run.specs.Sessions.{IsUnopenedAnswer}
 
 -- The answer of a session that is opened to its input; or, with nothing done, why the file and its journal cannot be opened,

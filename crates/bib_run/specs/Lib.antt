@@ -1,15 +1,5 @@
 pub mod Transfers
 pub mod Messages
-pub mod Outcome
-pub mod Opened
-pub mod Entries
-pub mod Show
-pub mod Cite
-pub mod Marks
-pub mod Check
-pub mod Fields
-pub mod Seen
-pub mod Kinds
 pub mod Answers
 pub mod Runs
 pub mod Lent
@@ -20,7 +10,4 @@ pub mod EditAnswer
 pub mod ImportAnswer
 pub mod Turns
 pub mod Log
-pub mod Cited
-pub mod Labels
 pub mod Ris
-pub mod Names

@@ -8,10 +8,10 @@ use Rattle.bib_spec.specs.Texts.{IsOpenable}
 use Rattle.bib_journal.specs.declared.saving.Saved.{Saved}
 use Rattle.bib_journal.specs.Loading.{Saves}
 use Rattle.bib_journal.specs.Session.{started, Opens}
-use Rattle.bib_run.specs.declared.answers.Outcome.{Outcome}
-use Rattle.bib_run.specs.declared.answers.Answer.{Answer}
+use Rattle.bib_answers.specs.declared.answers.Outcome.{Outcome}
+use Rattle.bib_answers.specs.declared.answers.Answer.{Answer}
 use Rattle.bib_run.specs.Sessions.{IsUnopenedAnswer}
-use Rattle.bib_run.specs.Outcome.{answer_of}
+use Rattle.bib_answers.specs.Outcome.{answer_of}
 
 -- how many bytes a step takes away
 abbrev pub old_len : Step → ℕ

@@ -4,13 +4,13 @@ use Rattle.std.specs.Io.KnownBytes.{Appends}
 use Rattle.bib_spec.specs.Bytes.{file_limit}
 use Rattle.bib_spec.specs.Text.{Text}
 use Rattle.bib_words.specs.declared.commands.Command.{Command}
-use Rattle.bib_run.specs.declared.answers.Outcome.{Outcome}
-use Rattle.bib_run.specs.declared.answers.Answer.{Answer}
+use Rattle.bib_answers.specs.declared.answers.Outcome.{Outcome}
+use Rattle.bib_answers.specs.declared.answers.Answer.{Answer}
 use Rattle.bib_taps.specs.declared.taps.Tap.{Tap}
 use Rattle.bib_taps.specs.Taps.{tap_inner, has_failed}
 use Rattle.bib_run.specs.Transfers.{ReadsUpTo, HasBytes, WritesPrefix}
 use Rattle.bib_run.specs.Messages.{read_fault_line, write_fault_line}
-use Rattle.bib_run.specs.Outcome.{outcome_of}
+use Rattle.bib_answers.specs.Outcome.{outcome_of}
 use Rattle.journal_format.specs.JournalText.{journal_limit}
 use Rattle.bib_words.specs.Command.{ReadsJournal, TakesInput}
 use Rattle.bib_run.specs.Answers.{IsAnswer}

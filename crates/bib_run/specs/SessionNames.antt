@@ -1,7 +1,7 @@
 -- The names of the faults of edits and sessions, by their numbers.
 use Rattle.std.specs.Prelude.{ℕ, ◌==◌, if◌then◌else◌, codes}
 use Rattle.bib_spec.specs.Text.{Text}
-use Rattle.bib_run.specs.Messages.{fault_name}
+use Rattle.bib_answers.specs.Messages.{fault_name}
 
 -- the name of a fault of an edit or a session, by its number (dialect)
 abbrev pub session_fault_name : ℕ → Text

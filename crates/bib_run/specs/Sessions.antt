@@ -9,11 +9,11 @@ use Rattle.bib_journal.specs.declared.fault.SessionFault.{SessionFault}
 use Rattle.bib_journal.specs.declared.saving.Saved.{Saved}
 use Rattle.bib_journal.specs.Faults.{fault_number}
 use Rattle.bib_journal.specs.Loading.{IsMismatch}
-use Rattle.bib_run.specs.declared.answers.Outcome.{Outcome}
-use Rattle.bib_run.specs.declared.answers.Answer.{Answer}
-use Rattle.bib_run.specs.Messages.{refusal_line}
+use Rattle.bib_answers.specs.declared.answers.Outcome.{Outcome}
+use Rattle.bib_answers.specs.declared.answers.Answer.{Answer}
+use Rattle.bib_answers.specs.Messages.{refusal_line}
 use Rattle.bib_run.specs.SessionNames.{session_fault_name}
-use Rattle.bib_run.specs.Outcome.{answer_of}
+use Rattle.bib_answers.specs.Outcome.{answer_of}
 
 -- ---- messages
 

@@ -9,7 +9,7 @@ use Rattle.bib_journal.specs.declared.fault.SessionFault.TheVariants.{Memory}
 use Rattle.bib_journal.specs.declared.saving.Saved.{Saved}
 use Rattle.bib_journal.specs.Loading.{Saves}
 use Rattle.bib_journal.specs.Session.{Opens, Performs}
-use Rattle.bib_run.specs.declared.answers.Answer.{Answer}
+use Rattle.bib_answers.specs.declared.answers.Answer.{Answer}
 use Rattle.bib_run.specs.Sessions.{IsUnopenedAnswer, fault_line, outcome_left}
 
 -- the word and how many changes, a line

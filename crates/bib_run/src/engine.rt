@@ -3,28 +3,25 @@
 ghost use Rattle.std.specs.Prelude.{◌≡◌, ◌≢◌, true, IfOk, OnErr, Err, option_map};
 ghost use Rattle.bib_words.specs.Command.{IsCommand, ReadsJournal, TakesInput};
 ghost use Rattle.bib_run.specs.Answers.{IsAnswer};
-ghost use Rattle.bib_run.specs.Outcome.{outcome_of};
+ghost use Rattle.bib_answers.specs.Outcome.{outcome_of};
 ghost use Rattle.bib_run.specs.Lent.{held_before, held_after};
 ghost use Rattle.bib_run.specs.Runs.{IsRun, HasJournal, ReadsInput, taps, view_of, held, has_any_failed};
 ghost use Rattle.bib_taps.specs.Taps.{has_failed};
 ghost use Rattle.bib_run.specs.declared.source.SourceFault.TheVariants.{Failed, OutOfMemory};
 
-use crate::answers::{Answer, outcome_of};
-use crate::commands::cat::answer_cat;
-use crate::commands::check::answer_check;
-use crate::commands::cite::answer_cite;
+use crate::Tap;
 use crate::commands::edit::answer_edit;
 use crate::commands::import::answer_import;
-use crate::commands::labels::answer_labels;
 use crate::commands::log::{answer_forget, answer_log};
-use crate::commands::names::answer_names;
 use crate::commands::ris::answer_ris;
-use crate::commands::show::answer_show;
 use crate::commands::turning::{answer_redo, answer_undo};
 use crate::messages::{READ_FAULT, WRITE_FAULT};
 use crate::sink::write_whole;
 use crate::source::{SourceFault, read_up_to};
-use crate::{Outcome, Tap};
+use bib_answers::{
+    Answer, Outcome, answer_cat, answer_check, answer_cite, answer_labels, answer_names,
+    answer_show, outcome_of,
+};
 use bib_scan::{FILE_LIMIT, Text};
 use bib_words::{Command, status};
 use journal_format::JOURNAL_LIMIT;

@@ -3,16 +3,14 @@
 //! function of the bytes read, and that no fault of a reader or a writer passes for an answer.
 #![tactic(auto)]
 
-mod answers;
 mod commands;
 mod engine;
 mod messages;
-mod opening;
 mod sessions;
 mod sink;
 mod source;
 
-pub use answers::Outcome;
+pub use bib_answers::Outcome;
 pub use bib_taps::Tap;
 pub use engine::run;
 pub use messages::{READ_FAULT, WRITE_FAULT};

@@ -3,12 +3,12 @@
 ghost use Rattle.std.specs.Prelude.{◌≡◌, Option, IfOk};
 ghost use Rattle.bib_spec.specs.Text.{Text as FileText};
 ghost use Rattle.bib_journal.specs.Session.{RefusesOpen};
-ghost use Rattle.bib_run.specs.Messages.{fault_name};
+ghost use Rattle.bib_answers.specs.Messages.{fault_name};
 ghost use Rattle.bib_run.specs.Sessions.{IsUnopenedAnswer, bad_journal_line, fault_line, outcome_left};
 ghost use Rattle.bib_run.specs.SessionNames.{session_fault_name};
 
-use crate::answers::{Answer, Outcome, outcome_of, refused, unread};
-use crate::messages::{JOURNAL_MISMATCH, fault_name};
+use crate::messages::JOURNAL_MISMATCH;
+use bib_answers::{Answer, Outcome, fault_name, outcome_of, refused, unread};
 use bib_journal::{Saved, SessionFault};
 use bib_scan::Text;
 use bib_words::status;

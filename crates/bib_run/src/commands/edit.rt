@@ -4,8 +4,8 @@ ghost use Rattle.std.specs.Prelude.{◌≡◌, IfOk, option_map};
 ghost use Rattle.bib_script.specs.Script.{said_of};
 ghost use Rattle.bib_run.specs.EditAnswer.{script_line, refused_line, bad_line, stop_line, applied_line, edited_answer, HasEdited, IsEditAnswer};
 
-use crate::answers::{Answer, too_long};
 use crate::sessions::{outcome_left, session_fault_name, unopened};
+use bib_answers::{Answer, too_long};
 use bib_journal::{Saved, Session, SessionFault, perform};
 use bib_scan::{FILE_LIMIT, Text};
 use bib_script::{Script, read_script};

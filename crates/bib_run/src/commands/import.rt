@@ -5,13 +5,12 @@ ghost use Rattle.bib_data.specs.declared.edit.Edit.TheVariants.{AddMany};
 ghost use Rattle.bib_journal.specs.Session.{MakesEdit, RefusesEdit};
 ghost use Rattle.bib_journal.specs.declared.fault.SessionFault.TheVariants.{Memory};
 ghost use Rattle.bib_ris.specs.declared.fault.ImportFault.TheVariants.{Memory as ImportMemory};
-ghost use Rattle.bib_run.specs.Outcome.{answer_of};
+ghost use Rattle.bib_answers.specs.Outcome.{answer_of};
 ghost use Rattle.bib_run.specs.Sessions.{fault_line};
 ghost use Rattle.bib_run.specs.ImportAnswer.{added_line, unread_line, import_fault_line, HasAdded, HasImported, IsImportAnswer};
 
-use crate::answers::{Answer, refused, too_long};
-use crate::messages::placed_line;
 use crate::sessions::{fault_line, outcome_left, unopened};
+use bib_answers::{Answer, placed_line, refused, too_long};
 use bib_data::{Edit, NewEntry};
 use bib_journal::{Session, SessionFault};
 use bib_ris::{Additions, ImportFault, import};

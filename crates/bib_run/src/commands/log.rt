@@ -6,8 +6,8 @@ ghost use Rattle.edit_spec.specs.Steps.{IsStep};
 ghost use Rattle.bib_journal.specs.Session.{started};
 ghost use Rattle.bib_run.specs.Log.{old_len, new_len, step_line, log_text, IsLogAnswer, IsForgetAnswer};
 
-use crate::answers::{Answer, Outcome, done};
 use crate::sessions::unopened;
+use bib_answers::{Answer, Outcome, done};
 use bib_journal::Session;
 use bib_scan::Text;
 use bib_store::{Paged, Piece};

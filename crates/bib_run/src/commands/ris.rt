@@ -4,13 +4,11 @@ ghost use Rattle.std.specs.Prelude.{◌≡◌, IfOk};
 ghost use Rattle.bib_spec.specs.Records.{entries_of};
 ghost use Rattle.bib_store.specs.Meaning.{OfReading};
 ghost use Rattle.bib_ris.specs.Export.{entries_ris};
-ghost use Rattle.bib_run.specs.Marks.{AreEntryNumbers};
-ghost use Rattle.bib_run.specs.Opened.{AnswersFile};
+ghost use Rattle.bib_answers.specs.Marks.{AreEntryNumbers};
+ghost use Rattle.bib_answers.specs.Opened.{AnswersFile};
 ghost use Rattle.bib_run.specs.Ris.{ris_answer};
 
-use crate::answers::{Answer, done, no_such_entry, unread};
-use crate::commands::citing::all_cited;
-use crate::opening::open;
+use bib_answers::{Answer, all_cited, done, no_such_entry, open, unread};
 use bib_ris::entries_ris;
 use bib_scan::Text;
 use bib_store::{Database, Paged};

@@ -5,8 +5,8 @@ ghost use Rattle.bib_data.specs.declared.request.Request.TheVariants.{Undo, Redo
 ghost use Rattle.bib_run.specs.Sessions.{fault_line};
 ghost use Rattle.bib_run.specs.Turns.{turned_line, HasTurned, IsTurnAnswer};
 
-use crate::answers::Answer;
 use crate::sessions::{fault_line, outcome_left, unopened};
+use bib_answers::Answer;
 use bib_journal::{Request, Session, SessionFault, repeat};
 use bib_scan::Text;
 use bib_store::Paged;

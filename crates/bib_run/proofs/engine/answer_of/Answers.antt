@@ -3,12 +3,12 @@ use Rattle.std.proofs.lemmas.List.{take_all}
 use Rattle.std.proofs.lemmas.Option.{get_or_from_slice_get, slice_get_read}
 use Rattle.std.proofs.lemmas.Result.{IfOk-weaker}
 use Rattle.bib_spec.specs.Text.{Text}
-use Rattle.bib_run.specs.Opened.{AnswersFile}
-use Rattle.bib_run.specs.Show.{show_answer}
-use Rattle.bib_run.specs.Cite.{cite_answer}
-use Rattle.bib_run.specs.Labels.{labels_answer}
+use Rattle.bib_answers.specs.Opened.{AnswersFile}
+use Rattle.bib_answers.specs.Show.{show_answer}
+use Rattle.bib_answers.specs.Cite.{cite_answer}
+use Rattle.bib_answers.specs.Labels.{labels_answer}
 use Rattle.bib_run.specs.Ris.{ris_answer}
-use Rattle.bib_run.specs.Names.{Spells, names_answer}
+use Rattle.bib_answers.specs.Names.{Spells, names_answer}
 use Rattle.bib_run.specs.Answers.{of_reading, check, show, cite, labels, ris, names, edit, import, undo, redo, log, forget, key_word, template_word}
 use Rattle.bib_run.proofs.engine.answer_of.Goals as goal
 

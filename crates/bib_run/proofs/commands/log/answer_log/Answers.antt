@@ -2,7 +2,7 @@ use Rattle.std.proofs.Common.{◌≡◌, ◌∙◌, [], ap, rules, subst, option
 use Rattle.std.proofs.lemmas.Result.{IfOk-weaker}
 use Rattle.bib_spec.specs.Text.{Text}
 use Rattle.bib_journal.specs.Session.{Opens, RefusesOpen}
-use Rattle.bib_run.specs.Outcome.{answer_of}
+use Rattle.bib_answers.specs.Outcome.{answer_of}
 use Rattle.bib_run.specs.Log.{listed, unopened}
 use Rattle.bib_run.proofs.commands.log.answer_log.Goals as goal
 

@@ -1,5 +1,5 @@
 use Rattle.std.proofs.lemmas.Result.{IfOk-weaker}
-use Rattle.bib_run.proofs.Refusals.{file_refused, file_answered}
+use Rattle.bib_answers.proofs.Refusals.{file_refused, file_answered}
 use Rattle.bib_run.proofs.commands.ris.answer_ris.Goals as goal
 
 pub returns-in-Err : goal.returns-in-Err

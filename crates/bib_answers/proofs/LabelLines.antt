@@ -1,0 +1,59 @@
+-- Labels beside their keys, one after another.
+use Rattle.std.proofs.Common.{◌≡◌, ◌∙◌, ℕ, ◌+◌, ◌≤◌, ◌<◌, List, [], ◌∷◌, ◌++◌, length, take, get_or, filter_map, map, zip, min, Option, None, Some, refl, sym, ap, ap₂, arith}
+use Rattle.std.specs.List.{flat_map, cons_option}
+use Rattle.std.proofs.lemmas.List.{take_more, take_all, map-append}
+use Rattle.std.proofs.lemmas.Slice.Zip.{get_or-zip}
+use Rattle.bib_spec.specs.Text.{Text}
+use Rattle.bib_spec.specs.Records.{Record}
+use Rattle.bib_names.specs.Label.{label_base, labels_of}
+use Rattle.bib_answers.specs.Labels.{label_line, labelled, keyed_line, AreToldOf}
+use Rattle.bib_answers.proofs.LineLists.{lines_more}
+
+length-zip : {X Y : Type 0} (xs : List X) (ys : List Y) → length (zip xs ys) ≡ min (length xs) (length ys)
+length-zip [] ys = omega arith
+length-zip (x ∷ xs) [] = omega arith
+length-zip (x ∷ xs) (y ∷ ys) = omega (arith, length-zip xs ys)
+
+-- one more label and key
+pub label_more : (labels keys : List Text) (n : ℕ) (label key : Text) → n < min (length labels) (length keys) → label ≡ get_or labels n label → key ≡ get_or keys n key
+    → flat_map keyed_line (take n (zip labels keys)) ++ keyed_line (label, key) ≡ flat_map keyed_line (take (n + 1) (zip labels keys))
+label_more labels keys n label key within is also =
+    let both : get_or (zip labels keys) n (label, key) ≡ (label, key) = get_or-zip labels keys n (label, key) (omega arith) (omega arith) ∙ ap (λ (t : Text). (t, get_or keys n key)) (sym is) ∙ ap (λ (k : Text). (label, k)) (sym also) in
+    ap (λ (p : Text × Text). flat_map keyed_line (take n (zip labels keys)) ++ keyed_line p) (sym both)
+    ∙ lines_more keyed_line (zip labels keys) n (label, key) (omega (arith, length-zip labels keys))
+
+pub labels_all : (labels keys : List Text) (n : ℕ) → min (length labels) (length keys) ≤ n → take n (zip labels keys) ≡ zip labels keys
+labels_all labels keys n end = take_all n (zip labels keys) (omega (arith, length-zip labels keys))
+
+-- the lines of records are those of their keys
+lines_keyed : (labels : List Text) (records : List Record) → flat_map keyed_line (zip labels (map (λ (r : Record). r.key) records)) ≡ flat_map label_line (zip labels records)
+lines_keyed [] records = refl
+lines_keyed (label ∷ labels) [] = refl
+lines_keyed (label ∷ labels) (r ∷ records) = ap (λ (t : Text). label_line (label, r) ++ t) (lines_keyed labels records)
+
+pub lines_told : (records : List Record) (bases keys : List Text) → AreToldOf records bases keys → flat_map keyed_line (zip (labels_of bases) keys) ≡ flat_map label_line (labelled records)
+lines_told records bases keys told =
+    ap₂ (λ (bs ks : List Text). flat_map keyed_line (zip (labels_of bs) ks)) told.bases_are told.keys_are
+    ∙ lines_keyed (labels_of (map (λ (r : Record). label_base r.fields) records)) records
+
+-- one more record
+pub told_more : (records more : List Record) (r : Record) (bases keys : List Text) (base key : Text) → base ≡ label_base r.fields → key ≡ r.key → records ++ r ∷ [] ≡ more → AreToldOf records bases keys → AreToldOf more (bases ++ base ∷ []) (keys ++ key ∷ [])
+told_more records more r bases keys base key is also next told = record {
+  bases_are = ap₂ (λ (bs : List Text) (b : Text). bs ++ b ∷ []) told.bases_are is
+      ∙ sym (map-append (λ (x : Record). label_base x.fields) records (r ∷ [])) ∙ ap (map (λ (x : Record). label_base x.fields)) next;
+  keys_are = ap₂ (λ (ks : List Text) (k : Text). ks ++ k ∷ []) told.keys_are also
+      ∙ sym (map-append (λ (x : Record). x.key) records (r ∷ [])) ∙ ap (map (λ (x : Record). x.key)) next;
+}
+
+filter_map-append : {X Y : Type 0} (f : X → Option Y) (xs : List X) (x : X) (y : Y) → f x ≡ Some y → filter_map f (xs ++ x ∷ []) ≡ filter_map f xs ++ y ∷ []
+filter_map-append f [] x y e = ap (λ o. cons_option o []) e
+filter_map-append f (z ∷ xs) x y e = ap (cons_option (f z)) (filter_map-append f xs x y e) ∙ apart (f z) (filter_map f xs) (y ∷ [])
+  where
+    apart : {Y : Type 0} (o : Option Y) (ys zs : List Y) → cons_option o (ys ++ zs) ≡ cons_option o ys ++ zs
+    apart None ys zs = refl
+    apart (Some x) ys zs = refl
+
+-- one more that is found
+pub found_more : {X Y : Type 0} (f : X → Option Y) (xs : List X) (n : ℕ) (d : X) (y : Y) → n < length xs → f (get_or xs n d) ≡ Some y
+    → filter_map f (take n xs) ++ y ∷ [] ≡ filter_map f (take (n + 1) xs)
+found_more f xs n d y within e = sym (ap (filter_map f) (take_more xs n d within) ∙ filter_map-append f (take n xs) (get_or xs n d) y e)

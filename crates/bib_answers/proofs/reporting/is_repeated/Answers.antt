@@ -1,0 +1,17 @@
+use Rattle.std.proofs.Common.{ℕ, false, nat_lt, Option, sym, ap, ◌∙◌}
+use Rattle.std.specs.Option.{option_map_or}
+use Rattle.bib_spec.specs.Records.{entries_of, entry_named}
+use Rattle.bib_store.proofs.Holdings.{repeated-first}
+use Rattle.bib_answers.proofs.reporting.is_repeated.Goals as goal
+
+pub returns-in-Ok : goal.returns-in-Ok
+returns-in-Ok c r reads =
+    let k = c.requires r reads in
+    ap (λ (o : Option ℕ). option_map_or (λ m. nat_lt m c.args.number) o false) (sym (c.in-Ok.ensures.found r reads) ∙ ap (entry_named (entries_of r)) (sym k.2))
+    ∙ sym (repeated-first (entries_of r) c.args.number k.0 k.1)
+
+pub returns-in-Err : goal.returns-in-Err
+returns-in-Err c r reads =
+    let k = c.requires r reads in
+    ap (λ (o : Option ℕ). option_map_or (λ m. nat_lt m c.args.number) o false) (sym (c.in-Err.ensures.none.1 r reads) ∙ ap (entry_named (entries_of r)) (sym k.2))
+    ∙ sym (repeated-first (entries_of r) c.args.number k.0 k.1)

@@ -1,0 +1,33 @@
+-- `cite`: the entries that a list of keys cites.
+use Rattle.std.specs.Prelude.{ℕ, ◌==◌, List, [], ◌++◌, if◌then◌else◌, slice_index_or, codes}
+use Rattle.std.specs.List.{flat_map, list_any}
+use Rattle.std.specs.Option.{option_map_or}
+use Rattle.bib_spec.specs.Text.{Text}
+use Rattle.bib_spec.specs.Reading.{Reading}
+use Rattle.bib_spec.specs.Records.{EntryTexts, entries_of, parent, listed, unknown}
+use Rattle.bib_answers.specs.declared.answers.Answer.{Answer}
+use Rattle.bib_answers.specs.Entries.{key_at}
+use Rattle.bib_answers.specs.Outcome.{answer_of}
+
+-- a tab and the key of the entry, if it is in the list
+abbrev pub with_listed : List EntryTexts → List ℕ → ℕ → Text
+with_listed entries list m = if list_any (λ n. n == m) list then codes "\t" ++ key_at entries m else []
+
+-- the key of an entry and, after a tab, that of its parent where that is in the list too, a line
+abbrev pub listed_line : List EntryTexts → List ℕ → ℕ → Text
+listed_line entries list n =
+    key_at entries n ++ (option_map_or (with_listed entries list) (parent entries n) [] ++ codes "\n")
+
+-- a question mark and the key at this position, as it was given, a line
+abbrev pub unknown_line : List Text → ℕ → Text
+unknown_line keys place = codes "? " ++ (slice_index_or keys place [] ++ codes "\n")
+
+-- a line for each entry of the list
+abbrev pub listed_lines : List EntryTexts → List ℕ → Text
+listed_lines entries list = flat_map (listed_line entries list) list
+
+-- `cite F KEY..`, where that many children list a parent: the entries listed, and then the keys that find none (dialect)
+abbrev pub cite_answer : List Text → ℕ → Reading → Answer
+cite_answer keys min db =
+    let entries = entries_of db in
+    answer_of (listed_lines entries (listed entries keys min) ++ flat_map (unknown_line keys) (unknown entries keys)) [] 0

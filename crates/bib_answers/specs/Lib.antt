@@ -1,0 +1,15 @@
+pub mod Messages
+pub mod Outcome
+pub mod Opened
+pub mod Cat
+pub mod Entries
+pub mod Show
+pub mod Cite
+pub mod Marks
+pub mod Check
+pub mod Fields
+pub mod Seen
+pub mod Kinds
+pub mod Cited
+pub mod Labels
+pub mod Names

@@ -1,0 +1,102 @@
+//! `check`: what is in a file, and what is wrong with it.
+
+ghost use Rattle.std.specs.Prelude.{◌≡◌, ◌+◌, ◌<◌, ◌^◌, if◌then◌else◌, IfOk};
+ghost use Rattle.bib_spec.specs.Tree.{is_comment};
+ghost use Rattle.bib_store.specs.Meaning.{OfReading};
+ghost use Rattle.bib_answers.specs.Opened.{AnswersFile};
+ghost use Rattle.bib_definitions.specs.Definitions.{is_definition_tree};
+ghost use Rattle.bib_answers.specs.Check.{count_items, count_lines, all_reports, check_answer};
+
+use crate::answers::{Answer, done, unread};
+use crate::kinds::is_same_kind;
+use crate::opening::open;
+use crate::reporting::add_item_reports;
+use crate::seen_names::SeenNames;
+use bib_scan::{Kind, Text};
+use bib_store::{Database, Paged};
+use std::alloc::{AllocError, Global};
+
+/// What is in the file, and what is wrong with it.
+pub fn answer_check(alloc: Global, file: Vec<u8>) -> Result<Answer, AllocError>
+    ensures { IfOk result (AnswersFile check_answer file.items) }
+{
+    match open(alloc, file) {
+        Ok(db) => check(alloc, &db),
+        Err(fault) => unread(alloc, fault),
+    }
+}
+
+fn check(alloc: Global, db: &Database<Paged>) -> Result<Answer, AllocError>
+    ensures { IfOk result (λ answer. OfReading db.now (λ r. answer ≡ check_answer r)) }
+{
+    let found = look_through(alloc, db)?;
+    let mut out = write_counts(
+        alloc,
+        db.item_count(),
+        db.entry_count(),
+        found.definitions,
+        db.preamble_count(),
+        found.comments,
+    )?;
+    out.extend_from_slice(found.reports.as_slice())?;
+    Ok(done(alloc, Text::from_vec(out)))
+}
+
+/// How many items, entries, macro definitions, preambles and comments there are.
+fn write_counts(
+    alloc: Global,
+    items: usize,
+    entries: usize,
+    definitions: usize,
+    preambles: usize,
+    comments: usize,
+) -> Result<Vec<u8>, AllocError>
+    ensures { IfOk result (λ text. text.items ≡ count_lines items entries definitions preambles comments) }
+{
+    let text = format!(in alloc;
+        "items {}\nentries {}\nmacros {}\npreambles {}\ncomments {}\n",
+        items, entries, definitions, preambles, comments
+    )?;
+    Ok(text.into_bytes())
+}
+
+/// What is found in one pass over the items: the reports on them in order, and how many are definitions and comments.
+#[derive(Drop)]
+struct Found {
+    reports: Vec<u8>,
+    definitions: usize,
+    comments: usize,
+}
+
+fn look_through(alloc: Global, db: &Database<Paged>) -> Result<Found, AllocError>
+    ensures reports { IfOk result (λ found. OfReading db.now (λ r. found.reports.items ≡ all_reports r)) }
+    ensures definitions { IfOk result (λ found. OfReading db.now (λ r. found.definitions ≡ count_items is_definition_tree r)) }
+    ensures comments { IfOk result (λ found. OfReading db.now (λ r. found.comments ≡ count_items is_comment r)) }
+{
+    let mut reports = Vec::new(alloc);
+    let mut names = SeenNames::new(alloc);
+    let mut entries: usize = 0;
+    let mut definitions: usize = 0;
+    let mut comments: usize = 0;
+    'items: for n in 0..db.item_count() {
+        let item = db.item(n);
+        add_item_reports(alloc, &mut reports, db, n, &item, entries, &mut names)?;
+        let kind = item.kind();
+        entries = counted(entries, is_same_kind(kind, Kind::Entry));
+        definitions = counted(definitions, is_same_kind(kind, Kind::Macro));
+        comments = counted(comments, is_same_kind(kind, Kind::Comment));
+    }
+    Ok(Found {
+        reports,
+        definitions,
+        comments,
+    })
+}
+
+/// The count, with one more where this is one.
+fn counted(count: usize, is_one: bool) -> usize
+    requires { count + 1 < 2 ^ 64 }
+    ensures { result ≡ count + (if is_one then 1 else 0) }
+{
+    if is_one { count + 1 } else { count }
+}

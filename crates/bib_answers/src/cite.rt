@@ -1,0 +1,136 @@
+//! `cite`: the entries that a list of keys cites.
+
+ghost use Rattle.std.specs.Prelude.{◌≡◌, ◌≤◌, ◌++◌, ℕ, List, [], length, false, slice_index_or, codes, IfOk, OnOk};
+ghost use Rattle.std.specs.List.{flat_map};
+ghost use Rattle.std.specs.Option.{option_map_or};
+ghost use Rattle.bib_spec.specs.Records.{entries_of, parent};
+ghost use Rattle.bib_store.specs.Meaning.{OfReading, IsEntryNumber};
+ghost use Rattle.bib_answers.specs.Opened.{AnswersFile};
+ghost use Rattle.bib_answers.specs.Cite.{with_listed, listed_line, listed_lines, unknown_line, cite_answer};
+ghost use Rattle.bib_answers.specs.Marks.{AreMarks, AreEntryNumbers, ArePlaces};
+
+use crate::answers::{Answer, done, unread};
+use crate::opening::open;
+use bib_scan::Text;
+use bib_store::{Database, Paged};
+use std::alloc::{AllocError, Global};
+
+/// The entries that the keys cite, where `min` children list a parent, and the keys that find none.
+pub fn answer_cite(
+    alloc: Global,
+    file: Vec<u8>,
+    keys: &[Text],
+    min: u32,
+) -> Result<Answer, AllocError>
+    requires { 1 ≤ min }
+    ensures { IfOk result (AnswersFile (cite_answer keys.now min) file.items) }
+{
+    match open(alloc, file) {
+        Ok(db) => cite(alloc, &db, keys, min),
+        Err(fault) => unread(alloc, fault),
+    }
+}
+
+fn cite(alloc: Global, db: &Database<Paged>, keys: &[Text], min: u32) -> Result<Answer, AllocError>
+    requires { 1 ≤ min }
+    ensures { IfOk result (λ answer. OfReading db.now (λ r. answer ≡ cite_answer keys.now min r)) }
+{
+    let Ok(cited) = db.cited(keys, min) else {
+        return Err(AllocError);
+    };
+    db.opens();
+    let mut out = listed_text(alloc, db, cited.listed.as_slice())?;
+    add_unknown(&mut out, keys, cited.unknown.as_slice())?;
+    Ok(done(alloc, Text::from_vec(out)))
+}
+
+/// A line for each entry of the list.
+fn listed_text(alloc: Global, db: &Database<Paged>, list: &[usize]) -> Result<Vec<u8>, AllocError>
+    requires { AreEntryNumbers db.now list.now }
+    ensures { IfOk result (λ text. OfReading db.now (λ r. text.items ≡ listed_lines (entries_of r) list.now)) }
+{
+    let marks = marks(alloc, db.entry_count(), list)?;
+    let mut out = Vec::new(alloc);
+    'list: for n in list {
+        add_listed(&mut out, db, marks.as_slice(), *n)?;
+    }
+    Ok(out)
+}
+
+/// Which entries are in the list, by their numbers.
+fn marks(alloc: Global, count: usize, list: &[usize]) -> Result<Vec<bool>, AllocError>
+    ensures { IfOk result (λ marks. AreMarks count list.now marks.items) }
+{
+    let mut marks = vec![in alloc; false; count]?;
+    'mark: for n in list {
+        if *n < count {
+            marks[*n] = true;
+        }
+    }
+    Ok(marks)
+}
+
+/// Whether the entry is marked.
+fn is_marked(marks: &[bool], n: usize) -> bool
+    ensures { result ≡ slice_index_or marks.now n false }
+{
+    n < marks.len() && marks[n]
+}
+
+/// The line of an entry in the list.
+fn add_listed(
+    out: &mut Vec<u8>,
+    db: &Database<Paged>,
+    marks: &[bool],
+    n: usize,
+) -> Result<(), AllocError>
+    requires { IsEntryNumber db.now n }
+    ensures { OnOk result (OfReading db.now (λ r. (list : List ℕ) → AreMarks (length (entries_of r)) list marks.now
+        → out.new.items ≡ out.old.items ++ listed_line (entries_of r) list n)) }
+{
+    out.extend_from_slice(db.entry(n).key())?;
+    add_parent(out, db, marks, n)?;
+    out.extend_from_slice(b"\n")?;
+    Ok(())
+}
+
+/// A tab and the parent's key, where the parent is marked.
+fn add_parent(
+    out: &mut Vec<u8>,
+    db: &Database<Paged>,
+    marks: &[bool],
+    n: usize,
+) -> Result<(), AllocError>
+    requires { IsEntryNumber db.now n }
+    ensures { OnOk result (OfReading db.now (λ r. (list : List ℕ) → AreMarks (length (entries_of r)) list marks.now
+        → out.new.items ≡ out.old.items ++ option_map_or (with_listed (entries_of r) list) (parent (entries_of r) n) [])) }
+{
+    let Some(parent) = db.parent(n) else {
+        return Ok(());
+    };
+    if !is_marked(marks, parent) {
+        return Ok(());
+    }
+    out.extend_from_slice(b"\t")?;
+    out.extend_from_slice(db.entry(parent).key())?;
+    Ok(())
+}
+
+/// The lines of the keys at these positions.
+fn add_unknown(out: &mut Vec<u8>, keys: &[Text], places: &[usize]) -> Result<(), AllocError>
+    requires { ArePlaces keys.now places.now }
+    ensures { OnOk result (out.new.items ≡ out.old.items ++ flat_map (unknown_line keys.now) places.now) }
+{
+    for place in places {
+        add_unknown_key(out, keys[*place].as_slice())?;
+    }
+    Ok(())
+}
+
+fn add_unknown_key(out: &mut Vec<u8>, key: &[u8]) -> Result<(), AllocError>
+    ensures { OnOk result (out.new.items ≡ out.old.items ++ codes "? " ++ (key.now ++ codes "\n")) }
+{
+    out.extend_from_slice(b"? ")?;
+    out.extend_from_slice(key)?;
+    out.extend_from_slice(b"\n")
+}

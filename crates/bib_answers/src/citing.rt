@@ -1,0 +1,29 @@
+//! The entries that keys cite, each of which has to find one.
+
+ghost use Rattle.std.specs.Prelude.{◌≡◌, IfOk, IfSome};
+ghost use Rattle.bib_spec.specs.Records.{entries_of};
+ghost use Rattle.bib_store.specs.Meaning.{OfReading};
+ghost use Rattle.bib_answers.specs.Cited.{all_cited};
+ghost use Rattle.bib_answers.specs.Marks.{AreEntryNumbers};
+
+use bib_scan::{Seq, Text};
+use bib_store::{Database, Paged};
+use std::alloc::AllocError;
+
+/// How many children list a parent. (btxdoc 2.1)
+const MIN_CROSSREFS: u32 = 2;
+
+/// The numbers of the entries that the keys cite, unless a key finds none.
+pub fn all_cited(db: &Database<Paged>, keys: &[Text]) -> Result<Option<Seq<usize>>, AllocError>
+    ensures list { IfOk result (λ list. OfReading db.now (λ r. list ≡ all_cited (entries_of r) keys.now)) }
+    ensures numbers { IfOk result (λ list. IfSome list (AreEntryNumbers db.now)) }
+{
+    let Ok(cited) = db.cited(keys, MIN_CROSSREFS) else {
+        return Err(AllocError);
+    };
+    if cited.unknown.as_slice().is_empty() {
+        Ok(Some(cited.listed))
+    } else {
+        Ok(None)
+    }
+}

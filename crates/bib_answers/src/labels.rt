@@ -1,0 +1,107 @@
+//! `labels`: short names for the entries that keys cite.
+
+ghost use Rattle.std.specs.Prelude.{◌≡◌, ◌++◌, codes, zip, IfOk, OnOk};
+ghost use Rattle.std.specs.List.{flat_map};
+ghost use Rattle.bib_spec.specs.Records.{entries_of};
+ghost use Rattle.bib_store.specs.Meaning.{OfReading};
+ghost use Rattle.bib_answers.specs.Opened.{AnswersFile};
+ghost use Rattle.bib_names.specs.Label.{label_base, labels_of};
+ghost use Rattle.bib_answers.specs.Labels.{label_lines, chosen_at, keyed_line, AreToldOf, labels_answer};
+ghost use Rattle.bib_answers.specs.Marks.{AreEntryNumbers};
+
+use crate::answers::{Answer, done, no_such_entry, unread};
+use crate::citing::all_cited;
+use crate::opening::open;
+use bib_names::{label_base, label_names, labels_of};
+use bib_scan::Text;
+use bib_store::{Database, Paged, Record};
+use std::alloc::{AllocError, Global};
+
+/// The labels of the entries that the keys cite, or that a key finds none.
+pub fn answer_labels(alloc: Global, file: Vec<u8>, keys: &[Text]) -> Result<Answer, AllocError>
+    ensures { IfOk result (AnswersFile (labels_answer keys.now) file.items) }
+{
+    match open(alloc, file) {
+        Ok(db) => label(alloc, &db, keys),
+        Err(fault) => unread(alloc, fault),
+    }
+}
+
+fn label(alloc: Global, db: &Database<Paged>, keys: &[Text]) -> Result<Answer, AllocError>
+    ensures { IfOk result (λ answer. OfReading db.now (λ r. answer ≡ labels_answer keys.now r)) }
+{
+    match all_cited(db, keys)? {
+        Some(list) => Ok(done(alloc, lines_of(alloc, db, list.as_slice())?)),
+        None => no_such_entry(alloc),
+    }
+}
+
+/// A line for each of these entries, with its label.
+fn lines_of(alloc: Global, db: &Database<Paged>, list: &[usize]) -> Result<Text, AllocError>
+    requires { AreEntryNumbers db.now list.now }
+    ensures { IfOk result (λ text. OfReading db.now (λ r. text ≡ label_lines (entries_of r) list.now)) }
+{
+    let told = told_of(alloc, db, list)?;
+    label_lines(alloc, told.bases.as_slice(), told.keys.as_slice())
+}
+
+/// The label bases of entries, and their keys.
+#[derive(Drop)]
+struct Told {
+    bases: Vec<Text>,
+    keys: Vec<Text>,
+}
+
+/// The label bases of these entries, and their keys. Of each record no more is kept, and no other fields are gathered than
+/// those that labels are made of.
+fn told_of(alloc: Global, db: &Database<Paged>, list: &[usize]) -> Result<Told, AllocError>
+    requires { AreEntryNumbers db.now list.now }
+    ensures { IfOk result (λ told. OfReading db.now (λ r. AreToldOf (chosen_at (entries_of r) list.now) told.bases.items told.keys.items)) }
+{
+    let label_names = label_names(alloc)?;
+    let names = label_names.as_slice();
+    let mut bases = Vec::with_capacity(alloc, list.len())?;
+    let mut keys = Vec::with_capacity(alloc, list.len())?;
+    'expand: for n in list {
+        let Ok(record) = db.expanded_with(*n, names) else {
+            return Err(AllocError);
+        };
+        let (base, key) = told_by(alloc, record)?;
+        bases.push(base)?;
+        keys.push(key)?;
+    }
+    Ok(Told { bases, keys })
+}
+
+/// The label base of a record, and its key.
+fn told_by(alloc: Global, record: Record) -> Result<(Text, Text), AllocError>
+    ensures base { IfOk result (λ told. told.0 ≡ label_base record.fields) }
+    ensures key { IfOk result (λ told. told.1 ≡ record.key) }
+{
+    let Ok(base) = label_base(alloc, &record) else {
+        return Err(AllocError);
+    };
+    Ok((base, record.key))
+}
+
+/// A line for each of these bases, with its label and its key.
+fn label_lines(alloc: Global, bases: &[Text], keys: &[Text]) -> Result<Text, AllocError>
+    ensures { IfOk result (λ text. text ≡ flat_map keyed_line (zip (labels_of bases.now) keys.now)) }
+{
+    let labels = labels_of(alloc, bases)?;
+    let labels = labels.as_slice();
+    let mut out = Vec::new(alloc);
+    'line: for n in 0..labels.len().min(keys.len()) {
+        add_label(&mut out, labels[n].as_slice(), keys[n].as_slice())?;
+    }
+    Ok(Text::from_vec(out))
+}
+
+fn add_label(out: &mut Vec<u8>, label: &[u8], key: &[u8]) -> Result<(), AllocError>
+    ensures { OnOk result (out.new.items ≡ out.old.items ++ (label.now ++ (codes "\t" ++ (key.now ++ codes "\n")))) }
+{
+    out.extend_from_slice(label)?;
+    out.extend_from_slice(b"\t")?;
+    out.extend_from_slice(key)?;
+    out.extend_from_slice(b"\n")
+}

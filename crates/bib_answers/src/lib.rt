@@ -1,0 +1,29 @@
+//! Knows what the commands that read a file alone answer to its bytes: `cat`, `check`, `show`, `cite`, `labels` and
+//! `names`; and how an answer says that a file is not read. It knows no journals and no edits, no readers and no writers.
+//! It promises that output, message and status are a stated function of the file.
+#![tactic(auto)]
+
+mod answers;
+mod cat;
+mod check;
+mod cite;
+mod citing;
+mod kinds;
+mod labels;
+mod messages;
+mod names;
+mod opening;
+mod reporting;
+mod seen_names;
+mod show;
+
+pub use answers::{Answer, Outcome, done, no_such_entry, outcome_of, refused, too_long, unread};
+pub use cat::answer_cat;
+pub use check::answer_check;
+pub use cite::answer_cite;
+pub use citing::all_cited;
+pub use labels::answer_labels;
+pub use messages::{fault_name, placed_line};
+pub use names::answer_names;
+pub use opening::open;
+pub use show::answer_show;

@@ -1,0 +1,43 @@
+//! What an answer says besides its output, a line each.
+
+ghost use Rattle.std.specs.Prelude.{◌≡◌, IfOk, codes};
+ghost use Rattle.bib_answers.specs.Messages.{fault_name, placed_line, refusal_line};
+
+use bib_scan::{ReadFault, Text};
+use std::alloc::{AllocError, Global};
+
+/// The message of a key that no entry has.
+pub const NO_SUCH_ENTRY: &[u8] = b"bibkeep: 11 NoSuchEntry\n";
+
+/// `bibkeep: N Name at P`, a line.
+pub fn placed_line(alloc: Global, number: u8, name: &str, place: usize) -> Result<Text, AllocError>
+    ensures { IfOk result (λ line. line ≡ placed_line number name.now place) }
+{
+    let line = format!(in alloc; "bibkeep: {} {} at {}\n", number, name, place)?;
+    Ok(Text::from_vec(line.into_bytes()))
+}
+
+/// Why a file is not read, a line.
+pub fn refusal_line(alloc: Global, fault: ReadFault) -> Result<Text, AllocError>
+    ensures { IfOk result (λ line. line ≡ refusal_line fault.kind fault.place) }
+{
+    placed_line(alloc, fault.kind, fault_name(fault.kind), fault.place)
+}
+
+/// The name of a fault of reading, by its number.
+pub fn fault_name(kind: u8) -> &'static str
+    ensures { result.now ≡ fault_name kind }
+{
+    match kind {
+        1 => "Unended",
+        2 => "ExpectedName",
+        3 => "ExpectedEquals",
+        4 => "ExpectedCommaOrClose",
+        5 => "ExpectedValue",
+        6 => "UnbalancedBrace",
+        7 => "KeyTooLong",
+        8 => "TextTooLong",
+        9 => "FileTooLong",
+        _ => "Memory",
+    }
+}

@@ -1,0 +1,85 @@
+//! `show`: an entry as a style is given it.
+
+ghost use Rattle.std.specs.Prelude.{◌≡◌, ◌++◌, [], IfOk, OnOk};
+ghost use Rattle.std.specs.List.{flat_map};
+ghost use Rattle.bib_spec.specs.Records.{entries_of};
+ghost use Rattle.bib_store.specs.Meaning.{OfReading, IsEntryNumber};
+ghost use Rattle.bib_answers.specs.Opened.{AnswersFile};
+ghost use Rattle.bib_answers.specs.Show.{head_line, shown_field, record_lines, shown, show_answer};
+
+use crate::answers::{Answer, done, no_such_entry, unread};
+use crate::opening::open;
+use bib_scan::Text;
+use bib_store::{Database, Paged, Record};
+use std::alloc::{AllocError, Global};
+
+/// The first entry with this key, or that there is none.
+pub fn answer_show(alloc: Global, file: Vec<u8>, key: &[u8]) -> Result<Answer, AllocError>
+    ensures { IfOk result (AnswersFile (show_answer key.now) file.items) }
+{
+    match open(alloc, file) {
+        Ok(db) => show(alloc, &db, key),
+        Err(fault) => unread(alloc, fault),
+    }
+}
+
+fn show(alloc: Global, db: &Database<Paged>, key: &[u8]) -> Result<Answer, AllocError>
+    ensures { IfOk result (λ answer. OfReading db.now (λ r. answer ≡ show_answer key.now r)) }
+{
+    match db.find(key) {
+        Ok(n) => Ok(done(alloc, Text::from_vec(entry_text(alloc, db, n)?))),
+        Err(_) => no_such_entry(alloc),
+    }
+}
+
+/// Entry `n`: its record, and its parent.
+fn entry_text(alloc: Global, db: &Database<Paged>, n: usize) -> Result<Vec<u8>, AllocError>
+    requires { IsEntryNumber db.now n }
+    ensures { IfOk result (λ text. OfReading db.now (λ r. text.items ≡ shown (entries_of r) n)) }
+{
+    let Ok(expanded) = db.expanded(n) else {
+        return Err(AllocError);
+    };
+    let mut out = Vec::new(alloc);
+    add_record(&mut out, &expanded.rec)?;
+    let Some(parent) = expanded.parent else {
+        return Ok(out);
+    };
+    add_field(&mut out, b"crossref", db.entry(parent).key())?;
+    Ok(out)
+}
+
+fn add_record(out: &mut Vec<u8>, rec: &Record) -> Result<(), AllocError>
+    ensures { OnOk result (out.new.items ≡ out.old.items ++ record_lines rec.now) }
+{
+    add_head(out, rec.kind_name.as_slice(), rec.key.as_slice())?;
+    add_fields(out, rec.fields.as_slice())
+}
+
+fn add_head(out: &mut Vec<u8>, kind_name: &[u8], key: &[u8]) -> Result<(), AllocError>
+    ensures { OnOk result (out.new.items ≡ out.old.items ++ head_line (record { kind_name = kind_name.now; key = key.now; fields = [] })) }
+{
+    out.extend_from_slice(b"@")?;
+    out.extend_from_slice(kind_name)?;
+    out.extend_from_slice(b" ")?;
+    out.extend_from_slice(key)?;
+    out.extend_from_slice(b"\n")
+}
+
+fn add_fields(out: &mut Vec<u8>, fields: &[(Text, Text)]) -> Result<(), AllocError>
+    ensures { OnOk result (out.new.items ≡ out.old.items ++ flat_map shown_field fields.now) }
+{
+    for field in fields {
+        add_field(out, field.0.as_slice(), field.1.as_slice())?;
+    }
+    Ok(())
+}
+
+fn add_field(out: &mut Vec<u8>, name: &[u8], text: &[u8]) -> Result<(), AllocError>
+    ensures { OnOk result (out.new.items ≡ out.old.items ++ shown_field (name.now, text.now)) }
+{
+    out.extend_from_slice(name)?;
+    out.extend_from_slice(b" = ")?;
+    out.extend_from_slice(text)?;
+    out.extend_from_slice(b"\n")
+}

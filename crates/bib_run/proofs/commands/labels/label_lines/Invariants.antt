@@ -1,7 +1,0 @@
-use Rattle.std.proofs.Common.{◌≡◌, take, zip}
-use Rattle.std.specs.List.{flat_map}
-use Rattle.bib_run.specs.Labels.{keyed_line}
-use Rattle.bib_run.proofs.commands.labels.label_lines.Given as goal
-
-abbrev pub invariant-line : goal.invariant-line
-invariant-line l = l.out.items ≡ flat_map keyed_line (take l.n (zip l.labels l.keys))

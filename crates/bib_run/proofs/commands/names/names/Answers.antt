@@ -1,6 +1,0 @@
-use Rattle.bib_spec.specs.Records.{entries_of}
-use Rattle.bib_store.proofs.Parents.{named_within}
-use Rattle.bib_run.proofs.commands.names.names.Goals as goal
-
-pub entry_answer-requires : goal.entry_answer-requires
-entry_answer-requires c r reads = named_within (entries_of r) _ _ (c.in-Ok.ensures.found r reads)

@@ -1,7 +1,0 @@
-use Rattle.std.proofs.Common.{◌≡◌, ◌++◌, take}
-use Rattle.std.specs.List.{flat_map}
-use Rattle.bib_run.specs.Show.{shown_field}
-use Rattle.bib_run.proofs.commands.show.add_fields.Given as goal
-
-abbrev pub invariant-loop-field : goal.invariant-loop-field
-invariant-loop-field l = l.out.items ≡ l.initial.out.items ++ flat_map shown_field (take l.field-index l.fields)
