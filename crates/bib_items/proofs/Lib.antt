@@ -1,5 +1,5 @@
 pub mod Filled
-pub mod Cuts
+pub mod ItemsIn
 pub mod PageSizes
 pub mod Walks
 pub mod PageNumbers

@@ -1,4 +1,5 @@
 pub mod Faults
 pub mod Items
+pub mod SharedTexts
 pub mod Spans
 pub mod Pages

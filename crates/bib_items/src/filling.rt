@@ -9,21 +9,45 @@ ghost use Rattle.bib_items.specs.Pages.{ArePages};
 
 use crate::page::Page;
 use crate::places::PAGE_LIMIT;
+use crate::shared_text::SharedText;
 use bib_scan::Layout;
 use std::alloc::{AllocError, Global};
 
-/// The items of a text that is read, in pages of which all but the last are full. They take memory for the bytes once.
-pub(crate) fn pages_of(alloc: Global, text: &[u8], layout: &Layout) -> Result<Vec<Page>, AllocError>
+/// The items of a text that is read, in pages of which all but the last are full. The pages share the text.
+pub(crate) fn pages_of(
+    alloc: Global,
+    text: Vec<u8>,
+    layout: &Layout,
+) -> Result<Vec<Page>, AllocError>
+    requires { IsLayoutOf text.items layout.now }
+    ensures items { IfOk result (λ pages. (db : Reading) → Reads text.items db → joined pages.items ≡ all_stored db.items) }
+    ensures pages { IfOk result (λ pages. ArePages pages.items) }
+{
+    let text = SharedText::of(alloc, text)?;
+    pages_over(alloc, &text, layout)
+}
+
+/// The same.
+fn pages_over(
+    alloc: Global,
+    text: &SharedText,
+    layout: &Layout,
+) -> Result<Vec<Page>, AllocError>
     requires { IsLayoutOf text.now layout.now }
     ensures items { IfOk result (λ pages. (db : Reading) → Reads text.now db → joined pages.items ≡ all_stored db.items) }
     ensures pages { IfOk result (λ pages. ArePages pages.items) }
 {
     let count = layout.len();
     let mut pages = Vec::with_capacity(alloc, count.div_ceil(PAGE_LIMIT))?;
+    // so many bytes fit
+    let _ = text.len();
+    let mut start = layout.front(text.as_slice()).len();
     let mut from = 0;
     'fill: while from < count {
         let to = count.min(from.saturating_add(PAGE_LIMIT));
-        pages.push(Page::of(alloc, text, layout, from, to)?)?;
+        let page = Page::of(alloc, text, layout, start, from, to)?;
+        start += page.byte_len();
+        pages.push(page)?;
         from = to;
     }
     Ok(pages)

@@ -11,6 +11,7 @@ mod page;
 mod paged;
 mod places;
 mod seams;
+mod shared_text;
 mod span;
 
 pub use fault::StoreFault;

@@ -1,9 +1,0 @@
-use Rattle.std.proofs.Common.{◌-◌}
-use Rattle.bib_items.proofs.Gathered.{IsFilledTo}
-use Rattle.bib_items.proofs.filling.pages_of.Given as goal
-
-abbrev pub decreases-fill : goal.decreases-fill
-decreases-fill l = l.count - l.from
-
-abbrev pub invariant-fill : goal.invariant-fill
-invariant-fill l = IsFilledTo l.text l.from l.pages.items

@@ -1,0 +1,11 @@
+use Rattle.std.proofs.Common.{◌≡◌, ◌-◌}
+use Rattle.bib_spec.specs.Reading.{Reading, Reads}
+use Rattle.bib_scan.specs.Layout.{start_of}
+use Rattle.bib_items.proofs.Gathered.{IsFilledTo}
+use Rattle.bib_items.proofs.filling.pages_over.Given as goal
+
+abbrev pub decreases-fill : goal.decreases-fill
+decreases-fill l = l.count - l.from
+
+abbrev pub invariant-fill : goal.invariant-fill
+invariant-fill l = IsFilledTo l.text l.from l.pages.items × ((db : Reading) → Reads l.text db → l.start ≡ start_of db l.from)
