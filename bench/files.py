@@ -1,5 +1,7 @@
 """Large `.bib` and RIS files made by rule: item n is a function of n, so that each run measures the same bytes."""
 
+import itertools
+
 NAMES = ["Knuth, Donald E.", "Leslie Lamport", "de la Fontaine, Jean", "King, Jr, Martin Luther", "{Barnes and Noble}",
          "Charles Louis Xavier Joseph de la Vall{\\'e}e Poussin", "Per Brinch Hansen", "Wirth, Niklaus", "G{\\\"o}del, Kurt"]
 WORDS = ["on", "the", "theory", "of", "ordered", "sets", "with", "an", "application", "to", "{B}ib{\\TeX}", "databases",
@@ -58,30 +60,26 @@ def item(n):
     return in_proceedings(n) if n % 3 == 0 else article(n)
 
 
+def as_many(size, rule):
+    """The texts of the rule for 0, 1, 2 and so on, as many as have at most `size` bytes together."""
+    texts, length = [], 0
+    for n in itertools.count():
+        text = rule(n).encode()
+        length += len(text)
+        if length > size:
+            return b"".join(texts)
+        texts.append(text)
+
+
 def database(size):
     """A database of at most `size` bytes, short of it by less than an item."""
-    items, length, n = [], 0, 0
-    while True:
-        text = item(n).encode()
-        if length + len(text) > size:
-            return b"".join(items)
-        items.append(text)
-        length += len(text)
-        n += 1
+    return as_many(size, item)
 
 
 def library(size):
     """A database of at most `size` bytes whose macros are defined at its top, as most are."""
-    count = size // 250
-    macros = [macro(n).encode() for n in range(0, count, 97)]
-    others, length, n = [], sum(map(len, macros)), 0
-    while True:
-        text = b"" if n % 97 == 0 else item(n).encode()
-        if length + len(text) > size:
-            return b"".join(macros + others)
-        others.append(text)
-        length += len(text)
-        n += 1
+    macros = b"".join(macro(n).encode() for n in range(0, size // 250, 97))
+    return macros + as_many(size - len(macros), lambda n: "" if n % 97 == 0 else item(n))
 
 
 def one_macro(count):
@@ -149,14 +147,7 @@ def ris_paper(n):
 
 def ris_records(size):
     """RIS records with an ID each, of at most `size` bytes, short of it by less than a record."""
-    records, length, n = [], 0, 0
-    while True:
-        text = (ris_paper(n) if n % 3 == 0 else ris_article(n)).encode()
-        if length + len(text) > size:
-            return b"".join(records)
-        records.append(text)
-        length += len(text)
-        n += 1
+    return as_many(size, lambda n: ris_paper(n) if n % 3 == 0 else ris_article(n))
 
 
 def ris_authors(count):
@@ -206,13 +197,9 @@ def all_kinds(count):
     return "".join(line + "\n" for line in lines).encode()
 
 
-def entries(count):
-    """So many entries of a short text each."""
-    return b"".join(b"@a{k%d}" % n for n in range(count))
-
-
-def entries_with_a_field(count):
-    return b"".join(b"@misc{k%d, t = 1}\n" % n for n in range(count))
+def entries(count, fields=b""):
+    """So many entries, each with a key of its own and these fields."""
+    return b"".join(b"@a{k%d%s}" % (n, fields) for n in range(count))
 
 
 def entries_of_one_key(count):
@@ -230,7 +217,7 @@ def fields(count):
 
 def children(count):
     """So many entries of one parent, which comes last."""
-    return b"".join(b"@a{k%d,crossref={p}}" % n for n in range(count)) + b"@a{p,t=1}"
+    return entries(count, b",crossref={p}") + b"@a{p,t=1}"
 
 
 def at_signs(count):
@@ -271,7 +258,7 @@ CONTENTS = {
     "great": great,
     "authors 50000": lambda: authors(50000),
     "authors 100000": lambda: authors(100000),
-    "small": lambda: entries_with_a_field(100),
+    "small": lambda: entries(100, b",t=1"),
     "empty": lambda: b"",
     **{"%s whole" % file: lambda rule=rule, count=count: rule(count) for _, file, rule, count in KINDS},
     **{"%s half" % file: lambda rule=rule, count=count: rule(count // 2) for _, file, rule, count in KINDS},

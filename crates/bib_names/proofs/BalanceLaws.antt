@@ -1,10 +1,10 @@
 -- The test of balance.
-use Rattle.std.proofs.Common.{◌≡◌, ℕ, zero, suc, ◌+◌, ◌≤◌, ◌<◌, Bool, true, false, eqb, length, take, refl, sym, ap, ◌∙◌, arith}
+use Rattle.std.proofs.Common.{◌≡◌, ℕ, zero, suc, ◌+◌, ◌≤◌, ◌<◌, Bool, true, false, eqb, length, take, refl, sym, ap, ◌∙◌, arith, ⊎_elim}
 use Rattle.std.specs.Prelude.{nat_le, IsTrue, count_by}
 use Rattle.std.specs.List.{range_with_len, list_all}
 use Rattle.std.proofs.lemmas.List.{take_all}
 use Rattle.std.proofs.Math.Dec.{leb, ltb}
-use Rattle.std.proofs.lemmas.Bool.{eqb-true, eq-eqb, leb-true, le-leb, ltb-true, ltb-false}
+use Rattle.std.proofs.lemmas.Bool.{cases_Bool, eqb-true, eq-eqb, leb-true, le-leb, ltb-true, ltb-false}
 use Rattle.bib_spec.specs.Text.{Text, opened_before, closed_before, IsBalanced}
 use Rattle.bib_names.specs.Label.{balances}
 use Rattle.bib_names.proofs.BoolLemmas.{both}
@@ -22,7 +22,7 @@ range_all p at (suc n) all (suc k) lt = let e : at + suc k ≡ at + 1 + k = omeg
 abbrev covers : Text → ℕ → Bool
 covers text n = nat_le (closed_before text n) (opened_before text n)
 
-balances-yes : (text : Text) → IsBalanced text → balances text ≡ true
+pub balances-yes : (text : Text) → IsBalanced text → balances text ≡ true
 balances-yes text is =
     rw (eq-eqb (closed_before text (length text)) (opened_before text (length text)) is.all_closed) (all_range (covers text) 0 (length text) (λ n. le-leb (closed_before text n) (opened_before text n) (is.never_negative n)))
 
@@ -40,6 +40,9 @@ IsBalanced-from_test text e =
     let parts = both (eqb (closed_before text (length text)) (opened_before text (length text))) (list_all (covers text) (range_with_len 0 (length text))) e in
     let level = eqb-true (closed_before text (length text)) (opened_before text (length text)) parts.0 in
     record { never_negative = below text parts.1 level; all_closed = level }
+
+pub balances-no : (text : Text) → (IsBalanced text → ⊥) → balances text ≡ false
+balances-no text is_not = ⊎_elim (λ (e : balances text ≡ true). absurd (is_not (IsBalanced-from_test text e))) (λ (e : balances text ≡ false). e) (cases_Bool (balances text))
 
 -- an answer that says whether the text is balanced is the test
 pub balances-is : (text : Text) (b : Bool) → (IsTrue b → IsBalanced text) → (IsBalanced text → IsTrue b) → b ≡ balances text

@@ -15,7 +15,7 @@ abbrev pub chosen : List Text → Fields → Fields
 chosen names fields = filter (λ field. list_any (same field.0) names) fields
 
 -- what is sought first is not filtered out
-find_filtered : {X : Type 0} (seek keep : X → Bool) (xs : List X) → ((x : X) → seek x ≡ true → keep x ≡ true) → find seek (filter keep xs) ≡ find seek xs
+pub find_filtered : {X : Type 0} (seek keep : X → Bool) (xs : List X) → ((x : X) → seek x ≡ true → keep x ≡ true) → find seek (filter keep xs) ≡ find seek xs
 find_filtered seek keep [] kept = refl
 find_filtered {X} seek keep (x ∷ xs) kept = at (keep x) (seek x) refl (kept x) (find_filtered seek keep xs kept)
   where

@@ -1,12 +1,14 @@
--- The prints of von and Last, apart from the rest of a name.
-use Rattle.std.proofs.Common.{◌≡◌, ◌∙◌, ℕ, ◌++◌, ◌∷◌, [], ◌<◌, List, Option, Some, None, Bool, true, false, cond, length, option_map, refl, sym, ap, ap₂, arith, append-nil, append_assoc}
+-- von and Last, and their prints, apart from the rest of a name.
+use Rattle.std.proofs.Common.{◌≡◌, ◌∙◌, ℕ, ◌+◌, ◌-◌, ◌++◌, ◌∷◌, [], ◌<◌, List, Option, Some, None, Bool, true, false, cond, length, take, is_some, option_map, refl, sym, ap, ap₂, arith, append-nil, append_assoc}
 use Rattle.std.specs.Prelude.{nat_lt, min, ◌≤◌, if◌then◌else◌}
 use Rattle.std.proofs.lemmas.Bool.{cond-true, cond-false, lt-ltb, le-ltb}
 use Rattle.std.specs.List.{flat_map}
-use Rattle.std.specs.Option.{option_map_or}
+use Rattle.std.specs.Option.{IfSome, IfNone, option_map_or}
 use Rattle.bib_spec.specs.Text.{Text}
-use Rattle.bib_names.specs.Words.{NameWord}
-use Rattle.bib_names.specs.Name.{parts_of}
+use Rattle.bib_names.specs.Places.{between, stretch}
+use Rattle.bib_names.specs.Words.{NameWord, words_of}
+use Rattle.bib_names.specs.Name.{commas, with_commas, parts_of_pieces, parts_of_bare, parts_of}
+use Rattle.bib_names.specs.FirstComma.{commas_from, IsFirstComma}
 use Rattle.bib_names.specs.Special.{text_chars}
 use Rattle.bib_names.specs.Printing.{initial, printed_words, finished, printed_group, printed}
 use Rattle.bib_names.specs.Label.{balances, group, initials_template, last_template, print_of, first_three, letters_of_one}
@@ -17,6 +19,38 @@ use Rattle.bib_names.specs.declared.template.Part.{Part}
 use Rattle.bib_names.specs.declared.template.Part.TheVariants.{Von, Last}
 use Rattle.bib_names.specs.declared.template.Form.TheVariants.{Initials}
 use Rattle.bib_names.specs.declared.template.Group.{Group}
+use Rattle.bib_names.proofs.CommaLemmas.{commas_whole, commas_two}
+
+-- ---- commas
+
+-- whether a third comma follows the first two
+pub many_commas : (bare : Text) (one two : ℕ) (third : Option ℕ) → IsFirstComma bare 0 one → IsFirstComma bare (one + 1) two → IfSome third (IsFirstComma bare (two + 1)) → is_some third ≡ true → 2 < length (commas bare)
+many_commas bare one two None first second found some = absurd (cc)
+many_commas bare one two (Some three) first second found some =
+    let all = ap length (commas_two bare one two first second ∙ ap (λ ps. one ∷ two ∷ ps) found.first) in omega (arith, all)
+
+pub few_commas : (bare : Text) (one two : ℕ) (third : Option ℕ) → IsFirstComma bare 0 one → IsFirstComma bare (one + 1) two → IfNone third (commas_from bare (two + 1) ≡ []) → is_some third ≡ false → length (commas bare) ≤ 2
+few_commas bare one two None first second none is =
+    let all = ap length (commas_two bare one two first second ∙ ap (λ ps. one ∷ two ∷ ps) none) in omega (arith, all)
+few_commas bare one two (Some three) first second none is = absurd (cc)
+
+pub one_comma : (bare : Text) (one : ℕ) → IsFirstComma bare 0 one → commas_from bare (one + 1) ≡ [] → length (commas bare) ≤ 2
+one_comma bare one first none =
+    let all = ap length (commas_whole bare ∙ first.first ∙ ap (λ ps. one ∷ ps) none) in omega (arith, all)
+
+-- what follows the first of at most two commas is of neither von nor Last
+surname_before : (bare : Text) (one : ℕ) (ps : List ℕ) → length ps ≤ 1
+    → option_map surname_of (parts_of_pieces (between 1 bare 0 (one ∷ ps))) ≡ Some (surname_of (with_commas (words_of (stretch 0 (take (one - 0) bare))) [] []))
+surname_before bare one [] le = refl
+surname_before bare one (two ∷ []) le = refl
+surname_before bare one (two ∷ three ∷ ps) le = absurd (omega arith)
+
+pub surname_few : (bare : Text) (one : ℕ) → IsFirstComma bare 0 one → length (commas bare) ≤ 2
+    → option_map surname_of (parts_of_bare bare) ≡ Some (surname_of (with_commas (words_of (stretch 0 (take (one - 0) bare))) [] []))
+surname_few bare one first few =
+    let all = commas_whole bare ∙ first.first in
+    let count = ap length all in
+    ap (λ ps. option_map surname_of (parts_of_pieces (between 1 bare 0 ps))) all ∙ surname_before bare one (commas_from bare (one + 1)) (omega (arith, count, few))
 
 -- ---- groups of initials
 

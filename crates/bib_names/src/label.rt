@@ -183,7 +183,7 @@ fn letters_of_many(alloc: Global, names: &[&[u8]]) -> Result<Text, AllocError>
 }
 
 /// The letters of a label, empty if it has none.
-fn letters_of(alloc: Global, fields: &[(Text, Text)]) -> Result<Text, AllocError>
+fn letters_of_fields(alloc: Global, fields: &[(Text, Text)]) -> Result<Text, AllocError>
     ensures { IfOk result (λ t. t ≡ letters_of_fields fields.now) }
 {
     let names = names_in(alloc, fields)?;
@@ -222,7 +222,7 @@ fn last_two_digits(alloc: Global, text: &[u8]) -> Result<Vec<u8>, AllocError>
 pub(crate) fn base_of(alloc: Global, fields: &[(Text, Text)]) -> Result<Text, AllocError>
     ensures { IfOk result (λ t. t ≡ label_base fields.now) }
 {
-    let letters = letters_of(alloc, fields)?;
+    let letters = letters_of_fields(alloc, fields)?;
     let mut out = or_anon(alloc, letters.into_vec())?;
     out.extend_from_slice(last_two_digits(alloc, text_in(fields, b"year"))?.as_slice())?;
     Ok(Seq::from_vec(out))

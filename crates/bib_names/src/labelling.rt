@@ -12,7 +12,7 @@ use bib_scan::{Seq, Text};
 use std::alloc::{AllocError, Global};
 
 /// The letters of a number: none of 0, then a, b, .. z, aa, ab, ..
-pub(crate) fn letters_of(alloc: Global, number: usize) -> Result<Vec<u8>, AllocError>
+pub(crate) fn letters(alloc: Global, number: usize) -> Result<Vec<u8>, AllocError>
     ensures { IfOk result (λ r. r.items ≡ reverse (letters number)) }
 {
     let mut letters = Vec::new(alloc);
@@ -32,7 +32,7 @@ fn label_of(alloc: Global, base: &[u8], count: usize, earlier: usize) -> Result<
 {
     let mut label = Vec::from_slice(alloc, base)?;
     if count > 1 {
-        label.extend_from_slice(letters_of(alloc, earlier + 1)?.as_slice())?;
+        label.extend_from_slice(letters(alloc, earlier + 1)?.as_slice())?;
     }
     Ok(Seq::from_vec(label))
 }

@@ -8,7 +8,7 @@ ghost use Rattle.bib_names.specs.Label.{or_anon, key_base};
 
 use crate::fault::NameFault;
 use crate::label::{base_of, or_anon};
-use crate::labelling::letters_of;
+use crate::labelling::letters;
 use bib_data::Record;
 use bib_scan::{Seq, Text};
 use std::alloc::{AllocError, Global};
@@ -48,7 +48,7 @@ pub fn candidate(alloc: Global, base: &[u8], n: usize) -> Result<Text, AllocErro
     ensures { IfOk result (λ key. key ≡ candidate base.now n) }
 {
     let mut key = Vec::from_slice(alloc, base)?;
-    key.extend_from_slice(letters_of(alloc, n)?.as_slice())?;
+    key.extend_from_slice(letters(alloc, n)?.as_slice())?;
     Ok(Seq::from_vec(key))
 }
 

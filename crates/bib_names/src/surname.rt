@@ -1,8 +1,9 @@
 //! The words of a name that labels are made of.
 
-ghost use Rattle.std.specs.Prelude.{◌≡◌, ◌≤◌, [], List, Some, IfOk, length, option_map};
+ghost use Rattle.std.specs.Prelude.{◌≡◌, ◌<◌, ◌≤◌, [], List, Some, IfOk, true, false, length, option_map};
 ghost use Rattle.bib_names.specs.Words.{NameWord};
-ghost use Rattle.bib_names.specs.Name.{without_comma, with_commas, parts_of_bare};
+ghost use Rattle.bib_names.specs.Name.{commas, without_comma, with_commas, parts_of_bare};
+ghost use Rattle.bib_names.specs.FirstComma.{IsFirstComma};
 ghost use Rattle.bib_names.specs.Label.{group};
 ghost use Rattle.bib_names.specs.Printing.{printed_group};
 ghost use Rattle.bib_names.specs.Surname.{surname_of, surname_in};
@@ -85,6 +86,18 @@ fn with_commas(words: Vec<Word<'_>>) -> Surname<'_>
     }
 }
 
+/// Whether a name has more than two commas, the first of which stands here.
+fn has_too_many_commas(bare: &[u8], one: usize) -> bool
+    requires { IsFirstComma bare.now 0 one }
+    ensures many { result ≡ true → 2 < length (commas bare.now) }
+    ensures few { result ≡ false → length (commas bare.now) ≤ 2 }
+{
+    match comma_from(bare, one + 1) {
+        Some(two) => comma_from(bare, two + 1).is_some(),
+        None => false,
+    }
+}
+
 /// That of a name without what is dropped at its end, none if it has more than two commas.
 fn surname_of_bare(alloc: Global, bare: &[u8]) -> Result<Option<Surname<'_>>, AllocError>
     ensures { IfOk result (λ surname. surname ≡ option_map surname_of (parts_of_bare bare.now)) }
@@ -92,10 +105,7 @@ fn surname_of_bare(alloc: Global, bare: &[u8]) -> Result<Option<Surname<'_>>, Al
     let Some(one) = comma_from(bare, 0) else {
         return Ok(Some(without_comma(words(alloc, bare, 0)?)));
     };
-    let Some(two) = comma_from(bare, one + 1) else {
-        return Ok(Some(with_commas(words(alloc, bare.split_at(one).0, 0)?)));
-    };
-    if comma_from(bare, two + 1).is_some() {
+    if has_too_many_commas(bare, one) {
         return Ok(None);
     }
     Ok(Some(with_commas(words(alloc, bare.split_at(one).0, 0)?)))

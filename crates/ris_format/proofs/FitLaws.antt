@@ -17,7 +17,7 @@ use Rattle.bib_names.specs.Words.{NameWord}
 use Rattle.bib_names.specs.Name.{parts_of}
 use Rattle.bib_names.specs.Label.{balances}
 use Rattle.bib_names.specs.declared.name.Name.{Name}
-use Rattle.bib_names.proofs.BalanceLaws.{IsBalanced-from_test}
+use Rattle.bib_names.proofs.BalanceLaws.{balances-yes, IsBalanced-from_test}
 use Rattle.ris_text.specs.declared.records.RisLine.{RisLine}
 use Rattle.ris_text.specs.Tags as tags
 use Rattle.ris_text.specs.Tags.{is_known}
@@ -42,7 +42,7 @@ use Rattle.ris_format.proofs.KeywordLaws.{keywords-neat}
 use Rattle.ris_format.proofs.Levels.{opens, closes, cut_off}
 use Rattle.ris_format.proofs.PartLaws.{IsPart, name-parts}
 use Rattle.ris_format.proofs.ListLaws.{IsListed, names-listed}
-use Rattle.ris_format.proofs.PeopleLaws.{level-of, balances-from, neat-comma}
+use Rattle.ris_format.proofs.PeopleLaws.{level-of, neat-comma}
 use Rattle.ris_format.proofs.LineLaws.{is_neat_group}
 
 -- a text that is neat, if it has a byte
@@ -110,7 +110,7 @@ name-neat name is level n = go (taken_apart name) refl
     go : (o : Option Name) → taken_apart name ≡ o → are_neat (option_map_or (λ (parts : Name). written_person (person name parts)) o []) ≡ true
     go None e = refl
     go (Some parts) e =
-        let apart : parts_of name ≡ Some parts = sym (cond-true (balances name) (parts_of name) None (balances-from name is)) ∙ e in
+        let apart : parts_of name ≡ Some parts = sym (cond-true (balances name) (parts_of name) None (balances-yes name is)) ∙ e in
         let are = name-parts name parts is level apart in
         person-neat (person name parts)
         (part-neat name (family parts.von parts.last) n are.last)

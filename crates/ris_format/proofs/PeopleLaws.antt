@@ -15,7 +15,7 @@ use Rattle.bib_names.specs.NameList.{names_of}
 use Rattle.bib_names.specs.Name.{commas, parts_of}
 use Rattle.bib_names.specs.Label.{balances}
 use Rattle.bib_names.specs.declared.name.Name.{Name}
-use Rattle.bib_names.proofs.BalanceLaws.{IsBalanced-from_test, balances-is}
+use Rattle.bib_names.proofs.BalanceLaws.{balances-yes, IsBalanced-from_test}
 use Rattle.bib_value.specs.Spacing.{neat}
 use Rattle.ris_format.specs.Lines.{has_bytes}
 use Rattle.ris_format.specs.People.{Person, person, with_comma, ris_name, is_somebody, taken_apart, is_broken, is_refused, written_person, written_name, written_people, name_pieces, in_braces, or_braces, bib_name, person_of, is_opaque, read_name, name_list, read_people, is_plain_person, is_plain_name, are_plain_names}
@@ -35,9 +35,6 @@ pub level-of : (text : Text) → IsBalanced text → opens text ≡ closes text
 level-of text is =
     let whole : take (length text) text ≡ text = take_all (length text) text (omega arith) in
     sym (ap opens whole) ∙ sym is.all_closed ∙ ap closes whole
-
-pub balances-from : (text : Text) → IsBalanced text → balances text ≡ true
-balances-from text is = sym (balances-is text true (λ _. is) (λ _. refl))
 
 balanced-append : (x y : Text) → IsBalanced x → IsBalanced y → IsBalanced (x ++ y)
 balanced-append x y a b = record {
@@ -88,7 +85,7 @@ read-as value ps is uncut pieces few =
     let len = ap length pieces in
     let plain : is_opaque value ≡ false = or_from (ltb 2 (length (commas value))) (ltb 1 (length (names_of value))) (le-ltb 2 (length (commas value)) (omega (arith, count, len))) (free-one value uncut) in
     let named : name_pieces value ≡ map trimmed ps = map-trimmed (between 1 value 0 (commas value)) ∙ ap (map trimmed) (pieces-are value ∙ pieces) in
-    cond-true (balances value) _ value (balances-from value is)
+    cond-true (balances value) _ value (balances-yes value is)
     ∙ cond-false (is_opaque value) (in_braces value) _ plain
     ∙ ap (λ (us : List Text). bib_name (person_of us)) named
 
@@ -280,7 +277,7 @@ kept-with text name parts is n l e plain =
     let same : bib_name p ≡ name = eq-true (bib_name p) name q.1 in
     let name_neat : neat true name ≡ true = l.neat_is n (ap has_bytes (sym same) ∙ bib-some p q.0) in
     let uncut : free false 0 0 name ≡ true = sym (free-is name) ∙ ap is_nil l.uncut in
-    let apart : parts_of name ≡ Some parts = sym (cond-true (balances name) (parts_of name) None (balances-from name (l.balanced is))) ∙ e in
+    let apart : parts_of name ≡ Some parts = sym (cond-true (balances name) (parts_of name) None (balances-yes name (l.balanced is))) ∙ e in
     let are = name-parts name parts (l.balanced is) l.level apart in
     let kept = person-kept p.last p.first p.suffix (texts-of p.last p.first p.suffix are.last are.first are.suffix q.0 (ap (neat true) same ∙ name_neat) (ap (free false 0 0) same ∙ uncut)) in
     record {

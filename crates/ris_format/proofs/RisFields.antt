@@ -1,13 +1,14 @@
 -- RIS records are made of some fields alone.
-use Rattle.std.proofs.Common.{◌≡◌, ◌∙◌, Bool, true, false, cond, List, [], ◌∷◌, ◌++◌, filter, Option, Some, codes, refl, ap}
+use Rattle.std.proofs.Common.{◌≡◌, ◌∙◌, Bool, true, List, [], ◌∷◌, ◌++◌, filter, Option, codes, refl, ap}
 use Rattle.std.specs.Prelude.{if◌then◌else◌}
-use Rattle.std.specs.List.{find, list_any}
+use Rattle.std.specs.List.{list_any}
 use Rattle.std.specs.Option.{option_map_or}
-use Rattle.std.proofs.lemmas.Bool.{false≢true, and_parts}
+use Rattle.std.proofs.lemmas.Bool.{and_parts}
 use Rattle.std.proofs.lemmas.Slice.Eq.{bytes_eq-Decides}
 use Rattle.std.specs.Str.{bytes_eq}
 use Rattle.bib_spec.specs.Text.{Text, same}
 use Rattle.bib_spec.specs.Records.{Record, RecordField}
+use Rattle.bib_names.proofs.LabelFields.{find_filtered}
 use Rattle.ris_format.specs.declared.kinds.Kind.{Kind}
 use Rattle.ris_format.specs.declared.kinds.Kind.TheVariants.{Article, Book, Incollection, Inproceedings, Phdthesis, Techreport, Unpublished, Misc}
 use Rattle.ris_format.specs.Kinds.{ris_type, kind_of_entry, is_article, publisher_field, serial_field}
@@ -17,17 +18,6 @@ use Rattle.ris_format.specs.Dates.{written_date}
 use Rattle.ris_format.specs.Pages.{written_start, written_end}
 use Rattle.ris_format.specs.Keywords.{written_keywords}
 use Rattle.ris_format.specs.Mapping.{Fields, is_filled, text_of, ris_names, written_names, written_titles, written_numbers, written_publishers, written_notes, written_fields, ris}
-
--- what is sought first is not filtered out
-pub find_filtered : {X : Type 0} (seek keep : X → Bool) (xs : List X) → ((x : X) → seek x ≡ true → keep x ≡ true) → find seek (filter keep xs) ≡ find seek xs
-find_filtered seek keep [] kept = refl
-find_filtered {X} seek keep (x ∷ xs) kept = at (keep x) (seek x) refl (kept x) (find_filtered seek keep xs kept)
-  where
-    at : (k s : Bool) → seek x ≡ s → (s ≡ true → k ≡ true) → find seek (filter keep xs) ≡ find seek xs
-        → find seek (cond k (x ∷ filter keep xs) (filter keep xs)) ≡ cond s (Some x) (find seek xs)
-    at true s is kept later = ap (λ b. cond b (Some x) (find seek (filter keep xs))) is ∙ ap (cond s (Some x)) later
-    at false true is kept later = absurd (false≢true (kept refl))
-    at false false is kept later = later
 
 -- the name is one of a field that a record of some kind can have, whatever its case
 abbrev is_sought : Text → Bool

@@ -43,7 +43,7 @@ fn brace_all(alloc: Global, fields: &mut Vec<(Text, Text)>) -> Result<(), AllocE
 }
 
 /// The entry that an edit may add for a record: each text stands in braces, and all else is handed on. It takes time in
-/// the record's size, and memory for its longest text.
+/// the record's size. A text gets its braces in the memory that it has, if there is room for them, and else in more.
 ///
 /// A record with a text whose braces do not balance is refused as 64; else the one refusal is want of memory.
 pub fn to_entry(alloc: Global, entry: Record) -> Result<NewEntry, MappingFault>
