@@ -1,24 +1,46 @@
 //! The ids that have one text.
 
-ghost use Rattle.std.specs.Prelude.{◌≡◌, ◌≤◌, [], length, insert, OnOk, OnErr};
+ghost use Rattle.std.specs.Prelude.{◌≡◌, ◌≤◌, [], ◌∷◌, length, insert, IfOk, OnOk, OnErr};
 ghost use Rattle.bib_index.specs.KeyIndex.{without};
 
-use smallvec::SmallVec;
 use std::alloc::{AllocError, Global};
 use std::marker::Model;
+use std::slice::from_ref;
+
+/// How the ids are kept.
+#[derive(Drop)]
+enum Held {
+    Nothing,
+    One(usize),
+    // in a box, so that the place of one alone is small
+    Many(Box<Vec<usize>>),
+}
 
 /// Ids in order, of which one alone takes no memory but its place.
 #[derive(Drop)]
 pub(crate) struct Holders {
-    ids: SmallVec<usize, 1>,
+    alloc: Global,
+    held: Held,
 }
 
 impl Model for Holders {
     ghost use Rattle.std.specs.Prelude.{List, ℕ};
+    ghost use Rattle.bib_index.specs.Held.{ids_of};
 
     ghost Value = { List ℕ };
 
-    ghost view = { λ h. h.ids.items };
+    ghost view = { λ h. ids_of h.held };
+}
+
+/// An id, and another before it or after it.
+fn pair(alloc: Global, one: usize, k: usize, id: usize) -> Result<Box<Vec<usize>>, AllocError>
+    requires { k ≤ 1 }
+    ensures { IfOk result (λ ids. ids.value.items ≡ insert (one ∷ []) k id) }
+{
+    let mut ids = Vec::with_capacity(alloc, 2)?;
+    ids.push(one)?;
+    ids.insert(k, id)?;
+    Ok(Box::new(alloc, ids)?)
 }
 
 impl Holders {
@@ -27,7 +49,8 @@ impl Holders {
         ensures { result ≡ [] }
     {
         Holders {
-            ids: SmallVec::new(alloc),
+            alloc,
+            held: Held::Nothing,
         }
     }
 
@@ -35,23 +58,49 @@ impl Holders {
     pub(crate) fn as_slice(&self) -> &[usize]
         ensures { result.now ≡ self.now }
     {
-        self.ids.as_slice()
+        match &self.held {
+            Held::Nothing => &[],
+            Held::One(id) => from_ref(id),
+            Held::Many(ids) => ids.as_slice(),
+        }
     }
 
     /// Puts an id before id `k`, or at the end.
+    #[tactic(auto, using(crate::proofs::HeldLaws::insert_none))]
     pub(crate) fn insert(&mut self, k: usize, id: usize) -> Result<(), AllocError>
         requires { k ≤ length self.old }
         ensures ok { OnOk result (self.new ≡ insert self.old k id) }
         ensures err { OnErr result (self.new ≡ self.old) }
     {
-        self.ids.insert(k, id)?;
-        Ok(())
+        match &mut self.held {
+            Held::Nothing => {
+                self.held = Held::One(id);
+                Ok(())
+            }
+            Held::One(one) => {
+                let ids = pair(self.alloc, *one, k, id)?;
+                self.held = Held::Many(ids);
+                Ok(())
+            }
+            Held::Many(ids) => {
+                ids.insert(k, id)?;
+                Ok(())
+            }
+        }
     }
 
     /// Takes an id out. It asks for no memory.
     pub(crate) fn take_out(&mut self, id: usize)
         ensures { self.new ≡ without id self.old }
     {
-        self.ids.retain(|other| *other != id);
+        match &mut self.held {
+            Held::Nothing => {}
+            Held::One(one) => {
+                if *one == id {
+                    self.held = Held::Nothing;
+                }
+            }
+            Held::Many(ids) => ids.retain(|other| *other != id),
+        }
     }
 }
