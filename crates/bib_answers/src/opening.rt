@@ -8,7 +8,7 @@ use bib_scan::ReadFault;
 use bib_store::{Database, Paged};
 use std::alloc::Global;
 
-/// Opens the file. The bytes are kept once, in its items; their own memory is given back.
+/// Opens the file. The bytes are kept once, where they were read.
 pub fn open(alloc: Global, file: Vec<u8>) -> Result<Database<Paged>, ReadFault>
     ensures opened { IfOk result (λ db. db ≡ file.items) }
     ensures file { OnOk result (IsOpenable file.items) }

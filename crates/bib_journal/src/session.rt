@@ -91,7 +91,7 @@ impl<L: ItemList> Session<L> {
         }
     }
 
-    /// Opens the file as `start` does. Its memory is given back as soon as its items have the bytes.
+    /// Opens the file as `start` does. The list may keep the file's memory in place of copies of its items.
     fn start_file(alloc: Global, file: Vec<u8>, empty: L) -> Result<Session<L>, SessionFault>
         requires { L.items empty ≡ [] }
         ensures started { IfOk result (λ session. session ≡ started file.items) }
@@ -145,8 +145,8 @@ impl<L: ItemList> Session<L> {
         }
     }
 
-    /// Opens the file with its journal, as `open` does. Where it has none, its memory is given back as soon as its items have
-    /// the bytes.
+    /// Opens the file with its journal, as `open` does. Where it has none, the list may keep the
+    /// file's memory in place of copies of its items.
     pub fn open_file(
         alloc: Global,
         file: Vec<u8>,

@@ -1,7 +1,7 @@
 //! The file as a list of items, with entries, keys and crossrefs.
 
 use crate::joining::join;
-use crate::keeping::take_in;
+use crate::keeping::{take_file, take_in};
 use crate::measuring::short_text;
 use crate::preambles::preamble_value;
 use crate::tables::Tables;
@@ -64,7 +64,7 @@ impl<L: ItemList> Database<L> {
         Database::of_items(alloc, bytes.len(), front, items)
     }
 
-    /// The same. The file's memory is given back as soon as its items have the bytes, before the tables are made.
+    /// The same. The list may keep the file's memory in place of copies of its items.
     pub fn open_file(alloc: Global, file: Vec<u8>, empty: L) -> Result<Database<L>, ReadFault>
         requires { L.items empty ≡ [] }
         ensures opened { IfOk result (λ db. db ≡ file.items) }
@@ -72,8 +72,7 @@ impl<L: ItemList> Database<L> {
         ensures fault { IfErr result (λ fault. IsOpenFault file.items fault.kind fault.place) }
     {
         let len = file.len();
-        let (front, items) = take_in(alloc, file.as_slice(), empty)?;
-        drop(file);
+        let (front, items) = take_file(alloc, file, empty)?;
         Database::of_items(alloc, len, front, items)
     }
 

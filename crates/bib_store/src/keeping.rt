@@ -58,3 +58,39 @@ pub(crate) fn take_in<L: ItemList>(
         Err(_) => Err(ReadFault { kind: 10, place: 0 }),
     }
 }
+
+/// The front and the items of a file, as they are kept. The list may keep the file's memory in place of copies.
+fn keep_file<L: ItemList>(
+    alloc: Global,
+    layout: &Layout,
+    file: Vec<u8>,
+    empty: L,
+) -> Result<(Text, L), StoreFault>
+    requires layout { IsLayoutOf file.items layout.now }
+    requires empty { L.items empty ≡ [] }
+    ensures front { IfOk result (λ kept. OfReading file.items (λ db. kept.0 ≡ db.front)) }
+    ensures items { IfOk result (λ kept. OfReading file.items (λ db. L.items kept.1 ≡ all_stored db.items)) }
+    ensures only { IfErr result (λ fault. fault ≡ Memory) }
+{
+    let front = Vec::from_slice(alloc, layout.front(file.as_slice()))?;
+    let mut items = empty;
+    items.take_file(file, layout)?;
+    Ok((Seq::from_vec(front), items))
+}
+
+/// The front and the items of this file, as they are kept. The list may keep the file's memory in place of copies.
+pub(crate) fn take_file<L: ItemList>(
+    alloc: Global,
+    file: Vec<u8>,
+    empty: L,
+) -> Result<(Text, L), ReadFault>
+    requires { L.items empty ≡ [] }
+    ensures taken { IfOk result (λ kept. IsTaken file.items kept.0 (L.items kept.1)) }
+    ensures fault { IfErr result (λ fault. IsReadFault file.items fault.kind fault.place) }
+{
+    let layout = read(alloc, file.as_slice())?;
+    match keep_file(alloc, &layout, file, empty) {
+        Ok(kept) => Ok(kept),
+        Err(_) => Err(ReadFault { kind: 10, place: 0 }),
+    }
+}
