@@ -72,48 +72,48 @@ spans_more text places from n spans place len body trail s is order low a b t st
     let here_is : (db : Reading) → Reads text db → n < length db.items = λ db reads. let count = counted_layout text places is db reads in omega (arith, count, low) in
     let stored_is : (db : Reading) (reads : Reads text db) → item body trail ≡ stored (get_or db.items n any_item)
     = λ db reads.
-        let at : slice_get db.items n ≡ Some (get_or db.items n any_item) = slice_get-get_or db.items n any_item (here_is db reads) in
-        ap₂ item (b db (get_or db.items n any_item) reads at) (t db (get_or db.items n any_item) reads at) in
+    let at : slice_get db.items n ≡ Some (get_or db.items n any_item) = slice_get-get_or db.items n any_item (here_is db reads) in
+    ap₂ item (b db (get_or db.items n any_item) reads at) (t db (get_or db.items n any_item) reads at) in
     let bytes_are : (db : Reading) (reads : Reads text db) → body ++ trail ≡ item_bytes (get_or db.items n any_item) = λ db reads. ap kept_bytes (stored_is db reads) in
     let within : (db : Reading) (reads : Reads text db) → place + len ≤ length text
     = λ db reads.
-        let w = stands text db n reads (here_is db reads) in
-        omega (
-          arith,
-          len_is,
-          a.at db reads,
-          w.begins,
-          ap length w.is,
-          ap length (bytes_are db reads),
-          length-append body trail,
-          length-append w.before (item_bytes (get_or db.items n any_item) ++ w.rest),
-          length-append (item_bytes (get_or db.items n any_item)) w.rest,
-        ) in
+    let w = stands text db n reads (here_is db reads) in
+    omega (
+      arith,
+      len_is,
+      a.at db reads,
+      w.begins,
+      ap length w.is,
+      ap length (bytes_are db reads),
+      length-append body trail,
+      length-append w.before (item_bytes (get_or db.items n any_item) ++ w.rest),
+      length-append (item_bytes (get_or db.items n any_item)) w.rest,
+    ) in
     let fits : place + len ≤ length text = within is.0 is.1 in
-      record {
-        at = λ db reads.
-            let w = stands text db n reads (here_is db reads) in
-            omega (arith, a.at db reads, w.next, len_is, ap length (bytes_are db reads), length-append body trail);
-        items = λ db reads.
-            let w = stands text db n reads (here_is db reads) in
-            let k : ℕ = n - from in
-            let inside : k < length (drop from db.items) = let h = here_is db reads in omega (arith, h, order, length-drop from db.items) in
-            let at_n : from + k ≡ n = omega (arith, order) in
-            let next_n : n + 1 - from ≡ k + 1 = omega (arith, order) in
-            let whole : text ++ [] ≡ w.before ++ ((body ++ trail) ++ w.rest) = append-nil text ∙ w.is ∙ ap (λ (l : Text). w.before ++ (l ++ w.rest)) (sym (bytes_are db reads)) in
-            let next : all_stored (take (n + 1 - from) (drop from db.items)) ≡ all_stored (take k (drop from db.items)) ++ item body trail ∷ []
-            = ap (λ (m : ℕ). all_stored (take m (drop from db.items))) next_n
-            ∙ ap all_stored
-            (take_more (drop from db.items) k any_item inside
-            ∙ ap (λ (x : reading.Item). take k (drop from db.items) ++ x ∷ []) (get_or-drop from db.items k any_item ∙ ap (λ (m : ℕ). get_or db.items m any_item) at_n))
-            ∙ map-append stored (take k (drop from db.items)) (get_or db.items n any_item ∷ [])
-            ∙ ap (λ (x : Item). all_stored (take k (drop from db.items)) ++ x ∷ []) (sym (stored_is db reads)) in
-            map-append (item_in (text ++ [])) spans (s ∷ [])
-            ∙ ap₂ (λ (l : List Item) (i : Item). l ++ i ∷ []) (a.items db reads)
-            (ap (λ bytes. item_in bytes s) whole ∙ standing_is w.before body trail w.rest s (start ∙ a.at db reads ∙ sym w.begins) body_len trail_len)
-            ∙ sym next;
-        lie = All-push (LiesInEither text []) spans s a.lie (inl (omega (arith, fits, start, body_len, trail_len, len_is)));
-      }
+    record {
+      at = λ db reads.
+          let w = stands text db n reads (here_is db reads) in
+          omega (arith, a.at db reads, w.next, len_is, ap length (bytes_are db reads), length-append body trail);
+      items = λ db reads.
+          let w = stands text db n reads (here_is db reads) in
+          let k : ℕ = n - from in
+          let inside : k < length (drop from db.items) = let h = here_is db reads in omega (arith, h, order, length-drop from db.items) in
+          let at_n : from + k ≡ n = omega (arith, order) in
+          let next_n : n + 1 - from ≡ k + 1 = omega (arith, order) in
+          let whole : text ++ [] ≡ w.before ++ ((body ++ trail) ++ w.rest) = append-nil text ∙ w.is ∙ ap (λ (l : Text). w.before ++ (l ++ w.rest)) (sym (bytes_are db reads)) in
+          let next : all_stored (take (n + 1 - from) (drop from db.items)) ≡ all_stored (take k (drop from db.items)) ++ item body trail ∷ []
+          = ap (λ (m : ℕ). all_stored (take m (drop from db.items))) next_n
+          ∙ ap all_stored
+          (take_more (drop from db.items) k any_item inside
+          ∙ ap (λ (x : reading.Item). take k (drop from db.items) ++ x ∷ []) (get_or-drop from db.items k any_item ∙ ap (λ (m : ℕ). get_or db.items m any_item) at_n))
+          ∙ map-append stored (take k (drop from db.items)) (get_or db.items n any_item ∷ [])
+          ∙ ap (λ (x : Item). all_stored (take k (drop from db.items)) ++ x ∷ []) (sym (stored_is db reads)) in
+          map-append (item_in (text ++ [])) spans (s ∷ [])
+          ∙ ap₂ (λ (l : List Item) (i : Item). l ++ i ∷ []) (a.items db reads)
+          (ap (λ bytes. item_in bytes s) whole ∙ standing_is w.before body trail w.rest s (start ∙ a.at db reads ∙ sym w.begins) body_len trail_len)
+          ∙ sym next;
+      lie = All-push (LiesInEither text []) spans s a.lie (inl (omega (arith, fits, start, body_len, trail_len, len_is)));
+    }
 
 -- ---- where a page ends
 

@@ -28,11 +28,7 @@ pub(crate) fn pages_of(
 }
 
 /// The same.
-fn pages_over(
-    alloc: Global,
-    text: &SharedText,
-    layout: &Layout,
-) -> Result<Vec<Page>, AllocError>
+fn pages_over(alloc: Global, text: &SharedText, layout: &Layout) -> Result<Vec<Page>, AllocError>
     requires { IsLayoutOf text.now layout.now }
     ensures items { IfOk result (λ pages. (db : Reading) → Reads text.now db → joined pages.items ≡ all_stored db.items) }
     ensures pages { IfOk result (λ pages. ArePages pages.items) }

@@ -22,10 +22,9 @@ fill-preserved c =
     let some : c.fill.from < c.min-to.result = omega (arith, c.fill-test.true, c.min-to.ensures, c.saturating_add.ensures) in
     let order : c.fill.from ≤ c.min-to.result = omega (arith, some) in
     let within : c.min-to.result ≤ c.fill.from + 64 = omega (arith, c.min-to.ensures, c.saturating_add.ensures) in
-    let low : c.min-to.result ≤ length c.args.layout.now.items = omega (arith, c.min-to.ensures, c.len-count.ensures.count) in
-    (
+    let low : c.min-to.result ≤ length c.args.layout.now.items = omega (arith, c.min-to.ensures, c.len-count.ensures.count) in (
       subst (λ (pages : List (List Item)). IsFilledTo c.args.text.now c.min-to.result pages) (sym c.in_ok-push.ensures.items)
-      (filled_page c.args.text.now c.args.layout.now c.fill.from c.min-to.result c.fill.pages.items c.in_ok-page.page c.requires some within low c.fill.invariant.0 c.in_ok-page.ensures),
+          (filled_page c.args.text.now c.args.layout.now c.fill.from c.min-to.result c.fill.pages.items c.in_ok-page.page c.requires some within low c.fill.invariant.0 c.in_ok-page.ensures),
       λ db reads.
           let e = page_ends c.args.text.now db c.fill.from c.min-to.result c.fill.start c.in_ok-page.page reads order (c.fill.invariant.1 db reads) (c.in_ok-page.ensures db reads) in
           omega (arith, c.byte_len-start.ensures, e.next),
