@@ -14,21 +14,23 @@ use Rattle.bib_scan.specs.Layout.{Places, IsLayoutOf, start_of}
 use Rattle.bib_items.specs.declared.list.Item.{Item}
 use Rattle.bib_items.specs.declared.span.Span.{Span}
 use Rattle.bib_items.specs.Items.{item, stored, kept_bytes, all_stored}
-use Rattle.bib_items.specs.Spans.{item_in, items_in, LiesInEither, LieInEither}
+use Rattle.bib_items.specs.Spans.{total, item_in, items_in, LiesInEither, LieInEither}
 use Rattle.bib_items.specs.Pages.{page_limit, IsPage, ArePages}
 use Rattle.bib_pages.specs.Pages.{joined}
 use Rattle.bib_pages.proofs.Paging.{all_append, joined-append}
-use Rattle.bib_items.proofs.ItemsIn.{standing_is}
+use Rattle.bib_items.proofs.ItemsIn.{total-append, standing_is}
 use Rattle.bib_items.proofs.Filled.{any_item, counted_layout}
 
 -- the spans are those of the items of the text from number `from` up to number n, which begins at this place
-pub record AreSpansOf (text : Text) (from n : ℕ) (spans : List Span) (place : ℕ) : Type 0 where
+pub record AreSpansOf (text : Text) (start from n : ℕ) (spans : List Span) (place : ℕ) : Type 0 where
+  pub sum : place ≡ start + total spans
   pub at : (db : Reading) → Reads text db → place ≡ start_of db n
   pub items : (db : Reading) → Reads text db → items_in (text ++ []) spans ≡ all_stored (take (n - from) (drop from db.items))
   pub lie : LieInEither text [] spans
 
-pub spans_none : (text : Text) (from start : ℕ) → ((db : Reading) → Reads text db → start ≡ start_of db from) → AreSpansOf text from from [] start
+pub spans_none : (text : Text) (from start : ℕ) → ((db : Reading) → Reads text db → start ≡ start_of db from) → AreSpansOf text start from from [] start
 spans_none text from start at = record {
+  sum = omega arith;
   at = at;
   items = λ db reads.
       let none : from - from ≡ 0 = omega arith in
@@ -62,13 +64,13 @@ stands text db n reads here =
       next = omega (arith, ap length up_to, length-append first (item_bytes i ++ []), length-append (item_bytes i) []);
     }
 
-pub spans_more : (text : Text) (places : Places) (from n : ℕ) (spans : List Span) (place len : ℕ) (body trail : Text) (s : Span)
-    → IsLayoutOf text places → from ≤ n → n < length places.items → AreSpansOf text from n spans place
+pub spans_more : (text : Text) (places : Places) (start from n : ℕ) (spans : List Span) (place len : ℕ) (body trail : Text) (s : Span)
+    → IsLayoutOf text places → from ≤ n → n < length places.items → AreSpansOf text start from n spans place
     → ((db : Reading) (i : reading.Item) → Reads text db → slice_get db.items n ≡ Some i → body ≡ tree_bytes i.tree)
     → ((db : Reading) (i : reading.Item) → Reads text db → slice_get db.items n ≡ Some i → trail ≡ i.trail)
     → s.start ≡ place → s.body ≡ length body → s.trail ≡ length trail → len ≡ length body + length trail
-    → AreSpansOf text from (n + 1) (spans ++ s ∷ []) (place + len)
-spans_more text places from n spans place len body trail s is order low a b t start body_len trail_len len_is =
+    → AreSpansOf text start from (n + 1) (spans ++ s ∷ []) (place + len)
+spans_more text places start from n spans place len body trail s is order low a b t begins body_len trail_len len_is =
     let here_is : (db : Reading) → Reads text db → n < length db.items = λ db reads. let count = counted_layout text places is db reads in omega (arith, count, low) in
     let stored_is : (db : Reading) (reads : Reads text db) → item body trail ≡ stored (get_or db.items n any_item)
     = λ db reads.
@@ -91,6 +93,7 @@ spans_more text places from n spans place len body trail s is order low a b t st
     ) in
     let fits : place + len ≤ length text = within is.0 is.1 in
     record {
+      sum = omega (arith, a.sum, total-append spans (s ∷ []), body_len, trail_len, len_is);
       at = λ db reads.
           let w = stands text db n reads (here_is db reads) in
           omega (arith, a.at db reads, w.next, len_is, ap length (bytes_are db reads), length-append body trail);
@@ -110,9 +113,9 @@ spans_more text places from n spans place len body trail s is order low a b t st
           ∙ ap (λ (x : Item). all_stored (take k (drop from db.items)) ++ x ∷ []) (sym (stored_is db reads)) in
           map-append (item_in (text ++ [])) spans (s ∷ [])
           ∙ ap₂ (λ (l : List Item) (i : Item). l ++ i ∷ []) (a.items db reads)
-          (ap (λ bytes. item_in bytes s) whole ∙ standing_is w.before body trail w.rest s (start ∙ a.at db reads ∙ sym w.begins) body_len trail_len)
+          (ap (λ bytes. item_in bytes s) whole ∙ standing_is w.before body trail w.rest s (begins ∙ a.at db reads ∙ sym w.begins) body_len trail_len)
           ∙ sym next;
-      lie = All-push (LiesInEither text []) spans s a.lie (inl (omega (arith, fits, start, body_len, trail_len, len_is)));
+      lie = All-push (LiesInEither text []) spans s a.lie (inl (omega (arith, fits, begins, body_len, trail_len, len_is)));
     }
 
 -- ---- where a page ends

@@ -1,6 +1,6 @@
 -- Items by the places where their bytes lie.
-use Rattle.std.proofs.Common.{◌≡◌, ℕ, ◌+◌, ◌-◌, ◌≤◌, ◌<◌, suc, set, List, [], ◌∷◌, ◌++◌, length, take, drop, map, get_or, sym, ◌∙◌, ap, ap₂, refl, subst, arith, inl, inr, append_assoc, take-append-drop, length-append, length-drop, insert, remove}
-use Rattle.std.specs.List.{All, flat_map}
+use Rattle.std.proofs.Common.{◌≡◌, ℕ, zero, ◌+◌, ◌-◌, ◌≤◌, ◌<◌, suc, set, List, [], ◌∷◌, ◌++◌, length, take, drop, get_or, sym, ◌∙◌, ap, ap₂, refl, subst, arith, inl, inr, append_assoc, take-append-drop, length-append, length-drop, insert, remove}
+use Rattle.std.specs.List.{flat_map}
 use Rattle.std.proofs.lemmas.List.{append-nil, take_at, drop_at, drop-drop, take_more, take_all, take-append-le, drop-append-le, length-take-le, length-map, map-append, map-set, take-map, drop-map, get_or-map, get_or_default}
 use Rattle.std.proofs.lemmas.List.Elements.{All-head, All-tail, All-cons, All-nil, All-take, All-drop, All-append, All-push, All-set, All-get_or, All-weaker}
 use Rattle.std.specs.Result.{OnErr}
@@ -37,6 +37,23 @@ summed spans k s h e =
 
 pub summed_at : (spans : List Span) (k : ℕ) → k < length spans → IsSummed spans k (get_or spans k no_span)
 summed_at spans k h = summed spans k (get_or spans k no_span) h (get_or_default spans k no_span (get_or spans k no_span) h)
+
+pub total-insert : (spans : List Span) (k : ℕ) (s : Span) → total (insert spans k s) ≡ total spans + (s.body + s.trail)
+total-insert spans k s = omega (arith, total-append (take k spans) (s ∷ drop k spans), total-take spans k)
+
+pub total-remove : (spans : List Span) (k : ℕ) (s : Span) → k < length spans → s ≡ get_or spans k s → total (remove spans k) + (s.body + s.trail) ≡ total spans
+total-remove spans k s h e =
+    let more = summed spans k s h e in
+    let next : total (take (k + 1) spans) ≡ total (take (suc k) spans) = let same : k + 1 ≡ suc k = omega arith in ap (λ n. total (take n spans)) same in
+    omega (arith, more.next, next, total-append (take k spans) (drop (suc k) spans), total-take spans (suc k))
+
+pub total-set : (spans : List Span) (k : ℕ) (old new : Span) → k < length spans → old ≡ get_or spans k old → total (set spans k new) + (old.body + old.trail) ≡ total spans + (new.body + new.trail)
+total-set [] k old new h e = absurd (omega (arith, h))
+total-set (s ∷ spans) zero old new h e =
+    let b : old.body ≡ s.body = ap (λ (x : Span). x.body) e in
+    let t : old.trail ≡ s.trail = ap (λ (x : Span). x.trail) e in
+    omega (arith, b, t)
+total-set (s ∷ spans) (suc k) old new h e = omega (arith, total-set spans k old new (omega (arith, h)) e)
 
 -- ---- one item
 
@@ -146,6 +163,10 @@ weigh a b (s ∷ spans) all =
 
 pub weigh_all : (a b : Text) (spans : List Span) (items : List Item) → LieInEither a b spans → items_in (a ++ b) spans ≡ items → total spans ≡ length (flat_map kept_bytes items)
 weigh_all a b spans items all e = sym (weigh a b spans all) ∙ ap (λ l. length (flat_map kept_bytes l)) e
+
+-- where the items are the same, they have as many bytes
+pub same_weight : (a b c : Text) (spans places : List Span) → LieInEither a b spans → LieInEither a c places → items_in (a ++ c) places ≡ items_in (a ++ b) spans → total places ≡ total spans
+same_weight a b c spans places x y e = weigh_all a c places (items_in (a ++ b) spans) y e ∙ weigh a b spans x
 
 pub weigh_first : (a b : Text) (spans : List Span) (items : List Item) (k : ℕ) → LieInEither a b spans → items_in (a ++ b) spans ≡ items → total (take k spans) ≡ length (flat_map kept_bytes (take k items))
 weigh_first a b spans items k all e =

@@ -1,15 +1,7 @@
-use Rattle.std.proofs.Common.{◌≡◌, ◌∙◌, ◌+◌, ◌<◌, ◌≤◌, List, length, subst, sym, ap, arith}
-use Rattle.bib_spec.specs.Reading.{Reading, Reads}
-use Rattle.bib_scan.specs.Layout.{start_of}
+use Rattle.std.proofs.Common.{◌+◌, ◌<◌, ◌≤◌, List, length, subst, sym, arith}
 use Rattle.bib_items.specs.declared.list.Item.{Item}
 use Rattle.bib_items.proofs.Gathered.{IsFilledTo, filled_page, filled_whole, page_ends}
 use Rattle.bib_items.proofs.filling.pages_over.Goals as goal
-
-pub byte_len-start-requires : goal.byte_len-start-requires
-byte_len-start-requires c =
-    let order : c.fill.from ≤ c.min-to.result = omega (arith, c.fill-test.true, c.min-to.ensures, c.saturating_add.ensures) in
-    let e = page_ends c.args.text.now c.requires.0 c.fill.from c.min-to.result c.fill.start c.in_ok-page.page c.requires.1 order (c.fill.invariant.1 c.requires.0 c.requires.1) (c.in_ok-page.ensures c.requires.0 c.requires.1) in
-    omega (arith, e.next, e.within, c.len.ensures)
 
 pub overflow_add-start : goal.overflow_add-start
 overflow_add-start c =

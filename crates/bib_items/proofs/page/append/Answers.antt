@@ -1,6 +1,5 @@
 use Rattle.std.proofs.Common.{◌≡◌, ◌++◌, ◌+◌, ◌∙◌, length, ap, arith}
 use Rattle.bib_spec.specs.Text.{Text}
-use Rattle.bib_items.specs.Items.{item}
 use Rattle.bib_items.specs.Spans.{item_in}
 use Rattle.bib_items.proofs.ItemsIn.{appended_is}
 use Rattle.bib_items.proofs.page.append.Goals as goal

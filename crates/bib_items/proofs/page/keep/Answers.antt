@@ -1,4 +1,4 @@
-use Rattle.std.proofs.Common.{◌≡◌, ◌<◌, ◌++◌, ◌∙◌, length, sym, ap, ap₂, refl, arith}
+use Rattle.std.proofs.Common.{◌<◌, ◌∙◌, length, sym, ap₂, refl, arith}
 use Rattle.std.proofs.lemmas.Result.{IfOk-weaker}
 use Rattle.bib_items.specs.Items.{item}
 use Rattle.bib_items.specs.Spans.{span_end}
