@@ -13,6 +13,7 @@ use Rattle.bib_names.specs.Name.{is_comma, commas}
 use Rattle.bib_trim.specs.Trimming.{trimmed}
 use Rattle.ris_format.proofs.Levels.{opens, closes, count-append, count-cons, eqb-shift}
 use Rattle.ris_format.specs.Pieces.{one, pieces_from, with_front}
+use Rattle.ris_format.specs.People.{lacks_and}
 use Rattle.ris_format.proofs.KeywordLaws.{front-onto}
 
 -- ---- one byte more before a place
@@ -279,3 +280,18 @@ free-comma s x y level =
     free-part s 0 0 x (32 ∷ y)
     ∙ ap (λ n. free s 0 0 x && free false n (0 + closes x) (32 ∷ y)) a ∙ ap (λ n. free s 0 0 x && free false (opens x + 0) n (32 ∷ y)) b
     ∙ ap (λ e. free s 0 0 x && e) (free-shift false (opens x) 0 0 (32 ∷ y) ∙ free-space y)
+
+no-and : (s e rest last : Bool) → not (s && e) ≡ true → ((s && (e && rest)) && last) ≡ false
+no-and false e rest last h = refl
+no-and true false rest last h = refl
+no-and true true rest last h = absurd (cc)
+
+-- where no word begins with an `a`, there is no cut
+pub lacks-free : (s : Bool) (o c : ℕ) (t : Text) → lacks_and s t ≡ true → free s o c t ≡ true
+lacks-free s o c [] h = refl
+lacks-free s o c (b ∷ t) h =
+    let parts = and_parts (not (s && eqb (to_ascii_lowercase b) 97)) (lacks_and (is_space b) t) h in
+    let plain : and_at s (b ∷ t) ≡ false = no-and s (eqb (to_ascii_lowercase b) 97) _ _ parts.0 in
+    let others : Bool = free (is_space b) (o + one 123 b) (c + one 125 b) t in
+    ap (λ e. not (eqb o c && e) && others) plain ∙ ap (λ e. not e && others) (and-false (eqb o c))
+    ∙ lacks-free (is_space b) (o + one 123 b) (c + one 125 b) t parts.1

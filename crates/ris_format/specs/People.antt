@@ -1,10 +1,11 @@
 -- Names of persons: one RIS line for each, in which the suffix stands after the first name. (dialect)
-use Rattle.std.specs.Prelude.{ℕ, ◌+◌, Bool, false, not, ◌&&◌, ◌||◌, nat_lt, List, [], ◌∷◌, ◌++◌, length, map, codes, Option, None, is_none, if◌then◌else◌}
+use Rattle.std.specs.Prelude.{ℕ, ◌+◌, Bool, true, false, not, ◌==◌, ◌&&◌, ◌||◌, nat_lt, List, [], ◌∷◌, ◌++◌, length, map, codes, Option, None, is_none, if◌then◌else◌}
 use Rattle.std.specs.List.{flat_map, list_any, list_all, slice_range, join_by}
 use Rattle.std.specs.Option.{option_map_or}
 use Rattle.std.specs.Str.{bytes_eq}
+use Rattle.std.specs.Char.{to_ascii_lowercase}
 use Rattle.bib_spec.specs.Bytes.{open_brace, close_brace}
-use Rattle.bib_spec.specs.Text.{Text}
+use Rattle.bib_spec.specs.Text.{Text, is_space}
 use Rattle.bib_spec.specs.Texts.{is_empty}
 use Rattle.bib_trim.specs.Trimming.{trimmed}
 use Rattle.bib_names.specs.Places.{between}
@@ -121,6 +122,12 @@ person_of (last ∷ first ∷ suffix ∷ _) = record { last = last; first = firs
 person_of (last ∷ first ∷ []) = record { last = last; first = first; suffix = [] }
 person_of (last ∷ []) = record { last = last; first = []; suffix = [] }
 person_of [] = record { last = []; first = []; suffix = [] }
+
+-- no word that begins with an `a`, in either case, stands after white space, so none is `and`; whether white space stands
+-- before the text
+abbrev pub lacks_and : Bool → Text → Bool
+lacks_and after_space [] = true
+lacks_and after_space (b ∷ text) = not (after_space && to_ascii_lowercase b == 97) && lacks_and (is_space b) text
 
 -- a value that would be read as another name: it has more than two commas, or is a list of several names
 abbrev pub is_opaque : Text → Bool

@@ -1,9 +1,9 @@
 //! Names of persons, both ways.
 
-ghost use Rattle.std.specs.Prelude.{◌≡◌, ◌++◌, ◌==◌, ◌&&◌, OnOk, IfOk, map, length, true};
+ghost use Rattle.std.specs.Prelude.{◌≡◌, ◌++◌, ◌==◌, ◌&&◌, OnOk, IfOk, map, length, true, false};
 ghost use Rattle.std.specs.List.{slice_range, list_any, list_all, flat_map};
 ghost use Rattle.ris_format.specs.Lines.{line};
-ghost use Rattle.ris_format.specs.People.{word_end, to_last_end, part_text, family, person, ris_name, bib_name, is_somebody, taken_apart, is_broken, is_refused, written_person, written_names, written_people, name_pieces, person_of, is_opaque, read_balanced, read_name, read_people, is_plain_name, are_plain_names};
+ghost use Rattle.ris_format.specs.People.{word_end, to_last_end, part_text, family, person, ris_name, bib_name, is_somebody, taken_apart, is_broken, is_refused, written_person, written_names, written_people, name_pieces, person_of, lacks_and, is_opaque, read_balanced, read_name, read_people, is_plain_name, are_plain_names};
 ghost use Rattle.bib_names.specs.Label.{balances, listed_names};
 
 use crate::braces::Braces;
@@ -14,6 +14,7 @@ use crate::text::{
 };
 use bib_names::{Name, NameFault, Word, split_name, split_names};
 use bib_scan::{Seq, Text};
+use bib_trim::is_space;
 use std::alloc::{AllocError, Global};
 use std::marker::Model;
 
@@ -282,7 +283,22 @@ fn person_of<'a>(pieces: &[&'a [u8]]) -> Person<'a>
     }
 }
 
-/// Whether a value whose braces balance, with so many pieces, would be read as another name than it says.
+/// Whether no word that begins with an `a` stands after white space: then none is `and`.
+fn lacks_and(text: &[u8]) -> bool
+    ensures { result ≡ lacks_and false text.now }
+{
+    let mut after_space = false;
+    for byte in text {
+        if after_space && byte.to_ascii_lowercase() == b'a' {
+            return false;
+        }
+        after_space = is_space(*byte);
+    }
+    true
+}
+
+/// Whether a value whose braces balance, with so many pieces, would be read as another name than it says. Most values are
+/// not taken apart: no memory is asked for.
 fn is_opaque(alloc: Global, value: &[u8], pieces: usize) -> Result<bool, AllocError>
     requires balanced { balances value.now ≡ true }
     requires count { pieces ≡ length (name_pieces value.now) }
@@ -290,6 +306,9 @@ fn is_opaque(alloc: Global, value: &[u8], pieces: usize) -> Result<bool, AllocEr
 {
     if pieces > 3 {
         return Ok(true);
+    }
+    if lacks_and(value) {
+        return Ok(false);
     }
     Ok(listed_names(alloc, value)?.as_slice().len() > 1)
 }

@@ -8,6 +8,7 @@ pub mod FitLemmas
 -- ---- what lines say
 pub mod MeaningLemmas
 pub mod MeaningLaws
+pub mod RestLaws
 -- ---- texts that are written
 pub mod WriteLemmas
 pub mod TextLaws

@@ -72,59 +72,65 @@ IsInside-known end kept kept' skipped all rest after left line tag value so_far 
 
 -- ---- outside records
 
--- the records so far, so many skipped lines, and what the rest says, are what all the lines say
-pub record IsOutside (end : ℕ) (records : List RisRecord) (skipped : ℕ) (all rest : List Line) : Type 0 where
-  pub told : with_front records skipped (told end rest).outside ≡ (told end all).outside
-  pub count : skipped + length rest ≤ length all
+-- so many skipped lines, and what the rest says, are the whole outcome, and there are at most so many of both
+pub record IsOutside (end skipped : ℕ) (whole : Outcome) (most : ℕ) (rest : List Line) : Type 0 where
+  pub told : with_front [] skipped (told end rest).outside ≡ whole
+  pub count : skipped + length rest ≤ most
 
-front_record : (records : List RisRecord) (skipped n : ℕ) (r : RisRecord) (outcome : Outcome)
-    → with_front (records ++ r ∷ []) (skipped + n) outcome ≡ with_front records skipped (with_record r (with_skipped n outcome))
-front_record records skipped n r (Ok file) =
-    let count : skipped + n + file.skipped ≡ skipped + (n + file.skipped) = omega arith in
-    ap (λ k. Ok (ris_file ((records ++ r ∷ []) ++ file.records) k)) count
-    ∙ ap (λ (rs : List RisRecord). Ok (ris_file rs (skipped + (n + file.skipped)))) (append_assoc records (r ∷ []) file.records)
-front_record records skipped n r (Err fault) = refl
+record_front : (skipped n : ℕ) (r : RisRecord) (outcome : Outcome) → with_front [] skipped (with_record r (with_skipped n outcome)) ≡ with_record r (with_front [] (skipped + n) outcome)
+record_front skipped n r (Ok file) =
+    let count : skipped + (n + file.skipped) ≡ skipped + n + file.skipped = omega arith in
+    ap (λ k. Ok (ris_file (r ∷ file.records) k)) count
+record_front skipped n r (Err fault) = refl
 
-front_skipped : (records : List RisRecord) (skipped : ℕ) (outcome : Outcome)
-    → with_front records (skipped + 1) outcome ≡ with_front records skipped (with_skipped 1 outcome)
-front_skipped records skipped (Ok file) =
+front_skipped : (skipped : ℕ) (outcome : Outcome) → with_front [] (skipped + 1) outcome ≡ with_front [] skipped (with_skipped 1 outcome)
+front_skipped skipped (Ok file) =
     let count : skipped + 1 + file.skipped ≡ skipped + (1 + file.skipped) = omega arith in
-    ap (λ k. Ok (ris_file (records ++ file.records) k)) count
-front_skipped records skipped (Err fault) = refl
+    ap (λ k. Ok (ris_file file.records k)) count
+front_skipped skipped (Err fault) = refl
+
+-- what comes first of the lines that are left
+outside_first : (end : ℕ) (rest after : List Line) (line : Line) (class : Class) → rest ≡ line ∷ after → line.class ≡ class → (told end rest).outside ≡ (told_by line after class (told end after)).outside
+outside_first end rest after line class first is =
+    ap (λ (ls : List Line). (told end ls).outside) first ∙ ap (λ (t : Told). t.outside) (told-class end line after class is)
 
 -- a record
-pub IsOutside-record : (end : ℕ) (records records' : List RisRecord) (skipped skipped' n : ℕ) (all rest after left : List Line) (line : Line) (r : RisRecord)
-    → IsOutside end records skipped all rest → rest ≡ line ∷ after → line.class ≡ Begin
-    → record_told end line after ≡ with_record r (with_skipped n (told end left).outside) → n + length left ≤ length after
-    → records' ≡ records ++ r ∷ [] → skipped' ≡ skipped + n → IsOutside end records' skipped' all left
-IsOutside-record end records records' skipped skipped' n all rest after left line r so_far first begins says short longer more =
-    let here : (told end rest).outside ≡ record_told end line after =
-    ap (λ (ls : List Line). (told end ls).outside) first ∙ ap (λ (t : Told). t.outside) (told-class end line after Begin begins) in
-    record {
-      told =
-          ap (λ (rs : List RisRecord). with_front rs skipped' (told end left).outside) longer
-          ∙ ap (λ k. with_front (records ++ r ∷ []) k (told end left).outside) more
-          ∙ front_record records skipped n r (told end left).outside
-          ∙ ap (with_front records skipped) (sym says ∙ sym here) ∙ so_far.told;
-      count = omega (arith, so_far.count, ap length first);
-    }
+pub outside_record : (end skipped n : ℕ) (whole : Outcome) (most : ℕ) (rest after left : List Line) (line : Line) (r : RisRecord)
+    → IsOutside end skipped whole most rest → rest ≡ line ∷ after → line.class ≡ Begin
+    → record_told end line after ≡ with_record r (with_skipped n (told end left).outside)
+    → whole ≡ with_record r (with_front [] (skipped + n) (told end left).outside)
+outside_record end skipped n whole most rest after left line r so_far first begins says =
+    sym so_far.told
+    ∙ ap (with_front [] skipped) (outside_first end rest after line Begin first begins ∙ says)
+    ∙ record_front skipped n r (told end left).outside
 
 -- a line that is skipped
-pub IsOutside-skipped : (end : ℕ) (records : List RisRecord) (skipped skipped' : ℕ) (all rest after : List Line) (line : Line) → IsOutside end records skipped all rest
-    → rest ≡ line ∷ after → line.class ≡ Untagged → skipped' ≡ skipped + 1 → IsOutside end records skipped' all after
-IsOutside-skipped end records skipped skipped' all rest after line so_far first untagged more =
-    let here : (told end rest).outside ≡ with_skipped 1 (told end after).outside =
-    ap (λ (ls : List Line). (told end ls).outside) first ∙ ap (λ (t : Told). t.outside) (told-class end line after Untagged untagged) in
-    record {
-      told = ap (λ k. with_front records k (told end after).outside) more ∙ front_skipped records skipped (told end after).outside
-          ∙ ap (with_front records skipped) (sym here) ∙ so_far.told;
-      count = omega (arith, so_far.count, ap length first);
-    }
+pub IsOutside-skipped : (end skipped skipped' : ℕ) (whole : Outcome) (most : ℕ) (rest after : List Line) (line : Line) → IsOutside end skipped whole most rest
+    → rest ≡ line ∷ after → line.class ≡ Untagged → skipped' ≡ skipped + 1 → IsOutside end skipped' whole most after
+IsOutside-skipped end skipped skipped' whole most rest after line so_far first untagged more = record {
+  told = ap (λ k. with_front [] k (told end after).outside) more ∙ front_skipped skipped (told end after).outside
+      ∙ ap (with_front [] skipped) (sym (outside_first end rest after line Untagged first untagged)) ∙ so_far.told;
+  count = omega (arith, so_far.count, ap length first);
+}
 
--- a record that goes wrong
-pub IsOutside-wrong : (end : ℕ) (records : List RisRecord) (skipped : ℕ) (all rest : List Line) (fault : RisFault) → IsOutside end records skipped all rest
-    → (told end rest).outside ≡ Err fault → (told end all).outside ≡ Err fault
-IsOutside-wrong end records skipped all rest fault so_far wrong = sym so_far.told ∙ ap (with_front records skipped) wrong
+-- a blank line
+pub IsOutside-blank : (end skipped : ℕ) (whole : Outcome) (most : ℕ) (rest after : List Line) (line : Line) → IsOutside end skipped whole most rest
+    → rest ≡ line ∷ after → line.class ≡ Blank → IsOutside end skipped whole most after
+IsOutside-blank end skipped whole most rest after line so_far first blank = record {
+  told = ap (with_front [] skipped) (sym (outside_first end rest after line Blank first blank)) ∙ so_far.told;
+  count = omega (arith, so_far.count, ap length first);
+}
+
+-- what goes wrong
+pub outside_wrong : (end skipped : ℕ) (whole : Outcome) (most : ℕ) (rest : List Line) (fault : RisFault) → IsOutside end skipped whole most rest
+    → (told end rest).outside ≡ Err fault → whole ≡ Err fault
+outside_wrong end skipped whole most rest fault so_far wrong = sym so_far.told ∙ ap (with_front [] skipped) wrong
+
+-- the end
+pub outside_end : (end skipped : ℕ) (whole : Outcome) (most : ℕ) (rest : List Line) → IsOutside end skipped whole most rest → rest ≡ [] → whole ≡ Ok (ris_file [] skipped)
+outside_end end skipped whole most rest so_far none =
+    let count : skipped + 0 ≡ skipped = omega arith in
+    sym so_far.told ∙ ap (λ (ls : List Line). with_front [] skipped (told end ls).outside) none ∙ ap (λ k. Ok (ris_file [] k)) count
 
 -- ---- a record
 

@@ -6,3 +6,4 @@ pub mod Reading
 pub mod Writing
 pub mod Laws
 pub mod Code
+pub mod Rest

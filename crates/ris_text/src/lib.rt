@@ -16,6 +16,6 @@ mod writing;
 pub use fault::RisFault;
 pub use forms::{are_well_formed, is_well_formed};
 pub use laws::{bare_texts_fit, one_meaning, the_text_is_read_back};
-pub use reading::read_ris;
+pub use reading::{Unread, read_ris};
 pub use records::{RisFile, RisLine, RisRecord};
 pub use writing::{write_line, write_record, write_ris};

@@ -1,8 +1,9 @@
 //! Reads files.
 
-ghost use Rattle.std.specs.Prelude.{◌≡◌, ◌≤◌, ◌<◌, ◌+◌, ◌^◌, ◌⊎◌, Ok, Err, length, IfOk, IfErr};
+ghost use Rattle.std.specs.Prelude.{◌≡◌, ◌≤◌, ◌<◌, ◌+◌, ◌^◌, ◌⊎◌, [], Ok, Err, length, IfOk, IfErr, IfSome, IfNone};
 ghost use Rattle.ris_text.specs.Reading.{Reads, IsFaultOf};
-ghost use Rattle.ris_text.specs.Code.{seen, inside, with_record, with_skipped, told, told_inner, record_told};
+ghost use Rattle.ris_text.specs.Rest.{rest_of};
+ghost use Rattle.ris_text.specs.Code.{seen, inside, ris_file, with_record, with_skipped, told, told_inner, record_told};
 ghost use Rattle.ris_text.specs.declared.fault.RisFault.TheVariants.{Memory};
 
 use crate::fault::RisFault;
@@ -11,6 +12,7 @@ use crate::lines::{Class, Line, Lines};
 use crate::records::{RisFile, RisLine, RisRecord};
 use bib_scan::Seq;
 use std::alloc::Global;
+use std::marker::Model;
 
 /// The lines that a record keeps, how many are skipped, and the lines after its ER line.
 #[derive(Drop)]
@@ -91,36 +93,117 @@ fn read_record<'a>(
     })
 }
 
-/// Reads the lines of a file that ends at this place.
-fn read_lines(alloc: Global, end: usize, lines: Lines<'_>) -> Result<RisFile, RisFault>
-    requires { length lines < 2 ^ 64 }
-    ensures read { IfOk result (λ file. (told end lines.entry).outside ≡ Ok file) }
-    ensures refused { IfErr result (λ fault. (fault ≡ Memory) ⊎ ((told end lines.entry).outside ≡ Err fault)) }
+/// What comes next in a file: a record, or none where the file ends; how many lines were skipped by then; and the lines
+/// that are left.
+#[derive(Drop)]
+struct Next<'a> {
+    rec: Option<RisRecord>,
+    skipped: u64,
+    after: Lines<'a>,
+}
+
+/// Reads on to the end of the next record, in a file that ends at this place and of which so many lines were skipped.
+fn read_next<'a>(
+    alloc: Global,
+    end: usize,
+    skipped: u64,
+    lines: Lines<'a>,
+) -> Result<Next<'a>, RisFault>
+    requires { skipped + length lines < 2 ^ 64 }
+    ensures some { IfOk result (λ r. IfSome r.rec (λ rec. (rest_of end skipped lines.entry).says ≡ with_record rec (rest_of end r.skipped r.after).says)) }
+    ensures fewer { IfOk result (λ r. IfSome r.rec (λ _. length r.after < length lines.entry)) }
+    ensures none { IfOk result (λ r. IfNone r.rec ((rest_of end skipped lines.entry).says ≡ Ok (ris_file [] r.skipped))) }
+    ensures count { IfOk result (λ r. r.skipped + length r.after ≤ skipped + length lines.entry) }
+    ensures refused { IfErr result (λ fault. (fault ≡ Memory) ⊎ ((rest_of end skipped lines.entry).says ≡ Err fault)) }
 {
-    let mut records = Vec::new(alloc);
-    let mut skipped: u64 = 0;
+    let mut passed = skipped;
     let mut rest = lines;
     'line: loop {
         let Some((line, after)) = rest.first() else {
-            return Ok(RisFile {
-                records: Seq::from_vec(records),
-                skipped,
+            return Ok(Next {
+                rec: None,
+                skipped: passed,
+                after: rest,
             });
         };
         rest = after;
         match line.class {
             Class::Begin => {
                 let whole = read_record(alloc, end, line, rest)?;
-                records.push(whole.rec)?;
-                skipped += whole.skipped;
-                rest = whole.after;
+                return Ok(Next {
+                    rec: Some(whole.rec),
+                    skipped: passed + whole.skipped,
+                    after: whole.after,
+                });
             }
             Class::Blank => {}
-            Class::Untagged => skipped += 1,
+            Class::Untagged => passed += 1,
             Class::End | Class::Known(_) | Class::Other => {
                 return Err(RisFault::NoStart(line.place));
             }
         }
+    }
+}
+
+/// A file whose records are read one by one: what is left of it. It takes no memory.
+#[derive(Drop)]
+pub struct Unread<'a> {
+    end: usize,
+    skipped: u64,
+    lines: Lines<'a>,
+}
+
+impl<'a> Model for Unread<'a> {
+    ghost use Rattle.std.specs.Prelude.{◌+◌, ◌<◌, ◌^◌, length};
+    ghost use Rattle.ris_text.specs.Rest.{Rest, rest_of};
+
+    ghost Value = { Rest };
+
+    ghost view = { λ u. rest_of u.end u.skipped u.lines };
+
+    ghost invariant = { λ u. u.skipped + length u.lines < 2 ^ 64 };
+}
+
+impl<'a> Unread<'a> {
+    ghost use Rattle.std.specs.Prelude.{◌≡◌, ◌<◌, ◌⊎◌, [], Ok, Err, IfOk, IfErr, IfSome, IfNone};
+    ghost use Rattle.ris_text.specs.Rest.{IsLeft};
+    ghost use Rattle.ris_text.specs.Code.{ris_file, with_record};
+    ghost use Rattle.ris_text.specs.declared.fault.RisFault.TheVariants.{Memory};
+
+    /// The whole file. A mark of UTF-8 at its front is dropped, and counted in places.
+    pub fn of(file: &'a [u8]) -> Self
+        ensures { IsLeft file.now [] result }
+    {
+        Unread {
+            end: file.len(),
+            skipped: 0,
+            lines: Lines::of(file),
+        }
+    }
+
+    /// How many lines were skipped so far.
+    pub fn skipped(&self) -> u64
+        ensures { result ≡ self.now.skipped }
+    {
+        self.skipped
+    }
+
+    /// The next record, or none where the file ends, and what is left after it; or the line at which the file goes wrong.
+    /// It takes time in the length of what it reads, and memory for the record.
+    pub fn next(self, alloc: Global) -> Result<(Option<RisRecord>, Unread<'a>), RisFault>
+        ensures some { IfOk result (λ r. IfSome r.0 (λ rec. self.entry.says ≡ with_record rec r.1.says)) }
+        ensures fewer { IfOk result (λ r. IfSome r.0 (λ _. r.1.lines < self.entry.lines)) }
+        ensures none { IfOk result (λ r. IfNone r.0 (self.entry.says ≡ Ok (ris_file [] r.1.skipped))) }
+        ensures refused { IfErr result (λ fault. (fault ≡ Memory) ⊎ (self.entry.says ≡ Err fault)) }
+    {
+        let end = self.end;
+        let next = read_next(alloc, end, self.skipped, self.lines)?;
+        let rest = Unread {
+            end,
+            skipped: next.skipped,
+            lines: next.after,
+        };
+        Ok((next.rec, rest))
     }
 }
 
@@ -130,5 +213,17 @@ pub fn read_ris(alloc: Global, bytes: &[u8]) -> Result<RisFile, RisFault>
     ensures read { IfOk result (λ file. Reads bytes.now file) }
     ensures refused { IfErr result (λ fault. (fault ≡ Memory) ⊎ IsFaultOf bytes.now fault) }
 {
-    read_lines(alloc, bytes.len(), Lines::of(bytes))
+    let mut records = Vec::new(alloc);
+    let mut rest = Unread::of(bytes);
+    'records: loop {
+        let (first, after) = rest.next(alloc)?;
+        rest = after;
+        let Some(rec) = first else {
+            return Ok(RisFile {
+                records: Seq::from_vec(records),
+                skipped: rest.skipped(),
+            });
+        };
+        records.push(rec)?;
+    }
 }

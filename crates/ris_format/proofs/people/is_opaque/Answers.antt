@@ -1,14 +1,21 @@
-use Rattle.std.proofs.Common.{◌≡◌, ◌∙◌, List, length, map, sym, ap, arith}
+use Rattle.std.proofs.Common.{◌≡◌, ◌∙◌, false, List, length, map, refl, sym, ap, arith}
 use Rattle.std.proofs.lemmas.List.{length-map}
 use Rattle.bib_spec.specs.Text.{Text}
 use Rattle.bib_names.specs.NameList.{names_of}
 use Rattle.bib_names.proofs.BalanceLaws.{IsBalanced-from_test}
 use Rattle.ris_format.proofs.TakenApart.{listed-balanced}
+use Rattle.ris_format.proofs.NameScans.{free-one, lacks-free}
 use Rattle.ris_format.proofs.OpaqueValues.{opaque-many, opaque-few}
 use Rattle.ris_format.proofs.people.is_opaque.Goals as goal
 
 pub returns-then-pieces-gt3 : goal.returns-then-pieces-gt3
 returns-then-pieces-gt3 c = opaque-many c.args.value.now c.args.pieces c.requires.count (omega (arith, c.if-pieces-gt3.true))
+
+pub returns-then-lacks_and : goal.returns-then-lacks_and
+returns-then-lacks_and c =
+    let value = c.args.value.now in
+    sym (free-one value (lacks-free false 0 0 value (sym c.lacks_and.ensures ∙ c.if-lacks_and.true)))
+    ∙ opaque-few value c.args.pieces (length (names_of value)) c.requires.count (omega (arith, c.if-pieces-gt3.false)) refl
 
 pub returns : goal.returns
 returns c =
