@@ -1,14 +1,14 @@
 -- A table of entries, where one comes or goes, and what it finds.
 use Rattle.std.proofs.Common.{◌≡◌, ◌≢◌, ℕ, zero, suc, ◌+◌, ◌≤◌, ◌<◌, Bool, true, false, not, ◌&&◌, List, [], ◌∷◌, ◌++◌, Option, None, Some, option_map, length, map, filter, take, drop, insert, remove, slice_get, slice_index, count_by, sym, subst, ⊎_elim, ◌∙◌, ap, ap₂, refl, arith, zero-add}
-use Rattle.std.specs.Prelude.{◌==◌, nat_le}
+use Rattle.std.specs.Prelude.{◌==◌, nat_le, IsSome}
 use Rattle.std.specs.Char.{to_ascii_lowercase}
-use Rattle.std.specs.List.{AllByRecursion, enumerate_from}
+use Rattle.std.specs.List.{enumerate_from}
 use Rattle.std.specs.Option.{IfSome, IfNone}
 use Rattle.std.proofs.Math.Path.{fun_ext}
 use Rattle.std.proofs.lemmas.Bool.{cases_Bool, cond-true, cond-false, cases_eq, both_ways, eqb-true, leb-false, false_from_ne_true}
 use Rattle.std.proofs.Math.Nat.{suc-ne-zero}
 use Rattle.std.proofs.lemmas.List.{map-append, take-map, drop-map, length-map}
-use Rattle.std.proofs.lemmas.Option.{none-some, same_Some}
+use Rattle.std.proofs.lemmas.Option.{none-some, same_Some, slice_get_past}
 use Rattle.bib_spec.specs.Bytes.{name_limit}
 use Rattle.bib_spec.specs.Text.{Text, folded, same}
 use Rattle.bib_spec.specs.Texts.{is_empty}
@@ -111,29 +111,6 @@ lacks-remove [] n old id e other l = tt
 lacks-remove (x ∷ ids) zero old id e other l = ((λ same. other (sym (same_Some x old e) ∙ same)), l)
 lacks-remove (x ∷ ids) (suc n) old id e other l = (l.0, lacks-remove ids n old id e other l.1)
 
--- ---- room for what is said
-
-room-more : (few many : ℕ) (ids : List ℕ) → few ≤ many → AllByRecursion (λ id. id < few) ids → AllByRecursion (λ id. id < many) ids
-room-more few many [] h all = tt
-room-more few many (id ∷ ids) h all = (omega (arith, all.0, h), room-more few many ids h all.1)
-
-room-insert : (len : ℕ) (ids : List ℕ) (n id : ℕ) → id < len → AllByRecursion (λ id. id < len) ids → AllByRecursion (λ id. id < len) (insert ids n id)
-room-insert len [] zero id h all = (h, tt)
-room-insert len [] (suc n) id h all = (h, tt)
-room-insert len (x ∷ ids) zero id h all = (h, all)
-room-insert len (x ∷ ids) (suc n) id h all = (all.0, room-insert len ids n id h all.1)
-
-room-remove : (len : ℕ) (ids : List ℕ) (n : ℕ) → AllByRecursion (λ id. id < len) ids → AllByRecursion (λ id. id < len) (remove ids n)
-room-remove len [] zero all = tt
-room-remove len [] (suc n) all = tt
-room-remove len (x ∷ ids) zero all = all.1
-room-remove len (x ∷ ids) (suc n) all = (all.0, room-remove len ids n all.1)
-
-room-at : (len : ℕ) (ids : List ℕ) (n id : ℕ) → AllByRecursion (λ id. id < len) ids → slice_get ids n ≡ Some id → id < len
-room-at len [] n id all at = absurd (none-some id at)
-room-at len (x ∷ ids) zero id all at = subst (λ (y : ℕ). y < len) (same_Some x id at) all.0
-room-at len (x ∷ ids) (suc n) id all at = room-at len ids n id all.1 at
-
 -- ---- one id more, and one fewer
 
 -- an id comes that was in no use, and gets a name
@@ -169,7 +146,6 @@ inserted_table keys crossrefs old new n id key crossref t lacks ids keyed referr
       (inserted_named (map named_by crossrefs) old.ids new.ids old.referring new.referring n id (named_by crossref) t.referring lacks ids fits referring);
   said = ap (map (crossref_of new.crossrefs)) ids ∙ map-insert (crossref_of new.crossrefs) old.ids n id
       ∙ ap₂ (λ (l : List (Option Text)) o. insert l n o) (map-other (crossref_of new.crossrefs) (crossref_of old.crossrefs) id given.others old.ids lacks ∙ t.said) given.itself;
-  room = subst (AllByRecursion (λ other. other < length new.crossrefs)) (sym ids) (room-insert (length new.crossrefs) old.ids n id given.within (room-more (length old.crossrefs) (length new.crossrefs) old.ids given.room t.room));
 }
 
 lacks_rest : (ids : List ℕ) (n id : ℕ) → IsDistinct ids → slice_get ids n ≡ Some id → Lacks (remove ids n) id
@@ -219,8 +195,6 @@ removed_table keys crossrefs old new n id key t distinct at has ids unkeyed unre
       (map-at named_by crossrefs n (crossref_of old.crossrefs id) (ap (λ (l : List (Option Text)). slice_get l n) (sym t.said) ∙ map-at (crossref_of old.crossrefs) old.ids n id at)) ids within unreferring);
   said = ap₂ (λ (c : List (Option Text)) (l : List ℕ). map (crossref_of c) l) kept ids ∙ map-remove (crossref_of old.crossrefs) old.ids n
       ∙ ap (λ (l : List (Option Text)). remove l n) t.said;
-  room = subst (AllByRecursion (λ other. other < length new.crossrefs)) (sym ids)
-      (subst (λ (c : List (Option Text)). AllByRecursion (λ other. other < length c) (remove old.ids n)) (sym kept) (room-remove (length old.crossrefs) old.ids n t.room));
 }
 
 -- an id that gets no name leaves the others
@@ -249,8 +223,7 @@ kept_table keys crossrefs old mid new n id t lacks fits came went keyed referrin
     record {
       keyed = kept_named (map name_of keys) old.ids mid.ids new.ids old.keys new.keys n id t.keyed lacks fits came went keyed;
       referring = kept_named (map named_by crossrefs) old.ids mid.ids new.ids old.referring new.referring n id t.referring lacks fits came went referring;
-      said = ap (map (crossref_of new.crossrefs)) back ∙ map-same (crossref_of new.crossrefs) (crossref_of old.crossrefs) said.texts old.ids ∙ t.said;
-      room = subst (AllByRecursion (λ other. other < length new.crossrefs)) (sym back) (room-more (length old.crossrefs) (length new.crossrefs) old.ids said.room t.room);
+      said = ap (map (crossref_of new.crossrefs)) back ∙ map-same (crossref_of new.crossrefs) (crossref_of old.crossrefs) said old.ids ∙ t.said;
     }
 
 none_named : (ids : List ℕ) (keys : List (Text × List ℕ)) → ids ≡ [] → IsIndexOf (λ _. None) [] (ids_in keys) → AreNamed [] ids keys
@@ -266,7 +239,6 @@ no_table t none keyed referring = record {
   keyed = none_named t.ids t.keys none keyed;
   referring = none_named t.ids t.referring none referring;
   said = ap (map (crossref_of t.crossrefs)) none;
-  room = subst (AllByRecursion (λ id. id < length t.crossrefs)) (sym none) tt;
 }
 
 -- ---- one name more, and one fewer
@@ -291,6 +263,25 @@ dropped_index names id ids keys is = record { names = with_text names id None; g
 pub name_of-some : (key : Text) → (length key == 0) ≡ false → name_of key ≡ Some key
 name_of-some [] named = absurd (both_ways true named refl)
 name_of-some (b ∷ bs) named = refl
+
+-- an id for which nothing is kept has no crossref text
+pub none_kept : (crossrefs : List (Option Text)) (id : ℕ) → slice_get crossrefs id ≡ None → crossref_of crossrefs id ≡ None
+none_kept [] id none = refl
+none_kept (x ∷ crossrefs) zero none = absurd (none-some x (sym none))
+none_kept (x ∷ crossrefs) (suc id) none = none_kept crossrefs id none
+
+-- where there is no room for it, it is given none
+pub none_given : (crossrefs : List (Option Text)) (id : ℕ) (crossref : Option Text) → (IsSome crossref → id < length crossrefs) → length crossrefs ≤ id → GivesCrossref crossrefs crossrefs id crossref
+none_given crossrefs id None room past = record { itself = none_kept crossrefs id (slice_get_past crossrefs id past); others = λ other differ. refl }
+none_given crossrefs id (Some text) room past = absurd (omega (arith, room refl, past))
+
+-- what is given once there is room for it is given to the texts that were there
+pub given_after : (old mid new : List (Option Text)) (id : ℕ) (crossref : Option Text) → HaveTheSame old mid → GivesCrossref mid new id crossref → GivesCrossref old new id crossref
+given_after old mid new id crossref same given = record { itself = given.itself; others = λ other differ. given.others other differ ∙ same other }
+
+-- an id without a name that loses it has none still
+pub unnamed_stays : (names : ℕ → Option Text) (id : ℕ) (ids : List ℕ) (keys : List (Text × List ℕ)) → names id ≡ None → IsIndexOf names ids (ids_in keys) → IsIndexWith names id None ids keys
+unnamed_stays names id ids keys none is = record { names = names; gives = record { itself = none; others = λ other differ. refl }; index = is }
 
 -- an index with a name that is taken back is one of the names that were there
 pub taken_back : (names : ℕ → Option Text) (id : ℕ) (name : Option Text) (ids : List ℕ) (mid new : List (Text × List ℕ)) → names id ≡ None → IsIndexWith names id name ids mid
@@ -461,10 +452,6 @@ first_numbered text keys = at 0 keys ∙ shifted_none (first_named text keys)
 
 pub same_count : (keys : List Text) (crossrefs : List (Option Text)) (t : Kept) → IsTableOf keys crossrefs t → length t.ids ≡ length keys
 same_count keys crossrefs t is = let keyed = is.keyed in sym (length-map t.ids keyed.names) ∙ ap (length {A = _}) keyed.named ∙ length-map keys name_of
-
--- where an id is in use, there is room for what it says
-pub has_room : (keys : List Text) (crossrefs : List (Option Text)) (t : Kept) (n id : ℕ) → IsTableOf keys crossrefs t → slice_get t.ids n ≡ Some id → id < length t.crossrefs
-has_room keys crossrefs t n id is at = room-at (length t.crossrefs) t.ids n id is.room at
 
 pub same_length : (keys : List Text) (crossrefs : List (Option Text)) (t : Kept) → IsTableOf keys crossrefs t → length crossrefs ≡ length keys
 same_length keys crossrefs t is = sym (ap (length {A = _}) is.said) ∙ length-map t.ids (crossref_of t.crossrefs) ∙ same_count keys crossrefs t is

@@ -1,6 +1,6 @@
 -- What a table says of the entries of a file.
-use Rattle.std.specs.Prelude.{ℕ, ◌≡◌, ◌≢◌, ◌<◌, ◌≤◌, Bool, false, nat_le, List, [], ◌∷◌, length, map, filter, Option, None, Some, slice_index_or, if◌then◌else◌}
-use Rattle.std.specs.List.{AllByRecursion, enumerate_from}
+use Rattle.std.specs.Prelude.{ℕ, ◌≡◌, ◌≢◌, Bool, false, nat_le, List, [], ◌∷◌, length, map, filter, Option, None, Some, slice_index_or, if◌then◌else◌}
+use Rattle.std.specs.List.{enumerate_from}
 use Rattle.std.specs.Option.{option_map_or}
 use Rattle.bib_spec.specs.Bytes.{name_limit}
 use Rattle.bib_spec.specs.Text.{Text}
@@ -26,7 +26,7 @@ abbrev pub named_by : Option Text → Option Text
 named_by None = None
 named_by (Some text) = if nat_le (length text) name_limit then name_of text else None
 
--- the crossref text of an id
+-- the crossref text of an id: one for which nothing is kept has none
 abbrev pub crossref_of : List (Option Text) → ℕ → Option Text
 crossref_of crossrefs id = slice_index_or crossrefs id None
 
@@ -42,7 +42,6 @@ pub record IsTableOf (keys : List Text) (crossrefs : List (Option Text)) (t : Ke
   pub keyed : AreNamed (map name_of keys) t.ids t.keys
   pub referring : AreNamed (map named_by crossrefs) t.ids t.referring
   pub said : map (crossref_of t.crossrefs) t.ids ≡ crossrefs
-  pub room : AllByRecursion (λ id. id < length t.crossrefs) t.ids
 
 -- ---- what crossrefs name
 
@@ -79,10 +78,7 @@ StaysIndex id ids old new = (names : ℕ → Option Text) → names id ≡ None 
 pub record GivesCrossref (old new : List (Option Text)) (id : ℕ) (crossref : Option Text) : Type 0 where
   pub itself : crossref_of new id ≡ crossref
   pub others : (other : ℕ) → other ≢ id → crossref_of new other ≡ crossref_of old other
-  pub within : id < length new
-  pub room : length old ≤ length new
 
--- each id has the crossref text that it had, and room for one
-pub record HaveTheSame (old new : List (Option Text)) : Type 0 where
-  pub texts : (id : ℕ) → crossref_of new id ≡ crossref_of old id
-  pub room : length old ≤ length new
+-- each id has the crossref text that it had
+abbrev pub HaveTheSame : List (Option Text) → List (Option Text) → Type 0
+HaveTheSame old new = (id : ℕ) → crossref_of new id ≡ crossref_of old id

@@ -1,10 +1,10 @@
 //! The entries of a file by number and by key.
 
-ghost use Rattle.std.specs.Prelude.{◌≡◌, ◌≤◌, ◌<◌, ℕ, List, Option, None, length, OnOk, OnErr};
+ghost use Rattle.std.specs.Prelude.{◌≡◌, ◌≤◌, ◌<◌, ℕ, List, Option, None, length, IsSome, OnOk, OnErr};
 ghost use Rattle.bib_spec.specs.Bytes.{name_limit};
 ghost use Rattle.bib_spec.specs.Text.{Text as Bytes};
 ghost use Rattle.bib_index.specs.KeyIndex.{IsIndexOf, ids_in, IsKept};
-ghost use Rattle.bib_entries.specs.EntryTable.{name_of, named_by, crossref_of, IsIndexWith, HaveTheSame};
+ghost use Rattle.bib_entries.specs.EntryTable.{name_of, named_by, crossref_of, IsIndexWith, GivesCrossref, HaveTheSame};
 
 use bib_index::KeyIndex;
 use bib_order::Order;
@@ -18,7 +18,7 @@ use std::marker::Model;
 pub struct EntryTable {
     order: Order,
     keys: KeyIndex,
-    // by id
+    // by id, up to the last that has one
     crossrefs: Vec<Option<Text>>,
     // the ids by the keys that their crossref texts name
     referring: KeyIndex,
@@ -46,15 +46,32 @@ fn take_key(keys: &mut KeyIndex, key: &[u8], id: usize)
     }
 }
 
-/// Makes room for the crossref text of an id.
-fn make_room(crossrefs: &mut Vec<Option<Text>>, id: usize) -> Result<(), AllocError>
-    ensures room { OnOk result (id < length crossrefs.new.items) }
+/// Makes room for the crossref text of an id, if it has one.
+fn make_room(
+    crossrefs: &mut Vec<Option<Text>>,
+    id: usize,
+    crossref: &Option<Text>,
+) -> Result<(), AllocError>
+    ensures room { OnOk result (IsSome crossref.now → id < length crossrefs.new.items) }
     ensures same { HaveTheSame crossrefs.old.items crossrefs.new.items }
 {
+    if crossref.is_none() {
+        return Ok(());
+    }
     'grow: while crossrefs.len() <= id {
         crossrefs.push(None)?;
     }
     Ok(())
+}
+
+/// Keeps the crossref text of an id, for which there is room if it has one.
+fn put_crossref(crossrefs: &mut Vec<Option<Text>>, id: usize, crossref: Option<Text>)
+    requires { IsSome crossref → id < length crossrefs.old.items }
+    ensures { GivesCrossref crossrefs.old.items crossrefs.new.items id crossref }
+{
+    if id < crossrefs.len() {
+        crossrefs[id] = crossref;
+    }
 }
 
 /// The key that a crossref text names, or an empty one where it names none.
@@ -69,8 +86,9 @@ fn named_key(crossref: &Option<Text>) -> &[u8]
 }
 
 /// Takes from an id the key that its crossref text names. It asks for no memory.
+#[tactic(auto, using(crate::proofs::Tables::none_kept, crate::proofs::Tables::unnamed_stays))]
 fn take_named(referring: &mut KeyIndex, crossrefs: &[Option<Text>], id: usize)
-    ensures { (names : ℕ → Option Bytes) (order : List ℕ) → id < length crossrefs.now → names id ≡ named_by (crossref_of crossrefs.now id) → IsIndexOf names order (ids_in referring.old) → IsIndexWith names id None order referring.new }
+    ensures { (names : ℕ → Option Bytes) (order : List ℕ) → names id ≡ named_by (crossref_of crossrefs.now id) → IsIndexOf names order (ids_in referring.old) → IsIndexWith names id None order referring.new }
 {
     if let Some(crossref) = crossrefs.get(id) {
         take_key(referring, named_key(crossref), id);
@@ -177,6 +195,7 @@ impl EntryTable {
     }
 
     /// Gives an id its key and its crossref text, where it has none. Where memory is refused, it has none still.
+    #[tactic(auto, using(crate::proofs::Tables::given_after))]
     fn describe(&mut self, id: usize, key: &[u8], crossref: Option<Text>) -> Result<(), AllocError>
         requires { length key.now ≤ name_limit }
         ensures ids { self.new.ids ≡ self.old.ids }
@@ -187,11 +206,11 @@ impl EntryTable {
         ensures named_err { OnErr result (StaysIndex id self.old.ids self.old.referring self.new.referring) }
         ensures crossrefs_err { OnErr result (HaveTheSame self.old.crossrefs self.new.crossrefs) }
     {
-        make_room(&mut self.crossrefs, id)?;
+        make_room(&mut self.crossrefs, id, &crossref)?;
         add_key(&mut self.keys, &self.order, key, id)?;
         match add_key(&mut self.referring, &self.order, named_key(&crossref), id) {
             Ok(()) => {
-                self.crossrefs[id] = crossref;
+                put_crossref(&mut self.crossrefs, id, crossref);
                 Ok(())
             }
             Err(fault) => {

@@ -1,7 +1,7 @@
 use Rattle.std.proofs.Common.{◌<◌, ◌∙◌, List, Option, sym, ap, length, subst, refl, arith}
 use Rattle.bib_spec.specs.Text.{Text}
 use Rattle.bib_entries.specs.EntryTable.{Kept, IsTableOf, named_by, crossref_of}
-use Rattle.bib_entries.proofs.Tables.{removed_table, has_room, present}
+use Rattle.bib_entries.proofs.Tables.{removed_table, present}
 use Rattle.bib_entries.proofs.entry_table.EntryTable.remove.Goals as goal
 
 pub returns : goal.returns
@@ -14,6 +14,5 @@ returns c keys crossrefs at t =
     removed_table keys crossrefs old new c.args.n c.id_at-gone.result c.args.key.now inside c.count.ensures.distinct stands at c.remove.ensures
     (λ names its is. c.take_key.ensures names c.self.inside.order its is)
     (λ names its is. c.take_named.ensures names c.self.inside.order
-    (subst (λ (l : List (Option Text)). c.id_at-gone.result < length l) (sym c.deref.ensures.value) (has_room keys crossrefs old c.args.n c.id_at-gone.result inside stands))
     (its ∙ ap (λ (l : List (Option Text)). named_by (crossref_of l c.id_at-gone.result)) (sym c.deref.ensures.value)) is)
     refl within
