@@ -75,7 +75,8 @@ impl ByName {
         ensures ok { OnOk result (IsWith self.old name.now (definition ∷ []) self.new) }
         ensures err { OnErr result (self.new ≡ self.old) }
     {
-        let mut list = Vec::new(self.numbers.allocator());
+        // most names have one definition
+        let mut list = Vec::with_capacity(self.numbers.allocator(), 1)?;
         list.push(definition)?;
         self.lists.reserve(1)?;
         self.numbers.insert(name, self.lists.len())?;
