@@ -11,7 +11,7 @@ lists c = lists_of c.self.inside.lists.items
 
 more : (c : goal.In_ok-push-2) → lists_of c.push-2.new.self.items ≡ lists c ++ (c.args.definition ∷ []) ∷ []
 more c = lists-first c.self.inside.lists.items c.reserve.new.self.items c.push-2.new.self.items c.push.new.self c.args.definition c.reserve.ensures.items c.in_ok-push-2.ensures.items
-    (c.in_ok-push.ensures.items ∙ ap (λ ds. ds ++ c.args.definition ∷ []) c.new-list.ensures.items)
+    (c.in_ok-push.ensures.items ∙ ap (λ ds. ds ++ c.args.definition ∷ []) c.in_ok-list.ensures.items)
 
 put : (c : goal.In_ok-push-2) → IsWith c.self.inside.numbers c.args.name.now (length (lists c)) c.insert.new.self
 put c = subst (λ (n : ℕ). IsWith c.self.inside.numbers c.args.name.now n c.insert.new.self)
