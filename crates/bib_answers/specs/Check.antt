@@ -1,5 +1,5 @@
 -- `check`: what is in a file, and what is wrong with it. Each report is a line.
-use Rattle.std.specs.Prelude.{ℕ, Bool, true, false, ◌==◌, nat_lt, List, [], ◌∷◌, ◌++◌, length, take, map, count_by, Option, None, Some, is_none, if◌then◌else◌, option_and_then, slice_get, codes}
+use Rattle.std.specs.Prelude.{ℕ, Bool, ◌==◌, nat_lt, List, [], ◌∷◌, ◌++◌, length, take, map, count_by, Option, None, Some, is_none, if◌then◌else◌, option_and_then, slice_get, codes}
 use Rattle.std.specs.Fmt.{decimal}
 use Rattle.std.specs.List.{flat_map, list_any, range_with_len}
 use Rattle.std.specs.Option.{option_map_or}

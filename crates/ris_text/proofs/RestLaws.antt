@@ -3,7 +3,6 @@ use Rattle.std.proofs.Common.{◌≡◌, ◌+◌, arith, List, [], ◌∷◌, �
 use Rattle.std.specs.Prelude.{Ok, Err}
 use Rattle.bib_spec.specs.Text.{Text}
 use Rattle.ris_text.specs.declared.records.RisRecord.{RisRecord}
-use Rattle.ris_text.specs.declared.records.RisFile.{RisFile}
 use Rattle.ris_text.specs.Lines.{Line, lines_of}
 use Rattle.ris_text.specs.Code.{Outcome, told, ris_file, with_record, with_front}
 use Rattle.ris_text.specs.Rest.{Rest, rest_of, IsLeft}

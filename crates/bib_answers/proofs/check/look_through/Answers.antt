@@ -1,12 +1,11 @@
-use Rattle.std.proofs.Common.{◌≡◌, ◌<◌, ◌≤◌, [], length, arith, ◌∙◌, sym, ap}
+use Rattle.std.proofs.Common.{◌<◌, [], length, arith, ◌∙◌, sym, ap}
 use Rattle.bib_spec.specs.Tree.{is_comment}
 use Rattle.bib_spec.specs.Reading.{Reading, Reads}
 use Rattle.bib_scan.specs.View.{View}
-use Rattle.bib_store.specs.Meaning.{is_entry_tree}
 use Rattle.bib_definitions.specs.Definitions.{is_definition_tree}
 use Rattle.bib_answers.specs.Check.{reports_on}
 use Rattle.bib_answers.proofs.ReportSteps.{items_more}
-use Rattle.bib_answers.proofs.ItemCounts.{entries_counted, items_counted, counted_small, counted_all}
+use Rattle.bib_answers.proofs.ItemCounts.{entries_counted, items_counted, counted_small}
 use Rattle.bib_answers.proofs.check.look_through.Goals as goal
 
 pub items-preserved : goal.items-preserved
