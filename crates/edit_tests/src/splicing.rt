@@ -57,7 +57,7 @@ fn a_move_is_two_pieces(rt: HostRuntime) -> Result<(), Fail> {
 }
 
 /// A piece with this place, and these bytes.
-fn piece(alloc: Global, place: u64, old: &[u8], new: &[u8]) -> Result<Piece, AllocError> {
+pub fn piece(alloc: Global, place: u64, old: &[u8], new: &[u8]) -> Result<Piece, AllocError> {
     Ok(Piece {
         place,
         old: text(alloc, old)?,

@@ -2,10 +2,10 @@
 
 ghost use Rattle.std.specs.Prelude.{◌≡◌, []};
 
-use crate::splicing::one_piece;
+use crate::splicing::{one_piece, piece};
 use crate::turns::DIFFERENCE;
 use bib_scan::Text;
-use bib_store::{Database, Flat, ItemList, Paged};
+use bib_store::{Database, Flat, ItemList, Paged, reverse};
 use std::alloc::Global;
 use std::test::Fail;
 
@@ -181,5 +181,73 @@ fn an_open_file_knows_keys_and_crossrefs(rt: HostRuntime) -> Result<(), Fail> {
     assert_eq!(rt; example(alloc, 1)?, (said(false, Some(1), Some(0)), 2));
     assert_eq!(rt; example(alloc, 2)?, (said(true, Some(4), None), 2));
     assert_eq!(rt; example(alloc, 3)?, (None, 2));
+    Ok(())
+}
+
+/// A definition of `p` between entries, two of which use it.
+const USED: &[u8] = b"@misc{z}@misc{y}@string{p={A}}@misc{x}@misc{a,t=p}@misc{b}@misc{c,t=p}";
+
+/// The macros of a file after its last item.
+#[derive(Drop)]
+struct Ends {
+    p: Option<Text>,
+    q: Option<Text>,
+}
+
+fn ends_of<L: ItemList>(db: &Database<L>) -> Result<Ends, Fail> {
+    let n = db.item_count();
+    Ok(Ends {
+        p: db.macro_text(n, b"p")?,
+        q: db.macro_text(n, b"q")?,
+    })
+}
+
+/// Whether `p` is `q` wherever it stands in `USED` once it has been renamed, and `p` again once that has been taken back.
+fn is_renamed_and_back<L: ItemList>(alloc: Global, items: L) -> Result<bool, Fail>
+    requires { L.items items ≡ [] }
+{
+    let mut db = Database::open_bytes(alloc, USED, items)?;
+    let mut pieces = Vec::new(alloc);
+    for place in [24, 48, 68] {
+        pieces.push(piece(alloc, place, b"p", b"q")?)?;
+    }
+    db.splice(&pieces)?;
+    let renamed = ends_of(&db)?;
+    db.splice(reverse(alloc, &pieces)?.as_slice())?;
+    let back = ends_of(&db)?;
+    Ok(is_text(renamed.q, b"A")
+        && renamed.p.is_none()
+        && is_text(back.p, b"A")
+        && back.q.is_none()
+        && db.bytes()?.as_slice() == USED)
+}
+
+#[test]
+fn a_macro_is_renamed_where_it_is_used(rt: HostRuntime) -> Result<(), Fail> {
+    let alloc = rt.alloc();
+    assert!(rt; is_renamed_and_back(alloc, Flat::new(alloc))?);
+    assert!(rt; is_renamed_and_back(alloc, Paged::new(alloc))?);
+    Ok(())
+}
+
+/// Whether `p` stands for what it did where the last of the pieces that rename it in `USED` leads to no file.
+fn stays_where_refused<L: ItemList>(alloc: Global, items: L) -> Result<bool, Fail>
+    requires { L.items items ≡ [] }
+{
+    let mut db = Database::open_bytes(alloc, USED, items)?;
+    let mut pieces = Vec::new(alloc);
+    pieces.push(piece(alloc, 7, b"}", b"")?)?;
+    pieces.push(piece(alloc, 24, b"p", b"q")?)?;
+    pieces.push(piece(alloc, 48, b"p", b"q")?)?;
+    let is_refused = db.splice(&pieces).is_err();
+    let after = ends_of(&db)?;
+    Ok(is_refused && is_text(after.p, b"A") && after.q.is_none() && db.bytes()?.as_slice() == USED)
+}
+
+#[test]
+fn a_refused_renaming_leaves_the_macro(rt: HostRuntime) -> Result<(), Fail> {
+    let alloc = rt.alloc();
+    assert!(rt; stays_where_refused(alloc, Flat::new(alloc))?);
+    assert!(rt; stays_where_refused(alloc, Paged::new(alloc))?);
     Ok(())
 }

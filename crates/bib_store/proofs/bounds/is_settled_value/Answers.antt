@@ -1,0 +1,7 @@
+use Rattle.std.proofs.Common.{◌∙◌, sym}
+use Rattle.bib_scan.specs.PartView.{part_view}
+use Rattle.bib_store.proofs.SettledCrossrefs.{literal_value}
+use Rattle.bib_store.proofs.bounds.is_settled_value.Goals as goal
+
+pub returns-in-Some : goal.returns-in-Some
+returns-in-Some c is = literal_value c.args.bytes.now (part_view c.in-Some.part) (sym c.is_literal.ensures ∙ is) c.in-Some.ensures
