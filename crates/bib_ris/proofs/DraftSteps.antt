@@ -1,54 +1,79 @@
--- Drafts of records, one after another.
-use Rattle.std.proofs.Common.{◌≡◌, ◌∙◌, Bool, true, false, List, [], ◌∷◌, ◌++◌, reverse, refl, sym, ap, subst, append_assoc}
+-- Drafts of the records that a RIS text says, one after another.
+use Rattle.std.proofs.Common.{◌≡◌, ◌∙◌, ℕ, Bool, true, false, List, [], ◌∷◌, ◌++◌, refl, sym, ap, subst, append-nil}
 use Rattle.std.specs.List.{list_all}
-use Rattle.std.specs.Prelude.{◌&&◌}
-use Rattle.std.proofs.lemmas.List.{reverse-append, map-append}
+use Rattle.std.specs.Prelude.{◌&&◌, Ok, Err}
+use Rattle.std.proofs.lemmas.List.{map-append}
 use Rattle.std.proofs.lemmas.List.Folds.{list_all-append}
+use Rattle.bib_spec.specs.Text.{Text}
 use Rattle.bib_spec.specs.Records.{Record}
 use Rattle.ris_text.specs.declared.records.RisRecord.{RisRecord}
+use Rattle.ris_text.specs.declared.records.RisFile.{RisFile}
+use Rattle.ris_text.specs.Code.{ris_file, with_record, with_front}
+use Rattle.ris_text.specs.Reading.{Reads}
+use Rattle.ris_text.specs.Rest.{Rest, IsLeft}
+use Rattle.ris_text.proofs.RestLaws.{left-more}
 use Rattle.ris_format.specs.Mapping.{back}
 use Rattle.ris_format.specs.Entry.{are_balanced}
 use Rattle.bib_ris.specs.declared.drafts.Drafts.{Drafts}
-use Rattle.bib_ris.specs.Import.{records_of}
-use Rattle.bib_ris.specs.Drafts.{AreDraftsOf}
+use Rattle.bib_ris.specs.declared.drafts.Said.{Said}
+use Rattle.bib_ris.specs.Import.{records_of, HasUnbalanced}
+use Rattle.bib_ris.specs.Drafts.{AreDraftsOf, IsSaidBy}
 
--- the drafts are of some of these records, and the others are left, the next one last
-pub record AreDrafting (records left : List RisRecord) (d : Drafts) : Type 0 where
+-- the text says some records before what is left, and the drafts are of these, as long as all of them are balanced
+pub record AreSaid (text : Text) (rest : Rest) (balanced : Bool) (d : Drafts) : Type 0 where
   pub done : List RisRecord
-  pub others : done ++ reverse left ≡ records
-  pub are : AreDraftsOf (records_of done) d
+  pub left : IsLeft text done rest
+  pub kept : balanced ≡ true → AreDraftsOf (records_of done) d
+  pub unbalanced : balanced ≡ false → list_all are_balanced (records_of done) ≡ false
 
-next-left : (done left rest : List RisRecord) (r : RisRecord) → left ≡ rest ++ r ∷ [] → done ++ reverse left ≡ (done ++ r ∷ []) ++ reverse rest
-next-left done left rest r is =
-    ap (λ (l : List RisRecord). done ++ reverse l) is
-    ∙ ap (λ (l : List RisRecord). done ++ l) (reverse-append rest (r ∷ []))
-    ∙ sym (append_assoc done (r ∷ []) (reverse rest))
+pub said-none : (text : Text) (rest : Rest) (d : Drafts) → IsLeft text [] rest → AreDraftsOf [] d → AreSaid text rest true d
+said-none text rest d left none = record { done = []; left = left; kept = λ _. none; unbalanced = λ e. absurd (cc) }
 
-all_of : (xs ys : List RisRecord) → list_all are_balanced (records_of (xs ++ ys)) ≡ (list_all are_balanced (records_of xs) && list_all are_balanced (records_of ys))
-all_of xs ys = ap (list_all are_balanced) (map-append back xs ys) ∙ list_all-append are_balanced (records_of xs) (records_of ys)
+all_with : (records : List RisRecord) (r : RisRecord) → list_all are_balanced (records_of (records ++ r ∷ [])) ≡ (list_all are_balanced (records_of records) && (are_balanced (back r) && true))
+all_with records r = ap (list_all are_balanced) (map-append back records (r ∷ [])) ∙ list_all-append are_balanced (records_of records) (records_of (r ∷ []))
 
--- one more record
-pub drafting-more : (records left rest : List RisRecord) (d e : Drafts) (r : RisRecord) (entry : Record) → AreDrafting records left d → left ≡ rest ++ r ∷ [] → entry ≡ back r
-    → ((so_far : List Record) → AreDraftsOf so_far d → AreDraftsOf (so_far ++ entry ∷ []) e) → AreDrafting records rest e
-drafting-more records left rest d e r entry so is says adds = record {
+and-false : (b : Bool) → b && false ≡ false
+and-false true = refl
+and-false false = refl
+
+-- a record whose draft is added, or which is not balanced
+pub said-added : (text : Text) (rest after : Rest) (balanced : Bool) (d e : Drafts) (r : RisRecord) → AreSaid text rest true d → rest.says ≡ with_record r after.says
+    → (balanced ≡ true → (so_far : List Record) → AreDraftsOf so_far d → AreDraftsOf (so_far ++ back r ∷ []) e)
+    → (balanced ≡ false → are_balanced (back r) ≡ false) → AreSaid text after balanced e
+said-added text rest after balanced d e r so is adds unbalanced = record {
   done = so.done ++ r ∷ [];
-  others = sym (next-left so.done left rest r is) ∙ so.others;
-  are = subst (λ (rs : List Record). AreDraftsOf rs e)
-      (ap (λ (s : Record). records_of so.done ++ s ∷ []) says ∙ sym (map-append back so.done (r ∷ [])))
-      (adds (records_of so.done) so.are);
+  left = left-more text so.done r rest after so.left is;
+  kept = λ b. subst (λ (rs : List Record). AreDraftsOf rs e) (sym (map-append back so.done (r ∷ []))) (adds b (records_of so.done) (so.kept refl));
+  unbalanced = λ b.
+      all_with so.done r ∙ ap (λ x. list_all are_balanced (records_of so.done) && (x && true)) (unbalanced b)
+      ∙ and-false (list_all are_balanced (records_of so.done));
 }
 
--- one that is not balanced
-pub drafting-unbalanced : (records left rest : List RisRecord) (d : Drafts) (r : RisRecord) (entry : Record) → AreDrafting records left d → left ≡ rest ++ r ∷ [] → entry ≡ back r
-    → are_balanced entry ≡ false → list_all are_balanced (records_of records) ≡ false
-drafting-unbalanced records left rest d r entry so is says unbalanced =
-    ap (λ (rs : List RisRecord). list_all are_balanced (records_of rs)) (sym so.others ∙ next-left so.done left rest r is)
-    ∙ all_of (so.done ++ r ∷ []) (reverse rest)
-    ∙ ap (λ b. b && list_all are_balanced (records_of (reverse rest)))
-    (all_of so.done (r ∷ [])
-    ∙ ap (λ b. list_all are_balanced (records_of so.done) && (b && true)) (ap are_balanced (sym says) ∙ unbalanced)
-    ∙ none (list_all are_balanced (records_of so.done)))
-  where
-    none : (b : Bool) → b && false ≡ false
-    none true = refl
-    none false = refl
+-- a record after one that is not balanced
+pub said-passed : (text : Text) (rest after : Rest) (d : Drafts) (r : RisRecord) → AreSaid text rest false d → rest.says ≡ with_record r after.says → AreSaid text after false d
+said-passed text rest after d r so is = record {
+  done = so.done ++ r ∷ [];
+  left = left-more text so.done r rest after so.left is;
+  kept = λ e. absurd (cc);
+  unbalanced = λ _. all_with so.done r ∙ ap (λ x. x && (are_balanced (back r) && true)) (so.unbalanced refl);
+}
+
+-- at the end the text says the records so far
+reads-done : (text : Text) (rest : Rest) (done : List RisRecord) (skipped : ℕ) → IsLeft text done rest → rest.says ≡ Ok (ris_file [] skipped) → Reads text (ris_file done skipped)
+reads-done text rest done skipped left ends =
+    left.reads (ris_file done skipped) (ap (with_front done 0) ends ∙ ap (λ (rs : List RisRecord). Ok (ris_file rs skipped)) (append-nil done))
+
+pub said-all : (text : Text) (rest : Rest) (s : Said) → AreSaid text rest true s.drafts → rest.says ≡ Ok (ris_file [] s.skipped) → IsSaidBy text s
+said-all text rest s so ends = record {
+  file = ris_file so.done s.skipped;
+  reads = reads-done text rest so.done s.skipped so.left ends;
+  drafts = so.kept refl;
+  skipped = refl;
+}
+
+pub said-unbalanced : (text : Text) (rest : Rest) (d : Drafts) (skipped : ℕ) → AreSaid text rest false d → rest.says ≡ Ok (ris_file [] skipped) → HasUnbalanced text
+said-unbalanced text rest d skipped so ends = record {
+  said = ris_file so.done skipped;
+  reads = reads-done text rest so.done skipped so.left ends;
+  unbalanced = so.unbalanced refl;
+}

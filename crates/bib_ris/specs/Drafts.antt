@@ -7,8 +7,11 @@ use Rattle.bib_spec.specs.MadeKeys.{base_limit}
 use Rattle.bib_data.specs.declared.edit.NewEntry.{NewEntry}
 use Rattle.bib_edit.specs.Asking.{made_base}
 use Rattle.ris_format.specs.Entry.{entry_of, are_balanced}
+use Rattle.ris_text.specs.declared.records.RisFile.{RisFile}
+use Rattle.ris_text.specs.Reading.{Reads}
 use Rattle.bib_ris.specs.declared.drafts.Drafts.{Drafts}
-use Rattle.bib_ris.specs.Import.{usable_ids}
+use Rattle.bib_ris.specs.declared.drafts.Said.{Said}
+use Rattle.bib_ris.specs.Import.{usable_ids, records_of}
 
 -- the bases of the keys of records whose ID cannot be one
 abbrev pub bases_of : List Record → List Text
@@ -21,6 +24,13 @@ pub record AreDraftsOf (records : List Record) (d : Drafts) : Type 0 where
   pub bases : d.bases.items ≡ bases_of records
   pub short : AllByRecursion (λ base. length base ≤ base_limit) d.bases.items
   pub balanced : list_all are_balanced records ≡ true
+
+-- the drafts of the records that the text says, and how many of its lines are skipped
+pub record IsSaidBy (text : Text) (s : Said) : Type 0 where
+  pub file : RisFile
+  pub reads : Reads text file
+  pub drafts : AreDraftsOf (records_of file.records) s.drafts
+  pub skipped : s.skipped ≡ file.skipped
 
 -- the entries that need a key get these in turn
 abbrev pub with_keys : List Text → List NewEntry → List NewEntry

@@ -1,23 +1,23 @@
 //! Records as entries, before keys are made for those that need one.
 
-ghost use Rattle.std.specs.Prelude.{◌≡◌, ◌≤◌, ◌<◌, ◌++◌, ◌∷◌, ◌⊎◌, [], List, false, not, Some, IfOk, IfErr, OnOk, length, take, drop, set, reverse, slice_get, ◌+◌};
-ghost use Rattle.std.specs.List.{list_all};
+ghost use Rattle.std.specs.Prelude.{◌≡◌, ◌≤◌, ◌<◌, ◌++◌, ◌∷◌, [], List, true, false, not, Some, IfOk, IfErr, length, take, drop, set, reverse, slice_get, ◌+◌};
 ghost use Rattle.bib_spec.specs.Text.{is_new_key};
 ghost use Rattle.bib_spec.specs.Records.{Record as EntryRecord};
 ghost use Rattle.bib_data.specs.declared.edit.NewEntry.{NewEntry as EntryAdded};
 ghost use Rattle.bib_spec.specs.MadeKeys.{base_limit};
 ghost use Rattle.bib_edit.specs.Asking.{made_base};
 ghost use Rattle.ris_format.specs.Entry.{are_balanced};
-ghost use Rattle.bib_ris.specs.Import.{records_of};
-ghost use Rattle.bib_ris.specs.Drafts.{AreDraftsOf, with_keys};
-ghost use Rattle.bib_ris.specs.declared.fault.ImportFault.TheVariants.{UnbalancedText, Memory};
+ghost use Rattle.ris_format.specs.Mapping.{back};
+ghost use Rattle.bib_ris.specs.Import.{RefusesImport};
+ghost use Rattle.bib_ris.specs.Drafts.{AreDraftsOf, IsSaidBy, with_keys};
+ghost use Rattle.bib_ris.specs.declared.fault.ImportFault.TheVariants.{Memory};
 
 use crate::fault::ImportFault;
 use bib_data::{NewEntry, Record};
 use bib_names::key_base;
 use bib_scan::{Seq, Text, is_key};
-use ris_format::{from_ris, to_entry};
-use ris_text::RisRecord;
+use ris_format::{MappingFault, from_ris, to_entry};
+use ris_text::{RisRecord, Unread};
 use std::alloc::{AllocError, Global};
 
 /// Records as entries, of which each has the ID of its record for a key; the IDs that can be keys; and the bases of the
@@ -52,10 +52,11 @@ impl Drafts {
         }
     }
 
-    /// Adds a record.
-    fn add(&mut self, alloc: Global, entry: Record) -> Result<(), ImportFault>
-        ensures added { OnOk result ((records : List EntryRecord) → AreDraftsOf records self.old → AreDraftsOf (records ++ entry ∷ []) self.new) }
-        ensures refused { IfErr result (λ fault. (fault ≡ Memory) ⊎ ((fault ≡ UnbalancedText) × (are_balanced entry ≡ false))) }
+    /// Adds a record, and says whether each of its texts is balanced: else nothing is of use any more.
+    fn add(&mut self, alloc: Global, entry: Record) -> Result<bool, ImportFault>
+        ensures added { IfOk result (λ balanced. balanced ≡ true → (records : List EntryRecord) → AreDraftsOf records self.old → AreDraftsOf (records ++ entry ∷ []) self.new) }
+        ensures unbalanced { IfOk result (λ balanced. balanced ≡ false → are_balanced entry ≡ false) }
+        ensures memory { IfErr result (λ fault. fault ≡ Memory) }
     {
         let key = entry.key.as_slice();
         if is_key(key) {
@@ -63,23 +64,60 @@ impl Drafts {
         } else {
             self.bases.push(base_of(alloc, &entry)?)?;
         }
-        self.entries.push(to_entry(alloc, entry)?)?;
-        Ok(())
+        match to_entry(alloc, entry) {
+            Ok(entry) => {
+                self.entries.push(entry)?;
+                Ok(true)
+            }
+            Err(MappingFault::UnbalancedText) => Ok(false),
+            Err(MappingFault::Memory) => Err(ImportFault::Memory),
+        }
     }
 
-    /// Of the records that these RIS records say, each of which is let go when its entry is made.
-    pub fn of(alloc: Global, records: Seq<RisRecord>) -> Result<Drafts, ImportFault>
-        ensures drafts { IfOk result (AreDraftsOf (records_of records)) }
-        ensures refused { IfErr result (λ fault. (fault ≡ Memory) ⊎ ((fault ≡ UnbalancedText) × (list_all are_balanced (records_of records) ≡ false))) }
+    /// Adds what a RIS record says, and says whether each text of it is balanced.
+    fn add_ris(&mut self, alloc: Global, ris: &RisRecord) -> Result<bool, ImportFault>
+        ensures added { IfOk result (λ balanced. balanced ≡ true → (records : List EntryRecord) → AreDraftsOf records self.old → AreDraftsOf (records ++ back ris.now ∷ []) self.new) }
+        ensures unbalanced { IfOk result (λ balanced. balanced ≡ false → are_balanced (back ris.now) ≡ false) }
+        ensures memory { IfErr result (λ fault. fault ≡ Memory) }
+    {
+        let entry = from_ris(alloc, ris)?;
+        self.add(alloc, entry)
+    }
+}
+
+/// The drafts of the records that a RIS text says, and how many of its lines were skipped.
+#[derive(Drop)]
+pub(crate) struct Said {
+    pub drafts: Drafts,
+    pub skipped: u64,
+}
+
+impl Said {
+    /// By this text. Each record is let go when its draft is made, before the next one is read. Where a record has a text
+    /// that is not balanced, the text is read on to its end, since a fault of reading comes first.
+    pub fn by(alloc: Global, text: &[u8]) -> Result<Said, ImportFault>
+        ensures said { IfOk result (IsSaidBy text.now) }
+        ensures refused { IfErr result (λ fault. RefusesImport fault text.now) }
     {
         let mut drafts = Drafts::none(alloc);
-        let mut left = records.into_vec();
-        left.reverse();
-        'records: while let Some(record) = left.pop() {
-            let entry = from_ris(alloc, &record)?;
-            drafts.add(alloc, entry)?;
+        let mut balanced = true;
+        let mut rest = Unread::of(text);
+        'records: loop {
+            let (first, after) = rest.next(alloc)?;
+            rest = after;
+            let Some(record) = first else {
+                if !balanced {
+                    return Err(ImportFault::UnbalancedText);
+                }
+                return Ok(Said {
+                    drafts,
+                    skipped: rest.skipped(),
+                });
+            };
+            if balanced {
+                balanced = drafts.add_ris(alloc, &record)?;
+            }
         }
-        Ok(drafts)
     }
 }
 

@@ -1,21 +1,21 @@
 //! Entries that a RIS text adds to a file.
 
-ghost use Rattle.std.specs.Prelude.{◌≡◌, ◌≤◌, ◌⊎◌, length, true, false, IfOk, IfErr, OnOk};
-ghost use Rattle.std.specs.List.{list_all, AllByRecursion};
+ghost use Rattle.std.specs.Prelude.{◌≡◌, ◌≤◌, List, length, IfOk, IfErr};
+ghost use Rattle.std.specs.List.{AllByRecursion};
 ghost use Rattle.bib_spec.specs.MadeKeys.{base_limit, made_keys};
+ghost use Rattle.bib_spec.specs.Records.{Record as EntryRecord};
 ghost use Rattle.bib_edit.specs.TakenKeys.{taken_in};
 ghost use Rattle.bib_store.specs.Meaning.{OfReading};
-ghost use Rattle.ris_format.specs.Entry.{are_balanced};
-ghost use Rattle.bib_ris.specs.Import.{records_of, imported, AreAdditions, RefusesImport};
-ghost use Rattle.bib_ris.specs.declared.fault.ImportFault.TheVariants.{UnbalancedText, Memory};
+ghost use Rattle.bib_ris.specs.Drafts.{AreDraftsOf};
+ghost use Rattle.bib_ris.specs.Import.{imported, AreAdditions, RefusesImport};
+ghost use Rattle.bib_ris.specs.declared.fault.ImportFault.TheVariants.{Memory};
 
-use crate::drafts::{Drafts, with_keys};
+use crate::drafts::{Drafts, Said, with_keys};
 use crate::fault::ImportFault;
 use bib_data::NewEntry;
 use bib_edit::free_keys;
 use bib_scan::{Seq, Text};
 use bib_store::{Database, ItemList};
-use ris_text::{RisRecord, read_ris};
 use std::alloc::Global;
 
 /// What a RIS text adds to a file: its records as entries, and how many of its lines were skipped.
@@ -46,17 +46,16 @@ fn keys_of<L: ItemList>(
     }
 }
 
-/// The entries of these records.
+/// The entries of the records that these are the drafts of.
 fn imported<L: ItemList>(
     alloc: Global,
     db: &Database<L>,
-    records: Seq<RisRecord>,
+    drafts: Drafts,
 ) -> Result<Seq<NewEntry>, ImportFault>
-    ensures entries { IfOk result (λ entries. OfReading db.now (λ r. entries ≡ imported r (records_of records))) }
-    ensures balanced { OnOk result (list_all are_balanced (records_of records) ≡ true) }
-    ensures refused { IfErr result (λ fault. (fault ≡ Memory) ⊎ ((fault ≡ UnbalancedText) × (list_all are_balanced (records_of records) ≡ false))) }
+    requires { (records : List EntryRecord) × AreDraftsOf records drafts }
+    ensures entries { (records : List EntryRecord) → AreDraftsOf records drafts → IfOk result (λ entries. OfReading db.now (λ r. entries ≡ imported r records)) }
+    ensures memory { IfErr result (λ fault. fault ≡ Memory) }
 {
-    let drafts = Drafts::of(alloc, records)?;
     let keys = keys_of(alloc, db, drafts.bases.as_slice(), drafts.ids.as_slice())?;
     Ok(with_keys(drafts.entries, keys))
 }
@@ -75,9 +74,9 @@ pub fn import<L: ItemList>(
     ensures additions { IfOk result (AreAdditions db.now text.now) }
     ensures refused { IfErr result (λ fault. RefusesImport fault text.now) }
 {
-    let said = read_ris(alloc, text)?;
+    let said = Said::by(alloc, text)?;
     Ok(Additions {
-        entries: imported(alloc, db, said.records)?,
+        entries: imported(alloc, db, said.drafts)?,
         skipped: said.skipped,
     })
 }
