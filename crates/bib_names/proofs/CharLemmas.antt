@@ -52,9 +52,9 @@ outside_on : (text : Text) (place : ℕ) → Outside text place → begins_speci
 outside_on text place outside none front lt =
     below_more (λ q. begins_special text q ≡ true → next_level text q ≤ place + 1) place (λ q h b. omega (arith, outside q h b)) (λ b. absurd (cc)) front lt
 
--- ---- bytes that go on
+-- ---- bytes that continue a character
 
--- the byte after the place goes on with what is there
+-- the byte after the place continues what is there
 joined_next : (text : Text) (place : ℕ) → is_joined text (place + 1) ≡ (goes_on (get_or text (place + 1) 0) && (is_plain (get_or text place 0) || is_joined text place))
 joined_next text place = ap (is_joined text) (add-one place) ∙ ap (λ n. goes_on (get_or text n 0) && (is_plain (get_or text place 0) || is_joined text place)) (sym (add-one place))
 
@@ -62,7 +62,7 @@ pub joined-no : (text : Text) (place : ℕ) → goes_on (get_or text place 0) �
 joined-no text zero alone = refl
 joined-no text (suc place) alone = ap (λ b. b && (is_plain (get_or text place 0) || is_joined text place)) alone
 
--- after a byte that is not plain and goes on with none
+-- after a byte that is not plain and continues none
 joined_behind : (text : Text) (place : ℕ) → is_plain (get_or text place 0) ≡ false → is_joined text place ≡ false → is_joined text (place + 1) ≡ false
 joined_behind text place plain alone =
     joined_next text place ∙ ap (λ b. goes_on (get_or text (place + 1) 0) && (b || is_joined text place)) plain
@@ -73,7 +73,7 @@ joined-yes text place on there = joined_next text place ∙ ap (λ b. b && (is_p
 
 -- ---- classes of bytes
 
--- a byte that is not plain and goes on with none is a brace
+-- a byte that is not plain and continues none is a brace
 brace_from : (b : ℕ) → is_plain b ≡ false → goes_on b ≡ false → is_brace b ≡ true
 brace_from b plain alone = go (is_brace b) refl
   where
@@ -135,7 +135,7 @@ brace_past text place fresh brace = (
 
 -- ---- what is passed with a text character
 
--- it begins at the place, none begins in it, and none goes on after it
+-- it begins at the place, none begins in it, and none continues after it
 pub record IsPassed (text : Text) (place end : ℕ) : Type 0 where
   pub begins : begins_char text place ≡ true
   pub inside : (p : ℕ) → place + 1 ≤ p → p < end → begins_char text p ≡ false
@@ -160,7 +160,7 @@ run_stops p (x ∷ xs) none = go (p x) refl (run_stops p xs none)
     go false e later = e
     go true e later = let n : 1 + prefix_len p xs ≡ suc (prefix_len p xs) = omega arith in ap (λ m. p (get_or (x ∷ xs) m 0)) n ∙ later
 
--- so many bytes after a plain byte go on with it
+-- so many bytes after a plain byte continue it
 record IsTail (text : Text) (place count : ℕ) : Type 0 where
   plain : is_plain (get_or text place 0) ≡ true
   on : (k : ℕ) → k < count → goes_on (get_or text (place + 1 + k) 0) ≡ true

@@ -58,7 +58,7 @@ prefix_stops test at (suc n) (suc k) lt fails =
     go true le = omega (arith, le)
     go false le = omega arith
 
--- no group goes on past a place of depth 0
+-- no group continues past a place of depth 0
 level_ends : (text : Text) (front place : ℕ) → front < place → place < length text → is_level text place ≡ true → next_level text front ≤ place
 level_ends text front place low high level =
     let at : front + 1 + (place - (front + 1)) ≡ place = omega arith in

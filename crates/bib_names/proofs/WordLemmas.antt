@@ -26,7 +26,7 @@ no_words at text = let whole : length text - 0 ≡ length text = omega arith in 
   told = ap (λ n. map (word_at (stretch at text)) (places_from (begins_word text) 0 n)) whole;
 }
 
--- no gap: the word goes on
+-- no gap: the word continues
 pub words_on : (at : ℕ) (text : Text) (words : List NameWord) (start sep place : ℕ) → AreWordsSoFar at text words start sep place → is_gap text place ≡ false → AreWordsSoFar at text words start sep (place + 1)
 words_on at text words start sep place far gap = record {
   within = omega (arith, far.within);
@@ -36,7 +36,7 @@ words_on at text words start sep place far gap = record {
   told = far.told;
 }
 
--- a run of gaps goes on
+-- a run of gaps continues
 run_next : (text : Text) (place : ℕ) → is_gap text place ≡ true → run_start text (place + 1) ≡ run_start text place
 run_next text place gap = ap (run_start text) (add-one place) ∙ ap (λ b. cond b (run_start text place) (suc place)) gap
 

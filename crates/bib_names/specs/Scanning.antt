@@ -31,7 +31,7 @@ pub record IsSpecial (text : Text) (place end : ℕ) : Type 0 where
 
 -- ---- text characters
 
--- the text character at a place: a special one, one of a plain byte, or one byte that goes on with none
+-- the text character at a place: a special one, one of a plain byte, or one byte that continues none
 pub record IsChar (text : Text) (place end : ℕ) : Type 0 where
   pub behind : place < end
   pub within : end ≤ length text
@@ -45,7 +45,7 @@ pub record IsBareBrace (text : Text) (place : ℕ) : Type 0 where
   pub plain : is_plain (slice_index text place) ≡ false
   pub alone : goes_on (slice_index text place) ≡ false
 
--- no text character goes on at the place: each special character before it has ended, and no byte goes on there
+-- no text character continues at the place: each special character before it has ended, and no byte continues there
 pub record IsFresh (text : Text) (place : ℕ) : Type 0 where
   pub outside : (front : ℕ) → front < place → begins_special text front ≡ true → next_level text front ≤ place
   pub alone : is_joined text place ≡ false

@@ -26,7 +26,7 @@ abbrev pub is_within_special : Text → ℕ → Bool
 is_within_special text place =
     list_any (λ front. begins_special text front && nat_lt place (next_level text front)) (range_with_len 0 place)
 
--- a byte that begins a text character by itself: no brace, and none that goes on with another
+-- a byte that begins a text character by itself: no brace, and none that continues another
 abbrev pub is_plain : ℕ → Bool
 is_plain byte = not (is_brace byte || goes_on byte)
 
@@ -43,11 +43,11 @@ begins_char text place =
     begins_special text place
     || (not (is_within_special text place) && not (is_brace (slice_index text place)) && not (is_joined text place))
 
--- how many bytes go on from the place
+-- how many bytes continue from the place
 abbrev pub going_on : Text → ℕ → ℕ
 going_on text place = prefix_len goes_on (drop place text)
 
--- where it ends: a special character with its brace, a plain byte with the bytes that go on with it
+-- where it ends: a special character with its brace, a plain byte with the bytes that continue it
 abbrev pub char_end : Text → ℕ → ℕ
 char_end text place =
     if begins_special text place then next_level text place

@@ -65,7 +65,7 @@ fn going_on_len(text: &[u8]) -> usize
     text.iter().take_while(|b| goes_on(**b)).count()
 }
 
-/// The place after the bytes that go on from this place.
+/// The place after the bytes that continue from this place.
 fn going_on_end(text: &[u8], place: usize) -> usize
     requires { place ≤ length text.now }
     ensures end { result ≡ place + going_on text.now place }
@@ -74,7 +74,7 @@ fn going_on_end(text: &[u8], place: usize) -> usize
     place + going_on_len(text.split_at(place).1)
 }
 
-/// The end of the text character that begins at the place, where no earlier one goes on; none at a brace.
+/// The end of the text character that begins at the place, where no earlier one continues; none at a brace.
 fn char_end(text: &[u8], place: usize, braces: Braces) -> Option<usize>
     requires within { place < length text.now }
     requires braces { (braces.opened == braces.closed) ≡ is_level text.now place }

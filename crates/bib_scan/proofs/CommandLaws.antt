@@ -41,7 +41,7 @@ is_opening y d behind ok space = record {
 abbrev pub typed_bytes : Typed → Text
 typed_bytes y = head_bytes y.head ++ y.space_before_delimiter
 
--- after a comment the text does not go on with its type name
+-- after a comment the text does not continue its type name
 abbrev pub EndsName : Tree → Text → Type 0
 EndsName tree rest = is_comment tree ≡ true → does_not_begin_with is_type_byte rest ≡ true
 

@@ -41,7 +41,7 @@ mend_inside limit some type_name d no_comment = of_inside (λ p. Mends (plain (p
 
 -- ---- where reading stops
 
--- reading stops after front, whatever stands after the byte there, and front goes on to such a text
+-- reading stops after front, whatever stands after the byte there, and front continues to such a text
 pub record StopsAt {A : Type 0} (IsSuch : Text → Type 0) (read : Text → Result A Halt) (t : Text) (h : Halt) : Type 0 where
   pub front : Text
   pub split : t ≡ front ++ h.rest
@@ -49,7 +49,7 @@ pub record StopsAt {A : Type 0} (IsSuch : Text → Type 0) (read : Text → Resu
   pub same : (c : ℕ) (v w : Text) → h.rest ≡ c ∷ v → read (front ++ c ∷ w) ≡ Err (stop h.fault (c ∷ w))
 
 module _ {A : Type 0} (IsSuch : Text → Type 0) (read : Text → Result A Halt) (no_fault : (t : Text) (h : Halt) → IsSuch t → read t ≡ Err h → ⊥) (stops : (t : Text) (h : Halt) → read t ≡ Err h → StopsAt IsSuch read t h) where
-  -- what goes on with the byte at the fault is no front of such a text
+  -- what continues with the byte at the fault is not the front of such a text
   pub stuck_by : (t u : Text) (h : Halt) (c : ℕ) (v : Text) → read t ≡ Err h → t ≡ u ++ h.rest → h.rest ≡ c ∷ v → IsViable IsSuch (u ++ c ∷ []) → ⊥
   stuck_by t u h c v is split rest (more, such) =
       let at = stops t h is in

@@ -1,4 +1,4 @@
--- Where reading stops, some bytes can stand that make it go on to the end.
+-- Where reading stops, some bytes can stand with which it continues to the end.
 use Rattle.std.proofs.Common.{◌≡◌, ℕ, zero, suc, ◌+◌, ◌-◌, ◌<◌, Bool, true, false, cond, [], ◌∷◌, ◌++◌, length, refl, sym, ap, subst, ◌∙◌, arith, append_assoc, inl, inr, Result, Ok, Err}
 use Rattle.std.proofs.lemmas.List.{length-append}
 use Rattle.std.proofs.lemmas.Bool.{cases_eq, or_from, ne_eqb, cond-true, cond-false, both_ways}

@@ -11,7 +11,7 @@ use Rattle.bib_scan.proofs.LocalLaws.{rest_of, with_rest, LocalAt, Local, after_
 use Rattle.bib_scan.proofs.UniqueLaws.{tail_same}
 use Rattle.bib_scan.proofs.MendLaws.{Resumes, err_is}
 
--- after u the reader goes on past the byte d
+-- after u the reader continues past the byte d
 abbrev pub Past : {A : Type 0} → (Text → Read A) → Text → ℕ → Type 0
 Past p u d = rest_of (p (u ++ d ∷ [])) ≡ []
 
@@ -119,7 +119,7 @@ Tells p G = (t : Text) (h : Halt) → p t ≡ Err h → TellsAt p G t h
 abbrev pub Keeps : {A : Type 0} → (Text → Read A) → (ℕ → Type 0) → Type 0
 Keeps {A} p F = (t : Text) (a : A) (r u : Text) → p t ≡ Ok (a, r) → t ≡ u ++ r → (d : ℕ) → F d → Leaves p a u d
 
--- After what the reader read: a letter and a digit follow, or it stops at the letter, or it goes on past the digit.
+-- After what the reader read: a letter and a digit follow, or it stops at the letter, or it continues past the digit.
 abbrev pub TakesDigit : {A : Type 0} → (Text → Read A) → A → Text → Type 0
 TakesDigit p a u = (Leaves p a u 120 × Leaves p a u 49) ⊎ Stopped p u 120 ⊎ Past p u 49
 
@@ -159,7 +159,7 @@ module _ {A B : Type 0} (p : Text → Read A) (f : A → Text → Read B) where
   stopped_first : (u : Text) (d : ℕ) → Stopped p u d → Stopped Both u d
   stopped_first u d s = (s.0, ap (λ (m : Read A). m >>= λ x. f x.0 x.1) s.1)
 
-  -- where p reads a up to u2 and the text after it, f goes on there
+  -- where p reads a up to u2 and the text after it, f continues there
   goes_on : (a : A) (u1 u2 w : Text) → p (u1 ++ (u2 ++ w)) ≡ Ok (a, u2 ++ w) → Both ((u1 ++ u2) ++ w) ≡ f a (u2 ++ w)
   goes_on a u1 u2 w is = ap Both (append_assoc u1 u2 w) ∙ ap (λ (m : Read A). m >>= λ x. f x.0 x.1) is
 

@@ -59,7 +59,7 @@ tell_limited limit test p G t h is =
       | inr short ↦ absurd (not_ok _ h _ short.1 refl)
     ]
 
--- a run of bytes of the class: one more goes on, or it is too long
+-- a run of bytes of the class: one more continues it, or it is too long
 pub run_too : (limit : ℕ) (test : ℕ → Bool) (u : Text) → AllPass test u → length u ≤ limit → test 120 ≡ true → test 49 ≡ true → DigitToo (read_run limit test) u
 run_too limit test u all fits letter digit =
     elim (cases_eq (length u) limit) [

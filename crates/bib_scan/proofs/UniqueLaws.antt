@@ -37,7 +37,7 @@ link_shape l u = append_assoc (l.space_before_hash ++ 35 ∷ l.space_behind_hash
 links_shape : (l : Link) (ls : List Link) (r : Text) → flat_map link_bytes (l ∷ ls) ++ r ≡ l.space_before_hash ++ (35 ∷ (l.space_behind_hash ++ (part_bytes l.part ++ (flat_map link_bytes ls ++ r))))
 links_shape l ls r = append_assoc (link_bytes l) (flat_map link_bytes ls) r ∙ link_shape l (flat_map link_bytes ls ++ r)
 
--- where a link stands, a value goes on
+-- where a link stands, a value continues
 no_end : (limit : ℕ) (l : Link) (ls : List Link) (r s : Text) → IsLink limit l → AfterValue r → r ≡ flat_map link_bytes (l ∷ ls) ++ s → ⊥
 no_end limit l ls r s ok after e =
     let u : Text = l.space_behind_hash ++ (part_bytes l.part ++ (flat_map link_bytes ls ++ s)) in

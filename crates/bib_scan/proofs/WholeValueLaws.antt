@@ -105,7 +105,7 @@ no_value_fault limit t h value is = not_ok [] h _ is (whole_value_again limit t 
 
 -- ---- what can follow
 
--- a value and white space go on with `#1`
+-- a value and white space continue with `#1`
 linked : (limit : ℕ) (v : Value) (s : Text) → IsValue limit v → IsSpace s → IsValueWithin limit ((value_bytes v ++ s) ++ (35 ∷ 49 ∷ []))
 linked limit v s is space =
     let l : Link = record { space_before_hash = s; space_behind_hash = []; part = Digits (49 ∷ []) } in

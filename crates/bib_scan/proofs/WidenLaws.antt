@@ -24,7 +24,7 @@ IsLong KeyTooLong = Unit {0}
 abbrev pub IsShort : ReadingFault → Type 0
 IsShort f = IsLong f → ⊥
 
--- q reads what p reads and stops where p stops, but goes on past the byte at which a name or key was too long for p
+-- q reads what p reads and stops where p stops, but continues past the byte at which a name or key was too long for p
 pub record Widens {A : Type 0} (p q : Text → Read A) : Type 0 where
   pub ok : (t : Text) (x : A × Text) → p t ≡ Ok x → q t ≡ Ok x
   pub same : (t : Text) (h : Halt) → p t ≡ Err h → IsShort h.fault → q t ≡ Err h

@@ -11,7 +11,7 @@ pub space_is : is_space 32 ≡ true
 unfolding is_space
 space_is = refl
 
--- a neat text that goes on with white space: a space, and a word after it
+-- a neat text that continues with white space: a space, and a word after it
 pub neat-space : (apart : Bool) (b : ℕ) (t : Text) → is_space b ≡ true → neat apart (b ∷ t) ≡ true → (b ≡ 32) × (apart ≡ false) × (neat true t ≡ true)
 neat-space apart b t h n =
     let p = and_parts (eqb b 32) (not apart && neat true t) (sym (cond-true (is_space b) _ _ h) ∙ n) in
@@ -53,7 +53,7 @@ whole-neat (b ∷ t) n =
 pub field_text-neat : (t : Text) → neat true t ≡ true → field_text t ≡ t
 field_text-neat t n = sym (more_text-all t) ∙ whole-neat t n
 
--- a text goes on neat, byte by byte
+-- a neat text continues as one, byte by byte
 pub neat_step : (so_far apart : Bool) (b : ℕ) (t : Text) → so_far && neat apart (b ∷ t) ≡ (so_far && can_go_on apart b) && neat (eqb b 32) t
 neat_step so_far apart b t =
     ⊎_elim

@@ -163,7 +163,7 @@ no_open_brace (b ∷ key) h =
     ((byte_goes_on Brace b both.0).2, no_open_brace key both.1)
 
 module _ (key : Text) (h : is_new_key key ≡ true) where
-  -- either delimiter lets every byte of a new key go on
+  -- either delimiter lets every byte of a new key continue it
   pub new_key-goes_on : (d : Delimiter) → AllPass (goes_on_key d) key
   new_key-goes_on d = bytes_go_on d key (new_key_parts key h).1
 

@@ -1,4 +1,4 @@
--- Values that go on over several lines.
+-- Values that continue over several lines.
 use Rattle.std.proofs.Common.{◌≡◌, ◌<◌, true, false, List, [], ◌∷◌, ◌++◌, length, refl, sym, ap, ◌∙◌, arith, append-nil, append_assoc, inl, inr}
 use Rattle.std.specs.Prelude.{not, filter, ◌⊎◌, Result, Ok, Err, is_ok, if◌then◌else◌, IfOk}
 use Rattle.std.specs.List.{join_with_byte}
