@@ -2,14 +2,10 @@
 use Rattle.std.proofs.Common.{◌==◌, ◌≡◌, ℕ, zero, suc, ◌+◌, ◌<◌, Bool, not, List, [], ◌∷◌, ◌++◌, length, map, filter, filter_map, Option, None, Some, is_none, All, refl, sym, subst, ⊎_elim, arith}
 use Rattle.std.specs.List.{AllByRecursion, range_with_len, enumerate_from, cons_option}
 use Rattle.std.proofs.lemmas.Bool.{cases_Bool, cond-true, cond-false}
+use Rattle.std.proofs.lemmas.List.Elements.{All-from_recursion}
 use Rattle.bib_spec.specs.Text.{Text}
 use Rattle.bib_spec.specs.Records.{EntryTexts, entry_named, numbers_of, once, cited_by_key, with_parents, cites_all, listed, unknown}
 use Rattle.bib_store.proofs.Parents.{named_within}
-
-all_from : {X : Type 0} (P : X → Type 0) (xs : List X) → AllByRecursion P xs → All P xs
-all_from P [] all k d within = absurd (omega (arith, within))
-all_from P (x ∷ xs) all zero d within = all.0
-all_from P (x ∷ xs) all (suc k) d within = all_from P xs all.1 k d (omega (arith, within))
 
 module _ {X : Type 0} (P : X → Type 0) where
   all-filter : (p : X → Bool) (xs : List X) → AllByRecursion P xs → AllByRecursion P (filter p xs)
@@ -19,7 +15,7 @@ module _ {X : Type 0} (P : X → Type 0) where
       (λ f. subst (AllByRecursion P) (sym (cond-false (p x) (x ∷ filter p xs) (filter p xs) f)) (all-filter p xs all.1))
       (cases_Bool (p x))
 
-  all-append : (xs ys : List X) → AllByRecursion P xs → AllByRecursion P ys → AllByRecursion P (xs ++ ys)
+  pub all-append : (xs ys : List X) → AllByRecursion P xs → AllByRecursion P ys → AllByRecursion P (xs ++ ys)
   all-append [] ys a b = b
   all-append (x ∷ xs) ys a b = (a.0, all-append xs ys a.1 b)
 
@@ -53,7 +49,7 @@ found_within entries (key ∷ keys) = more (entry_named entries key) refl (found
     more (Some n) e rest = (named_within entries key n e, rest)
 
 pub listed_within : (entries : List EntryTexts) (keys : List Text) (min : ℕ) → All (λ n. n < length entries) (listed entries keys min)
-listed_within entries keys min = all_from (λ n. n < length entries) (listed entries keys min) (⊎_elim
+listed_within entries keys min = All-from_recursion (λ n. n < length entries) (listed entries keys min) (⊎_elim
     (λ t. subst (Within (length entries)) (sym (cond-true (cites_all keys) (numbers_of entries) by_keys t)) (numbers_within entries))
     (λ f. subst (Within (length entries)) (sym (cond-false (cites_all keys) (numbers_of entries) by_keys f))
     (all-append (λ n. n < length entries) (cited_by_key entries keys) _
@@ -71,7 +67,7 @@ places_within [] count n le = tt
 places_within (key ∷ keys) count n le = (omega (arith, le), places_within keys count (n + 1) (omega (arith, le)))
 
 pub unknown_within : (entries : List EntryTexts) (keys : List Text) → All (λ place. place < length keys) (unknown entries keys)
-unknown_within entries keys = all_from (λ place. place < length keys) (unknown entries keys) (⊎_elim
+unknown_within entries keys = All-from_recursion (λ place. place < length keys) (unknown entries keys) (⊎_elim
     (λ t. subst (Within (length keys)) (sym (cond-true (cites_all keys) [] of_keys t)) tt)
     (λ f. subst (Within (length keys)) (sym (cond-false (cites_all keys) [] of_keys f))
     (all-map (λ n. n < length keys) (λ p. p.0) _ (all-filter (λ p. p.0 < length keys) _ (enumerate_from 0 keys) (places_within keys (length keys) 0 (omega arith)))))

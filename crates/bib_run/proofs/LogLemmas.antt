@@ -12,6 +12,7 @@ use Rattle.bib_spec.specs.Text.{Text}
 use Rattle.bib_spec.specs.Pieces.{Piece}
 use Rattle.edit_spec.specs.Steps.{Step, IsStep, AreSteps, HasSmallNumbers, number_limit}
 use Rattle.bib_run.specs.Log.{old_len, new_len, step_line}
+use Rattle.bib_run.proofs.CitedNumbers.{all-append}
 
 pub past_between : (past future : List Step) → between 0 (length past) (past ++ future) ≡ past
 past_between past future = between_from_start (past ++ future) (length past) ∙ take-append_seam past future
@@ -21,13 +22,9 @@ future_between past future =
     between_to_end (past ++ future) (length past) (length past + length future) (omega (arith, length-append past future)) ∙ drop-append_seam past future
 
 -- a step of a journal can be written
-all_both : {X : Type 0} (P : X → Type 0) (xs ys : List X) → AllByRecursion P xs → AllByRecursion P ys → AllByRecursion P (xs ++ ys)
-all_both P [] ys a b = b
-all_both P (x ∷ xs) ys a b = (a.0, all_both P xs ys a.1 b)
-
 pub is_step_at : (past future : List Step) (n : ℕ) (step : Step) → AreSteps past future → slice_get (past ++ future) n ≡ Some step → IsStep step
 is_step_at past future n step steps at =
-    let all : All IsStep (past ++ future) = All-from_recursion IsStep (past ++ future) (all_both IsStep past future steps.past_steps steps.future_steps) in
+    let all : All IsStep (past ++ future) = All-from_recursion IsStep (past ++ future) (all-append IsStep past future steps.past_steps steps.future_steps) in
     subst IsStep (get_or_from_slice_get (past ++ future) n step step at) (All-get_or IsStep (past ++ future) n step (slice_get_within (past ++ future) n step at) all)
 
 -- one more line

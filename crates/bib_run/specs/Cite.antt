@@ -20,7 +20,7 @@ listed_line entries list n =
 
 -- a question mark and the key at this position, as it was given, a line
 abbrev pub unknown_line : List Text → ℕ → Text
-unknown_line keys place = codes "? " ++ (slice_index_or keys place [] ++ codes "\n")
+unknown_line keys n = codes "? " ++ (slice_index_or keys n [] ++ codes "\n")
 
 -- a line for each entry of the list
 abbrev pub listed_lines : List EntryTexts → List ℕ → Text

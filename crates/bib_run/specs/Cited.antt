@@ -12,10 +12,10 @@ use Rattle.bib_run.specs.Outcome.{answer_of}
 abbrev pub default_min : ℕ
 default_min = 2
 
--- the list, unless there are such places
+-- the list, unless there are positions of keys that find none
 abbrev pub unless_any : List ℕ → List ℕ → Option (List ℕ)
 unless_any [] list = Some list
-unless_any (place ∷ places) list = None
+unless_any (n ∷ ns) list = None
 
 -- the entries that the keys cite, unless a key finds none
 abbrev pub all_cited : List EntryTexts → List Text → Option (List ℕ)

@@ -17,9 +17,13 @@ records_at entries list = filter_map (expanded default_depth entries) list
 abbrev pub chosen_at : List EntryTexts → List ℕ → List Record
 chosen_at entries list = filter_map (λ n. option_map (with_chosen label_names) (expanded default_depth entries n)) list
 
--- a label, a tab, and the key of its record, a line
+-- a label, a tab, and a key, a line
+abbrev pub keyed_line : Text × Text → Text
+keyed_line labelled = labelled.0 ++ (codes "\t" ++ (labelled.1 ++ codes "\n"))
+
+-- a label with the key of its record, a line
 abbrev pub label_line : Text × Record → Text
-label_line labelled = labelled.0 ++ (codes "\t" ++ (labelled.1.key ++ codes "\n"))
+label_line labelled = keyed_line (labelled.0, labelled.1.key)
 
 -- the records with their labels
 abbrev pub labelled : List Record → List (Text × Record)
@@ -34,10 +38,6 @@ abbrev pub labels_answer : List Text → Reading → Answer
 labels_answer = cited_answer label_lines
 
 -- ---- what is kept of the records
-
--- a label, a tab, and a key, a line
-abbrev pub keyed_line : Text × Text → Text
-keyed_line labelled = labelled.0 ++ (codes "\t" ++ (labelled.1 ++ codes "\n"))
 
 -- the label bases of these records, and their keys
 pub record AreToldOf (records : List Record) (bases keys : List Text) : Type 0 where

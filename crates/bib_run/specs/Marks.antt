@@ -15,5 +15,5 @@ abbrev pub AreEntryNumbers : Text → List ℕ → Type 0
 AreEntryNumbers file list = OfReading file (λ db. All (λ n. n < length (entries_of db)) list)
 
 -- there are keys at these positions
-abbrev pub ArePlaces : List Text → List ℕ → Type 0
-ArePlaces keys places = All (λ place. place < length keys) places
+abbrev pub ArePositions : List Text → List ℕ → Type 0
+ArePositions keys positions = All (λ n. n < length keys) positions

@@ -7,7 +7,7 @@ ghost use Rattle.bib_spec.specs.Records.{entries_of, parent};
 ghost use Rattle.bib_store.specs.Meaning.{OfReading, IsEntryNumber};
 ghost use Rattle.bib_run.specs.Opened.{AnswersFile};
 ghost use Rattle.bib_run.specs.Cite.{with_listed, listed_line, listed_lines, unknown_line, cite_answer};
-ghost use Rattle.bib_run.specs.Marks.{AreMarks, AreEntryNumbers, ArePlaces};
+ghost use Rattle.bib_run.specs.Marks.{AreMarks, AreEntryNumbers, ArePositions};
 
 use crate::answers::{Answer, done, unread};
 use crate::opening::open;
@@ -117,12 +117,12 @@ fn add_parent(
 }
 
 /// The lines of the keys at these positions.
-fn add_unknown(out: &mut Vec<u8>, keys: &[Text], places: &[usize]) -> Result<(), AllocError>
-    requires { ArePlaces keys.now places.now }
-    ensures { OnOk result (out.new.items ≡ out.old.items ++ flat_map (unknown_line keys.now) places.now) }
+fn add_unknown(out: &mut Vec<u8>, keys: &[Text], positions: &[usize]) -> Result<(), AllocError>
+    requires { ArePositions keys.now positions.now }
+    ensures { OnOk result (out.new.items ≡ out.old.items ++ flat_map (unknown_line keys.now) positions.now) }
 {
-    for place in places {
-        add_unknown_key(out, keys[*place].as_slice())?;
+    for n in positions {
+        add_unknown_key(out, keys[*n].as_slice())?;
     }
     Ok(())
 }
