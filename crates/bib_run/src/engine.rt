@@ -197,14 +197,17 @@ fn answer_of(
     requires { IsCommand command.now }
     ensures { IfOk result (IsAnswer command.now file.items (option_map (λ text. text.now) journal.entry) input.now) }
 {
+    if command.reads_journal() {
+        return answer_with_journal(alloc, command, file, journal, input);
+    }
     if command.is_named(b"cat") {
         return answer_cat(alloc, file);
     }
     if command.is_named(b"check") {
         return answer_check(alloc, file);
     }
-    if command.is_named(b"edit") {
-        return answer_edit(alloc, file, journal, input);
+    if command.is_named(b"forget") {
+        return answer_forget(alloc, file);
     }
     let words = command.words.as_slice();
     if command.is_named(b"show") {
@@ -222,6 +225,23 @@ fn answer_of(
     if command.is_named(b"names") {
         return answer_names(alloc, file, words[1].as_slice(), words[2].as_slice());
     }
+    unreachable!()
+}
+
+/// The answer of a command that reads its journal.
+fn answer_with_journal(
+    alloc: Global,
+    command: &Command,
+    file: Vec<u8>,
+    journal: Option<&[u8]>,
+    input: &[u8],
+) -> Result<Answer, AllocError>
+    requires { ReadsJournal command.now }
+    ensures { IfOk result (IsAnswer command.now file.items (option_map (λ text. text.now) journal.entry) input.now) }
+{
+    if command.is_named(b"edit") {
+        return answer_edit(alloc, file, journal, input);
+    }
     if command.is_named(b"undo") {
         return answer_undo(alloc, file, journal, command.n as usize);
     }
@@ -230,9 +250,6 @@ fn answer_of(
     }
     if command.is_named(b"log") {
         return answer_log(alloc, file, journal);
-    }
-    if command.is_named(b"forget") {
-        return answer_forget(alloc, file);
     }
     if command.is_named(b"import") {
         return answer_import(alloc, file, journal, input);

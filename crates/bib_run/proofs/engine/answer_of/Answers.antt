@@ -9,7 +9,7 @@ use Rattle.bib_run.specs.Cite.{cite_answer}
 use Rattle.bib_run.specs.Labels.{labels_answer}
 use Rattle.bib_run.specs.Ris.{ris_answer}
 use Rattle.bib_run.specs.Names.{Spells, names_answer}
-use Rattle.bib_run.specs.Answers.{of_reading, check, show, cite, labels, ris, names, edit, import, undo, redo, log, forget, key_word, template_word}
+use Rattle.bib_run.specs.Answers.{of_reading, check, show, cite, labels, ris, names, forget, key_word, template_word}
 use Rattle.bib_run.proofs.engine.answer_of.Goals as goal
 
 pub returns-then-is_named-2 : goal.returns-then-is_named-2
@@ -19,8 +19,8 @@ returns-then-is_named-2 c =
 
 pub returns-then-is_named-3 : goal.returns-then-is_named-3
 returns-then-is_named-3 c =
-    let named : c.args.command.now.name ≡ codes "edit" = search rules in
-    IfOk-weaker c.answer_edit.result _ _ (λ answer h. edit named h) c.answer_edit.ensures
+    let named : c.args.command.now.name ≡ codes "forget" = search rules in
+    IfOk-weaker c.answer_forget.result _ _ (λ answer h. forget named h) c.answer_forget.ensures
 
 pub returns-then-is_named-4 : goal.returns-then-is_named-4
 returns-then-is_named-4 c =
@@ -68,28 +68,3 @@ returns-then-is_named-8 c =
     ∙ ap (λ (words : List Text). get_or words 2 []) c.as_slice-words.ensures in
     IfOk-weaker c.answer_names.result _ _ (λ answer h. of_reading _ (names named h.pattern (subst (λ t. Spells t h.pattern) template h.spells))
     (subst (λ k. AnswersFile (names_answer k h.pattern) c.args.file.items answer) key h.answers)) c.answer_names.ensures
-
-pub returns-then-is_named-9 : goal.returns-then-is_named-9
-returns-then-is_named-9 c =
-    let named : c.args.command.now.name ≡ codes "undo" = search rules in
-    IfOk-weaker c.answer_undo.result _ _ (λ answer h. undo named h) c.answer_undo.ensures
-
-pub returns-then-is_named-10 : goal.returns-then-is_named-10
-returns-then-is_named-10 c =
-    let named : c.args.command.now.name ≡ codes "redo" = search rules in
-    IfOk-weaker c.answer_redo.result _ _ (λ answer h. redo named h) c.answer_redo.ensures
-
-pub returns-then-is_named-11 : goal.returns-then-is_named-11
-returns-then-is_named-11 c =
-    let named : c.args.command.now.name ≡ codes "log" = search rules in
-    IfOk-weaker c.answer_log.result _ _ (λ answer h. log named h) c.answer_log.ensures
-
-pub returns-then-is_named-12 : goal.returns-then-is_named-12
-returns-then-is_named-12 c =
-    let named : c.args.command.now.name ≡ codes "forget" = search rules in
-    IfOk-weaker c.answer_forget.result _ _ (λ answer h. forget named h) c.answer_forget.ensures
-
-pub returns-then-is_named-13 : goal.returns-then-is_named-13
-returns-then-is_named-13 c =
-    let named : c.args.command.now.name ≡ codes "import" = search rules in
-    IfOk-weaker c.answer_import.result _ _ (λ answer h. import named h) c.answer_import.ensures
