@@ -1,6 +1,6 @@
 //! `check`: what is in a file, and what is wrong with it.
 
-ghost use Rattle.std.specs.Prelude.{◌≡◌, ◌+◌, ◌<◌, ◌^◌, if◌then◌else◌, IfOk};
+ghost use Rattle.std.specs.Prelude.{◌≡◌, ◌++◌, ◌+◌, ◌<◌, ◌^◌, if◌then◌else◌, IfOk};
 ghost use Rattle.bib_spec.specs.Tree.{is_comment};
 ghost use Rattle.bib_store.specs.Meaning.{OfReading};
 ghost use Rattle.bib_answers.specs.Opened.{AnswersFile};
@@ -30,7 +30,7 @@ fn check(alloc: Global, db: &Database<Paged>) -> Result<Answer, AllocError>
     ensures { IfOk result (λ answer. OfReading db.now (λ r. answer ≡ check_answer r)) }
 {
     let found = look_through(alloc, db)?;
-    let mut out = write_counts(
+    let counts = write_counts(
         alloc,
         db.item_count(),
         db.entry_count(),
@@ -38,8 +38,19 @@ fn check(alloc: Global, db: &Database<Paged>) -> Result<Answer, AllocError>
         db.preamble_count(),
         found.comments,
     )?;
-    out.extend_from_slice(found.reports.as_slice())?;
+    let out = put_first(counts.as_slice(), found.reports)?;
     Ok(done(alloc, Text::from_vec(out)))
+}
+
+/// The text with these bytes before it, in the memory that it has.
+fn put_first(bytes: &[u8], text: Vec<u8>) -> Result<Vec<u8>, AllocError>
+    ensures { IfOk result (λ out. out.items ≡ bytes.now ++ text.items) }
+{
+    let mut out = text;
+    let len = out.len();
+    out.extend_from_slice(bytes)?;
+    out.rotate_left(len);
+    Ok(out)
 }
 
 /// How many items, entries, macro definitions, preambles and comments there are.

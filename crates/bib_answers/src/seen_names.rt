@@ -85,13 +85,15 @@ impl<'a> SeenNames<'a> {
         ensures { OnOk result ((names : List Text) → HaveSeen self.old names → HaveSeen self.new (name.now ∷ names)) }
     {
         match &mut self.others {
-            Some(others) => others.insert(name, ()),
+            Some(others) => {
+                others.insert(name, ())?;
+            }
             None => {
                 let mut others = FoldedMap::new(self.alloc);
                 others.insert(name, ())?;
                 self.others = Some(others);
-                Ok(())
             }
         }
+        Ok(())
     }
 }

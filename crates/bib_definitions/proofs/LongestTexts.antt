@@ -11,7 +11,7 @@ use Rattle.bib_value.specs.FoldedMap.{IsWith}
 use Rattle.bib_definitions.specs.declared.by_name.Definition.{Definition}
 use Rattle.bib_definitions.specs.ByName.{Defined, definitions_of, texts_after}
 use Rattle.bib_definitions.specs.Definitions.{AreAtMost, AreWithin}
-use Rattle.bib_definitions.proofs.DefinitionTables.{at_same, at_before, at_other}
+use Rattle.bib_definitions.proofs.DefinedNames.{at_same, at_before, at_other}
 
 -- the first of these texts that passes is as short as all are
 all_within : (n : ℕ) (test : Text × Text → Bool) (names : List (Text × Text)) → AllByRecursion (λ m. length m.1 ≤ n) names → (t : Text) → option_map (λ m. m.1) (find test names) ≡ Some t → length t ≤ n

@@ -1,9 +1,9 @@
 -- The definitions of each name, as the code keeps them.
-use Rattle.std.specs.Prelude.{◌≡◌, ◌<◌, ℕ, nat_lt, List, [], ◌∷◌, length, map, Option, Some, None, unwrap_or, slice_index_or, if◌then◌else◌}
+use Rattle.std.specs.Prelude.{◌≡◌, ◌<◌, ◌+◌, ℕ, nat_lt, bytes_eq, List, [], ◌∷◌, length, map, Option, Some, None, unwrap_or, slice_index_or, if◌then◌else◌}
 use Rattle.std.specs.List.{All}
 use Rattle.std.specs.List.Sorted.{IsNonDecreasingBy}
 use Rattle.std.specs.declared.vec.Vec.{Vec}
-use Rattle.bib_spec.specs.Text.{Text}
+use Rattle.bib_spec.specs.Text.{Text, folded}
 use Rattle.bib_spec.specs.Texts.{Macros, months}
 use Rattle.bib_value.specs.FoldedMap.{value_at}
 use Rattle.bib_value.specs.Macros.{or_else}
@@ -28,6 +28,24 @@ texts_after defined r = λ name. or_else (text_after r (definitions_of defined n
 -- all definitions are among the first r
 abbrev pub EndsBy : ℕ → Defined → Type 0
 EndsBy r defined = (name : Text) → All (λ d. d.rank < r) (definitions_of defined name)
+
+-- ---- all definitions in file order
+
+-- the definitions of a folded name among these, each of which has a folded name and the text that it gives, where the first has this rank
+abbrev pub named_among : Text → ℕ → List (Text × Text) → List Definition
+named_among name rank [] = []
+named_among name rank (d ∷ all) =
+    if bytes_eq name d.0 then (record { rank = rank; text = d.1 }) ∷ named_among name (rank + 1) all else named_among name (rank + 1) all
+
+-- the definitions of each name, and the name of each definition in file order
+pub record Named : Type 0 where
+  pub defined : Defined
+  pub order : List Text
+
+-- these are all definitions, in file order
+pub record AreAllOf (named : Named) (all : List (Text × Text)) : Type 0 where
+  pub listed : (name : Text) → definitions_of named.defined name ≡ named_among name 0 all
+  pub ordered : map folded named.order ≡ map (λ d. d.0) all
 
 -- ---- names with numbers, and a list of definitions for each number
 

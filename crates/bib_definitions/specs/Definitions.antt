@@ -1,21 +1,21 @@
 -- The macros that a file defines, and what they stand for where each item stands.
-use Rattle.std.specs.Prelude.{◌≡◌, ◌≤◌, ℕ, Bool, true, false, List, length, map, filter, Some}
+use Rattle.std.specs.Prelude.{◌≡◌, ◌≤◌, ℕ, Bool, true, false, List, [], ◌∷◌, length, map, filter, Some}
 use Rattle.std.specs.List.{enumerate_from}
-use Rattle.bib_spec.specs.Text.{Text}
+use Rattle.bib_spec.specs.Text.{Text, folded}
 use Rattle.bib_spec.specs.Tree.{Tree, CommentTree, DefinitionTree, PreambleTree, EntryTree}
 use Rattle.bib_spec.specs.Reading.{Item}
-use Rattle.bib_spec.specs.Texts.{Macros, months, updated, macros_after, macros_at}
+use Rattle.bib_spec.specs.Texts.{Macros, months, raw_text, macros_in, macros_at, gathered}
 use Rattle.bib_entries.specs.Numbers.{rank_in}
-use Rattle.bib_definitions.specs.ByName.{Defined, texts_after}
+use Rattle.bib_definitions.specs.ByName.{Defined, Named, AreAllOf, texts_after}
 
 -- the numbers that the definitions have among the items, and the definitions of each name
 pub record Known : Type 0 where
   pub numbers : List ℕ
-  pub names : Defined
+  pub names : Named
 
 -- what macros stand for before item n: what they do after the definitions that stand before it
 abbrev pub texts_at : Known → ℕ → Macros
-texts_at known n = texts_after known.names (rank_in n known.numbers)
+texts_at known n = texts_after known.names.defined (rank_in n known.numbers)
 
 -- no text that a name stands for is longer
 abbrev pub AreAtMost : ℕ → Macros → Type 0
@@ -35,11 +35,28 @@ is_definition_tree (EntryTree e) = false
 abbrev pub definition_numbers : List Item → List ℕ
 definition_numbers items = map (λ p. p.0) (filter (λ p. is_definition_tree p.1.tree) (enumerate_from 0 items))
 
--- the table says which of these items are definitions, and what macros stand for where each item stands, and after the last
+-- the definition that an item is, as its folded name with the text that it gives, or nothing for other items
+abbrev pub defined_by : Macros → Tree → List (Text × Text)
+defined_by macros (DefinitionTree d) = (folded d.assignment.name, raw_text (macros_in macros (DefinitionTree d)) d.assignment.value) ∷ []
+defined_by macros (CommentTree h) = []
+defined_by macros (PreambleTree p) = []
+defined_by macros (EntryTree e) = []
+
+-- the definitions of a file, in order
+abbrev pub definitions_in : List Item → List (Text × Text)
+definitions_in items = gathered defined_by months items
+
+-- the table says which of these items are definitions, which names they give which texts, and so what macros stand for
+-- where each item stands, and after the last
 pub record AreDefinitionsOf (items : List Item) (known : Known) : Type 0 where
   pub numbers : known.numbers ≡ definition_numbers items
+  pub all : AreAllOf known.names (definitions_in items)
   pub texts : (n : ℕ) → texts_at known n ≡ macros_at months items n
 
--- after an item that sees these macros, the name stands for the text, and the others for what they stood for
+-- an item that sees these macros is a definition, and gives the name this text
 abbrev pub Defines : Macros → Tree → Text → Text → Type 0
-Defines macros tree name text = macros_after macros tree ≡ updated macros name (Some text)
+Defines macros tree name text = defined_by macros tree ≡ (folded name, text) ∷ []
+
+-- the definitions among the items give the same texts, whatever macros stand for before them
+abbrev pub AreSettled : List Item → Type 0
+AreSettled items = (a b : Macros) → gathered defined_by a items ≡ gathered defined_by b items

@@ -5,4 +5,4 @@ use Rattle.bib_definitions.specs.declared.macros_at.MacrosAt.{MacrosAt}
 
 -- what the macros stand for
 abbrev pub macros_seen : MacrosAt → Macros
-macros_seen m = texts_after m.names.now m.rank
+macros_seen m = texts_after m.names.now.defined m.rank

@@ -1,43 +1,35 @@
 //! The macros that a file defines, and where.
 
-use crate::by_name::{ByName, Definition};
 use crate::macros_at::MacrosAt;
+use crate::names::Names;
 use bib_entries::Numbers;
 use bib_scan::Text;
 use std::alloc::{AllocError, Global};
 use std::marker::Model;
-
-/// How long the longest text of a month is: `September`.
-const LONGEST_MONTH: usize = 9;
+use std::mem;
 
 /// All definitions of a file, and the numbers that they have among its items. An item that comes or goes and defines
 /// nothing costs a step for each page of definitions, and some for those of one.
 #[derive(Drop)]
 pub struct Definitions {
     numbers: Numbers,
-    names: ByName,
-    // no name stands for a longer text
-    longest: usize,
+    names: Names,
 }
 
 impl Model for Definitions {
-    ghost use Rattle.std.specs.Prelude.{length};
-    ghost use Rattle.bib_definitions.specs.ByName.{EndsBy};
-    ghost use Rattle.bib_definitions.specs.Definitions.{Known, AreWithin};
+    ghost use Rattle.bib_definitions.specs.Definitions.{Known};
 
     ghost Value = { Known };
 
     ghost view = { λ d. record { numbers = d.numbers; names = d.names } };
-
-    ghost invariant = { λ d. EndsBy (length d.numbers) d.names × AreWithin d.longest d.names };
 }
 
 impl Definitions {
-    ghost use Rattle.std.specs.Prelude.{◌≡◌, ◌+◌, ◌<◌, ◌≤◌, ◌^◌, ◌++◌, ◌∷◌, [], true, false, ℕ, List, length, OnOk, OnErr};
+    ghost use Rattle.std.specs.Prelude.{◌≡◌, ◌+◌, ◌<◌, ◌≤◌, ◌^◌, ◌++◌, ◌∷◌, [], true, false, ℕ, List, length, IfOk, OnOk, OnErr};
     ghost use Rattle.bib_spec.specs.Bytes.{name_limit};
     ghost use Rattle.bib_spec.specs.Reading.{Item};
     ghost use Rattle.bib_spec.specs.Texts.{months, macros_at};
-    ghost use Rattle.bib_definitions.specs.Definitions.{texts_at, is_definition_tree, AreDefinitionsOf, Defines, AreAtMost};
+    ghost use Rattle.bib_definitions.specs.Definitions.{texts_at, is_definition_tree, AreDefinitionsOf, Defines, AreAtMost, AreSettled};
     ghost use Rattle.bib_definitions.specs.MacrosSeen.{macros_seen};
 
     /// No definitions: names stand for months alone. It takes no memory.
@@ -46,8 +38,7 @@ impl Definitions {
     {
         Definitions {
             numbers: Numbers::new(alloc),
-            names: ByName::new(alloc),
-            longest: LONGEST_MONTH,
+            names: Names::new(alloc),
         }
     }
 
@@ -57,19 +48,39 @@ impl Definitions {
         ensures ok { OnOk result ((items : List Item) (item : Item) → length items ≡ n → is_definition_tree item.tree ≡ true → AreDefinitionsOf items self.old → Defines (macros_at months items n) item.tree name.now text → AreDefinitionsOf (items ++ item ∷ []) self.new) }
         ensures err { OnErr result ((items : List Item) → length items ≡ n → AreDefinitionsOf items self.old → AreDefinitionsOf items self.new) }
     {
-        let rank = self.numbers.count();
-        let len = text.as_slice().len();
         self.numbers.insert(n)?;
-        match self.names.put(name, Definition { rank, text }) {
-            Ok(()) => {
-                self.longest = self.longest.max(len);
-                Ok(())
-            }
+        match self.names.put(name, text) {
+            Ok(()) => Ok(()),
             Err(fault) => {
                 self.numbers.remove(n);
                 Err(fault)
             }
         }
+    }
+
+    /// The names as they are where the definition that is item `n` gives way to another, which gives this name this text,
+    /// in memory of their own. It takes time in the count of definitions, and memory in their length.
+    pub fn redefined(
+        &self,
+        alloc: Global,
+        n: usize,
+        name: &[u8],
+        text: &[u8],
+    ) -> Result<Names, AllocError>
+        ensures { IfOk result (λ names. (before after : List Item) (old new : Item) → length before ≡ n → is_definition_tree old.tree ≡ true → Defines (macros_at months before n) new.tree name.now text.now → AreSettled after
+            → AreDefinitionsOf (before ++ old ∷ after) self.now → AreDefinitionsOf (before ++ new ∷ after) (record { numbers = self.now.numbers; names = names })) }
+    {
+        let rank = self.numbers.rank(n);
+        let names = self.names.exchanged(alloc, rank, name, text)?;
+        Ok(names)
+    }
+
+    /// Exchanges the names for others, and gives those that they were. It asks for no memory.
+    pub fn exchange(&mut self, names: Names) -> Names
+        ensures now { self.new ≡ record { numbers = self.old.numbers; names = names } }
+        ensures was { result ≡ self.old.names }
+    {
+        mem::replace(&mut self.names, names)
     }
 
     /// Makes way for an item that comes as item `n` and defines nothing. Up to it, macros stand for what they stood for.
@@ -91,7 +102,7 @@ impl Definitions {
     pub fn longest(&self) -> usize
         ensures { (n : ℕ) → AreAtMost result (texts_at self.now n) }
     {
-        self.longest
+        self.names.longest()
     }
 
     /// What macros stand for before item `n`. It takes time in the logarithm of the count of definitions.

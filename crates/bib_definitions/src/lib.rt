@@ -6,6 +6,8 @@
 mod by_name;
 mod definitions;
 mod macros_at;
+mod names;
 
 pub use definitions::Definitions;
 pub use macros_at::MacrosAt;
+pub use names::Names;

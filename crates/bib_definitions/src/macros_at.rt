@@ -1,12 +1,12 @@
 //! Macros as an item sees them.
 
-use crate::by_name::ByName;
+use crate::names::Names;
 use bib_value::MacroTable;
 
 /// What macros stand for where an item stands. It takes no memory.
 #[derive(Drop)]
 pub struct MacrosAt<'a> {
-    pub(crate) names: &'a ByName,
+    pub(crate) names: &'a Names,
     pub(crate) rank: usize,
 }
 

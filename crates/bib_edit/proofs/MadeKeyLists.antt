@@ -61,19 +61,18 @@ made-none first bases t keys are none = record {
   made = ap (λ (l : List Text). l ++ made_keys first bases) none;
 }
 
-pub made-more : (first bases : List Text) (n : ℕ) (t tried s : TakenKeys) (keys more : List Text) (base key : Text) → AreMadeTo first bases n t keys → slice_get bases n ≡ Some base →
+pub made-more : (first bases : List Text) (n : ℕ) (t s : TakenKeys) (keys more : List Text) (base key : Text) → AreMadeTo first bases n t keys → slice_get bases n ≡ Some base →
     ((taken : List Text) → AreTaken taken t → key ≡ free_key taken base) →
-    ((taken : List Text) → AreTaken taken t → AreTaken taken tried) →
-    ((taken : List Text) → AreTaken taken tried → AreTaken (key ∷ taken) s) →
+    ((taken : List Text) → AreTaken taken t → AreTaken (key ∷ taken) s) →
     more ≡ keys ++ key ∷ [] → AreMadeTo first bases (n + 1) s more
-made-more first bases n t tried s keys more base key to at is_key stays adds is =
+made-more first bases n t s keys more base key to at is_key adds is =
     let next = next-of bases n (slice_get_within bases n base at) in
     let base_is : next.0 ≡ base = same_Some next.0 base (sym next.1 ∙ at) in
     let key_is : free_key to.taken base ≡ key = sym (is_key to.taken to.are) in
     let rest : List Text = drop (n + 1) bases in
     record {
       taken = key ∷ to.taken;
-      are = adds to.taken (stays to.taken to.are);
+      are = adds to.taken to.are;
       made =
           ap (λ (l : List Text). l ++ made_keys (key ∷ to.taken) rest) is
           ∙ append_assoc keys (key ∷ []) (made_keys (key ∷ to.taken) rest)

@@ -13,9 +13,10 @@ use Rattle.std.proofs.lemmas.List.Folds.{list_any-append}
 use Rattle.bib_spec.specs.Bytes.{name_limit}
 use Rattle.bib_spec.specs.Text.{Text, folded, same}
 use Rattle.bib_spec.specs.MadeKeys.{letters, candidate, is_taken}
-use Rattle.bib_spec.proofs.Names.{same-true, same_of}
+use Rattle.bib_spec.proofs.Names.{same-true, true-same, same_of}
 use Rattle.bib_value.specs.FoldedMap.{value_at, IsWith}
 use Rattle.bib_edit.proofs.SeenNames.{copied-some}
+use Rattle.bib_edit.proofs.FirstFree.{tried-more}
 use Rattle.bib_edit.specs.TakenKeys.{AreTaken, AreTried}
 use Rattle.bib_edit.specs.declared.taken_keys.TakenKeys.{TakenKeys}
 
@@ -84,6 +85,12 @@ with-tried keys base n t s are tried kept with count = record {
       (cases_Bool (same other base));
   count = count ∙ are.count;
 }
+
+-- with the candidate that comes after those that are tried, one more is
+pub tried-free : (keys : List Text) (key base : Text) (n : ℕ) → AreTried keys base n → key ≡ candidate base n → AreTried (key ∷ keys) base (n + 1)
+tried-free keys key base n tried is =
+    tried-more (key ∷ keys) base n (tried_more keys key base n tried)
+    (ap (λ b. b || is_taken keys (candidate base n)) (true-same (candidate base n) key (ap folded (sym is))))
 
 -- ---- many keys
 

@@ -60,9 +60,7 @@ pub(crate) fn made_keys<L: ItemList>(
     let mut keys = Vec::new(alloc);
     'entries: for n in 0..db.entry_count() {
         let base = base_of(alloc, db, n, names)?;
-        let key = taken.free_key(base.as_slice())?;
-        taken.add(key.as_slice())?;
-        keys.push(key)?;
+        keys.push(taken.take_free(base.as_slice())?)?;
     }
     Ok(Seq::from_vec(keys))
 }
@@ -98,7 +96,7 @@ pub fn free_key<L: ItemList>(
     ensures only { IfErr result (λ fault. fault ≡ Memory) }
 {
     let mut known = taken_in(alloc, db, taken)?;
-    Ok(known.free_key(base)?)
+    Ok(known.take_free(base)?)
 }
 
 /// A free key for each of these bases in turn, as `free_key` finds one, which then is taken too. It takes time in the
@@ -117,9 +115,7 @@ pub fn free_keys<L: ItemList>(
     let mut known = taken_in(alloc, db, taken)?;
     let mut keys = Vec::new(alloc);
     'bases: for base in bases {
-        let key = known.free_key(base.as_slice())?;
-        known.add(key.as_slice())?;
-        keys.push(key)?;
+        keys.push(known.take_free(base.as_slice())?)?;
     }
     Ok(Seq::from_vec(keys))
 }

@@ -1,11 +1,13 @@
 //! The pieces that give entries new keys, and name them by these in crossrefs.
 
-ghost use Rattle.std.specs.Prelude.{◌≡◌, ◌≤◌, ◌<◌, ◌+◌, ◌++◌, ℕ, None, Some, length, option_and_then, IfOk, IfErr, IfSome, OnOk};
+ghost use Rattle.std.specs.Prelude.{◌≡◌, ◌≤◌, ◌<◌, ◌+◌, ◌++◌, ℕ, None, Some, length, option_and_then, slice_get, IfOk, IfErr, IfSome, OnOk};
 ghost use Rattle.std.specs.Option.{option_copied, IfNone};
 ghost use Rattle.bib_spec.specs.Bytes.{name_limit};
 ghost use Rattle.bib_spec.specs.Records.{entries_of, entry_named, target};
+ghost use Rattle.bib_spec.specs.Reading.{Item};
+ghost use Rattle.bib_scan.specs.View.{view_of};
 ghost use Rattle.bib_scan.specs.Layout.{start_of};
-ghost use Rattle.bib_store.specs.Meaning.{OfReading, IsEntryNumber, IsItemPlace};
+ghost use Rattle.bib_store.specs.Meaning.{OfReading, IsEntryNumber, IsItemPlace, entry_items};
 ghost use Rattle.bib_edit.specs.Definitions.{braced};
 ghost use Rattle.bib_edit.specs.NewKeys.{key_of, key_piece, crossref_piece, new_target, IsEntrySeen, IsEntryPlace, pieces_at, rekeying, RefersAt, ArePassed, AreQuiet, HavePieces};
 ghost use Rattle.bib_edit.specs.declared.fault.EditFault.TheVariants.{Memory};
@@ -22,7 +24,7 @@ use std::alloc::{AllocError, Global};
 fn braced(alloc: Global, key: &[u8]) -> Result<Text, AllocError>
     ensures { IfOk result (λ text. text ≡ braced key.now) }
 {
-    let mut text = Vec::new(alloc);
+    let mut text = Vec::with_capacity(alloc, key.len().saturating_add(2))?;
     text.extend_from_slice(b"{")?;
     text.extend_from_slice(key)?;
     text.extend_from_slice(b"}")?;
@@ -89,24 +91,25 @@ fn new_target<'a, L: ItemList>(db: &Database<L>, new: &'a NewKeys, n: usize) -> 
     }
 }
 
-/// Adds the pieces of entry `n`, whose item begins at this place.
+/// Adds the pieces of entry `n`, whose item is seen and begins at this place.
 fn push_entry_at<L: ItemList>(
     alloc: Global,
     db: &Database<L>,
     new: &NewKeys,
     n: usize,
     start: usize,
+    view: &ItemView<'_>,
     pieces: &mut Vec<Piece>,
 ) -> Result<(), EditFault>
     requires number { IsEntryNumber db.now n }
     requires place { OfReading db.now (λ r. IsEntryPlace r n start) }
+    requires view { OfReading db.now (λ r. (i : Item) → slice_get (entry_items r.items) n ≡ Some i → view.now ≡ view_of i) }
     ensures pieces { OnOk result (OfReading db.now (λ r. pieces.new.items ≡ pieces.old.items ++ pieces_at new.now r n)) }
     ensures only { IfErr result (λ fault. fault ≡ Memory) }
 {
     db.opens();
-    let view = db.entry(n);
-    push_key(alloc, pieces, start, &view, new.of(n))?;
-    push_crossref(alloc, pieces, start, &view, new_target(db, new, n))
+    push_key(alloc, pieces, start, view, new.of(n))?;
+    push_crossref(alloc, pieces, start, view, new_target(db, new, n))
 }
 
 /// Adds the pieces of entry `n`.
@@ -123,7 +126,7 @@ fn push_entry<L: ItemList>(
 {
     db.opens();
     let start = db.item_place(db.entry_item(n));
-    push_entry_at(alloc, db, new, n, start, pieces)
+    push_entry_at(alloc, db, new, n, start, &db.entry(n), pieces)
 }
 
 /// The place of item `to`, given that of item `from`. It takes a look at each item between them.
@@ -155,14 +158,18 @@ pub(crate) fn rekeying<L: ItemList>(
     ensures only { IfErr result (λ fault. fault ≡ Memory) }
 {
     db.opens();
+    // An item's number, which is below their count, can grow by one.
+    let _ = db.item_count();
     let mut pieces = Vec::new(alloc);
     let mut item = 0;
     let mut place = db.item_place(item);
     'entries: for n in 0..db.entry_count() {
         let next = db.entry_item(n);
-        place = place_from(db, item, place, next);
-        item = next;
-        push_entry_at(alloc, db, new, n, place, &mut pieces)?;
+        let start = place_from(db, item, place, next);
+        let view = db.item(next);
+        push_entry_at(alloc, db, new, n, start, &view, &mut pieces)?;
+        item = next + 1;
+        place = start + (view.body().len() + view.trail().len());
     }
     Ok(Seq::from_vec(pieces))
 }

@@ -24,7 +24,7 @@ impl TakenKeys {
     ghost use Rattle.bib_spec.specs.Bytes.{name_limit};
     ghost use Rattle.bib_spec.specs.Text.{Text as Bytes};
     ghost use Rattle.bib_spec.specs.Records.{entries_of, keys_of, dangling_texts};
-    ghost use Rattle.bib_spec.specs.MadeKeys.{free_key, base_limit};
+    ghost use Rattle.bib_spec.specs.MadeKeys.{candidate, free_key, base_limit};
     ghost use Rattle.bib_store.specs.Meaning.{OfReading, IsEntryNumber};
     ghost use Rattle.bib_edit.specs.TakenKeys.{AreTaken, AreTried};
     ghost use Rattle.bib_edit.specs.Dangling.{dangling_at};
@@ -69,6 +69,7 @@ impl TakenKeys {
         requires short { length base.now ≤ base_limit }
         requires count { self.now.count + 1 < 2 ^ 64 }
         ensures key { IfOk result (λ found. (keys : List Bytes) → AreTaken keys self.now → AreTried keys base.now from → found.0 ≡ free_key keys base.now) }
+        ensures number { IfOk result (λ found. (found.0 ≡ candidate base.now found.1) × (found.1 ≤ self.now.count)) }
         ensures tried { IfOk result (λ found. (keys : List Bytes) → AreTaken keys self.now → AreTried keys base.now from → AreTried keys base.now found.1) }
         ensures short { IfOk result (λ found. length found.0 ≤ name_limit) }
     {
@@ -81,22 +82,53 @@ impl TakenKeys {
             n += 1;
         }
         // It does not come to this: of one more candidates than there are taken keys one is free.
-        Ok((candidate(self.alloc, base, 0)?, n))
+        Ok((candidate(self.alloc, base, 0)?, 0))
     }
 
-    /// The first candidate of the base that is not taken.
-    pub(crate) fn free_key(&mut self, base: &[u8]) -> Result<Text, AllocError>
+    /// Notes that so many candidates of the base are taken. Of one it is not noted: to try that one again takes less.
+    fn note(&mut self, base: &[u8], n: usize) -> Result<(), AllocError>
+        requires { length base.now ≤ base_limit }
+        ensures taken { OnOk result ((keys : List Bytes) → AreTaken keys self.old → AreTried keys base.now n → AreTaken keys self.new) }
+        ensures count { OnOk result (self.new.count ≡ self.old.count) }
+    {
+        if n < 2 {
+            return Ok(());
+        }
+        match self.tried.replace(base, n) {
+            Some(_) => Ok(()),
+            None => {
+                self.tried.insert(base, n)?;
+                Ok(())
+            }
+        }
+    }
+
+    /// Takes the key that is candidate `n` of the base, where those before it are taken.
+    fn take(&mut self, base: &[u8], n: usize, key: &[u8]) -> Result<(), AllocError>
+        requires short { length base.now ≤ base_limit }
+        requires count { self.old.count + 1 < 2 ^ 64 }
+        requires number { n + 1 < 2 ^ 64 }
+        ensures taken { OnOk result ((keys : List Bytes) → AreTaken keys self.old → AreTried keys base.now n → key.now ≡ candidate base.now n → AreTaken (key.now ∷ keys) self.new) }
+        ensures count { OnOk result (self.new.count ≡ self.old.count + 1) }
+    {
+        self.add(key)?;
+        self.note(base, n + 1)?;
+        Ok(())
+    }
+
+    /// Takes the first candidate of the base that is not taken.
+    pub(crate) fn take_free(&mut self, base: &[u8]) -> Result<Text, AllocError>
         requires short { length base.now ≤ base_limit }
         requires count { self.old.count + 1 < 2 ^ 64 }
         ensures key { IfOk result (λ key. (keys : List Bytes) → AreTaken keys self.old → key ≡ free_key keys base.now) }
         ensures short { IfOk result (λ key. length key ≤ name_limit) }
-        ensures taken { OnOk result ((keys : List Bytes) → AreTaken keys self.old → AreTaken keys self.new) }
-        ensures count { OnOk result (self.new.count ≡ self.old.count) }
+        ensures taken { IfOk result (λ key. (keys : List Bytes) → AreTaken keys self.old → AreTaken (key ∷ keys) self.new) }
+        ensures count { OnOk result (self.new.count ≡ self.old.count + 1) }
     {
         let from = self.tried(base);
-        let (key, n) = self.first_free(base, from)?;
-        self.tried.insert(base, n)?;
-        Ok(key)
+        let (free, n) = self.first_free(base, from)?;
+        self.take(base, n, free.as_slice())?;
+        Ok(free)
     }
 
     /// Takes these keys.

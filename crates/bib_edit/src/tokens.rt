@@ -1,8 +1,9 @@
 //! The parts of a file that an edit seeks, each with its place.
 
-ghost use Rattle.std.specs.Prelude.{◌≡◌, ◌+◌, ◌<◌, ◌^◌, ◌++◌, ◌∷◌, [], drop, length, slice_get, Some, OnOk, IfOk, IfErr};
+ghost use Rattle.std.specs.Prelude.{◌≡◌, ◌+◌, ◌<◌, ◌^◌, ◌++◌, ◌∷◌, [], ℕ, List, nat_lt, drop, length, slice_get, Some, OnOk, IfOk, IfErr};
 ghost use Rattle.std.specs.Option.{option_map};
 ghost use Rattle.bib_spec.specs.Bytes.{name_limit};
+ghost use Rattle.bib_spec.specs.Text.{Text as Bytes};
 ghost use Rattle.bib_spec.specs.Tree.{part_bytes};
 ghost use Rattle.bib_spec.specs.Reading.{Item, IsValueWithin};
 ghost use Rattle.edit_spec.specs.Edits.{any_part};
@@ -146,8 +147,23 @@ pub(crate) fn push_from<'a, L: ItemList>(
     Ok(())
 }
 
+/// Whether a part of these fields is sought.
+pub(crate) fn have_sought(
+    alloc: Global,
+    fields: Fields<'_>,
+    sought: Sought<'_>,
+) -> Result<bool, EditFault>
+    requires { ArePlacedFields 0 fields }
+    ensures have { IfOk result (λ have. (tokens : List (ℕ × Bytes)) × AreFieldTokens (test_of sought.entry) 0 fields.entry [] tokens × (have ≡ nat_lt 0 (length tokens))) }
+    ensures only { IfErr result (λ fault. fault ≡ Memory) }
+{
+    let mut tokens = Vec::new(alloc);
+    push_in_fields(alloc, &mut tokens, 0, fields, sought)?;
+    Ok(!tokens.as_slice().is_empty())
+}
+
 /// Whether a part of item `n` is sought.
-pub(crate) fn has_sought<L: ItemList>(
+fn has_sought<L: ItemList>(
     alloc: Global,
     db: &Database<L>,
     n: usize,
@@ -158,9 +174,7 @@ pub(crate) fn has_sought<L: ItemList>(
     ensures only { IfErr result (λ fault. fault ≡ Memory) }
 {
     db.opens();
-    let mut tokens = Vec::new(alloc);
-    push_in_fields(alloc, &mut tokens, 0, db.item(n).fields(), sought)?;
-    Ok(!tokens.as_slice().is_empty())
+    have_sought(alloc, db.item(n).fields(), sought)
 }
 
 /// The number of the first item of which a part is sought.

@@ -59,6 +59,13 @@ module _ (n : ℕ) (pages : List (List ℕ)) (ascend : Ascend (joined pages)) (f
       ascend_first : (a b c : List ℕ) → Ascend (a ++ (b ++ c)) → Ascend (a ++ b)
       ascend_first a b c up = (ascend_parts (a ++ b) c (subst Ascend (sym (append_assoc a b c)) up)).0
 
+  -- where the last page ends below n, all numbers are below it
+  pub rank_last : (p : ℕ) → p + 1 ≡ length pages → ends_below n (page_at pages p) ≡ true → length (joined pages) ≡ rank_in n (joined pages)
+  rank_last p last is =
+      let h : p < length pages = omega (arith, last) in
+      let whole = sym (joined-more pages p h) ∙ joined-past pages (p + 1) (omega (arith, last)) in
+      sym (rank_all n (joined pages) (subst (AllByRecursion (λ m. m < n)) whole (below_page p h is)))
+
   -- after a page that does not, none is
   above_page : (p : ℕ) → p < length pages → ends_below n (page_at pages p) ≡ false → AllByRecursion (λ m. n ≤ m) (joined (drop (suc p) pages))
   above_page p h is =

@@ -42,12 +42,26 @@ fn locate_from(leaves: &[Leaf], k: usize, first: usize, left: usize) -> (usize, 
     (0, 0)
 }
 
-/// How many of the numbers are below `n`. It takes steps in the logarithm of their count.
+/// Whether all numbers are below `n`, where they ascend: the last of them tells.
+fn are_below(leaves: &[Leaf], n: usize) -> bool
+    requires { AreFilled leaves.now }
+    ensures { IsTrue result → Ascend (joined leaves.now) → length (joined leaves.now) ≡ rank_in n (joined leaves.now) }
+{
+    match leaves.last() {
+        Some(leaf) => leaf.ends_below(n),
+        None => true,
+    }
+}
+
+/// How many of the numbers are below `n`: at once where all are, else in steps in the logarithm of their count.
 pub(crate) fn count_below(leaves: &[Leaf], firsts: &[usize], count: usize, n: usize) -> usize
     requires { IsKept leaves.now firsts.now count }
     ensures within { result ≤ length (joined leaves.now) }
     ensures counted { Ascend (joined leaves.now) → result ≡ rank_in n (joined leaves.now) }
 {
+    if are_below(leaves, n) {
+        return count;
+    }
     let p = leaves.partition_point(|leaf| leaf.ends_below(n));
     if p == leaves.len() {
         return count;

@@ -55,7 +55,7 @@ impl Numbers {
         self.list.get(n)
     }
 
-    /// How many numbers are below `n`. It takes time in the logarithm of their count.
+    /// How many numbers are below `n`. It takes a step where all are, else time in the logarithm of their count.
     pub fn rank(&self, n: usize) -> usize
         ensures within { result ≤ length self.now }
         ensures below { (front rest : List ℕ) → PartAt n front rest self.now → result ≡ length front }
@@ -82,11 +82,10 @@ impl Numbers {
         ensures none { IsFalse result → HaveNext self.now }
         ensures some { IsTrue result → (n : ℕ) (front rest : List ℕ) → n < 2 ^ 64 → PartAt n front rest self.now → HaveNext rest → ⊥ }
     {
-        let count = self.list.count();
-        if count == 0 {
-            return false;
+        match self.list.last() {
+            Some(last) => last == usize::MAX,
+            None => false,
         }
-        self.list.get(count - 1) == usize::MAX
     }
 
     /// Puts in number `n`, of an item that comes: those from `n` on are one greater then. Where memory is refused, or the

@@ -1,6 +1,7 @@
 //! A list of numbers in pages.
 
-ghost use Rattle.std.specs.Prelude.{◌≡◌, ◌+◌, ◌≤◌, ◌<◌, ◌^◌, [], length, insert, remove, slice_get, Some, OnOk, OnErr};
+ghost use Rattle.std.specs.Prelude.{◌≡◌, ◌+◌, ◌-◌, ◌≤◌, ◌<◌, ◌^◌, [], length, insert, remove, slice_get, Some, OnOk, OnErr};
+ghost use Rattle.std.specs.Option.{IfSome, IfNone};
 ghost use Rattle.bib_entries.specs.Numbers.{Ascend, rank_in};
 ghost use Rattle.bib_entries.specs.Moves.{plus, moved_from};
 
@@ -62,7 +63,17 @@ impl Paged {
         self.leaves[p].get(j)
     }
 
-    /// How many of the numbers are below `n`.
+    /// The last number. It takes a step.
+    pub(crate) fn last(&self) -> Option<usize>
+        ensures last { IfSome result (λ n. slice_get self.now (length self.now - 1) ≡ Some n) }
+        ensures some { IfSome result (λ n. (1 ≤ length self.now) × (n < 2 ^ 64)) }
+        ensures none { IfNone result (self.now ≡ []) }
+    {
+        let leaf = self.leaves.last()?;
+        Some(leaf.get(leaf.len() - 1))
+    }
+
+    /// How many of the numbers are below `n`: at once where all are.
     pub(crate) fn count_below(&self, n: usize) -> usize
         ensures within { result ≤ length self.now }
         ensures counted { Ascend self.now → result ≡ rank_in n self.now }

@@ -15,7 +15,8 @@ use Rattle.bib_order.specs.Orders.{Lacks, IsDistinct}
 use Rattle.bib_order.specs.Holders.{holders, before}
 use Rattle.bib_order.proofs.Counting.{lacks_at}
 use Rattle.bib_order.proofs.Following.{holders-split, follow_order}
-use Rattle.bib_index.specs.KeyIndex.{is_text, has_text, with_text, also, IsIndexOf, without, Has, TextsFollow}
+use Rattle.bib_value.specs.FoldedMap.{value_at, IsWith}
+use Rattle.bib_index.specs.KeyIndex.{is_text, has_text, with_text, also, IsIndexOf, without, members, ids_in, Has, TextsFollow}
 
 -- ---- one id among others
 
@@ -126,6 +127,25 @@ has_here old new text x ids told h = told x ∙ cond-true (bytes_eq x text) ids 
 
 has_there : (old new : Text → List ℕ) (text x : Text) (ids : List ℕ) → Has old text ids new → bytes_eq x text ≡ false → new x ≡ old x
 has_there old new text x ids told h = told x ∙ cond-false (bytes_eq x text) ids (old x) h
+
+-- a list that is put in for a text is what the text has
+pub has_with : (old before new : List (Text × List ℕ)) (name : Text) (list ids : List ℕ) → old ≡ before → list ≡ ids → IsWith old name list new → Has (ids_in before) (folded name) ids (ids_in new)
+has_with old before new name list ids same is put x =
+    ap members (put x)
+    ∙ ap₂ (λ (l : List ℕ) (lists : List (Text × List ℕ)). members (cond (bytes_eq x (folded name)) (Some l) (value_at lists x))) is same
+    ∙ inside (bytes_eq x (folded name))
+  where
+    inside : (c : Bool) → members (cond c (Some ids) (value_at before x)) ≡ cond c ids (ids_in before x)
+    inside true = refl
+    inside false = refl
+
+-- what a text has last counts
+pub has_last : (old mid new : Text → List ℕ) (text : Text) (a b : List ℕ) → Has old text a mid → Has mid text b new → Has old text b new
+has_last old mid new text a b first last x = last x ∙ ap (cond (bytes_eq x text) b) (first x) ∙ inside (bytes_eq x text)
+  where
+    inside : (c : Bool) → cond c b (cond c a (old x)) ≡ cond c b (old x)
+    inside true = refl
+    inside false = refl
 
 -- it has those that it had
 pub has_same : (index : Text → List ℕ) (text : Text) (ids : List ℕ) → index text ≡ ids → Has index text ids index

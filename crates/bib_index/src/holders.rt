@@ -54,6 +54,16 @@ impl Holders {
         }
     }
 
+    /// One id alone. It asks for no memory.
+    pub(crate) fn of(alloc: Global, id: usize) -> Self
+        ensures { result ≡ id ∷ [] }
+    {
+        Holders {
+            alloc,
+            held: Held::One(id),
+        }
+    }
+
     /// The ids.
     pub(crate) fn as_slice(&self) -> &[usize]
         ensures { result.now ≡ self.now }

@@ -118,34 +118,31 @@ impl KeyIndex {
         let Some(n) = order.position_of(id) else {
             return Ok(());
         };
-        let Some(held) = self.lists.get(text) else {
-            return self.start(text, id);
-        };
-        let k = order.count_before(held.as_slice(), n);
-        self.put(text, k, id)
+        let alone = Holders::of(self.alloc, id);
+        match self.lists.insert(text, alone)? {
+            None => Ok(()),
+            Some(held) => {
+                let k = order.count_before(held.as_slice(), n);
+                self.put_back(text, held, k, id)
+            }
+        }
     }
 
-    /// Gives a text that no id has its first.
-    fn start(&mut self, text: &[u8], id: usize) -> Result<(), AllocError>
-        requires { length text.now ≤ name_limit }
-        ensures ok { OnOk result (Has (ids_in self.old) (folded text.now) (id ∷ []) (ids_in self.new)) }
-        ensures err { OnErr result (IsKept (ids_in self.old) (ids_in self.new)) }
-    {
-        let mut held = Holders::new(self.alloc);
-        held.insert(0, id)?;
-        self.lists.insert(text, held)
-    }
-
-    /// Puts an id before id `k` of those that have the text, or at the end.
-    fn put(&mut self, text: &[u8], k: usize, id: usize) -> Result<(), AllocError>
+    /// Gives a text these ids again, and one more before id `k` of them, or at the end. Where memory is refused, it has
+    /// these alone.
+    fn put_back(
+        &mut self,
+        text: &[u8],
+        held: Holders,
+        k: usize,
+        id: usize,
+    ) -> Result<(), AllocError>
         requires some { IsSome (value_at self.old (folded text.now)) }
-        requires within { k ≤ length (ids_in self.old (folded text.now)) }
-        ensures ok { OnOk result (Has (ids_in self.old) (folded text.now) (insert (ids_in self.old (folded text.now)) k id) (ids_in self.new)) }
-        ensures err { OnErr result (IsKept (ids_in self.old) (ids_in self.new)) }
+        requires within { k ≤ length held }
+        ensures ok { OnOk result (Has (ids_in self.old) (folded text.now) (insert held k id) (ids_in self.new)) }
+        ensures err { OnErr result (Has (ids_in self.old) (folded text.now) held (ids_in self.new)) }
     {
-        let Some(mut held) = self.lists.replace(text, Holders::new(self.alloc)) else {
-            return Ok(());
-        };
+        let mut held = held;
         let put = held.insert(k, id);
         self.lists.replace(text, held);
         put

@@ -90,6 +90,9 @@ fn initials_printed(alloc: Global, surname: &Surname<'_>) -> Result<Vec<u8>, All
     ensures { IfOk result (λ t. t.items ≡ initials_printed surname.now) }
 {
     let mut out = initials(alloc, surname.von())?;
+    if out.is_empty() {
+        return initials(alloc, surname.last());
+    }
     out.extend_from_slice(initials(alloc, surname.last())?.as_slice())?;
     Ok(out)
 }
@@ -205,17 +208,21 @@ pub(crate) fn or_anon(alloc: Global, text: Vec<u8>) -> Result<Vec<u8>, AllocErro
     }
 }
 
-/// The last two digits of a text, or fewer.
-fn last_two_digits(alloc: Global, text: &[u8]) -> Result<Vec<u8>, AllocError>
-    ensures { IfOk result (λ t. t.items ≡ last_two (filter is_ascii_digit text.now)) }
+/// The digits of a text.
+fn digits_of(alloc: Global, text: &[u8]) -> Result<Vec<u8>, AllocError>
+    ensures { IfOk result (λ t. t.items ≡ filter is_ascii_digit text.now) }
 {
-    let digits: Vec<u8> = text
-        .iter()
+    text.iter()
         .copied()
         .filter(|b| b.is_ascii_digit())
-        .collect(alloc)?;
-    let front = digits.len().saturating_sub(2);
-    Vec::from_slice(alloc, digits.as_slice().split_at(front).1)
+        .collect(alloc)
+}
+
+/// The last two bytes of a text, or fewer.
+fn last_two(text: &[u8]) -> &[u8]
+    ensures { result.now ≡ last_two text.now }
+{
+    text.split_at(text.len().saturating_sub(2)).1
 }
 
 /// The label base of a record with these fields.
@@ -224,7 +231,8 @@ pub(crate) fn base_of(alloc: Global, fields: &[(Text, Text)]) -> Result<Text, Al
 {
     let letters = letters_of_fields(alloc, fields)?;
     let mut out = or_anon(alloc, letters.into_vec())?;
-    out.extend_from_slice(last_two_digits(alloc, text_in(fields, b"year"))?.as_slice())?;
+    let digits = digits_of(alloc, text_in(fields, b"year"))?;
+    out.extend_from_slice(last_two(digits.as_slice()))?;
     Ok(Seq::from_vec(out))
 }
 

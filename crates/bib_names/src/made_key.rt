@@ -47,8 +47,10 @@ pub fn key_base(alloc: Global, entry: &Record) -> Result<Text, NameFault>
 pub fn candidate(alloc: Global, base: &[u8], n: usize) -> Result<Text, AllocError>
     ensures { IfOk result (λ key. key ≡ candidate base.now n) }
 {
-    let mut key = Vec::from_slice(alloc, base)?;
-    key.extend_from_slice(letters(alloc, n)?.as_slice())?;
+    let letters = letters(alloc, n)?;
+    let mut key = Vec::with_capacity(alloc, base.len().saturating_add(letters.len()))?;
+    key.extend_from_slice(base)?;
+    key.extend_from_slice(letters.as_slice())?;
     Ok(Seq::from_vec(key))
 }
 

@@ -20,6 +20,10 @@ fn is_and(text: &[u8], place: usize) -> bool
     requires { place < length text.now }
     ensures { result ≡ is_and text.now place }
 {
+    // most bytes are no such letter
+    if text[place].to_ascii_lowercase() != b'a' {
+        return false;
+    }
     if place == 0 || text.len() - place <= 3 {
         return false;
     }

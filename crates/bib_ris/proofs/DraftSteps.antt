@@ -1,54 +1,131 @@
--- Drafts of records, one after another.
-use Rattle.std.proofs.Common.{◌≡◌, ◌∙◌, Bool, true, false, List, [], ◌∷◌, ◌++◌, reverse, refl, sym, ap, subst, append_assoc}
-use Rattle.std.specs.List.{list_all}
-use Rattle.std.specs.Prelude.{◌&&◌}
-use Rattle.std.proofs.lemmas.List.{reverse-append, map-append}
+-- Drafts of the records that a RIS text says, one after another.
+use Rattle.std.proofs.Common.{◌≡◌, ◌∙◌, ◌≤◌, ◌+◌, ℕ, Bool, true, false, List, [], ◌∷◌, ◌++◌, length, map, filter, not, inl, inr, refl, sym, ap, ap₂, subst, append-nil, zero-add}
+use Rattle.std.specs.List.{list_all, AllByRecursion}
+use Rattle.std.specs.Prelude.{◌&&◌, ◌⊎◌, Ok, Err}
+use Rattle.std.proofs.Math.Bool.{and-false}
+use Rattle.std.proofs.lemmas.Bool.{and_from}
+use Rattle.std.proofs.lemmas.List.{map-append}
+use Rattle.std.proofs.lemmas.List.Elements.{filter-append}
 use Rattle.std.proofs.lemmas.List.Folds.{list_all-append}
+use Rattle.bib_spec.specs.Text.{Text, is_new_key}
 use Rattle.bib_spec.specs.Records.{Record}
+use Rattle.bib_spec.specs.MadeKeys.{base_limit}
+use Rattle.bib_data.specs.declared.edit.NewEntry.{NewEntry}
+use Rattle.bib_edit.specs.Asking.{made_base}
 use Rattle.ris_text.specs.declared.records.RisRecord.{RisRecord}
+use Rattle.ris_text.specs.declared.records.RisFile.{RisFile}
+use Rattle.ris_text.specs.declared.fault.RisFault.{RisFault}
+use Rattle.ris_text.specs.declared.fault.RisFault.TheVariants as text_fault
+use Rattle.ris_text.specs.Code.{ris_file, with_record, with_front}
+use Rattle.ris_text.specs.Rest.{Rest, IsLeft}
+use Rattle.ris_text.proofs.RestLaws.{left-more}
 use Rattle.ris_format.specs.Mapping.{back}
-use Rattle.ris_format.specs.Entry.{are_balanced}
+use Rattle.ris_format.specs.Entry.{entry_of, are_balanced}
+use Rattle.ris_format.proofs.PartLaws.{all-append}
 use Rattle.bib_ris.specs.declared.drafts.Drafts.{Drafts}
-use Rattle.bib_ris.specs.Import.{records_of}
-use Rattle.bib_ris.specs.Drafts.{AreDraftsOf}
+use Rattle.bib_ris.specs.Faults.{unread}
+use Rattle.bib_ris.specs.Import.{records_of, HasUnbalanced, RefusesImport}
+use Rattle.bib_ris.specs.Drafts.{bases_of, AreDraftsOf, AreSaidBy}
 
--- the drafts are of some of these records, and the others are left, the next one last
-pub record AreDrafting (records left : List RisRecord) (d : Drafts) : Type 0 where
+-- ---- drafts
+
+-- of one record more: its entry, and the base of its key where its ID cannot be one
+pub drafts-more : (records : List Record) (entry : Record) (d e : Drafts) → AreDraftsOf records d → are_balanced entry ≡ true
+    → e.entries.items ≡ d.entries.items ++ entry_of entry ∷ [] → e.bases.items ≡ d.bases.items ++ bases_of (entry ∷ [])
+    → AllByRecursion (λ base. length base ≤ base_limit) (bases_of (entry ∷ [])) → AreDraftsOf (records ++ entry ∷ []) e
+drafts-more records entry d e are balanced entries bases short = record {
+  entries = entries ∙ ap (λ (es : List NewEntry). es ++ entry_of entry ∷ []) are.entries ∙ sym (map-append entry_of records (entry ∷ []));
+  bases =
+      bases ∙ ap (λ (bs : List Text). bs ++ bases_of (entry ∷ [])) are.bases
+      ∙ sym (map-append made_base (filter needs_key records) (filter needs_key (entry ∷ [])))
+      ∙ ap (map made_base) (sym (filter-append needs_key records (entry ∷ [])));
+  short = subst (AllByRecursion (λ (base : Text). length base ≤ base_limit)) (sym bases)
+      (all-append (λ (base : Text). length base ≤ base_limit) d.bases.items (bases_of (entry ∷ [])) are.short short);
+  balanced =
+      list_all-append are_balanced records (entry ∷ [])
+      ∙ and_from (list_all are_balanced records) (are_balanced entry && true) are.balanced (and_from (are_balanced entry) true balanced refl);
+}
+  where
+    needs_key : Record → Bool
+    needs_key r = not (is_new_key r.key)
+
+-- the text says some records before what is left, and these are their drafts
+pub record AreSaid (text : Text) (rest : Rest) (d : Drafts) : Type 0 where
   pub done : List RisRecord
-  pub others : done ++ reverse left ≡ records
-  pub are : AreDraftsOf (records_of done) d
+  pub left : IsLeft text done rest
+  pub drafts : AreDraftsOf (records_of done) d
 
-next-left : (done left rest : List RisRecord) (r : RisRecord) → left ≡ rest ++ r ∷ [] → done ++ reverse left ≡ (done ++ r ∷ []) ++ reverse rest
-next-left done left rest r is =
-    ap (λ (l : List RisRecord). done ++ reverse l) is
-    ∙ ap (λ (l : List RisRecord). done ++ l) (reverse-append rest (r ∷ []))
-    ∙ sym (append_assoc done (r ∷ []) (reverse rest))
+pub said-none : (text : Text) (rest : Rest) (d : Drafts) → IsLeft text [] rest → AreDraftsOf [] d → AreSaid text rest d
+said-none text rest d left none = record { done = []; left = left; drafts = none }
+
+-- one more record
+pub said-more : (text : Text) (rest after : Rest) (d e : Drafts) (r : RisRecord) → AreSaid text rest d → rest.says ≡ with_record r after.says
+    → ((so_far : List Record) → AreDraftsOf so_far d → AreDraftsOf (so_far ++ back r ∷ []) e) → AreSaid text after e
+said-more text rest after d e r so says adds = record {
+  done = so.done ++ r ∷ [];
+  left = left-more text so.done r rest after so.left says;
+  drafts = subst (λ (rs : List Record). AreDraftsOf rs e) (sym (map-append back so.done (r ∷ []))) (adds (records_of so.done) so.drafts);
+}
+
+-- at the end
+pub said-all : (text : Text) (rest : Rest) (d : Drafts) (skipped : ℕ) → AreSaid text rest d → rest.says ≡ Ok (ris_file [] skipped) → AreSaidBy text d skipped
+said-all text rest d skipped so ends = record {
+  said = ris_file so.done skipped;
+  reads = so.left.reads (ris_file so.done skipped)
+      (ap (with_front so.done 0) ends ∙ ap₂ (λ (rs : List RisRecord) (n : ℕ). Ok (ris_file rs n)) (append-nil so.done) (zero-add skipped));
+  drafts = so.drafts;
+  skipped = refl;
+}
+
+-- ---- faults
+
+-- where what is left goes wrong, the text does
+pub fault-left : (text : Text) (records : List RisRecord) (rest : Rest) (fault : RisFault) → IsLeft text records rest
+    → (fault ≡ text_fault.Memory) ⊎ (rest.says ≡ Err fault) → RefusesImport (unread fault) text
+fault-left text records rest text_fault.Memory left why = tt
+fault-left text records rest (text_fault.NoStart place) left (inl memory) = absurd (cc)
+fault-left text records rest (text_fault.NoStart place) left (inr wrong) = ((λ e. absurd (cc)), left.wrong (text_fault.NoStart place) wrong)
+fault-left text records rest (text_fault.NoEnd place) left (inl memory) = absurd (cc)
+fault-left text records rest (text_fault.NoEnd place) left (inr wrong) = ((λ e. absurd (cc)), left.wrong (text_fault.NoEnd place) wrong)
+fault-left text records rest (text_fault.EmptyType place) left (inl memory) = absurd (cc)
+fault-left text records rest (text_fault.EmptyType place) left (inr wrong) = ((λ e. absurd (cc)), left.wrong (text_fault.EmptyType place) wrong)
 
 all_of : (xs ys : List RisRecord) → list_all are_balanced (records_of (xs ++ ys)) ≡ (list_all are_balanced (records_of xs) && list_all are_balanced (records_of ys))
 all_of xs ys = ap (list_all are_balanced) (map-append back xs ys) ∙ list_all-append are_balanced (records_of xs) (records_of ys)
 
--- one more record
-pub drafting-more : (records left rest : List RisRecord) (d e : Drafts) (r : RisRecord) (entry : Record) → AreDrafting records left d → left ≡ rest ++ r ∷ [] → entry ≡ back r
-    → ((so_far : List Record) → AreDraftsOf so_far d → AreDraftsOf (so_far ++ entry ∷ []) e) → AreDrafting records rest e
-drafting-more records left rest d e r entry so is says adds = record {
-  done = so.done ++ r ∷ [];
-  others = sym (next-left so.done left rest r is) ∙ so.others;
-  are = subst (λ (rs : List Record). AreDraftsOf rs e)
-      (ap (λ (s : Record). records_of so.done ++ s ∷ []) says ∙ sym (map-append back so.done (r ∷ [])))
-      (adds (records_of so.done) so.are);
+-- of some records one is not balanced
+one-unbalanced : (before : List RisRecord) (r : RisRecord) (after : List RisRecord) → are_balanced (back r) ≡ false
+    → list_all are_balanced (records_of ((before ++ r ∷ []) ++ after)) ≡ false
+one-unbalanced before r after unbalanced =
+    all_of (before ++ r ∷ []) after
+    ∙ ap (λ b. b && list_all are_balanced (records_of after))
+    (all_of before (r ∷ [])
+    ∙ ap (λ b. list_all are_balanced (records_of before) && (b && true)) unbalanced
+    ∙ and-false (list_all are_balanced (records_of before)))
+
+-- a record that is not balanced, before others that are read
+pub said-unbalanced : (text : Text) (rest after : Rest) (d : Drafts) (r : RisRecord) (others : RisFile) → AreSaid text rest d → rest.says ≡ with_record r after.says
+    → are_balanced (back r) ≡ false → after.says ≡ Ok others → HasUnbalanced text
+said-unbalanced text rest after d r others so says unbalanced ends = record {
+  said = ris_file ((so.done ++ r ∷ []) ++ others.records) (0 + others.skipped);
+  reads = (left-more text so.done r rest after so.left says).reads (ris_file ((so.done ++ r ∷ []) ++ others.records) (0 + others.skipped))
+      (ap (with_front (so.done ++ r ∷ []) 0) ends);
+  unbalanced = one-unbalanced so.done r others.records unbalanced;
 }
 
--- one that is not balanced
-pub drafting-unbalanced : (records left rest : List RisRecord) (d : Drafts) (r : RisRecord) (entry : Record) → AreDrafting records left d → left ≡ rest ++ r ∷ [] → entry ≡ back r
-    → are_balanced entry ≡ false → list_all are_balanced (records_of records) ≡ false
-drafting-unbalanced records left rest d r entry so is says unbalanced =
-    ap (λ (rs : List RisRecord). list_all are_balanced (records_of rs)) (sym so.others ∙ next-left so.done left rest r is)
-    ∙ all_of (so.done ++ r ∷ []) (reverse rest)
-    ∙ ap (λ b. b && list_all are_balanced (records_of (reverse rest)))
-    (all_of so.done (r ∷ [])
-    ∙ ap (λ b. list_all are_balanced (records_of so.done) && (b && true)) (ap are_balanced (sym says) ∙ unbalanced)
-    ∙ none (list_all are_balanced (records_of so.done)))
-  where
-    none : (b : Bool) → b && false ≡ false
-    none true = refl
-    none false = refl
+-- ---- what is left, read to its end
+
+-- the later rest is what the first one leaves: where it says something the first one does, and where it goes wrong that does
+pub record LeadsTo (first later : Rest) : Type 0 where
+  pub ends : (said : RisFile) → later.says ≡ Ok said → (whole : RisFile) × (first.says ≡ Ok whole)
+  pub wrong : (fault : RisFault) → later.says ≡ Err fault → first.says ≡ Err fault
+
+pub leads-none : (rest : Rest) → LeadsTo rest rest
+leads-none rest = record { ends = λ said says. (said, says); wrong = λ fault says. says }
+
+-- one more record
+pub leads-more : (first rest after : Rest) (r : RisRecord) → LeadsTo first rest → rest.says ≡ with_record r after.says → LeadsTo first after
+leads-more first rest after r so is = record {
+  ends = λ said says. so.ends (ris_file (r ∷ said.records) said.skipped) (is ∙ ap (with_record r) says);
+  wrong = λ fault says. so.wrong fault (is ∙ ap (with_record r) says);
+}

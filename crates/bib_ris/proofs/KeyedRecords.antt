@@ -1,5 +1,6 @@
 -- The entries of records with keys: those of keys that are made apart and then given in turn.
 use Rattle.std.proofs.Common.{◌≡◌, ◌∙◌, true, false, not, List, [], ◌∷◌, map, filter, refl, sym, ap, ⊎_elim}
+use Rattle.std.proofs.lemmas.Simd.{map-map}
 use Rattle.std.proofs.lemmas.Bool.{cases_Bool, cond-true, cond-false, not_from_true, not_from_false}
 use Rattle.bib_spec.specs.Text.{Text, is_new_key}
 use Rattle.bib_spec.specs.Records.{Record}
@@ -7,9 +8,13 @@ use Rattle.bib_spec.specs.MadeKeys.{free_key, made_keys}
 use Rattle.bib_data.specs.declared.edit.NewEntry.{NewEntry}
 use Rattle.bib_edit.specs.Asking.{made_base}
 use Rattle.ris_format.specs.Entry.{entry_of}
-use Rattle.bib_ris.specs.Import.{with_key, keyed}
-use Rattle.bib_ris.specs.Drafts.{bases_of, with_keys}
+use Rattle.bib_ris.specs.Import.{usable_ids, with_key, keyed}
+use Rattle.bib_ris.specs.Drafts.{bases_of, usable_keys, with_keys}
 use Rattle.bib_ris.proofs.GivenKeys.{with-kept}
+
+-- the keys that an edit may write are those of the records
+pub usable-entries : (records : List Record) → usable_keys (map entry_of records) ≡ usable_ids records
+usable-entries records = ap (filter is_new_key) (map-map (λ (e : NewEntry). e.key) entry_of records)
 
 -- the entries of these records get the keys that are made of their bases
 abbrev AreKeyedWith : List Text → List Record → Type 0

@@ -1,5 +1,5 @@
 -- Records as entries, before keys are made for those that need one.
-use Rattle.std.specs.Prelude.{◌≡◌, ◌≤◌, true, not, if◌then◌else◌, List, [], ◌∷◌, length, map, filter}
+use Rattle.std.specs.Prelude.{ℕ, ◌≡◌, ◌≤◌, true, not, if◌then◌else◌, List, [], ◌∷◌, length, map, filter}
 use Rattle.std.specs.List.{list_all, AllByRecursion}
 use Rattle.bib_spec.specs.Text.{Text, is_new_key}
 use Rattle.bib_spec.specs.Records.{Record}
@@ -7,8 +7,10 @@ use Rattle.bib_spec.specs.MadeKeys.{base_limit}
 use Rattle.bib_data.specs.declared.edit.NewEntry.{NewEntry}
 use Rattle.bib_edit.specs.Asking.{made_base}
 use Rattle.ris_format.specs.Entry.{entry_of, are_balanced}
+use Rattle.ris_text.specs.declared.records.RisFile.{RisFile}
+use Rattle.ris_text.specs.Reading.{Reads}
 use Rattle.bib_ris.specs.declared.drafts.Drafts.{Drafts}
-use Rattle.bib_ris.specs.Import.{usable_ids}
+use Rattle.bib_ris.specs.Import.{records_of}
 
 -- the bases of the keys of records whose ID cannot be one
 abbrev pub bases_of : List Record → List Text
@@ -17,10 +19,20 @@ bases_of records = map made_base (filter (λ r. not (is_new_key r.key)) records)
 -- the drafts of these records, of which all texts are balanced
 pub record AreDraftsOf (records : List Record) (d : Drafts) : Type 0 where
   pub entries : d.entries.items ≡ map entry_of records
-  pub ids : d.ids.items ≡ usable_ids records
   pub bases : d.bases.items ≡ bases_of records
   pub short : AllByRecursion (λ base. length base ≤ base_limit) d.bases.items
   pub balanced : list_all are_balanced records ≡ true
+
+-- the drafts of the records that the text says, and how many of its lines are skipped
+pub record AreSaidBy (text : Text) (d : Drafts) (count : ℕ) : Type 0 where
+  pub said : RisFile
+  pub reads : Reads text said
+  pub drafts : AreDraftsOf (records_of said.records) d
+  pub skipped : count ≡ said.skipped
+
+-- the keys of entries that an edit may write
+abbrev pub usable_keys : List NewEntry → List Text
+usable_keys entries = filter is_new_key (map (λ e. e.key) entries)
 
 -- the entries that need a key get these in turn
 abbrev pub with_keys : List Text → List NewEntry → List NewEntry

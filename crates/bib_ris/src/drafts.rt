@@ -1,31 +1,33 @@
 //! Records as entries, before keys are made for those that need one.
 
-ghost use Rattle.std.specs.Prelude.{◌≡◌, ◌≤◌, ◌<◌, ◌++◌, ◌∷◌, ◌⊎◌, [], List, false, not, Some, IfOk, IfErr, OnOk, length, take, drop, set, reverse, slice_get, ◌+◌};
-ghost use Rattle.std.specs.List.{list_all};
+ghost use Rattle.std.specs.Prelude.{◌≡◌, ◌≤◌, ◌<◌, ◌++◌, ◌∷◌, ◌⊎◌, [], List, Ok, Err, true, false, not, Some, IfOk, IfErr, OnOk, length, take, drop, set, reverse, slice_get, ◌+◌};
+ghost use Rattle.std.specs.List.{AllByRecursion};
 ghost use Rattle.bib_spec.specs.Text.{is_new_key};
 ghost use Rattle.bib_spec.specs.Records.{Record as EntryRecord};
 ghost use Rattle.bib_data.specs.declared.edit.NewEntry.{NewEntry as EntryAdded};
 ghost use Rattle.bib_spec.specs.MadeKeys.{base_limit};
 ghost use Rattle.bib_edit.specs.Asking.{made_base};
+ghost use Rattle.ris_text.specs.declared.records.RisFile.{RisFile};
+ghost use Rattle.ris_text.specs.declared.fault.RisFault.TheVariants.{Memory as TextMemory};
+ghost use Rattle.ris_format.specs.Mapping.{back};
 ghost use Rattle.ris_format.specs.Entry.{are_balanced};
-ghost use Rattle.bib_ris.specs.Import.{records_of};
-ghost use Rattle.bib_ris.specs.Drafts.{AreDraftsOf, with_keys};
-ghost use Rattle.bib_ris.specs.declared.fault.ImportFault.TheVariants.{UnbalancedText, Memory};
+ghost use Rattle.bib_ris.specs.Import.{RefusesImport};
+ghost use Rattle.bib_ris.specs.Drafts.{bases_of, AreDraftsOf, AreSaidBy, usable_keys, with_keys};
+ghost use Rattle.bib_ris.specs.declared.fault.ImportFault.TheVariants.{Memory};
 
 use crate::fault::ImportFault;
 use bib_data::{NewEntry, Record};
 use bib_names::key_base;
 use bib_scan::{Seq, Text, is_key};
-use ris_format::{from_ris, to_entry};
-use ris_text::RisRecord;
+use ris_format::{MappingFault, from_ris, to_entry};
+use ris_text::{RisFault, RisRecord, Unread};
 use std::alloc::{AllocError, Global};
 
-/// Records as entries, of which each has the ID of its record for a key; the IDs that can be keys; and the bases of the
-/// keys that are to be made for the others.
+/// Records as entries, of which each has the ID of its record for a key; and the bases of the keys that are to be made for
+/// those whose ID cannot be one.
 #[derive(Drop)]
 pub(crate) struct Drafts {
     pub entries: Vec<NewEntry>,
-    pub ids: Vec<Text>,
     pub bases: Vec<Text>,
 }
 
@@ -40,6 +42,21 @@ fn base_of(alloc: Global, entry: &Record) -> Result<Text, AllocError>
     }
 }
 
+/// Reads what is left of a text to its end, and keeps nothing of it.
+fn read_on(alloc: Global, rest: Unread<'_>) -> Result<(), RisFault>
+    ensures said { OnOk result ((said : RisFile) × (rest.entry.says ≡ Ok said)) }
+    ensures refused { IfErr result (λ fault. (fault ≡ TextMemory) ⊎ (rest.entry.says ≡ Err fault)) }
+{
+    let mut left = rest;
+    'records: loop {
+        let (first, after) = left.next(alloc)?;
+        left = after;
+        let Some(_passed) = first else {
+            return Ok(());
+        };
+    }
+}
+
 impl Drafts {
     /// Of no records.
     fn none(alloc: Global) -> Drafts
@@ -47,40 +64,75 @@ impl Drafts {
     {
         Drafts {
             entries: Vec::new(alloc),
-            ids: Vec::new(alloc),
             bases: Vec::new(alloc),
         }
     }
 
-    /// Adds a record.
-    fn add(&mut self, alloc: Global, entry: Record) -> Result<(), ImportFault>
-        ensures added { OnOk result ((records : List EntryRecord) → AreDraftsOf records self.old → AreDraftsOf (records ++ entry ∷ []) self.new) }
-        ensures refused { IfErr result (λ fault. (fault ≡ Memory) ⊎ ((fault ≡ UnbalancedText) × (are_balanced entry ≡ false))) }
+    /// Adds the base of the key that is made for a record, where its ID cannot be one.
+    fn add_base(&mut self, alloc: Global, entry: &Record) -> Result<(), AllocError>
+        ensures bases { OnOk result (self.new.bases.items ≡ self.old.bases.items ++ bases_of (entry.now ∷ [])) }
+        ensures short { OnOk result (AllByRecursion (λ base. length base ≤ base_limit) (bases_of (entry.now ∷ []))) }
+        ensures entries { self.new.entries ≡ self.old.entries }
     {
-        let key = entry.key.as_slice();
-        if is_key(key) {
-            self.ids.push(Seq::from_vec(Vec::from_slice(alloc, key)?))?;
-        } else {
-            self.bases.push(base_of(alloc, &entry)?)?;
+        if !is_key(entry.key.as_slice()) {
+            self.bases.push(base_of(alloc, entry)?)?;
         }
-        self.entries.push(to_entry(alloc, entry)?)?;
         Ok(())
     }
 
-    /// Of the records that these RIS records say, each of which is let go when its entry is made.
-    pub fn of(alloc: Global, records: Seq<RisRecord>) -> Result<Drafts, ImportFault>
-        ensures drafts { IfOk result (AreDraftsOf (records_of records)) }
-        ensures refused { IfErr result (λ fault. (fault ≡ Memory) ⊎ ((fault ≡ UnbalancedText) × (list_all are_balanced (records_of records) ≡ false))) }
+    /// Adds what a RIS record says, and answers whether its texts are balanced: where one is not, the drafts are of no more
+    /// use.
+    fn add(&mut self, alloc: Global, ris: &RisRecord) -> Result<bool, ImportFault>
+        ensures added { IfOk result (λ balanced. balanced ≡ true → (records : List EntryRecord) → AreDraftsOf records self.old → AreDraftsOf (records ++ back ris.now ∷ []) self.new) }
+        ensures unbalanced { IfOk result (λ balanced. balanced ≡ false → are_balanced (back ris.now) ≡ false) }
+        ensures memory { IfErr result (λ fault. fault ≡ Memory) }
+    {
+        let entry = from_ris(alloc, ris)?;
+        self.add_base(alloc, &entry)?;
+        match to_entry(alloc, entry) {
+            Ok(draft) => {
+                self.entries.push(draft)?;
+                Ok(true)
+            }
+            Err(MappingFault::UnbalancedText) => Ok(false),
+            Err(MappingFault::Memory) => Err(ImportFault::Memory),
+        }
+    }
+
+    /// Of the records that a RIS text says, with how many of its lines are skipped. Each record is let go once its draft is
+    /// made, before the next one is read. A fault of reading comes before a text that is not balanced, wherever it stands.
+    pub fn of(alloc: Global, text: &[u8]) -> Result<(Drafts, u64), ImportFault>
+        ensures drafts { IfOk result (λ r. AreSaidBy text.now r.0 r.1) }
+        ensures refused { IfErr result (λ fault. RefusesImport fault text.now) }
     {
         let mut drafts = Drafts::none(alloc);
-        let mut left = records.into_vec();
-        left.reverse();
-        'records: while let Some(record) = left.pop() {
-            let entry = from_ris(alloc, &record)?;
-            drafts.add(alloc, entry)?;
+        let mut rest = Unread::of(text);
+        'records: loop {
+            let (first, after) = rest.next(alloc)?;
+            rest = after;
+            let Some(ris) = first else {
+                return Ok((drafts, rest.skipped()));
+            };
+            if !drafts.add(alloc, &ris)? {
+                read_on(alloc, rest)?;
+                return Err(ImportFault::UnbalancedText);
+            }
         }
-        Ok(drafts)
     }
+}
+
+/// The keys of the entries that an edit may write.
+pub(crate) fn usable_keys(alloc: Global, entries: &[NewEntry]) -> Result<Vec<Text>, AllocError>
+    ensures { IfOk result (λ keys. keys.items ≡ usable_keys entries.now) }
+{
+    let mut keys = Vec::new(alloc);
+    'entries: for entry in entries {
+        let key = entry.key.as_slice();
+        if is_key(key) {
+            keys.push(Seq::from_vec(Vec::from_slice(alloc, key)?))?;
+        }
+    }
+    Ok(keys)
 }
 
 /// Whether the entry has no key that an edit may write.

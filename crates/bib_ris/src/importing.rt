@@ -1,21 +1,21 @@
 //! Entries that a RIS text adds to a file.
 
-ghost use Rattle.std.specs.Prelude.{◌≡◌, ◌≤◌, ◌⊎◌, length, true, false, IfOk, IfErr, OnOk};
-ghost use Rattle.std.specs.List.{list_all, AllByRecursion};
+ghost use Rattle.std.specs.Prelude.{◌≡◌, ◌≤◌, List, length, IfOk, IfErr};
+ghost use Rattle.std.specs.List.{AllByRecursion};
+ghost use Rattle.bib_spec.specs.Records.{Record as EntryRecord};
 ghost use Rattle.bib_spec.specs.MadeKeys.{base_limit, made_keys};
 ghost use Rattle.bib_edit.specs.TakenKeys.{taken_in};
 ghost use Rattle.bib_store.specs.Meaning.{OfReading};
-ghost use Rattle.ris_format.specs.Entry.{are_balanced};
-ghost use Rattle.bib_ris.specs.Import.{records_of, imported, AreAdditions, RefusesImport};
-ghost use Rattle.bib_ris.specs.declared.fault.ImportFault.TheVariants.{UnbalancedText, Memory};
+ghost use Rattle.bib_ris.specs.Drafts.{AreDraftsOf, usable_keys};
+ghost use Rattle.bib_ris.specs.Import.{imported, AreAdditions, RefusesImport};
+ghost use Rattle.bib_ris.specs.declared.fault.ImportFault.TheVariants.{Memory};
 
-use crate::drafts::{Drafts, with_keys};
+use crate::drafts::{Drafts, usable_keys, with_keys};
 use crate::fault::ImportFault;
 use bib_data::NewEntry;
 use bib_edit::free_keys;
 use bib_scan::{Seq, Text};
 use bib_store::{Database, ItemList};
-use ris_text::{RisRecord, read_ris};
 use std::alloc::Global;
 
 /// What a RIS text adds to a file: its records as entries, and how many of its lines were skipped.
@@ -25,45 +25,50 @@ pub struct Additions {
     pub skipped: u64,
 }
 
-/// The keys that are made for drafts: a free one of each base in turn, which is no ID of another. The file's keys are not
-/// looked at where no key is to be made.
+/// The keys that are made for drafts: a free one of each base in turn, which is no key of another draft. Neither these nor
+/// the file's keys are looked at where no key is to be made.
 fn keys_of<L: ItemList>(
     alloc: Global,
     db: &Database<L>,
     bases: &[Text],
-    ids: &[Text],
+    entries: &[NewEntry],
 ) -> Result<Seq<Text>, ImportFault>
     requires { AllByRecursion (λ base. length base ≤ base_limit) bases.now }
-    ensures keys { IfOk result (λ keys. OfReading db.now (λ r. keys ≡ made_keys (taken_in r ids.now) bases.now)) }
+    ensures keys { IfOk result (λ keys. OfReading db.now (λ r. keys ≡ made_keys (taken_in r (usable_keys entries.now)) bases.now)) }
     ensures memory { IfErr result (λ fault. fault ≡ Memory) }
 {
     if bases.is_empty() {
         return Ok(Seq::from_vec(Vec::new(alloc)));
     }
-    match free_keys(alloc, db, bases, ids) {
+    let ids = usable_keys(alloc, entries)?;
+    match free_keys(alloc, db, bases, ids.as_slice()) {
         Ok(keys) => Ok(keys),
         Err(_) => Err(ImportFault::Memory),
     }
 }
 
-/// The entries of these records.
+/// The entries of the records of which these are the drafts.
 fn imported<L: ItemList>(
     alloc: Global,
     db: &Database<L>,
-    records: Seq<RisRecord>,
+    drafts: Drafts,
 ) -> Result<Seq<NewEntry>, ImportFault>
-    ensures entries { IfOk result (λ entries. OfReading db.now (λ r. entries ≡ imported r (records_of records))) }
-    ensures balanced { OnOk result (list_all are_balanced (records_of records) ≡ true) }
-    ensures refused { IfErr result (λ fault. (fault ≡ Memory) ⊎ ((fault ≡ UnbalancedText) × (list_all are_balanced (records_of records) ≡ false))) }
+    requires { (records : List EntryRecord) × AreDraftsOf records drafts }
+    ensures entries { (records : List EntryRecord) → AreDraftsOf records drafts → IfOk result (λ entries. OfReading db.now (λ r. entries ≡ imported r records)) }
+    ensures memory { IfErr result (λ fault. fault ≡ Memory) }
 {
-    let drafts = Drafts::of(alloc, records)?;
-    let keys = keys_of(alloc, db, drafts.bases.as_slice(), drafts.ids.as_slice())?;
+    let keys = keys_of(
+        alloc,
+        db,
+        drafts.bases.as_slice(),
+        drafts.entries.as_slice(),
+    )?;
     Ok(with_keys(drafts.entries, keys))
 }
 
 /// What a RIS text adds to an open file. A record whose ID can be a key keeps it; each other gets a free key of its made
 /// key, which is no ID of the text and no key that was made before. It takes time in the lengths of the text and of the
-/// file's keys, and memory for the entries.
+/// file's keys, and memory for the entries: of the text no more than one record is kept at a time.
 ///
 /// A text that is not read is refused as 61 to 63, with its place; else one of which a record has a text whose braces do
 /// not balance as 64; else the one refusal is want of memory.
@@ -75,9 +80,7 @@ pub fn import<L: ItemList>(
     ensures additions { IfOk result (AreAdditions db.now text.now) }
     ensures refused { IfErr result (λ fault. RefusesImport fault text.now) }
 {
-    let said = read_ris(alloc, text)?;
-    Ok(Additions {
-        entries: imported(alloc, db, said.records)?,
-        skipped: said.skipped,
-    })
+    let (drafts, skipped) = Drafts::of(alloc, text)?;
+    let entries = imported(alloc, db, drafts)?;
+    Ok(Additions { entries, skipped })
 }

@@ -41,7 +41,7 @@ is_opening y d behind ok space = record {
 abbrev pub typed_bytes : Typed → Text
 typed_bytes y = head_bytes y.head ++ y.space_before_delimiter
 
--- after a comment the text does not go on with its type name
+-- after a comment the text does not continue its type name
 abbrev pub EndsName : Tree → Text → Type 0
 EndsName tree rest = is_comment tree ≡ true → does_not_begin_with is_type_byte rest ≡ true
 
@@ -75,6 +75,9 @@ definition_ok limit y d t rest ok named is =
     regroup : (o a : Text) (c : ℕ) (u : Text) → (o ++ a ++ c ∷ []) ++ u ≡ o ++ (a ++ (c ∷ u))
     regroup o a c u = append_assoc (o ++ a) (c ∷ []) u ∙ append_assoc o a _
 
+four_regroup : (o w b : Text) (c : ℕ) (u : Text) → (o ++ w ++ b ++ c ∷ []) ++ u ≡ o ++ (w ++ (b ++ (c ∷ u)))
+four_regroup o w b c u = append_assoc (o ++ w ++ b) (c ∷ []) u ∙ append_assoc (o ++ w) b _ ∙ append_assoc o w _
+
 preamble_ok : (limit : ℕ) (y : Typed) (d : Delimiter) (t rest : Text) → IsTyped y → same y.head.type_name (codes "preamble") ≡ true → read_preamble limit (close_byte d) t ≡ Ok rest → IsTreeOf limit (typed_bytes y ++ (open_byte d ∷ t)) rest
 preamble_ok limit y d t rest ok named is =
     let x = bind_ok (read_value limit (after_run is_space t)) _ rest is in
@@ -93,10 +96,7 @@ preamble_ok limit y d t rest ok named is =
     let last : x.0.1 ≡ behind ++ (close_byte d ∷ rest) = space_split x.0.1 ∙ ap (λ (u : Text). behind ++ u) end in
     let inside : t ≡ before ++ (value_bytes v.0 ++ (behind ++ (close_byte d ∷ rest))) =
     space_split t ∙ ap (λ (u : Text). before ++ u) (v.3 ∙ ap (λ (u : Text). u ++ x.0.1) v.2 ∙ ap (λ (u : Text). value_bytes v.0 ++ u) last) in
-    (PreambleTree tree, good, ap (λ (u : Text). typed_bytes y ++ (open_byte d ∷ u)) inside ∙ opening_shape y d before _ ∙ sym (regroup (opening_bytes o) (value_bytes v.0) behind (close_byte d) rest), is_no_comment _)
-  where
-    regroup : (o w b : Text) (c : ℕ) (u : Text) → (o ++ w ++ b ++ c ∷ []) ++ u ≡ o ++ (w ++ (b ++ (c ∷ u)))
-    regroup o w b c u = append_assoc (o ++ w ++ b) (c ∷ []) u ∙ append_assoc (o ++ w) b _ ∙ append_assoc o w _
+    (PreambleTree tree, good, ap (λ (u : Text). typed_bytes y ++ (open_byte d ∷ u)) inside ∙ opening_shape y d before _ ∙ sym (four_regroup (opening_bytes o) (value_bytes v.0) behind (close_byte d) rest), is_no_comment _)
 
 -- a front that is not empty stops a run where the whole does
 pub stops_front : (test : ℕ → Bool) (u r : Text) → 0 < length u → does_not_begin_with test (u ++ r) ≡ true → does_not_begin_with test u ≡ true
@@ -117,7 +117,7 @@ entry_ok limit y d t rest ok named is =
     let gap = take_while is_space x.0.1 in
     let o = opening y d before in
     let e : Entry = record { opening = o; key = x.0.0; space_behind_key = gap; rows = rs.0; last_comma = rs.1 } in
-    let last : x.0.1 ≡ behind_key_bytes e ++ rest = space_split x.0.1 ∙ ap (λ (u : Text). gap ++ u) rs.4 ∙ sym (regroup gap (flat_map row_bytes rs.0) (last_comma_bytes rs.1) (close_byte d) rest) in
+    let last : x.0.1 ≡ behind_key_bytes e ++ rest = space_split x.0.1 ∙ ap (λ (u : Text). gap ++ u) rs.4 ∙ sym (four_regroup gap (flat_map row_bytes rs.0) (last_comma_bytes rs.1) (close_byte d) rest) in
     let long : 0 < length (behind_key_bytes e) = omega (arith, length-append (gap ++ flat_map row_bytes rs.0 ++ last_comma_bytes rs.1) (close_byte d ∷ [])) in
     let good : IsEntry limit e = record {
       opening = is_opening y d before ok (run_passes is_space t);
@@ -132,9 +132,6 @@ entry_ok limit y d t rest ok named is =
     } in
     let inside : t ≡ before ++ (x.0.0 ++ (behind_key_bytes e ++ rest)) = space_split t ∙ ap (λ (u : Text). before ++ u) (k.split ∙ ap (λ (u : Text). x.0.0 ++ u) last) in
     (EntryTree e, good, ap (λ (u : Text). typed_bytes y ++ (open_byte d ∷ u)) inside ∙ opening_shape y d before _ ∙ sym (append_assoc (opening_bytes o ++ x.0.0) (behind_key_bytes e) rest ∙ append_assoc (opening_bytes o) x.0.0 _), is_no_comment _)
-  where
-    regroup : (g w b : Text) (c : ℕ) (u : Text) → (g ++ w ++ b ++ c ∷ []) ++ u ≡ g ++ (w ++ (b ++ (c ∷ u)))
-    regroup g w b c u = append_assoc (g ++ w ++ b) (c ∷ []) u ∙ append_assoc (g ++ w) b _ ∙ append_assoc g w _
 
 pub open_is : (b : ℕ) (t : Text) → opens_body (b ∷ t) ≡ true → open_byte (delimiter_of b) ≡ b
 open_is b t is =
@@ -158,6 +155,9 @@ body_ok limit y (b ∷ t) rest ok open_it no_comment is =
       ]
     ]
     )
+
+pub or-second : {b c : Bool} → b ≡ false → (b || c) ≡ true → c ≡ true
+or-second {b} {c} fails either = elim (or_cases b c either) [ inl e ↦ absurd (both_ways b fails e) | inr e ↦ e ]
 
 pub command_ok : (limit : ℕ) (t rest : Text) → begins_command t ≡ true → read_command limit t ≡ Ok rest → IsTreeOf limit t rest
 unfolding begins_command read_command
@@ -189,8 +189,5 @@ command_ok limit (b ∷ t) rest here is =
           let ok : IsTyped y = record { head = good; space_before_delimiter = run_passes is_space behind } in
           let shape : b ∷ t ≡ typed_bytes y ++ after_run is_space behind =
           start ∙ ap (λ (u : Text). head_bytes head ++ u) (space_split behind) ∙ sym (append_assoc (head_bytes head) y.space_before_delimiter _) in
-          subst (λ (u : Text). IsTreeOf limit u rest) (sym shape) (body_ok limit y _ rest ok (opens_of other.0 parts.1) other.0 other.1)
+          subst (λ (u : Text). IsTreeOf limit u rest) (sym shape) (body_ok limit y _ rest ok (or-second other.0 parts.1) other.0 other.1)
     ]
-  where
-    opens_of : {x z : Bool} → x ≡ false → (x || z) ≡ true → z ≡ true
-    opens_of {x} {z} fails either = elim (or_cases x z either) [ inl e ↦ absurd (both_ways x fails e) | inr e ↦ e ]

@@ -22,7 +22,7 @@ use Rattle.bib_scan.proofs.FieldLaws.{rows_fields_again, definition_field_again,
 
 -- ---- heads
 
--- a head, and a text that does not go on with its type name
+-- a head, and a text that does not continue its type name
 pub head_again : (h : Head) (x : Text) → IsHead h → does_not_begin_with is_type_byte x ≡ true → read_head (head_bytes h ++ x) ≡ (h.type_name, x)
 head_again h x is ends =
     let named_well = type_name_parts h.type_name is.type_name in

@@ -1,7 +1,7 @@
 -- A file that is refused goes wrong where reading stops, and nowhere else.
-use Rattle.std.proofs.Common.{◌≡◌, ℕ, ◌+◌, ◌-◌, ◌<◌, ◌≤◌, Bool, true, false, [], ◌∷◌, ◌++◌, length, take, refl, sym, ap, subst, ◌∙◌, arith, append_assoc, append-nil, inl, inr, Result, Ok, Err}
+use Rattle.std.proofs.Common.{◌≡◌, ℕ, ◌+◌, ◌-◌, ◌<◌, false, [], ◌∷◌, ◌++◌, length, take, refl, sym, ap, subst, ◌∙◌, arith, append_assoc, append-nil, inl, inr, Result, Ok, Err}
 use Rattle.std.proofs.lemmas.Bool.{cases_Bool, or_from, not_from_false}
-use Rattle.std.proofs.lemmas.List.{length-append, append_cancel_right}
+use Rattle.std.proofs.lemmas.List.{append_cancel_right}
 use Rattle.std.specs.Prelude.{codes}
 use Rattle.bib_spec.specs.Text.{Text, same}
 use Rattle.bib_spec.specs.Tree.{Delimiter, close_byte}
@@ -15,7 +15,7 @@ use Rattle.bib_scan.proofs.LocalLaws.{LocalAt, Local}
 use Rattle.bib_scan.proofs.LocalRows.{plain, ready, fault_of, local_entry, local_definition, local_preamble}
 use Rattle.bib_scan.proofs.MendLaws.{Mends, Always}
 use Rattle.bib_scan.proofs.MendTrees.{mend_definition, mend_preamble, mend_entry}
-use Rattle.bib_scan.proofs.StopLaws.{inside, FileStop, file_stop}
+use Rattle.bib_scan.proofs.StopLaws.{inside, file_stop}
 use Rattle.bib_scan.proofs.PlaceLaws.{front_cut, front_more}
 
 -- what holds of the three readers of what stands after an opening delimiter holds of each command's
@@ -41,7 +41,7 @@ mend_inside limit some type_name d no_comment = of_inside (λ p. Mends (plain (p
 
 -- ---- where reading stops
 
--- reading stops after front, whatever stands after the byte there, and front goes on to such a text
+-- reading stops after front, whatever stands after the byte there, and front continues to such a text
 pub record StopsAt {A : Type 0} (IsSuch : Text → Type 0) (read : Text → Result A Halt) (t : Text) (h : Halt) : Type 0 where
   pub front : Text
   pub split : t ≡ front ++ h.rest
@@ -49,7 +49,7 @@ pub record StopsAt {A : Type 0} (IsSuch : Text → Type 0) (read : Text → Resu
   pub same : (c : ℕ) (v w : Text) → h.rest ≡ c ∷ v → read (front ++ c ∷ w) ≡ Err (stop h.fault (c ∷ w))
 
 module _ {A : Type 0} (IsSuch : Text → Type 0) (read : Text → Result A Halt) (no_fault : (t : Text) (h : Halt) → IsSuch t → read t ≡ Err h → ⊥) (stops : (t : Text) (h : Halt) → read t ≡ Err h → StopsAt IsSuch read t h) where
-  -- what goes on with the byte at the fault is no front of such a text
+  -- what continues with the byte at the fault is not the front of such a text
   pub stuck_by : (t u : Text) (h : Halt) (c : ℕ) (v : Text) → read t ≡ Err h → t ≡ u ++ h.rest → h.rest ≡ c ∷ v → IsViable IsSuch (u ++ c ∷ []) → ⊥
   stuck_by t u h c v is split rest (more, such) =
       let at = stops t h is in

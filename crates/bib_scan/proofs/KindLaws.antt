@@ -1,6 +1,6 @@
 -- The fault at which reading stops is what is wrong there.
-use Rattle.std.proofs.Common.{◌≡◌, ℕ, suc, ◌+◌, ◌-◌, ◌<◌, ◌≤◌, false, [], ◌∷◌, ◌++◌, length, take, refl, sym, ap, subst, ◌∙◌, arith, append_assoc, append-nil, inl, inr, ◌⊎◌, Result, Ok, Err}
-use Rattle.std.proofs.lemmas.List.{length-append, append_cancel_right}
+use Rattle.std.proofs.Common.{◌≡◌, ℕ, suc, ◌+◌, ◌-◌, ◌<◌, ◌≤◌, false, [], ◌∷◌, ◌++◌, length, refl, sym, ap, subst, ◌∙◌, arith, append_assoc, append-nil, inl, inr, Result, Ok, Err}
+use Rattle.std.proofs.lemmas.List.{length-append}
 use Rattle.std.specs.Prelude.{codes}
 use Rattle.bib_spec.specs.Bytes.{digit_one, letter_x, name_limit, file_limit}
 use Rattle.bib_spec.specs.Text.{Text, same}
@@ -8,7 +8,7 @@ use Rattle.bib_spec.specs.Tree.{Delimiter, close_byte}
 use Rattle.bib_spec.specs.Reading.{HasReadingWithin, IsViable}
 use Rattle.bib_spec.specs.Fault.{TextKind, MayStand, IsOneTooLong, IsFaultAt, IsReadFault, fault_number, ReadingFault, Unended, ExpectedName, ExpectedEquals, ExpectedCommaOrClose, ExpectedValue, UnbalancedBrace, KeyTooLong}
 use Rattle.bib_spec.specs.Fault as fault
-use Rattle.bib_scan.specs.LeftToRight.{Read, Halt, stop, read_all_commands, ◌>>=◌}
+use Rattle.bib_scan.specs.LeftToRight.{Halt, stop, read_all_commands, ◌>>=◌}
 use Rattle.bib_scan.proofs.LocalLaws.{rest_of}
 use Rattle.bib_scan.proofs.LocalRows.{plain, ready, fault_of}
 use Rattle.bib_scan.proofs.PlaceLaws.{front_cut, front_more}

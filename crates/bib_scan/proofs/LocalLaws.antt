@@ -9,7 +9,7 @@ use Rattle.bib_spec.specs.Fault.{ReadingFault}
 use Rattle.bib_spec.specs.Fault.{Unended, KeyTooLong}
 use Rattle.bib_spec.specs.Text.{Text, does_not_begin_with, after_run}
 use Rattle.bib_scan.specs.LeftToRight.{Read, stop, expected, read_run, ◌>>=◌}
-use Rattle.bib_scan.proofs.RunLaws.{run_split, run_passes, run_stops, run_front, run_rest, limited_ok, limited_again}
+use Rattle.bib_scan.proofs.RunLaws.{run_split, run_passes, run_stops, run_front, run_rest, limited_ok, limited_again, cons_nil}
 
 -- what a reader left after it, and the same answer with other bytes left
 abbrev pub rest_of : {A : Type 0} → Read A → Text
@@ -77,10 +77,7 @@ after_first p [] = Err (stop Unended [])
 after_first p (b ∷ t) = p t
 
 pub local_beyond : {A : Type 0} (p : Text → Read A) → Local p → Local (after_first p)
-local_beyond p l [] = record { front = []; split = refl; same = λ c v w is. absurd (nil_cons is) }
-  where
-    nil_cons : {c : ℕ} {v : Text} → ◌≡◌ {A = Text} [] (c ∷ v) → ⊥
-    nil_cons e = cc
+local_beyond p l [] = record { front = []; split = refl; same = λ c v w is. absurd (cons_nil c v (sym is)) }
 local_beyond p l (b ∷ t) =
     let at = l t in
     record { front = b ∷ at.front; split = ap (λ (u : Text). b ∷ u) at.split; same = at.same }
@@ -91,10 +88,7 @@ pub local_ok : {A : Type 0} (a : A) → Local (λ t. Ok (a, t))
 local_ok a t = record { front = []; split = refl; same = λ c v w is. refl }
 
 pub local_expected : {A : Type 0} (f : ReadingFault) → Local {A = A} (λ t. Err (expected f t))
-local_expected f [] = record { front = []; split = refl; same = λ c v w is. absurd (nil_cons is) }
-  where
-    nil_cons : {c : ℕ} {v : Text} → ◌≡◌ {A = Text} [] (c ∷ v) → ⊥
-    nil_cons e = cc
+local_expected f [] = record { front = []; split = refl; same = λ c v w is. absurd (cons_nil c v (sym is)) }
 local_expected f (b ∷ t) = record { front = []; split = refl; same = λ c v w is. refl }
 
 stops_first : (test : ℕ → Bool) (r : Text) (c : ℕ) (v : Text) → does_not_begin_with test r ≡ true → r ≡ c ∷ v → does_not_begin_with test (c ∷ v) ≡ true

@@ -6,6 +6,7 @@ use Rattle.bib_spec.specs.Fault.{Unended, UnbalancedBrace, ExpectedValue, Expect
 use Rattle.bib_spec.specs.Text.{Text, is_name_byte}
 use Rattle.bib_spec.specs.Tree.{Part, Braced, Quoted, Digits, Macro}
 use Rattle.bib_scan.specs.LeftToRight.{Read, stop, expected, read_run, with_front, read_braced, read_quoted, begins_name, read_name, read_part, ◌>>=◌}
+use Rattle.bib_scan.proofs.RunLaws.{cons_nil}
 use Rattle.bib_scan.proofs.BraceLemmas.{braced_takes, quoted_takes, braced_opens, braced_closes, braced_ends, braced_nil, quoted_opens, quoted_closes, quoted_ends, quoted_inside, quoted_unbalanced, quoted_nil}
 use Rattle.bib_scan.proofs.BraceLaws.{plain_byte}
 use Rattle.bib_scan.proofs.LocalLaws.{LocalAt, Local, local_bind, local_same, local_cond, after_first, local_beyond, local_ok, local_expected, run, local_run, local_limited}
@@ -22,11 +23,8 @@ local_front b p q t step l = subst (LocalAt p (b ∷ t)) (sym (step t)) (go (q t
 local_end : (b : ℕ) (p : Text → Read Text) (t : Text) → ((u : Text) → p (b ∷ u) ≡ Ok ([], u)) → LocalAt p (b ∷ t) (p (b ∷ t))
 local_end b p t step = subst (LocalAt p (b ∷ t)) (sym (step t)) (record { front = b ∷ []; split = refl; same = λ c v w is. step (c ∷ w) })
 
-nil_cons : (A : Type 0) (c : ℕ) (v : Text) → ◌≡◌ {A = Text} [] (c ∷ v) → A
-nil_cons A c v e = cc
-
 local_unended : (p : Text → Read Text) → p [] ≡ Err (stop Unended []) → LocalAt p [] (p [])
-local_unended p is = subst (LocalAt p []) (sym is) (record { front = []; split = refl; same = λ c v w e. nil_cons _ c v e })
+local_unended p is = subst (LocalAt p []) (sym is) (record { front = []; split = refl; same = λ c v w e. absurd (cons_nil c v (sym e)) })
 
 pub local_braced : (d : ℕ) → Local (read_braced d)
 local_braced d [] = local_unended (read_braced d) (braced_nil d)

@@ -4,10 +4,10 @@ use Rattle.std.proofs.lemmas.List.{append_cancel_right, length-append, length-dr
 use Rattle.std.specs.List.{prefix_len}
 use Rattle.bib_spec.specs.Fault.{ExpectedEquals, ExpectedCommaOrClose}
 use Rattle.bib_spec.specs.Text.{Text, is_space, after_run}
-use Rattle.bib_spec.specs.Tree.{Part, part_bytes, Delimiter, close_byte, goes_on_key}
+use Rattle.bib_spec.specs.Tree.{Delimiter, close_byte, goes_on_key}
 use Rattle.bib_scan.specs.LeftToRight.{Read, Halt, stop, expected, read_run, read_name, read_equals, read_part, past_hash, go_on, read_links, read_value_rest, read_value, read_assignment, read_row, past_byte, read_comma, read_close, read_rows, read_all_rows, read_entry, read_definition, read_preamble, ◌>>=◌}
 use Rattle.bib_scan.proofs.RunLaws.{not_ok, run_stops}
-use Rattle.bib_scan.proofs.PartLaws.{part_ok}
+use Rattle.bib_scan.proofs.PartLaws.{part_len}
 use Rattle.bib_scan.proofs.ValueLaws.{joined_ok, skip_space}
 use Rattle.bib_scan.proofs.RowLaws.{row_shorter, comma_ok}
 use Rattle.bib_scan.proofs.LocalLaws.{rest_of, with_rest, LocalAt, Local, local_bind, local_same, local_cond, after_first, local_beyond, local_ok, local_expected, run, local_run, local_limited}
@@ -61,9 +61,6 @@ local_family {A} p G same local t = record {
 
 after_len : (t : Text) → length (after_run is_space t) ≤ length t
 after_len t = omega (arith, length-drop (prefix_len is_space t) t)
-
-part_len : (limit : ℕ) (t : Text) (p : Part × Text) → read_part limit t ≡ Ok p → length p.1 ≤ length t
-part_len limit t p is = let h = part_ok limit t p is in omega (arith, ap (length {A = ℕ}) h.0, length-append (part_bytes p.0) p.1)
 
 joined_len : (t u : Text) → past_hash (after_run is_space t) ≡ Some u → length u < length t
 joined_len t u is =

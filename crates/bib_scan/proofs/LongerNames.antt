@@ -1,10 +1,10 @@
 -- What the grammar has with names and keys up to a limit, it has with longer ones too.
-use Rattle.std.proofs.Common.{ℕ, ◌≤◌, List, [], ◌∷◌, length, arith}
+use Rattle.std.proofs.Common.{ℕ, ◌≤◌, List, [], ◌∷◌, arith}
 use Rattle.std.proofs.lemmas.List.Elements.{All-nil, All-cons, All-head, All-tail}
 use Rattle.std.specs.List.{All}
 use Rattle.std.specs.Prelude.{IsTrue}
 use Rattle.bib_spec.specs.Text.{Text, is_name_within}
-use Rattle.bib_spec.specs.Tree.{Part, Braced, Quoted, Digits, Macro, Link, Value, Assignment, Row, Definition, Preamble, Entry, Tree, CommentTree, DefinitionTree, PreambleTree, EntryTree, IsPart, IsLink, IsValue, IsAssignment, IsRow, IsDefinition, IsPreamble, IsEntry, IsTree}
+use Rattle.bib_spec.specs.Tree.{Part, Braced, Quoted, Digits, Macro, Link, Value, Assignment, Row, Tree, CommentTree, DefinitionTree, PreambleTree, EntryTree, IsPart, IsLink, IsValue, IsAssignment, IsRow, IsTree}
 use Rattle.bib_spec.specs.Reading.{Item, IsItem}
 use Rattle.bib_scan.proofs.PartLaws.{name_parts, name_from}
 

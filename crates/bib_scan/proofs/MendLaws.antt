@@ -1,11 +1,11 @@
--- Where reading stops, some bytes can stand that make it go on to the end.
+-- Where reading stops, some bytes can stand with which it continues to the end.
 use Rattle.std.proofs.Common.{◌≡◌, ℕ, zero, suc, ◌+◌, ◌-◌, ◌<◌, Bool, true, false, cond, [], ◌∷◌, ◌++◌, length, refl, sym, ap, subst, ◌∙◌, arith, append_assoc, inl, inr, Result, Ok, Err}
 use Rattle.std.proofs.lemmas.List.{length-append}
 use Rattle.std.proofs.lemmas.Bool.{cases_eq, or_from, ne_eqb, cond-true, cond-false, both_ways}
 use Rattle.bib_spec.specs.Fault.{Unended, UnbalancedBrace}
 use Rattle.bib_spec.specs.Text.{Text}
 use Rattle.bib_scan.specs.LeftToRight.{Read, Halt, stop, with_front, read_braced, read_quoted, ◌>>=◌}
-use Rattle.bib_scan.proofs.RunLaws.{not_ok}
+use Rattle.bib_scan.proofs.RunLaws.{not_ok, cons_nil, append_nil-second}
 use Rattle.bib_scan.proofs.BraceLemmas.{braced_takes, quoted_takes, braced_opens, braced_closes, braced_ends, braced_nil, quoted_opens, quoted_closes, quoted_ends, quoted_inside, quoted_unbalanced, quoted_nil}
 use Rattle.bib_scan.proofs.BraceLaws.{plain_byte}
 use Rattle.bib_scan.proofs.LocalLaws.{LocalAt, Local, after_first}
@@ -42,13 +42,9 @@ mend_second {A} {B} p f P F G t a r h is local resumes m = record {
   split = local.split ∙ ap (λ (u : Text). local.front ++ u) m.split ∙ sym (append_assoc local.front m.front h.rest);
   end = m.end;
   works = λ s ok. let w = m.works s ok in (w.0, ap (λ (u : Text). p u >>= λ x. f x.0 x.1) (append_assoc local.front m.front (m.end ++ s)) ∙ ap (λ y. y >>= λ x. f x.0 x.1) (first m.front refl s ok) ∙ w.1);
-  starts = λ none s ok. (m.starts (second_nil local.front m.front none) s ok).1;
+  starts = λ none s ok. (m.starts (append_nil-second local.front m.front none) s ok).1;
 }
   where
-    second_nil : (u v : Text) → u ++ v ≡ [] → v ≡ []
-    second_nil [] v e = e
-    second_nil (b ∷ u) v e = cc
-
     first : (v : Text) → m.front ≡ v → (s : Text) → P s → p (local.front ++ (v ++ (m.end ++ s))) ≡ Ok (a, v ++ (m.end ++ s))
     first [] e s ok = resumes t a r is local.front (m.end ++ s) local.split (m.starts e s ok).0
     first (b ∷ v) e s ok = local.same b (v ++ h.rest) (v ++ (m.end ++ s)) (m.split ∙ ap (λ (u : Text). u ++ h.rest) e)
@@ -152,10 +148,7 @@ pub mend_after : {A : Type 0} (p : Text → Read A) (P F : Text → Type 0) (tes
 mend_after p P F test none m [] h passes is = absurd (both_ways (test []) none passes)
 mend_after p P F test none m (b ∷ t) h passes is =
     let at = m t h is in
-    record { front = b ∷ at.front; split = ap (λ (u : Text). b ∷ u) at.split; end = at.end; works = at.works; starts = λ e. cons_nil b at.front e }
-  where
-    cons_nil : (b : ℕ) (u : Text) → b ∷ u ≡ [] → {X : Type 0} → X
-    cons_nil b u e = cc
+    record { front = b ∷ at.front; split = ap (λ (u : Text). b ∷ u) at.split; end = at.end; works = at.works; starts = λ e. absurd (cons_nil b at.front e) }
 
 -- ---- braced and quoted text
 

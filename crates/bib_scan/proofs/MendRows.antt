@@ -10,11 +10,11 @@ use Rattle.bib_spec.specs.Fault.{Unended, ExpectedName, ExpectedEquals, Expected
 use Rattle.bib_spec.specs.Text.{Text, is_space, is_name_within, is_name_byte, does_not_begin_with, after_run}
 use Rattle.bib_spec.specs.Tree.{Part, Braced, Quoted, Digits, Macro, part_bytes, Value, link_bytes, value_bytes, IsPart, IsValue}
 use Rattle.bib_scan.specs.LeftToRight.{Read, Halt, stop, expected, read_run, read_braced, read_quoted, begins_name, read_name, read_equals, read_part, read_links, read_value, read_row, ◌>>=◌}
-use Rattle.bib_scan.proofs.RunLaws.{bind_ok, ok_same, not_ok, chosen, run_split, run_passes, run_front, run_rest, limited_ok, limited_again}
+use Rattle.bib_scan.proofs.RunLaws.{bind_ok, ok_same, not_ok, chosen, run_split, run_passes, run_front, run_rest, limited_ok, limited_again, cons_nil}
 use Rattle.bib_scan.proofs.PartLaws.{AfterPart, part_ok, part_again, name_parts, name_from, name_ok, name_again}
 use Rattle.bib_scan.proofs.ValueLaws.{Stands, space_split, skip_space, links_ok}
 use Rattle.bib_scan.proofs.RowLaws.{equals_ok}
-use Rattle.bib_scan.proofs.AgainLaws.{value_again}
+use Rattle.bib_scan.proofs.AgainLaws.{value_again, equals_stands}
 use Rattle.bib_scan.proofs.UniqueLaws.{AfterRow, AfterValue, after_value, after_row_stands}
 use Rattle.bib_scan.proofs.LocalLaws.{after_first, run, local_run}
 use Rattle.bib_scan.proofs.LocalParts.{first_is, local_part, local_name}
@@ -150,9 +150,6 @@ quoted_part : (limit : ℕ) (u r x : Text) → read_quoted 0 u ≡ Ok (x, r) →
 unfolding read_part
 quoted_part limit u r x is = rw is refl
 
-cons_nil : (b : ℕ) (u : Text) → b ∷ u ≡ [] → ⊥
-cons_nil b u e = cc
-
 one_end : (limit : ℕ) (F : Text → Type 0) (t : Text) (h : Halt) → ((s : Text) → F (49 ∷ s)) → t ≡ h.rest → MendAt (read_part limit) AfterPart F t h
 one_end limit F t h start split = record { front = []; split = split; end = 49 ∷ []; works = default_part limit; starts = λ none r ok. start r }
 
@@ -220,7 +217,7 @@ default_links limit (suc n) r a = (
       ∙ cond-false (first_is (λ b. eqb b 35) r) _ _ (no_hash_first r a),
 )
 
-one_stands : (s : Text) → Stands (49 ∷ s)
+pub one_stands : (s : Text) → Stands (49 ∷ s)
 unfolding is_space
 one_stands s = refl
 
@@ -300,10 +297,6 @@ resumes_equals t a r is u s split ok =
     let u_is : u ≡ 61 ∷ [] = append_cancel_right u (61 ∷ []) r (sym split ∙ shape ∙ ap (λ (x : Text). 61 ∷ x) rest) in
     ap (λ (x : Text). plain read_equals (x ++ s)) u_is ∙ equals_one s
 
-equals_stop : (s : Text) → Stands (61 ∷ s)
-unfolding is_space
-equals_stop s = refl
-
 equals_no_name : (s : Text) → does_not_begin_with is_name_byte (61 ∷ s) ≡ true
 unfolding is_name_byte
 equals_no_name s = refl
@@ -345,7 +338,7 @@ unfolding is_space
 default_row_sign limit r a = default_sign_value limit r a
 
 mend_row_sign : (limit : ℕ) (some : 0 < limit) (G : Text → Type 0) → ((s : Text) → G (61 ∷ s)) → Mends (row_sign limit) AfterRow G
-mend_row_sign limit some G start = mend_bind (run is_space) (λ b u. sign_value limit u) Always AfterRow Stands G (61 ∷ 49 ∷ []) (local_run is_space) (resumes_run is_space) (mend_run is_space Always G) (λ b. mend_sign_value limit some (λ s. Stands s × G s) (λ s. (equals_stop s, start s))) (λ b. default_sign_value limit) (λ r a. tt)
+mend_row_sign limit some G start = mend_bind (run is_space) (λ b u. sign_value limit u) Always AfterRow Stands G (61 ∷ 49 ∷ []) (local_run is_space) (resumes_run is_space) (mend_run is_space Always G) (λ b. mend_sign_value limit some (λ s. Stands s × G s) (λ s. (equals_stands s, start s))) (λ b. default_sign_value limit) (λ r a. tt)
 
 abbrev pub named_row : ℕ → Text → Read (Unit {0})
 named_row limit t = read_name limit t >>= λ n. row_sign limit n.1

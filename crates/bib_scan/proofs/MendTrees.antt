@@ -18,7 +18,7 @@ use Rattle.bib_scan.proofs.UniqueLaws.{tail_same, AfterRow, after_value, after_r
 use Rattle.bib_scan.proofs.LocalLaws.{run, local_run, local_limited}
 use Rattle.bib_scan.proofs.LocalRows.{plain, ready, fault_of, skip, local_row, value_gap, local_value, definition_is, value_close, preamble_is}
 use Rattle.bib_scan.proofs.MendLaws.{MendAt, Mends, Resumes, Default, mend_bind, mend_same, err_is, Always}
-use Rattle.bib_scan.proofs.MendRows.{mend_run, resumes_run, mend_limited, resumes_limited, mend_value, default_value, mend_row}
+use Rattle.bib_scan.proofs.MendRows.{mend_run, resumes_run, mend_limited, resumes_limited, mend_value, default_value, mend_row, one_stands}
 
 -- ---- closing delimiters
 
@@ -70,10 +70,6 @@ resumes_value limit t a r is u s split after =
 pub mend_definition : (limit : ℕ) (some : 0 < limit) (c : ℕ) → Close c → Mends (plain (read_definition limit c)) Always Always
 mend_definition limit some c close = mend_same (plain (read_definition limit c)) (λ t. plain (read_row limit) t >>= λ r. plain (read_close c) r.1) Always Always (definition_is limit c)
     (mend_bind (plain (read_row limit)) (λ r u. plain (read_close c) u) AfterRow Always AfterRow Always (c ∷ []) (local_row limit) (resumes_row limit) (mend_row limit some Always (λ s. tt)) (λ r. mend_close c (λ s. AfterRow s × Always s) (λ s. (close_after c s close, tt))) (λ r. default_close c) (λ r ok. close_after c r close))
-
-one_stands : (s : Text) → Stands (49 ∷ s)
-unfolding is_space
-one_stands s = refl
 
 close_stands : (c : ℕ) (s : Text) → Close c → Stands (c ∷ s)
 close_stands c s close = not_from_false _ close.ends.no_space

@@ -28,7 +28,7 @@ head_of (DefinitionTree d) = d.opening.head
 head_of (PreambleTree p) = p.opening.head
 head_of (EntryTree e) = e.opening.head
 
--- the bytes after the type name, where the opening goes on to u
+-- the bytes after the type name, where the opening continues to u
 abbrev opened_text : Opening → Text → Text
 opened_text o u = o.space_before_delimiter ++ (open_byte o.delimiter ∷ (o.space_behind ++ u))
 

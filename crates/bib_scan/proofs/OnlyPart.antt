@@ -1,5 +1,5 @@
 -- A value in whose bytes no `#` stands has one part, and the first byte of a part tells its kind.
-use Rattle.std.proofs.Common.{◌≡◌, ℕ, suc, ◌<◌, ◌≤◌, ◌==◌, ◌||◌, Bool, true, false, cond, List, [], ◌∷◌, ◌++◌, length, map, Option, None, Some, is_some, slice_get, slice_index, refl, sym, ◌∙◌, ap, ap₂, arith, append-nil}
+use Rattle.std.proofs.Common.{◌≡◌, ℕ, suc, ◌<◌, ◌==◌, ◌||◌, Bool, true, false, List, [], ◌∷◌, ◌++◌, length, map, Option, None, Some, is_some, slice_get, slice_index, refl, sym, ◌∙◌, ap, ap₂, arith, append-nil}
 use Rattle.std.specs.List.{list_any, flat_map}
 use Rattle.std.specs.Char.{is_ascii_digit}
 use Rattle.std.proofs.lemmas.Bool.{false_from_ne_true, false≢true, eqb-true, or_parts, not-true, cond-true, cond-false}
@@ -11,7 +11,6 @@ use Rattle.bib_spec.specs.Bytes.{open_brace, close_brace, quote, hash, name_limi
 use Rattle.bib_spec.specs.Text.{Text, is_name_byte}
 use Rattle.bib_spec.specs.Tree.{Part, Braced, Quoted, Digits, Macro, Link, Value, part_bytes, link_bytes, value_bytes, IsPart, IsValue}
 use Rattle.bib_scan.specs.ValueParts.{part_kind, kind_begun, link_part, parts_of}
-use Rattle.bib_scan.specs.declared.parts.PartKind.{PartKind}
 use Rattle.bib_scan.specs.declared.parts.PartKind.TheVariants as kind
 use Rattle.bib_scan.proofs.PartLaws.{name_parts}
 

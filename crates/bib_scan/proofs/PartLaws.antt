@@ -1,6 +1,7 @@
 -- Names and parts: what is read is one, and one that is written is read again.
 use Rattle.std.proofs.Common.{◌≡◌, ℕ, suc, ◌<◌, ◌≤◌, true, false, eqb, [], ◌∷◌, ◌++◌, length, take, refl, sym, ap, subst, ◌∙◌, arith, append_assoc, inl, inr, Ok}
 use Rattle.std.proofs.lemmas.Bool.{eqb-true, ne_eqb, and_parts, and_from, ltb-true, leb-true, lt-ltb, le-leb, not-true, not_from_false, both_ways, cond-true}
+use Rattle.std.proofs.lemmas.List.{length-append}
 use Rattle.std.proofs.lemmas.List.Sums.{AllPass-from_list_all, list_all-from_AllPass}
 use Rattle.std.proofs.lemmas.List.Elements.{All-head}
 use Rattle.std.specs.List.{prefix_len, take_while, AllPass}
@@ -135,6 +136,10 @@ part_ok limit (b ∷ t) x is =
         ]
       ]
     ]
+
+-- what a part leaves is no longer than what it was read from
+pub part_len : (limit : ℕ) (t : Text) (p : Part × Text) → read_part limit t ≡ Ok p → length p.1 ≤ length t
+part_len limit t p is = omega (arith, ap (length {A = ℕ}) (part_ok limit t p is).0, length-append (part_bytes p.0) p.1)
 
 pub name_byte_no : (b c : ℕ) → is_name_byte b ≡ true → is_name_byte c ≡ false → eqb b c ≡ false
 name_byte_no b c is fails = ne_eqb b c (λ e. both_ways (is_name_byte b) (ap is_name_byte e ∙ fails) is)

@@ -3,13 +3,13 @@ use Rattle.std.proofs.Common.{◌≡◌, ℕ, zero, suc, ◌+◌, ◌-◌, ◌�
 use Rattle.std.proofs.lemmas.List.{length-append}
 use Rattle.bib_spec.specs.Fault.{ExpectedCommaOrClose}
 use Rattle.bib_spec.specs.Text.{Text, is_space, after_run}
-use Rattle.bib_spec.specs.Tree.{Part, part_bytes}
+use Rattle.bib_spec.specs.Tree.{Part}
 use Rattle.bib_scan.specs.LeftToRight.{Halt, Read, expected, read_part, past_hash, go_on, read_links, nothing_behind, read_whole_value, ◌>>=◌}
 use Rattle.bib_scan.specs.PartsLeft.{read_link, unless_end, part_span, read_parts, read_all_parts}
 use Rattle.bib_scan.specs.declared.parts.PartSpan.{PartSpan}
 use Rattle.bib_scan.proofs.RunLaws.{not_ok}
 use Rattle.bib_scan.proofs.MendLaws.{err_is}
-use Rattle.bib_scan.proofs.PartLaws.{part_ok}
+use Rattle.bib_scan.proofs.PartLaws.{part_len}
 use Rattle.bib_scan.proofs.StopLaws.{fault_before}
 use Rattle.bib_scan.proofs.TakenApart.{link_found}
 
@@ -18,16 +18,13 @@ abbrev RefusedAfter : ℕ → ℕ → ℕ → Halt → Type 0
 RefusedAfter limit total n h =
     (m : ℕ) (t : Text) → length t ≤ n → length t ≤ m → unless_end (read_link t >>= read_parts limit total n) t ≡ Err h → (read_links limit m t >>= nothing_behind) ≡ Err h
 
-part_shorter : (limit : ℕ) (t : Text) (p : Part × Text) → read_part limit t ≡ Ok p → length p.1 ≤ length t
-part_shorter limit t p is = omega (arith, ap (length {A = ℕ}) (part_ok limit t p is).0, length-append (part_bytes p.0) p.1)
-
 -- a part and what follows it, where links are read for so many turns
 refused_part : (limit total n : ℕ) (turns : Part × Text → ℕ) (t : Text) (h : Halt) (read : Read Part) → read_part limit t ≡ read → RefusedAfter limit total n h → length t ≤ n → ((p : Part × Text) → length p.1 ≤ length t → length p.1 ≤ turns p) → (read >>= λ first. unless_end (read_link first.1 >>= read_parts limit total n) first.1 >>= λ later. Ok (part_span first.0 (total - length t) (total - length first.1) ∷ later)) ≡ Err h → ((read >>= λ p. read_links limit (turns p) p.1) >>= nothing_behind) ≡ Err h
 refused_part limit total n turns t h (Err k) read behind ln room is =
     let same : k ≡ h = err_is {A = List PartSpan} k h (Err k) refl is in
     ap (λ (j : Halt). Err j) same
 refused_part limit total n turns t h (Ok p) read behind ln room is =
-    let short = part_shorter limit t p read in
+    let short = part_len limit t p read in
     let fault = fault_before (unless_end (read_link p.1 >>= read_parts limit total n) p.1) (λ later. part_span p.0 (total - length t) (total - length p.1) ∷ later) h is in
     behind (turns p) p.1 (omega arith) (room p short) fault
 

@@ -1,6 +1,6 @@
 -- Of any kind of text: where it goes wrong, and what is wrong there.
 use Rattle.std.proofs.Common.{◌≡◌, ℕ, ◌+◌, ◌-◌, ◌<◌, ◌≤◌, [], ◌∷◌, ◌++◌, length, take, drop, refl, sym, ap, subst, ◌∙◌, arith, append_assoc, inl, inr, ◌⊎◌}
-use Rattle.std.proofs.lemmas.List.{length-append, take-append-drop, take_at, drop_at, take-take}
+use Rattle.std.proofs.lemmas.List.{length-append, take-append-drop, take_at, take-take}
 use Rattle.bib_spec.specs.Text.{Text}
 use Rattle.bib_spec.specs.Reading.{IsViable, IsHopeless}
 use Rattle.bib_spec.specs.Bytes.{quote, comma, digit_one, equals_sign, letter_x}

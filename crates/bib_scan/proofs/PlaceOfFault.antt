@@ -1,7 +1,7 @@
 -- Of files and values: each text that is not one goes wrong at one place, one thing is wrong there, and a text that is cut
 -- has ended too early at most.
-use Rattle.std.proofs.Common.{◌≡◌, ℕ, ◌+◌, ◌-◌, ◌<◌, ◌≤◌, List, [], ◌∷◌, ◌++◌, length, take, drop, refl, sym, ap, subst, ◌∙◌, arith, inl, inr, ◌⊎◌, Result, Ok, Err}
-use Rattle.std.proofs.lemmas.List.{length-append, take-append-drop}
+use Rattle.std.proofs.Common.{◌≡◌, ℕ, ◌+◌, ◌-◌, ◌<◌, List, ◌++◌, length, take, drop, refl, sym, subst, arith, inl, inr, ◌⊎◌, Result, Ok, Err}
+use Rattle.std.proofs.lemmas.List.{take-append-drop}
 use Rattle.bib_spec.specs.Bytes.{name_limit}
 use Rattle.bib_spec.specs.Text.{Text}
 use Rattle.bib_spec.specs.Reading.{HasReadingWithin, IsValueWithin, IsViable, IsHopeless}
@@ -10,7 +10,6 @@ use Rattle.bib_spec.specs.Fault as fault
 use Rattle.bib_scan.specs.declared.layout.Span.{Span}
 use Rattle.bib_scan.specs.Laws.{IsSuchOrHopeless, OneFault, CutEnds}
 use Rattle.bib_scan.specs.LeftToRight.{Halt, read_all_commands, read_whole_value}
-use Rattle.bib_scan.proofs.RunLaws.{not_ok}
 use Rattle.bib_scan.proofs.ReadingLaws.{reading_of}
 use Rattle.bib_scan.proofs.HopelessLaws.{hopeless}
 use Rattle.bib_scan.proofs.PlaceLaws.{one_place, one_fault, viable_front}

@@ -8,6 +8,15 @@ use Rattle.std.specs.List.{prefix_len, take_while, AllPass}
 use Rattle.bib_spec.specs.Text.{Text, does_not_begin_with, after_run}
 use Rattle.bib_scan.specs.LeftToRight.{Halt, read_run, ◌>>=◌}
 
+-- ---- texts
+
+pub cons_nil : (b : ℕ) (t : Text) → b ∷ t ≡ [] → ⊥
+cons_nil b t e = cc
+
+pub append_nil-second : (t u : Text) → t ++ u ≡ [] → u ≡ []
+append_nil-second [] u e = e
+append_nil-second (b ∷ t) u e = cc
+
 -- ---- readers in a row
 
 pub bind_ok : {A B : Type 0} (r : Result A Halt) (f : A → Result B Halt) (y : B) → (r >>= f) ≡ Ok y → (x : A) × (r ≡ Ok x) × (f x ≡ Ok y)

@@ -1,21 +1,21 @@
 -- Where the reading of a file stops: after the opening delimiter of a command. What stands before it is read again
 -- whatever follows, and also where names and keys may be longer.
-use Rattle.std.proofs.Common.{◌≡◌, ℕ, zero, suc, ◌+◌, ◌-◌, ◌<◌, ◌≤◌, Bool, true, false, ◌||◌, List, [], ◌∷◌, ◌++◌, length, take, drop, refl, sym, ap, subst, ◌∙◌, arith, append_assoc, append-nil, inl, inr, Result, Ok, Err}
-use Rattle.std.proofs.lemmas.Bool.{eqb-true, both_ways, and_parts, or_cases}
+use Rattle.std.proofs.Common.{◌≡◌, ℕ, zero, suc, ◌+◌, ◌-◌, ◌<◌, ◌≤◌, true, false, List, [], ◌∷◌, ◌++◌, length, take, drop, refl, sym, ap, subst, ◌∙◌, arith, append_assoc, append-nil, inl, inr, Result, Ok, Err}
+use Rattle.std.proofs.lemmas.Bool.{eqb-true, and_parts}
 use Rattle.std.proofs.lemmas.List.{length-append, length-drop, take-append-drop, drop_at}
 use Rattle.std.proofs.lemmas.List.Elements.{All-nil, All-cons}
 use Rattle.std.specs.Prelude.{codes}
 use Rattle.std.specs.List.{take_while, flat_map, All}
 use Rattle.bib_spec.specs.Text.{Text, is_space, is_type_byte, same, after_run}
 use Rattle.bib_spec.specs.Clean.{begins_command, opens_body, IsClean}
-use Rattle.bib_spec.specs.Tree.{Head, Delimiter, Tree, open_byte, head_bytes, tree_bytes, is_comment, IsHead, IsTree, IsOpening}
-use Rattle.bib_spec.specs.Reading.{Item, Reading, item_bytes, bytes_of, IsItem, HasReadingWithin}
+use Rattle.bib_spec.specs.Tree.{Head, Delimiter, Tree, open_byte, head_bytes, tree_bytes, IsHead, IsTree, IsOpening}
+use Rattle.bib_spec.specs.Reading.{Item, Reading, item_bytes, IsItem, HasReadingWithin}
 use Rattle.bib_scan.specs.declared.layout.Span.{Span}
-use Rattle.bib_scan.specs.LeftToRight.{Halt, stop, span, delimiter_of, read_body, read_command, next_command, read_commands, read_all_commands, ◌>>=◌}
+use Rattle.bib_scan.specs.LeftToRight.{Halt, span, delimiter_of, read_body, read_command, next_command, read_commands, read_all_commands, ◌>>=◌}
 use Rattle.bib_scan.proofs.RunLaws.{chosen, not_ok, run_split, run_passes}
 use Rattle.bib_scan.proofs.PartLaws.{type_name_from}
 use Rattle.bib_scan.proofs.ValueLaws.{space_split}
-use Rattle.bib_scan.proofs.CommandLaws.{Typed, IsTyped, EndsName, IsTreeOf, opening, is_opening, typed_bytes, open_is, command_ok}
+use Rattle.bib_scan.proofs.CommandLaws.{Typed, IsTyped, EndsName, IsTreeOf, opening, is_opening, typed_bytes, open_is, command_ok, or-second}
 use Rattle.bib_scan.proofs.CleanLaws.{Next, next_found, next_again, clean_nil}
 use Rattle.bib_scan.proofs.TreeAgainLaws.{Again, head_shape, opened_again, tree_again}
 use Rattle.bib_scan.proofs.ReadingLaws.{not_here, ends_more, ends_take, some_bytes, one_turn}
@@ -83,11 +83,8 @@ command_stop limit (b ∷ t) h here is =
           let ok : IsTyped y = record { head = good; space_before_delimiter = run_passes is_space behind } in
           let shape : b ∷ t ≡ typed_bytes y ++ after_run is_space behind =
           start ∙ ap (λ (u : Text). head_bytes head ++ u) (space_split behind) ∙ sym (append_assoc (head_bytes head) y.space_before_delimiter _) in
-          opened_stop limit y (b ∷ t) (after_run is_space behind) h ok shape (opens_of other.0 parts.1) other.0 other.1
+          opened_stop limit y (b ∷ t) (after_run is_space behind) h ok shape (or-second other.0 parts.1) other.0 other.1
     ]
-  where
-    opens_of : {x z : Bool} → x ≡ false → (x || z) ≡ true → z ≡ true
-    opens_of {x} {z} fails either = elim (or_cases x z either) [ inl e ↦ absurd (both_ways x fails e) | inr e ↦ e ]
 
 -- ---- the items before it
 

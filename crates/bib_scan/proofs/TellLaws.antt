@@ -1,17 +1,17 @@
 -- What a reader does where another byte stands in place of the first one that it stopped at, and nothing after it.
 -- Each fault is told by some bytes that it passes and some that it stops at.
-use Rattle.std.proofs.Common.{◌≡◌, ℕ, ◌+◌, ◌<◌, ◌≤◌, Bool, true, false, cond, [], ◌∷◌, ◌++◌, length, refl, sym, ap, subst, ◌∙◌, arith, append_assoc, append-nil, inl, inr, ◌⊎◌, Result, Ok, Err}
+use Rattle.std.proofs.Common.{◌≡◌, ℕ, ◌+◌, ◌<◌, ◌≤◌, Bool, true, false, cond, [], ◌∷◌, ◌++◌, length, refl, sym, ap, subst, ◌∙◌, arith, append_assoc, append-nil, inl, inr, ◌⊎◌, Ok, Err}
 use Rattle.std.proofs.lemmas.List.{length-append, append_cancel_right}
 use Rattle.std.proofs.lemmas.Bool.{cond-true, cond-false, both_ways}
 use Rattle.bib_spec.specs.Fault.{ReadingFault, Unended, ExpectedName, ExpectedEquals, ExpectedCommaOrClose, ExpectedValue, UnbalancedBrace, KeyTooLong}
 use Rattle.bib_spec.specs.Text.{Text}
 use Rattle.bib_scan.specs.LeftToRight.{Read, Halt, stop, ◌>>=◌}
-use Rattle.bib_scan.proofs.RunLaws.{not_ok}
-use Rattle.bib_scan.proofs.LocalLaws.{rest_of, with_rest, LocalAt, Local, after_first}
+use Rattle.bib_scan.proofs.RunLaws.{not_ok, cons_nil, append_nil-second}
+use Rattle.bib_scan.proofs.LocalLaws.{rest_of, LocalAt, Local, after_first}
 use Rattle.bib_scan.proofs.UniqueLaws.{tail_same}
 use Rattle.bib_scan.proofs.MendLaws.{Resumes, err_is}
 
--- after u the reader goes on past the byte d
+-- after u the reader continues past the byte d
 abbrev pub Past : {A : Type 0} → (Text → Read A) → Text → ℕ → Type 0
 Past p u d = rest_of (p (u ++ d ∷ [])) ≡ []
 
@@ -119,7 +119,7 @@ Tells p G = (t : Text) (h : Halt) → p t ≡ Err h → TellsAt p G t h
 abbrev pub Keeps : {A : Type 0} → (Text → Read A) → (ℕ → Type 0) → Type 0
 Keeps {A} p F = (t : Text) (a : A) (r u : Text) → p t ≡ Ok (a, r) → t ≡ u ++ r → (d : ℕ) → F d → Leaves p a u d
 
--- After what the reader read: a letter and a digit follow, or it stops at the letter, or it goes on past the digit.
+-- After what the reader read: a letter and a digit follow, or it stops at the letter, or it continues past the digit.
 abbrev pub TakesDigit : {A : Type 0} → (Text → Read A) → A → Text → Type 0
 TakesDigit p a u = (Leaves p a u 120 × Leaves p a u 49) ⊎ Stopped p u 120 ⊎ Past p u 49
 
@@ -159,7 +159,7 @@ module _ {A B : Type 0} (p : Text → Read A) (f : A → Text → Read B) where
   stopped_first : (u : Text) (d : ℕ) → Stopped p u d → Stopped Both u d
   stopped_first u d s = (s.0, ap (λ (m : Read A). m >>= λ x. f x.0 x.1) s.1)
 
-  -- where p reads a up to u2 and the text after it, f goes on there
+  -- where p reads a up to u2 and the text after it, f continues there
   goes_on : (a : A) (u1 u2 w : Text) → p (u1 ++ (u2 ++ w)) ≡ Ok (a, u2 ++ w) → Both ((u1 ++ u2) ++ w) ≡ f a (u2 ++ w)
   goes_on a u1 u2 w is = ap Both (append_assoc u1 u2 w) ∙ ap (λ (m : Read A). m >>= λ x. f x.0 x.1) is
 
@@ -201,12 +201,8 @@ module _ {A B : Type 0} (p : Text → Read A) (f : A → Text → Read B) where
 
   -- the second reader stopped after its first byte
   pub tell_later : (G H : ℕ → Type 0) (t : Text) (a : A) (r : Text) (h : Halt) → LocalAt p t (Ok (a, r)) → (m : TellsAt (f a) H r h) → (m.front ≡ [] → ⊥) → TellsAt Both G t h
-  tell_later G H t a r h l m some = tell_moved G H t a r h l m (λ d ok. first m.front refl d) (digit m.front refl) (λ none. absurd (some (second_nil l.front m.front none)))
+  tell_later G H t a r h l m some = tell_moved G H t a r h l m (λ d ok. first m.front refl d) (digit m.front refl) (λ none. absurd (some (append_nil-second l.front m.front none)))
     where
-      second_nil : (u v : Text) → u ++ v ≡ [] → v ≡ []
-      second_nil [] v e = e
-      second_nil (b ∷ u) v e = cc
-
       first : (v : Text) → m.front ≡ v → (d : ℕ) → p (l.front ++ (v ++ d ∷ [])) ≡ Ok (a, v ++ d ∷ [])
       first [] e d = absurd (some e)
       first (b ∷ v) e d = read_again t a r l b v h.rest (d ∷ []) (m.split ∙ ap (λ (u : Text). u ++ h.rest) e)
@@ -404,9 +400,6 @@ tell_cond {A} test p q G by_first other mp mq t h is = go (test t) refl is
         too u to (inl s) = inl (s.0, cond-false (test _) _ _ (to 120 the_letter) ∙ s.1)
         too u to (inr e) = inr (ap rest_of (cond-false (test _) _ _ (to 49 the_digit)) ∙ e)
 
-some_front : (b : ℕ) (u : Text) → b ∷ u ≡ [] → ⊥
-some_front b u e = cc
-
 -- after the first byte of a text that has one
 pub tell_beyond : {A : Type 0} (p : Text → Read A) (G : ℕ → Type 0) (test : Text → Bool) → test [] ≡ false → Tells p (λ d. Unit {0}) → (t : Text) (h : Halt) → test t ≡ true → after_first p t ≡ Err h → (m : TellsAt (after_first p) G t h) × (m.front ≡ [] → ⊥)
 tell_beyond p G test none tells [] h passes is = absurd (both_ways (test []) none passes)
@@ -419,9 +412,9 @@ tell_beyond {A} p G test none tells (b ∷ t) h passes is =
       passed = m.passed;
       blocked = m.blocked;
       digit = m.digit;
-      starts = λ e. absurd (some_front b m.front e);
+      starts = λ e. absurd (cons_nil b m.front e);
     } in
-    (at, λ e. some_front b m.front e)
+    (at, λ e. cons_nil b m.front e)
 
 pub digits_cond : {A : Type 0} (test : Text → Bool) (p q : Text → Read A) → ((b : ℕ) (t u : Text) → test (b ∷ t) ≡ test (b ∷ u)) → test [] ≡ false → test (120 ∷ []) ≡ false → test (49 ∷ []) ≡ false → Local p → Digits p → Digits q → Digits (λ t. cond (test t) (after_first p t) (q t))
 digits_cond {A} test p q by_first none letter digit local dp dq t a r u is split = go (test t) refl is
@@ -440,7 +433,7 @@ digits_cond {A} test p q by_first none letter digit local dp dq t a r u is split
         shorter m l e = omega (arith, ap (length {A = ℕ}) (subst (λ (x : Read A). s ≡ l.front ++ rest_of x) e l.split), length-append l.front r)
     first (b ∷ s) (c ∷ v) shape parts was read =
         let inner : s ≡ v ++ r = tail_same b c s (v ++ r) (sym shape ∙ parts) in
-        let to : (d : ℕ) → test ((c ∷ v) ++ d ∷ []) ≡ true = λ d. same_test true (c ∷ v) d (ap test shape ∙ was) parts (λ e. absurd (some_front c v e)) in
+        let to : (d : ℕ) → test ((c ∷ v) ++ d ∷ []) ≡ true = λ d. same_test true (c ∷ v) d (ap test shape ∙ was) parts (λ e. absurd (cons_nil c v e)) in
         lift to (dp s a r v read inner)
       where
         lift : ((d : ℕ) → test ((c ∷ v) ++ d ∷ []) ≡ true) → TakesDigit p a v → TakesDigit (λ w. cond (test w) (after_first p w) (q w)) a (c ∷ v)

@@ -1,24 +1,24 @@
 -- What the readers of names and parts do with other bytes where they stopped.
-use Rattle.std.proofs.Common.{◌≡◌, ℕ, suc, ◌+◌, ◌-◌, ◌<◌, ◌≤◌, Bool, true, false, cond, eqb, ltb, [], ◌∷◌, ◌++◌, length, take, drop, refl, sym, ap, subst, ◌∙◌, arith, append_assoc, append-nil, inl, inr, ◌⊎◌, Ok, Err}
-use Rattle.std.proofs.lemmas.Bool.{cases_eq, or_from, ne_eqb, eqb-true, and_from, cond-true, cond-false, not_from_false, lt-ltb, both_ways, not-true}
+use Rattle.std.proofs.Common.{◌≡◌, ℕ, ◌+◌, ◌-◌, ◌<◌, ◌≤◌, Bool, true, false, eqb, ltb, [], ◌∷◌, ◌++◌, length, drop, refl, sym, ap, subst, ◌∙◌, arith, append_assoc, append-nil, inl, inr, Ok, Err}
+use Rattle.std.proofs.lemmas.Bool.{cases_eq, or_from, ne_eqb, eqb-true, cond-true, cond-false, not_from_false, lt-ltb, not-true}
 use Rattle.std.proofs.lemmas.List.{append_cancel_right, length-append, length-drop, drop_at}
 use Rattle.std.proofs.lemmas.List.Sums.{prefix_len-le-length}
-use Rattle.std.proofs.lemmas.List.Elements.{All-nil, All-cons, All-head, All-push}
+use Rattle.std.proofs.lemmas.List.Elements.{All-head, All-push}
 use Rattle.std.proofs.lemmas.Bool.{ltb-true}
 use Rattle.std.specs.List.{prefix_len, take_while, AllPass}
 use Rattle.std.specs.Char.{is_ascii_digit}
 use Rattle.bib_spec.specs.Fault.{ReadingFault, Unended, ExpectedName, ExpectedValue, UnbalancedBrace, KeyTooLong}
-use Rattle.bib_spec.specs.Text.{Text, is_space, is_name_within, is_name_byte, does_not_begin_with, after_run}
+use Rattle.bib_spec.specs.Text.{Text, is_name_within, is_name_byte, does_not_begin_with, after_run}
 use Rattle.bib_spec.specs.Tree.{Part, Braced, Quoted, Digits, Macro, part_bytes, IsPart}
 use Rattle.bib_scan.specs.LeftToRight.{Read, Halt, stop, expected, read_run, with_front, read_braced, read_quoted, begins_name, read_name, read_part, ◌>>=◌}
-use Rattle.bib_scan.proofs.RunLaws.{chosen, not_ok, limited_ok, limited_again}
+use Rattle.bib_scan.proofs.RunLaws.{chosen, not_ok, limited_again, cons_nil}
 use Rattle.bib_scan.proofs.BraceLemmas.{braced_takes, quoted_takes, braced_opens, braced_closes, braced_ends, braced_nil, quoted_opens, quoted_closes, quoted_ends, quoted_inside, quoted_unbalanced, quoted_nil}
 use Rattle.bib_scan.proofs.BraceLaws.{plain_byte, braced_again, quoted_again, balanced_closes, quotes_inside}
-use Rattle.bib_scan.proofs.PartLaws.{AfterPart, name_byte_no, part_ok, part_again, name_parts, name_from, name_ok, name_again, begins_from}
+use Rattle.bib_scan.proofs.PartLaws.{AfterPart, name_byte_no, part_ok, part_again, name_parts, name_ok, name_again, begins_from}
 use Rattle.bib_scan.proofs.AgainLaws.{Breaks}
-use Rattle.bib_scan.proofs.LocalLaws.{rest_of, run, after_first, run_beyond}
+use Rattle.bib_scan.proofs.LocalLaws.{rest_of, run, run_beyond}
 use Rattle.bib_scan.proofs.MendLaws.{err_is}
-use Rattle.bib_scan.proofs.MendRows.{resumes_run, resumes_name, resumes_part, x_name, inner_err, as_part, TooLong, too_long}
+use Rattle.bib_scan.proofs.MendRows.{resumes_run, resumes_name, resumes_part, x_name, inner_err, as_part, too_long}
 use Rattle.bib_scan.proofs.TellLaws.{Past, Stopped, Leaves, Passes, Blocks, Tries, AsksDigit, IsEnd, DigitToo, TellsAt, Tells, Keeps, TakesDigit, keeps_of, digits_of}
 use Rattle.bib_scan.proofs.TellLaws as tells
 
@@ -36,9 +36,6 @@ told_end p G t h e = told p G t t [] Unended h e (sym (append-nil t)) refl (λ d
 -- a name or key is too long
 pub told_long : {A : Type 0} (p : Text → Read A) (G : ℕ → Type 0) (t front r : Text) (h : Halt) → stop KeyTooLong r ≡ h → t ≡ front ++ r → (r ≡ [] → ⊥) → TellsAt p G t h
 told_long p G t front r h e split end = told p G t front r KeyTooLong h e split end (λ d ok. absurd ok) (λ d ok. absurd ok) (λ asks. absurd asks) (λ none d ok. elim ok [ inl x ↦ absurd x | inr x ↦ absurd x ])
-
-some_text : (b : ℕ) (t : Text) → b ∷ t ≡ [] → ⊥
-some_text b t e = cc
 
 -- ---- runs
 
@@ -59,7 +56,7 @@ tell_limited limit test p G t h is =
       | inr short ↦ absurd (not_ok _ h _ short.1 refl)
     ]
 
--- a run of bytes of the class: one more goes on, or it is too long
+-- a run of bytes of the class: one more continues it, or it is too long
 pub run_too : (limit : ℕ) (test : ℕ → Bool) (u : Text) → AllPass test u → length u ≤ limit → test 120 ≡ true → test 49 ≡ true → DigitToo (read_run limit test) u
 run_too limit test u all fits letter digit =
     elim (cases_eq (length u) limit) [
@@ -103,7 +100,7 @@ tell_name limit some G each t h is =
 
     at : (u : Text) → (let r : Read Text = Err (expected ExpectedName u) in r ≡ Err h) → TellsAt (read_name limit) G u h
     at [] e = told_end (read_name limit) G [] h (err_is {A = Text × Text} (stop Unended []) h _ refl e)
-    at (b ∷ u) e = told (read_name limit) G (b ∷ u) [] (b ∷ u) ExpectedName h (err_is {A = Text × Text} (stop ExpectedName (b ∷ u)) h _ refl e) refl (some_text b u) letter (λ d ok. name_digit limit d (no_names d ok)) (λ asks. absurd asks) (λ none. each)
+    at (b ∷ u) e = told (read_name limit) G (b ∷ u) [] (b ∷ u) ExpectedName h (err_is {A = Text × Text} (stop ExpectedName (b ∷ u)) h _ refl e) refl (cons_nil b u) letter (λ d ok. name_digit limit d (no_names d ok)) (λ asks. absurd asks) (λ none. each)
 
 pub keeps_name : (limit : ℕ) → Keeps (read_name limit) (λ d. is_name_byte d ≡ false)
 keeps_name limit = keeps_of (read_name limit) (λ s. does_not_begin_with is_name_byte s ≡ true) (λ d. is_name_byte d ≡ false) (resumes_name limit) (λ d fails. not_from_false (is_name_byte d) fails)
@@ -158,7 +155,7 @@ tell_front b p q t h step later is =
       passed = λ d ok. past m.front d (m.passed d ok);
       blocked = λ d ok. stopped m.front d (m.blocked d ok);
       digit = λ asks. digit m.front (m.digit asks);
-      starts = λ none. absurd (some_text b m.front none);
+      starts = λ none. absurd (cons_nil b m.front none);
     }
   where
     past : (u : Text) (d : ℕ) → Past q u d → Past p (b ∷ u) d
@@ -185,7 +182,7 @@ tell_quoted d (b ∷ t) h is =
         | inl closes ↦ elim (cases_eq d 0) [
           | inl none ↦
               let e : stop UnbalancedBrace (b ∷ t) ≡ h = err_is (stop UnbalancedBrace (b ∷ t)) h _ (ap (λ (n : ℕ). read_quoted n (b ∷ t)) none ∙ quoted_unbalanced b t closes) is in
-              told (read_quoted d) Anything (b ∷ t) [] (b ∷ t) UnbalancedBrace h e refl (some_text b t) (λ c ok. subst (λ (n : ℕ). Past (read_quoted n) [] c) (sym none) (quoted_passes c ok)) (λ c ok. absurd ok) (λ asks. absurd asks) (λ nothing c ok. tt)
+              told (read_quoted d) Anything (b ∷ t) [] (b ∷ t) UnbalancedBrace h e refl (cons_nil b t) (λ c ok. subst (λ (n : ℕ). Past (read_quoted n) [] c) (sym none) (quoted_passes c ok)) (λ c ok. absurd ok) (λ asks. absurd asks) (λ nothing c ok. tt)
           | inr some ↦ tell_front b (read_quoted d) (read_quoted (d - 1)) t h (λ u. quoted_closes d b u some closes) (λ g e. tell_quoted (d - 1) t g e) is
         ]
         | inr no_close ↦ elim (cases_eq b 34) [
@@ -225,7 +222,7 @@ tell_quoted_part limit G t h m = record {
   passed = λ d ok. past m.front d (m.passed d ok);
   blocked = λ d ok. stopped m.front d (m.blocked d ok);
   digit = λ asks. digit m.front (m.digit asks);
-  starts = λ none. absurd (some_text 34 m.front none);
+  starts = λ none. absurd (cons_nil 34 m.front none);
 }
   where
     past : (u : Text) (d : ℕ) → Past (read_quoted 0) u d → Past (read_part limit) (34 ∷ u) d
@@ -252,7 +249,7 @@ tell_part limit G each (b ∷ t) h is =
           | inl digit ↦ absurd (not_ok (Digits (take_while is_ascii_digit (b ∷ t)), after_run is_ascii_digit (b ∷ t)) h _ digit.1 refl)
           | inr letter ↦ elim (chosen (is_name_byte b) _ _ _ letter.1) [
             | inl named ↦ tell_limited limit is_name_byte (read_part limit) G (b ∷ t) h (inner_err (λ u. Macro u) (read_run limit is_name_byte (b ∷ t)) h named.1)
-            | inr wrong ↦ told (read_part limit) G (b ∷ t) [] (b ∷ t) ExpectedValue h (err_is {A = Part × Text} (stop ExpectedValue (b ∷ t)) h _ refl wrong.1) refl (some_text b t) (value_passes limit) (value_blocks limit) (λ asks. absurd asks) (λ none. each)
+            | inr wrong ↦ told (read_part limit) G (b ∷ t) [] (b ∷ t) ExpectedValue h (err_is {A = Part × Text} (stop ExpectedValue (b ∷ t)) h _ refl wrong.1) refl (cons_nil b t) (value_passes limit) (value_blocks limit) (λ asks. absurd asks) (λ none. each)
           ]
         ]
       ]

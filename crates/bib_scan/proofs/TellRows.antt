@@ -1,22 +1,19 @@
 -- What the readers of values and rows do with other bytes where they stopped.
-use Rattle.std.proofs.Common.{◌≡◌, ℕ, zero, suc, ◌+◌, ◌<◌, ◌≤◌, Bool, true, false, cond, eqb, [], ◌∷◌, ◌++◌, length, refl, sym, ap, subst, ◌∙◌, arith, append_assoc, inl, inr, ◌⊎◌, Result, Ok, Err}
-use Rattle.std.proofs.lemmas.Bool.{both_ways, cond-true, cond-false, not_from_false}
-use Rattle.std.proofs.lemmas.List.{append_cancel_right, length-append}
+use Rattle.std.proofs.Common.{◌≡◌, ℕ, zero, suc, ◌<◌, Bool, true, false, cond, eqb, [], ◌∷◌, refl, sym, ap, subst, ◌∙◌, inl, inr, Ok, Err}
+use Rattle.std.proofs.lemmas.List.{append_cancel_right}
 use Rattle.bib_spec.specs.Fault.{ReadingFault, Unended, ExpectedName, ExpectedEquals, ExpectedCommaOrClose, ExpectedValue}
 use Rattle.bib_spec.specs.Text.{Text, is_space, is_name_byte, after_run}
-use Rattle.bib_spec.specs.Tree.{Part}
-use Rattle.bib_scan.specs.LeftToRight.{Read, Halt, stop, expected, read_name, read_equals, read_part, read_links, read_row, read_close, read_comma, past_byte, go_on, ◌>>=◌}
+use Rattle.bib_scan.specs.LeftToRight.{Read, stop, read_name, read_equals, read_part, read_links, read_row, ◌>>=◌}
 use Rattle.bib_scan.proofs.RunLaws.{ok_same, not_ok}
-use Rattle.bib_scan.proofs.RowLaws.{comma_ok}
 use Rattle.bib_scan.proofs.AgainLaws.{Breaks, EndsRow}
 use Rattle.bib_scan.proofs.UniqueLaws.{AfterRow}
-use Rattle.bib_scan.proofs.LocalLaws.{Local, rest_of, run, after_first, local_run, local_beyond, local_bind, local_cond, local_ok}
+use Rattle.bib_scan.proofs.LocalLaws.{Local, run, after_first, local_run, local_beyond, local_bind, local_cond, local_ok}
 use Rattle.bib_scan.proofs.LocalParts.{first_is, local_part, local_name}
-use Rattle.bib_scan.proofs.LocalRows.{plain, ready, skip, local_skip, links_gap, links_by_first, links_gap_is, local_links, value_gap, value_family, value_is, local_value, local_equals, row_pieces, row_is}
+use Rattle.bib_scan.proofs.LocalRows.{plain, ready, skip, links_gap, links_by_first, links_gap_is, local_links, value_gap, value_family, value_is, local_value, local_equals, row_pieces, row_is}
 use Rattle.bib_scan.proofs.MendLaws.{err_is, Always}
 use Rattle.bib_scan.proofs.MendRows.{resumes_equals, equals_takes, name_takes, row_value, sign_value, row_sign, named_row}
 use Rattle.bib_scan.proofs.MendTrees.{resumes_row, resumes_value}
-use Rattle.bib_scan.proofs.TellLaws.{Past, Stopped, Leaves, Passes, Blocks, Tries, IsTried, the_letter, the_digit, the_sign, the_mark, the_comma, passes_tried, blocks_tried, DigitToo, TellsAt, Tells, Keeps, TakesDigit, Digits, keeps_of, digits_of, tell_bind, tell_bind_some, digits_bind, tell_same, digits_same, tell_family, digits_family, tell_cond, tell_beyond, digits_cond}
+use Rattle.bib_scan.proofs.TellLaws.{Past, Stopped, Leaves, Passes, Blocks, Tries, IsTried, the_letter, the_digit, the_sign, the_mark, the_comma, passes_tried, blocks_tried, TellsAt, Tells, Keeps, Digits, keeps_of, digits_of, tell_bind, tell_bind_some, digits_bind, tell_same, digits_same, tell_family, digits_family, tell_cond, tell_beyond, digits_cond}
 use Rattle.bib_scan.proofs.TellParts.{told, told_end, keeps_run, tell_run, tell_name, keeps_name, digits_name, tell_part, keeps_part, digits_part}
 
 -- ---- the bytes that are tried

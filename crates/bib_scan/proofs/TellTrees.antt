@@ -1,14 +1,14 @@
 -- What the readers of commands do with other bytes where they stopped.
-use Rattle.std.proofs.Common.{◌≡◌, ℕ, zero, suc, ◌+◌, ◌<◌, ◌≤◌, Bool, true, false, cond, eqb, [], ◌∷◌, ◌++◌, length, refl, sym, ap, subst, ◌∙◌, arith, append_assoc, inl, inr, ◌⊎◌, Option, None, Some, Result, Ok, Err}
-use Rattle.std.proofs.lemmas.Bool.{both_ways, cond-true, cond-false, not_from_false, not-true, not-false, or_cases, eqb-true}
+use Rattle.std.proofs.Common.{◌≡◌, ℕ, zero, suc, ◌<◌, ◌≤◌, Bool, true, false, cond, eqb, [], ◌∷◌, ◌++◌, length, refl, sym, ap, subst, ◌∙◌, arith, inl, inr, ◌⊎◌, Option, None, Some, Ok, Err}
+use Rattle.std.proofs.lemmas.Bool.{cond-false, not_from_false, not-true, not-false, or_cases, eqb-true}
 use Rattle.std.proofs.lemmas.List.{append_cancel_right, length-append, length-drop}
 use Rattle.std.proofs.lemmas.List.Elements.{All-nil}
 use Rattle.std.specs.List.{prefix_len}
-use Rattle.bib_spec.specs.Fault.{ReadingFault, Unended, ExpectedName, ExpectedEquals, ExpectedCommaOrClose, ExpectedValue}
+use Rattle.bib_spec.specs.Fault.{Unended, ExpectedName, ExpectedCommaOrClose, ExpectedValue}
 use Rattle.bib_spec.specs.Text.{Text, is_space, does_not_begin_with, after_run}
 use Rattle.bib_spec.specs.Tree.{value_bytes, Delimiter, Brace, Paren, close_byte, goes_on_key, IsRow}
-use Rattle.bib_scan.specs.LeftToRight.{Read, Halt, stop, expected, read_run, read_row, read_rows, read_all_rows, read_close, read_comma, past_byte, go_on, read_entry, read_definition, read_preamble, ◌>>=◌}
-use Rattle.bib_scan.proofs.RunLaws.{bind_ok, ok_same, not_ok, limited_ok}
+use Rattle.bib_scan.specs.LeftToRight.{Read, Halt, stop, expected, read_run, read_row, read_rows, read_all_rows, read_close, read_comma, go_on, read_entry, read_definition, read_preamble, ◌>>=◌}
+use Rattle.bib_scan.proofs.RunLaws.{bind_ok, ok_same, not_ok, limited_ok, cons_nil}
 use Rattle.bib_scan.proofs.ValueLaws.{skip_space}
 use Rattle.bib_scan.proofs.RowLaws.{comma_ok, row_ok, assignment_inside}
 use Rattle.bib_scan.proofs.AgainLaws.{EndsRow, not_closed}
@@ -18,7 +18,7 @@ use Rattle.bib_scan.proofs.LocalParts.{first_is}
 use Rattle.bib_scan.proofs.LocalRows.{plain, ready, value_gap, local_value, local_row, local_closing, local_comma, rows_read, after_comma, rows_by_first, rows_is, local_rows, local_all_rows, all_rows_is, definition_is, preamble_is, value_close}
 use Rattle.bib_scan.proofs.MendLaws.{err_is}
 use Rattle.bib_scan.proofs.MendTrees.{all_again, space_rows, key_rows, entry_bind}
-use Rattle.bib_scan.proofs.TellLaws.{some_or_none, tell_later, Past, Stopped, Leaves, Passes, Blocks, Tries, IsTried, the_letter, the_digit, the_sign, the_mark, the_comma, DigitToo, TellsAt, Tells, Keeps, TakesDigit, Digits, digits_of, tell_bind, tell_bind_some, digits_bind, tell_same, tell_family, tell_cond, tell_beyond}
+use Rattle.bib_scan.proofs.TellLaws.{some_or_none, tell_later, Stopped, Leaves, Blocks, Tries, IsTried, the_letter, the_digit, the_sign, the_mark, the_comma, TellsAt, Tells, Keeps, Digits, digits_of, tell_bind, tell_bind_some, tell_same, tell_family, tell_cond, tell_beyond}
 use Rattle.bib_scan.proofs.TellParts.{told, told_end, tell_limited}
 use Rattle.bib_scan.proofs.TellRows.{tried_space, tries_space, tell_space, tell_ready, close_ends, tell_value, digits_value, keeps_value, tell_row, digits_row, keeps_row}
 
@@ -40,9 +40,6 @@ close_untried Paren d the_sign = refl
 close_untried Paren d the_mark = refl
 close_untried Paren d the_comma = refl
 
-some_text : (b : ℕ) (t : Text) → b ∷ t ≡ [] → ⊥
-some_text b t e = cc
-
 close_stopped : (c d : ℕ) → eqb d c ≡ false → Stopped (plain (read_close c)) [] d
 close_stopped c d other = (ExpectedCommaOrClose, ap (λ (o : Option Text). go_on (Err (expected ExpectedCommaOrClose (d ∷ []))) Ok o >>= ready) (not_closed c d [] other))
 
@@ -56,7 +53,7 @@ tell_close c G untried each (b ∷ t) h is = go (eqb b c) is
   where
     go : (x : Bool) → (go_on (Err (stop ExpectedCommaOrClose (b ∷ t))) Ok (cond x (Some t) None) >>= ready) ≡ Err h → TellsAt (plain (read_close c)) G (b ∷ t) h
     go true e = absurd (not_ok (tt, t) h _ e refl)
-    go false e = told (plain (read_close c)) G (b ∷ t) [] (b ∷ t) ExpectedCommaOrClose h (err_is {A = Unit {0} × Text} (stop ExpectedCommaOrClose (b ∷ t)) h _ refl e) refl (some_text b t) (λ d ok. absurd ok) (close_blocks c untried) (λ asks. inl (close_stopped c 120 (untried 120 the_letter))) (λ none. each)
+    go false e = told (plain (read_close c)) G (b ∷ t) [] (b ∷ t) ExpectedCommaOrClose h (err_is {A = Unit {0} × Text} (stop ExpectedCommaOrClose (b ∷ t)) h _ refl e) refl (cons_nil b t) (λ d ok. absurd ok) (close_blocks c untried) (λ asks. inl (close_stopped c 120 (untried 120 the_letter))) (λ none. each)
 
 comma_blocks : (d : ℕ) → Blocks ExpectedCommaOrClose d → Stopped (plain read_comma) [] d
 comma_blocks d (inl is) = subst (Stopped (plain read_comma) []) (sym is) (ExpectedCommaOrClose, refl)
@@ -68,7 +65,7 @@ tell_comma G each (b ∷ t) h is = go (eqb b 44) is
   where
     go : (x : Bool) → (cond x (Ok t) (Err (stop ExpectedCommaOrClose (b ∷ t))) >>= ready) ≡ Err h → TellsAt (plain read_comma) G (b ∷ t) h
     go true e = absurd (not_ok (tt, t) h _ e refl)
-    go false e = told (plain read_comma) G (b ∷ t) [] (b ∷ t) ExpectedCommaOrClose h (err_is {A = Unit {0} × Text} (stop ExpectedCommaOrClose (b ∷ t)) h _ refl e) refl (some_text b t) (λ d ok. absurd ok) comma_blocks (λ asks. inl (ExpectedCommaOrClose, refl)) (λ none. each)
+    go false e = told (plain read_comma) G (b ∷ t) [] (b ∷ t) ExpectedCommaOrClose h (err_is {A = Unit {0} × Text} (stop ExpectedCommaOrClose (b ∷ t)) h _ refl e) refl (cons_nil b t) (λ d ok. absurd ok) comma_blocks (λ asks. inl (ExpectedCommaOrClose, refl)) (λ none. each)
 
 comma_is : (t : Text) (a : Unit {0}) (r : Text) → plain read_comma t ≡ Ok (a, r) → t ≡ 44 ∷ r
 comma_is t a r is =
@@ -126,7 +123,7 @@ tell_rows limit some zero c G untried each = first
   where
     first : Tells (rows_read limit 0 c) G
     first [] h is = told_end (rows_read limit 0 c) G [] h (err_is {A = Unit {0} × Text} (stop Unended []) h _ refl is)
-    first (b ∷ t) h is = told (rows_read limit 0 c) G (b ∷ t) [] (b ∷ t) ExpectedCommaOrClose h (err_is {A = Unit {0} × Text} (stop ExpectedCommaOrClose (b ∷ t)) h _ refl is) refl (some_text b t) (λ d ok. absurd ok) (λ d ok. rows_blocks limit c d) (λ asks. inl (rows_blocks limit c 120)) (λ none. each)
+    first (b ∷ t) h is = told (rows_read limit 0 c) G (b ∷ t) [] (b ∷ t) ExpectedCommaOrClose h (err_is {A = Unit {0} × Text} (stop ExpectedCommaOrClose (b ∷ t)) h _ refl is) refl (cons_nil b t) (λ d ok. absurd ok) (λ d ok. rows_blocks limit c d) (λ asks. inl (rows_blocks limit c 120)) (λ none. each)
 tell_rows limit some (suc n) c G untried each =
     let tell_inner : Tells (row_rows limit n c) (λ d. (is_space d ≡ false) × Unit {0}) = tell_bind_some (plain (read_row limit)) (λ r u. rows_read limit n c u) EndsRow (λ d. (is_space d ≡ false) × Unit {0}) (row_takes limit) (local_row limit) (λ r. local_rows limit n c) (keeps_row limit) (digits_row limit) (tell_row limit some (λ d. (is_space d ≡ false) × Unit {0}) (λ d ok. (tries_space ExpectedName d ok, tt))) (λ r. tell_rows limit some n c EndsRow untried close_ends) in
     let tell_after : Tells (after_comma limit n c) (λ d. (is_space d ≡ false) × Unit {0}) = tell_cond (first_is (λ b. eqb b c)) (after_first ready) (row_rows limit n c) (λ d. (is_space d ≡ false) × Unit {0}) (λ b t u. refl) untried (tell_beyond ready (λ d. (is_space d ≡ false) × Unit {0}) (first_is (λ b. eqb b c)) refl (tell_ready (λ d. Unit {0}))) tell_inner in

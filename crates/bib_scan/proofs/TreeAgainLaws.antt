@@ -57,7 +57,8 @@ preamble_again limit p x is =
     ap (λ (u : Text). read_value limit u >>= λ v. read_close c (after_run is_space v.1)) e1
     ∙ ap (λ (m : Read Text). m >>= λ v. read_close c (after_run is_space v.1)) e2 ∙ ap (read_close c) e3 ∙ closing_again c x
 
-key_no_space : (d : Delimiter) (b : ℕ) → goes_on_key d b ≡ true → is_space b ≡ false
+-- no byte of a key is white space
+pub key_no_space : (d : Delimiter) (b : ℕ) → goes_on_key d b ≡ true → is_space b ≡ false
 key_no_space Brace b is = (or_parts (is_space b) _ (or_parts _ _ (not-true _ is)).0).0
 key_no_space Paren b is = (or_parts (is_space b) _ (not-true _ is)).0
 

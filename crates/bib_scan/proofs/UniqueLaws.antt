@@ -2,6 +2,7 @@
 use Rattle.std.proofs.Common.{◌≡◌, ℕ, Bool, true, eqb, List, [], ◌∷◌, ◌++◌, refl, sym, ap, subst, ◌∙◌, append_assoc, Option, None, Some}
 use Rattle.std.proofs.lemmas.Bool.{both_ways, not_from_false}
 use Rattle.std.proofs.lemmas.List.Elements.{All-head, All-tail}
+use Rattle.std.proofs.lemmas.Option.{none-some}
 use Rattle.std.specs.List.{AllPass, take_while, flat_map, All}
 use Rattle.bib_spec.specs.Text.{Text, is_space, is_name_byte, does_not_begin_with, after_run}
 use Rattle.bib_spec.specs.Tree.{Part, Link, Value, Row, part_bytes, link_bytes, value_bytes, row_bytes, IsSpace, IsPart, IsLink, IsValue, IsRow, IsLastComma}
@@ -37,15 +38,12 @@ link_shape l u = append_assoc (l.space_before_hash ++ 35 ∷ l.space_behind_hash
 links_shape : (l : Link) (ls : List Link) (r : Text) → flat_map link_bytes (l ∷ ls) ++ r ≡ l.space_before_hash ++ (35 ∷ (l.space_behind_hash ++ (part_bytes l.part ++ (flat_map link_bytes ls ++ r))))
 links_shape l ls r = append_assoc (link_bytes l) (flat_map link_bytes ls) r ∙ link_shape l (flat_map link_bytes ls ++ r)
 
--- where a link stands, a value goes on
+-- where a link stands, a value continues
 no_end : (limit : ℕ) (l : Link) (ls : List Link) (r s : Text) → IsLink limit l → AfterValue r → r ≡ flat_map link_bytes (l ∷ ls) ++ s → ⊥
 no_end limit l ls r s ok after e =
     let u : Text = l.space_behind_hash ++ (part_bytes l.part ++ (flat_map link_bytes ls ++ s)) in
     let found : past_hash (after_run is_space r) ≡ Some (after_run is_space u) = ap (λ (t : Text). past_hash (after_run is_space t)) (e ∙ links_shape l ls s) ∙ ap past_hash (skip_space l.space_before_hash (35 ∷ u) ok.space_before_hash (hash_stands u)) in
-    none_some (after_run is_space u) (sym after.no_hash ∙ found)
-  where
-    none_some : (u : Text) → ◌≡◌ {A = Option Text} None (Some u) → ⊥
-    none_some u e = cc
+    none-some (after_run is_space u) (sym after.no_hash ∙ found)
 
 pub links_unique : (limit : ℕ) (ls ms : List Link) (r s : Text) → All (IsLink limit) ls → All (IsLink limit) ms → AfterValue r → AfterValue s → flat_map link_bytes ls ++ r ≡ flat_map link_bytes ms ++ s → (ls ≡ ms) × (r ≡ s)
 links_unique limit [] [] r s al am ar as' e = (refl, e)
@@ -119,10 +117,7 @@ no_row : (limit c : ℕ) (s : Text) (x : Text) (r : Row) (u : Text) → Close c 
 no_row limit c s x r u close space ok e =
     let named : Text = assignment_inside r.assignment u in
     let one = run_unique is_space s r.space_before_name (c ∷ x) named space ok.space_before_name (not_from_false _ close.ends.no_space) (name_stands limit r.assignment.name _ ok.assignment.name) e in
-    none_some x (sym (name_not_closed limit c r.assignment.name _ close ok.assignment.name) ∙ ap (past_byte c) (sym one.1) ∙ closed_here c x)
-  where
-    none_some : (u : Text) → ◌≡◌ {A = Option Text} None (Some u) → ⊥
-    none_some u e = cc
+    none-some x (sym (name_not_closed limit c r.assignment.name _ close ok.assignment.name) ∙ ap (past_byte c) (sym one.1) ∙ closed_here c x)
 
 pub after_rows : (c : ℕ) (rs : List Row) (tail : Option Text) (x : Text) → Close c → AfterRow (rows_inside c rs tail x)
 after_rows c rs tail x close = let b = rows_begin c rs tail x close in record { first = b.0; others = b.1; ends = b.2; is = b.3 }

@@ -1,19 +1,17 @@
 -- A text that is one value: what is read is one, one that is written is read again, and one that is refused goes wrong
 -- where reading stops, with that fault.
-use Rattle.std.proofs.Common.{◌≡◌, ℕ, suc, ◌+◌, ◌-◌, ◌<◌, ◌≤◌, true, List, [], ◌∷◌, ◌++◌, length, take, refl, sym, ap, subst, ◌∙◌, arith, append_assoc, append-nil, inl, inr, ◌⊎◌, None, Result, Ok, Err}
-use Rattle.std.proofs.lemmas.List.{length-append, append_cancel_right}
-use Rattle.std.proofs.lemmas.List.Elements.{All-nil, All-cons, All-push}
+use Rattle.std.proofs.Common.{◌≡◌, ℕ, ◌-◌, ◌<◌, true, [], ◌∷◌, ◌++◌, length, take, refl, sym, ap, subst, ◌∙◌, arith, append_assoc, append-nil, inl, inr, Result, Ok, Err}
+use Rattle.std.proofs.lemmas.List.{append_cancel_right}
+use Rattle.std.proofs.lemmas.List.Elements.{All-nil, All-push}
 use Rattle.std.proofs.lemmas.List.Concat.{flat_map-append}
 use Rattle.std.specs.List.{take_while, flat_map, All}
-use Rattle.std.specs.Char.{is_ascii_digit}
 use Rattle.bib_spec.specs.Bytes.{digit_one, letter_x, name_limit}
 use Rattle.bib_spec.specs.Text.{Text, is_space, after_run}
-use Rattle.bib_spec.specs.Tree.{Part, Digits, Link, Value, part_bytes, link_bytes, value_bytes, IsSpace, IsPart, IsLink, IsValue}
+use Rattle.bib_spec.specs.Tree.{Digits, Link, Value, part_bytes, link_bytes, value_bytes, IsSpace, IsLink, IsValue}
 use Rattle.bib_spec.specs.Reading.{IsValueWithin, IsViable, IsHopeless}
 use Rattle.bib_spec.specs.Fault.{IsFaultAt, ReadingFault, Unended, ExpectedCommaOrClose}
 use Rattle.bib_scan.specs.LeftToRight.{Read, Halt, stop, expected, read_value_rest, read_value, nothing_behind, read_whole_value, ◌>>=◌}
 use Rattle.bib_scan.proofs.RunLaws.{bind_ok, ok_same, not_ok, run_passes}
-use Rattle.bib_scan.proofs.PartLaws.{AfterPart}
 use Rattle.bib_scan.proofs.ValueLaws.{space_split, value_ok}
 use Rattle.bib_scan.proofs.AgainLaws.{EndsRow, comma_ends, value_again}
 use Rattle.bib_scan.proofs.UniqueLaws.{AfterRow}
@@ -22,9 +20,8 @@ use Rattle.bib_scan.proofs.LocalRows.{skip, value_gap, local_value}
 use Rattle.bib_scan.proofs.MendLaws.{err_is, Always}
 use Rattle.bib_scan.proofs.MendRows.{mend_value, one_part}
 use Rattle.bib_scan.proofs.HopelessLaws.{StopsAt, stuck_by, viable_by, hopeless_by}
-use Rattle.bib_scan.proofs.TellLaws.{Passes, Blocks, Tries, AsksDigit, DigitToo, Past, Stopped, TakesDigit, TellsAt}
+use Rattle.bib_scan.proofs.TellLaws.{DigitToo, Past, Stopped, TakesDigit, TellsAt}
 use Rattle.bib_scan.proofs.TellRows.{tell_value, digits_value, keeps_value, close_ends}
-use Rattle.bib_scan.proofs.WidenLaws.{IsLong, IsShort}
 use Rattle.bib_scan.proofs.WidenTrees.{widen_value}
 use Rattle.bib_scan.proofs.KindLaws.{GoesWrong, fault_at}
 
@@ -105,7 +102,7 @@ no_value_fault limit t h value is = not_ok [] h _ is (whole_value_again limit t 
 
 -- ---- what can follow
 
--- a value and white space go on with `#1`
+-- a value and white space continue with `#1`
 linked : (limit : ℕ) (v : Value) (s : Text) → IsValue limit v → IsSpace s → IsValueWithin limit ((value_bytes v ++ s) ++ (35 ∷ 49 ∷ []))
 linked limit v s is space =
     let l : Link = record { space_before_hash = s; space_behind_hash = []; part = Digits (49 ∷ []) } in

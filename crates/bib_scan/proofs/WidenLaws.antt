@@ -1,5 +1,5 @@
 -- What reading does where names and keys may be one byte longer: it does the same, unless one was too long.
-use Rattle.std.proofs.Common.{◌≡◌, ℕ, suc, ◌+◌, ◌<◌, ◌≤◌, Bool, true, false, cond, [], ◌∷◌, ◌++◌, length, refl, sym, ap, subst, ◌∙◌, arith, append_assoc, inl, inr, ◌⊎◌, Result, Ok, Err}
+use Rattle.std.proofs.Common.{◌≡◌, ℕ, ◌+◌, ◌≤◌, Bool, true, false, cond, [], ◌∷◌, ◌++◌, length, refl, sym, ap, subst, ◌∙◌, arith, append_assoc, Ok, Err}
 use Rattle.std.proofs.lemmas.Bool.{cond-true, cond-false}
 use Rattle.std.proofs.lemmas.List.{length-append, append_cancel_right}
 use Rattle.bib_spec.specs.Fault.{ReadingFault, Unended, ExpectedName, ExpectedEquals, ExpectedCommaOrClose, ExpectedValue, UnbalancedBrace, KeyTooLong}
@@ -24,7 +24,7 @@ IsLong KeyTooLong = Unit {0}
 abbrev pub IsShort : ReadingFault → Type 0
 IsShort f = IsLong f → ⊥
 
--- q reads what p reads and stops where p stops, but goes on past the byte at which a name or key was too long for p
+-- q reads what p reads and stops where p stops, but continues past the byte at which a name or key was too long for p
 pub record Widens {A : Type 0} (p q : Text → Read A) : Type 0 where
   pub ok : (t : Text) (x : A × Text) → p t ≡ Ok x → q t ≡ Ok x
   pub same : (t : Text) (h : Halt) → p t ≡ Err h → IsShort h.fault → q t ≡ Err h

@@ -1,20 +1,20 @@
 -- Each reader, where names and keys may be one byte longer.
-use Rattle.std.proofs.Common.{◌≡◌, ℕ, zero, suc, ◌+◌, ◌-◌, ◌<◌, ◌≤◌, Bool, true, false, cond, eqb, [], ◌∷◌, ◌++◌, length, refl, sym, ap, subst, ◌∙◌, arith, append-nil, inl, inr, Option, None, Some, Result, Ok, Err}
-use Rattle.std.proofs.lemmas.Bool.{cases_eq, or_from, ne_eqb}
+use Rattle.std.proofs.Common.{◌≡◌, ℕ, zero, suc, ◌+◌, ◌-◌, Bool, true, false, cond, eqb, [], ◌∷◌, ◌++◌, refl, sym, ap, subst, ◌∙◌, arith, append-nil, inl, inr, None, Some, Ok, Err}
+use Rattle.std.proofs.lemmas.Bool.{cases_eq}
 use Rattle.std.proofs.lemmas.List.{length-append, append_cancel_right}
 use Rattle.std.proofs.lemmas.List.Elements.{All-push}
 use Rattle.std.specs.List.{take_while, AllPass}
 use Rattle.std.specs.Char.{is_ascii_digit}
-use Rattle.bib_spec.specs.Fault.{ReadingFault, Unended, ExpectedName, ExpectedEquals, ExpectedCommaOrClose, ExpectedValue, UnbalancedBrace, KeyTooLong}
+use Rattle.bib_spec.specs.Fault.{ReadingFault, Unended, ExpectedName, ExpectedEquals, ExpectedCommaOrClose, ExpectedValue, UnbalancedBrace}
 use Rattle.bib_spec.specs.Text.{Text, is_space, is_name_byte, after_run}
 use Rattle.bib_spec.specs.Tree.{Part, Braced, Quoted, Digits, Macro, Delimiter, close_byte, goes_on_key}
-use Rattle.bib_scan.specs.LeftToRight.{Read, Halt, stop, expected, read_run, with_front, read_braced, read_quoted, begins_name, read_name, read_equals, read_part, read_links, read_row, read_comma, read_close, read_rows, read_all_rows, read_entry, read_definition, read_preamble, past_byte, go_on, ◌>>=◌}
+use Rattle.bib_scan.specs.LeftToRight.{Read, Halt, stop, expected, read_run, read_braced, read_quoted, begins_name, read_name, read_equals, read_part, read_links, read_row, read_comma, read_close, read_rows, read_all_rows, read_entry, read_definition, read_preamble, go_on, ◌>>=◌}
 use Rattle.bib_scan.proofs.RunLaws.{not_ok, limited_ok, limited_again}
 use Rattle.bib_scan.proofs.BraceLemmas.{quoted_takes, quoted_opens, quoted_closes, quoted_ends, quoted_inside, quoted_unbalanced, quoted_nil}
 use Rattle.bib_scan.proofs.BraceLaws.{plain_byte}
-use Rattle.bib_scan.proofs.LocalLaws.{rest_of, Local, after_first, local_beyond, local_bind, local_cond, local_ok, local_expected, run, local_run, local_limited}
+use Rattle.bib_scan.proofs.LocalLaws.{rest_of, Local, after_first, local_beyond, local_bind, local_cond, local_ok, run, local_run, local_limited}
 use Rattle.bib_scan.proofs.LocalParts.{first_is, local_braced, local_quoted, local_name, local_part, part_by_first, part_is}
-use Rattle.bib_scan.proofs.LocalRows.{plain, ready, skip, local_skip, links_gap, links_by_first, links_gap_is, local_links, value_gap, value_family, value_is, local_value, local_equals, row_pieces, row_is, local_row, local_closing, local_comma, rows_read, after_comma, rows_by_first, rows_is, local_rows, all_rows_is, local_all_rows, definition_is, value_close, preamble_is}
+use Rattle.bib_scan.proofs.LocalRows.{plain, ready, skip, links_gap, links_by_first, links_gap_is, local_links, value_gap, value_family, value_is, local_value, local_equals, row_pieces, row_is, local_row, local_closing, local_comma, rows_read, after_comma, rows_by_first, rows_is, local_rows, all_rows_is, local_all_rows, definition_is, value_close, preamble_is}
 use Rattle.bib_scan.proofs.MendLaws.{err_is}
 use Rattle.bib_scan.proofs.MendRows.{too_long, row_value, sign_value, row_sign, named_row}
 use Rattle.bib_scan.proofs.MendTrees.{space_rows, key_rows, entry_bind}

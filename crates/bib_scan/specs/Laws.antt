@@ -3,7 +3,7 @@ use Rattle.std.specs.Prelude.{ℕ, ◌≡◌, ◌↔◌, ◌⊎◌, ◌<◌, fal
 use Rattle.bib_spec.specs.Bytes.{at_sign, name_limit}
 use Rattle.bib_spec.specs.Text.{Text}
 use Rattle.bib_spec.specs.Clean.{begins_command, IsClean}
-use Rattle.bib_spec.specs.Reading.{Reading, Reads, IsViable, IsHopeless}
+use Rattle.bib_spec.specs.Reading.{Reading, Reads, IsHopeless}
 use Rattle.bib_spec.specs.Fault.{TextKind, ReadingFault, Unended, IsFaultAt}
 
 -- no file has two readings

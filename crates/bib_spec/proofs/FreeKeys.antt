@@ -49,6 +49,28 @@ pub written-letters : (n : ℕ) → written (letters n) ≡ n
 written-letters zero = refl
 written-letters (suc n) = written-next (letters n) (lower_letters n) ∙ ap suc (written-letters n)
 
+-- two to the power
+abbrev pub doubled : ℕ → ℕ
+doubled zero = 1
+doubled (suc n) = 2 * doubled n
+
+doubled-some : (n : ℕ) → 1 ≤ doubled n
+doubled-some zero = omega arith
+doubled-some (suc n) = let le = doubled-some n in omega (arith, le)
+
+pub doubled-grows : (k n : ℕ) → k ≤ n → doubled k ≤ doubled n
+doubled-grows zero n le = doubled-some n
+doubled-grows (suc k) zero le = absurd (omega (arith, le))
+doubled-grows (suc k) (suc n) le = let less = doubled-grows k n (omega (arith, le)) in omega (arith, less)
+
+-- so many lower-case letters write at least this
+pub doubled-written : (cs : Text) → AreLower cs → doubled (length cs) ≤ suc (written cs)
+doubled-written [] h = let le : 1 ≤ 1 = omega arith in le
+doubled-written (c ∷ cs) h = more c (doubled (length cs)) (written cs) h.0.0 (doubled-written cs h.1)
+  where
+    more : (c d w : ℕ) → 97 ≤ c → d ≤ suc w → 2 * d ≤ suc ((c - 96) + 26 * w)
+    more c d w low le = omega (arith, low, le)
+
 lower_kept : (cs : Text) → AreLower cs → map to_ascii_lowercase cs ≡ cs
 lower_kept [] h = refl
 lower_kept (c ∷ cs) h = ap₂ ◌∷◌ (kept c h.0.0) (lower_kept cs h.1)

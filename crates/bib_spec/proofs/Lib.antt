@@ -7,3 +7,5 @@ pub mod Keys
 pub mod Counts
 pub mod Accepted
 pub mod FreeKeys
+pub mod NewKeyBytes
+pub mod Balance

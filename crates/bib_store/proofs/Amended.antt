@@ -14,12 +14,16 @@ use Rattle.bib_store.specs.declared.tables.Tables.{Tables}
 use Rattle.bib_store.specs.Meaning.{is_entry_tree, entry_numbers}
 use Rattle.bib_store.specs.Tables.{is_preamble_tree}
 use Rattle.bib_entries.specs.EntryTable.{IsTableOf}
-use Rattle.bib_definitions.specs.Definitions.{is_definition_tree, AreDefinitionsOf}
+use Rattle.bib_definitions.specs.ByName.{AreAllOf}
+use Rattle.bib_definitions.specs.Definitions.{is_definition_tree, defined_by, definitions_in, AreDefinitionsOf}
+use Rattle.bib_store.specs.Bounds.{IsBounded, AreBounded}
+use Rattle.bib_store.proofs.BoundedItems.{bounded_with, bounded_without}
 use Rattle.bib_store.specs.ItemTexts.{first_too_long, placed_texts}
 use Rattle.bib_store.specs.Beside.{AreTablesOf}
 use Rattle.bib_entries.specs.Numbers.{numbered, numbers}
 use Rattle.bib_store.proofs.TableSteps.{entries_counted}
-use Rattle.bib_store.proofs.ItemsMore.{gathered-append, raw_texts-append, first-append, first-shift}
+use Rattle.bib_definitions.proofs.MacrosAfter.{gathered-append}
+use Rattle.bib_store.proofs.ItemsMore.{raw_texts-append, first-append, first-shift}
 
 -- ---- numbers
 
@@ -43,7 +47,7 @@ first_behind false k n m p all some e h rest at = rest m at
 
 module _ (test : Tree → Bool) where
   -- an item in the place of another of its kind changes no number
-  numbers_same : (k : ℕ) (before behind : List Item) (x y : Item) → test x.tree ≡ test y.tree → numbers test k (before ++ x ∷ behind) ≡ numbers test k (before ++ y ∷ behind)
+  pub numbers_same : (k : ℕ) (before behind : List Item) (x y : Item) → test x.tree ≡ test y.tree → numbers test k (before ++ x ∷ behind) ≡ numbers test k (before ++ y ∷ behind)
   numbers_same k [] behind x y e =
       let rest : List (ℕ × Item) = numbered test (k + 1) behind in
       ap (λ (b : Bool). first_of (cond b ((k, x) ∷ rest) rest)) e ∙ first_kept (test y.tree) (k, x) (k, y) rest rest refl refl
@@ -139,12 +143,16 @@ module _ (before behind : List Item) (x y : Item) (e f : Entry) (x_is : x.tree �
   crossrefs_told : (i : Item) (g : Entry) → i.tree ≡ EntryTree g → map crossref_text (gathered entry_in months (before ++ i ∷ behind)) ≡ map crossref_text first ++ crossref_text (texts_of here g) ∷ map crossref_text others
   crossrefs_told i g is = ap (map crossref_text) (told i g is) ∙ map-append crossref_text first (texts_of here g ∷ others)
 
+  defined_told : (i : Item) (g : Entry) → i.tree ≡ EntryTree g → definitions_in (before ++ i ∷ behind) ≡ definitions_in before ++ gathered defined_by here behind
+  defined_told i g is = gathered-append defined_by months before (i ∷ behind) ∙ ap (λ (t : Tree). definitions_in before ++ (defined_by here t ++ gathered defined_by (macros_after here t) behind)) is
+
   -- only the crossref of the one changes
   pub amended_tables : (t new : Tables) (m n : ℕ) (text : Option Text) → e.key ≡ f.key → AreTablesOf (before ++ x ∷ behind) t → n ≡ length before → slice_get t.entries m ≡ Some n
       → new.entries ≡ t.entries → new.preambles ≡ t.preambles → new.definitions ≡ t.definitions
       → ((keys : List Text) (crossrefs : List (Option Text)) → slice_get keys m ≡ Some f.key → IsTableOf keys crossrefs t.named → IsTableOf keys (set crossrefs m text) new.named)
+      → ((items : List Item) → AreBounded t.bounds items → AreBounded new.bounds items) → IsBounded new.bounds y.tree
       → text ≡ crossref_text (texts_of here f) → AreTablesOf (before ++ y ∷ behind) new
-  amended_tables t new m n text key are count listed entries preambles definitions named says =
+  amended_tables t new m n text key are count listed entries preambles definitions named admits one says =
       let kind : is_entry_tree x.tree ≡ is_entry_tree y.tree = ap is_entry_tree x_is ∙ sym (ap is_entry_tree y_is) in
       let third : is_definition_tree x.tree ≡ is_definition_tree y.tree = ap is_definition_tree x_is ∙ sym (ap is_definition_tree y_is) in
       let other : is_preamble_tree x.tree ≡ is_preamble_tree y.tree = ap is_preamble_tree x_is ∙ sym (ap is_preamble_tree y_is) in
@@ -165,8 +173,10 @@ module _ (before behind : List Item) (x y : Item) (e f : Entry) (x_is : x.tree �
         preambles = preambles ∙ are.preambles ∙ numbers_same is_preamble_tree 0 before behind x y other;
         definitions = subst (AreDefinitionsOf (before ++ y ∷ behind)) (sym definitions) (record {
           numbers = are.definitions.numbers ∙ numbers_same is_definition_tree 0 before behind x y third;
+          all = subst (AreAllOf t.definitions.names) (defined_told x e x_is ∙ sym (defined_told y f y_is)) are.definitions.all;
           texts = λ k. are.definitions.texts k ∙ macros_same months before behind x y after_same k;
         });
+        bounds = bounded_with new.bounds before behind y (admits (before ++ behind) (bounded_without t.bounds before behind x are.bounds)) one;
         named = subst (λ (cs : List (Option Text)). IsTableOf (keys_of (gathered entry_in months (before ++ y ∷ behind))) cs new.named) set_crossref
             (named (keys_of (gathered entry_in months (before ++ y ∷ behind))) (map crossref_text (gathered entry_in months (before ++ x ∷ behind))) stands
             (subst (λ (ks : List Text). IsTableOf ks (map crossref_text (gathered entry_in months (before ++ x ∷ behind))) t.named) same_keys are.named));

@@ -1,5 +1,5 @@
 -- A change that lets an entry give way to another with the same key: the list, and the file that it makes.
-use Rattle.std.proofs.Common.{◌≡◌, ℕ, ◌+◌, ◌-◌, ◌<◌, ◌≤◌, true, false, List, [], ◌∷◌, ◌++◌, length, take, drop, map, set, slice_get, get_or, Option, Some, None, refl, sym, ◌∙◌, ap, ap₂, subst, arith, take-append-drop, append_assoc}
+use Rattle.std.proofs.Common.{◌≡◌, ℕ, ◌+◌, ◌-◌, ◌<◌, ◌≤◌, Bool, true, false, List, [], ◌∷◌, ◌++◌, length, take, drop, map, set, slice_get, get_or, Option, Some, None, refl, sym, ◌∙◌, ap, ap₂, subst, arith, take-append-drop, append_assoc}
 use Rattle.std.proofs.lemmas.Option.{slice_get-get_or, slice_get_within, get_or_from_slice_get}
 use Rattle.std.proofs.lemmas.List.{drop_more, take-set, drop-set, length-take-le}
 use Rattle.std.specs.Prelude.{Result, Ok, Err, IfErr, OnOk}
@@ -25,6 +25,7 @@ use Rattle.bib_store.specs.Meaning.{is_entry_tree}
 use Rattle.bib_items.specs.Items.{item, item_at, stored, all_stored}
 use Rattle.bib_definitions.specs.Definitions.{texts_at}
 use Rattle.bib_store.specs.ItemTexts.{first_too_long, placed_texts, row_texts, crossref_in, OfRows}
+use Rattle.bib_store.specs.Bounds.{IsSettled, Admits}
 use Rattle.bib_store.specs.Beside.{AreTables, AreTablesOf, SayTheSame}
 use Rattle.bib_store.specs.Stored.{IsKeptAs, SayTheSameOf}
 use Rattle.bib_store.specs.Windows.{IsWindow, OfJoined, exchanged, joined}
@@ -111,7 +112,7 @@ coming_tree c inner i reads at =
     let good : IsItem name_limit i = item_in (IsItem name_limit) inner.items 0 i reads.items at in
     good.tree
 
-only_one : {X : Type 0} (xs : List X) → length xs ≡ 1 → (x : X) × (xs ≡ x ∷ [])
+pub only_one : {X : Type 0} (xs : List X) → length xs ≡ 1 → (x : X) × (xs ≡ x ∷ [])
 only_one [] h = absurd (omega (arith, h))
 only_one (x ∷ []) h = (x, refl)
 only_one (x ∷ y ∷ xs) h = absurd (omega (arith, h))
@@ -138,10 +139,10 @@ replaced items new entries c m seen body trail is layout a sees body_is trail_is
     ∙ ap (λ (l : List reading.Item). take n items ++ (all_stored l ++ drop c.window.to items)) (sym it.1)
 
 -- the tables say of the file what they said, where the entries' keys and crossrefs are the same
-pub kept_still : (items : List Item) (t new : Tables) (m n : ℕ) → slice_get t.entries m ≡ Some n → new.file_len ≡ t.file_len → new.entries ≡ t.entries → new.preambles ≡ t.preambles → new.definitions ≡ t.definitions
+pub kept_still : (items : List Item) (t new : Tables) (m n : ℕ) → slice_get t.entries m ≡ Some n → new.file_len ≡ t.file_len → new.entries ≡ t.entries → new.preambles ≡ t.preambles → new.definitions ≡ t.definitions → new.bounds ≡ t.bounds
     → ((keys : List Text) (crossrefs : List (Option Text)) → m < length keys → IsTableOf keys crossrefs t.named → IsTableOf keys crossrefs new.named) → SayTheSameOf items t new
-kept_still items t new m n at len entries preambles definitions named =
-    let same : SayTheSame t new = named_kept t new len entries preambles definitions
+kept_still items t new m n at len entries preambles definitions bounds named =
+    let same : SayTheSame t new = named_kept t new len entries preambles definitions bounds
     (λ keys crossrefs count held. named keys crossrefs (omega (arith, slice_get_within t.entries m n at, count)) held) in
     record { len = same.len; tables = λ db front k. same.tables db.items k.tables }
 
@@ -208,8 +209,10 @@ module _ (items : List Item) (t : Tables) (c : Change) (m : ℕ) (is : IsWindow 
   pub amended_file : (new : Tables) (text : Option Text) (v : View) → ((db : Reading) (i : reading.Item) → Reads c.text db → slice_get db.items 0 ≡ Some i → v ≡ view_of i) → OfComing c (λ tree. map crossref_text (entry_in seen tree) ≡ text ∷ []) → OfComing c (λ tree. first_too_long (placed_texts seen tree) ≡ None)
       → new.entries ≡ t.entries → new.preambles ≡ t.preambles → new.definitions ≡ t.definitions
       → ((keys : List Text) (crossrefs : List (Option Text)) → slice_get keys m ≡ Some v.key → IsTableOf keys crossrefs t.named → IsTableOf keys (set crossrefs m text) new.named)
+      → (settled : Bool) → (settled ≡ true → (mm : Macros) (i : reading.Item) → IsTree name_limit i.tree → is_entry_tree i.tree ≡ true → v ≡ view_of i → map crossref_text (entry_in mm i.tree) ≡ text ∷ [] → IsSettled i.tree)
+      → Admits (length v.body) settled t.bounds new.bounds
       → (front_len : ℕ) → OfJoined c front_len items t (λ db. AreTables db new × (too_long_at db ≡ None))
-  amended_file new text v seen_as says fits entries preambles definitions named front_len front db inner k reads has =
+  amended_file new text v seen_as says fits entries preambles definitions named settled is_settled admits front_len front db inner k reads has =
       let s : IsSwap items t c db inner = swap items t c m front db inner is layout a k reads in
       let n : ℕ = c.window.from in
       let before : List reading.Item = take n db.items in
@@ -220,7 +223,9 @@ module _ (items : List Item) (t : Tables) (c : Change) (m : ℕ) (is : IsWindow 
       let text_is : text ≡ crossref_text (texts_of (macros_at months before (length before)) s.new_entry) = sym said ∙ ap (λ (mm : Macros). crossref_text (texts_of mm s.new_entry)) s.sees in
       let tables = amended_tables before behind s.old s.new s.old_entry s.new_entry s.old_is s.new_is t new m n text s.one_key
       (subst (λ (l : List reading.Item). AreTablesOf l t) s.before k.tables) s.count a.number entries preambles definitions
-      (λ keys crossrefs at. named keys crossrefs (at ∙ ap Some (sym (ap (λ (w : View). w.key) (seen_as inner s.new reads s.comes) ∙ ap key_of s.new_is)))) text_is in
+      (λ keys crossrefs at. named keys crossrefs (at ∙ ap Some (sym (ap (λ (w : View). w.key) (seen_as inner s.new reads s.comes) ∙ ap key_of s.new_is)))) admits.all
+      (admits.one s.new.tree (sym (ap (λ (w : View). length w.body) (seen_as inner s.new reads s.comes)))
+      (λ e. is_settled e seen s.new (coming_tree c inner s.new reads s.comes) s.new_such (seen_as inner s.new reads s.comes) told)) text_is in
       let short = amended_fits before behind s.old s.new s.old_entry s.new_entry s.old_is s.new_is (length db.front) (length (joined c.window db inner).front)
       (subst (λ (l : List reading.Item). first_too_long (raw_texts_from (length db.front) months l) ≡ None) s.before k.opens.texts)
       (ap (λ (mm : Macros). first_too_long (placed_texts mm s.new.tree)) (sym s.sees) ∙ fits inner s.new reads s.comes s.new_such) in (

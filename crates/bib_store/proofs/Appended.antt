@@ -14,7 +14,10 @@ use Rattle.bib_spec.specs.Records.{EntryTexts, entry_in, keys_of, crossref_text}
 use Rattle.bib_scan.proofs.OneReading.{tree_unique}
 use Rattle.bib_store.specs.declared.tables.Tables.{Tables}
 use Rattle.bib_store.specs.Meaning.{is_entry_tree}
-use Rattle.bib_definitions.specs.Definitions.{is_definition_tree}
+use Rattle.bib_definitions.specs.ByName.{AreAllOf}
+use Rattle.bib_definitions.specs.Definitions.{is_definition_tree, defined_by}
+use Rattle.bib_store.specs.declared.bounds.Bounds.{Bounds}
+use Rattle.bib_store.specs.Bounds.{IsBounded, AreBounded}
 use Rattle.bib_store.specs.Tables.{is_preamble_tree}
 use Rattle.bib_entries.specs.EntryTable.{IsTableOf}
 use Rattle.bib_store.specs.ItemTexts.{first_too_long, placed_texts}
@@ -79,6 +82,14 @@ macros_alike m (x ∷ xs) (y ∷ ys) (suc n) e =
     let parts = cons_parts x.tree y.tree (trees xs) (trees ys) e in
     ap (λ (t : Tree). macros_at (macros_after m t) xs n) parts.0 ∙ macros_alike (macros_after m y.tree) xs ys n parts.1
 
+bounded_alike : (b : Bounds) (xs ys : List Item) → trees xs ≡ trees ys → AreBounded b xs → AreBounded b ys
+bounded_alike b [] [] e all = tt
+bounded_alike b [] (y ∷ ys) e all = absurd (omega (arith, ap (length {A = Tree}) e))
+bounded_alike b (x ∷ xs) [] e all = absurd (omega (arith, ap (length {A = Tree}) e))
+bounded_alike b (x ∷ xs) (y ∷ ys) e all =
+    let parts = cons_parts x.tree y.tree (trees xs) (trees ys) e in
+    (subst (IsBounded b) parts.0 all.0, bounded_alike b xs ys parts.1 all.1)
+
 -- the tables do not see trails
 pub tables_alike : (xs ys : List Item) (t : Tables) → trees xs ≡ trees ys → AreTablesOf xs t → AreTablesOf ys t
 tables_alike xs ys t e are = record {
@@ -87,8 +98,10 @@ tables_alike xs ys t e are = record {
   named = subst (λ (es : List EntryTexts). IsTableOf (keys_of es) (map crossref_text es) t.named) (gathered_alike entry_in months xs ys e) are.named;
   definitions = record {
     numbers = are.definitions.numbers ∙ numbers_alike is_definition_tree 0 xs ys e;
+    all = subst (AreAllOf t.definitions.names) (gathered_alike defined_by months xs ys e) are.definitions.all;
     texts = λ n. are.definitions.texts n ∙ macros_alike months xs ys n e;
   };
+  bounds = bounded_alike t.bounds xs ys e are.bounds;
 }
 
 -- nor do the limits of raw texts

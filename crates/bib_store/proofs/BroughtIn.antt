@@ -8,11 +8,12 @@ use Rattle.bib_items.specs.declared.list.Item.{Item}
 use Rattle.bib_items.specs.Items.{all_stored}
 use Rattle.bib_store.specs.declared.change.Change.{Change}
 use Rattle.bib_store.specs.declared.tables.Tables.{Tables}
+use Rattle.bib_store.specs.declared.window.Window.{Window}
 use Rattle.bib_store.specs.Beside.{AreTablesOf}
 use Rattle.bib_definitions.specs.Definitions.{texts_at}
 use Rattle.bib_store.specs.Following.{bodies_between, AreOthersOf, DefineNothingBetween, HaveShortTexts}
 use Rattle.bib_store.specs.Runs.{AreFollowed}
-use Rattle.bib_store.specs.Windows.{ArePut, IsLead}
+use Rattle.bib_store.specs.Windows.{ArePut, HasLead, IsLead}
 use Rattle.bib_store.proofs.KeptItems.{length-stored}
 use Rattle.bib_store.proofs.KeptRuns.{bodies_in, parts_of, good_first, good_last, come_followed, come_back, followed_alike}
 
@@ -22,7 +23,10 @@ take_sum {X} a b xs =
     let low : a ≤ a + b = omega arith in
     sym (take-append-drop a (take (a + b) xs)) ∙ ap₂ (λ (x y : List X). x ++ y) (take-take a (a + b) xs low) (drop-take a b xs)
 
-module _ (c : Change) (old now : List Item) (count lead : ℕ) (p : ArePut c old now count) (is : IsLead c.window count lead now) (inner : Reading) (reads : Reads c.text inner) where
+pub has_lead : (w : Window) (count lead : ℕ) (now : List Item) → IsLead w count lead now → HasLead w count lead
+has_lead w count lead now is = record { come = is.come; go = is.go }
+
+module _ (c : Change) (old now : List Item) (count lead : ℕ) (p : ArePut c old now count) (is : HasLead c.window count lead) (inner : Reading) (reads : Reads c.text inner) where
   abbrev from : ℕ
   from = c.window.from
 
@@ -93,7 +97,7 @@ module _ (c : Change) (old now : List Item) (count lead : ℕ) (p : ArePut c old
   behind_put : drop (from + count) now ≡ drop from old
   behind_put = sym (drop-drop count from now) ∙ ap (drop count) from_put ∙ drop_at new (drop from old) count long_new
 
-  again_put : between from (from + lead) now ≡ take lead new
+  pub again_put : between from (from + lead) now ≡ take lead new
   again_put =
       let size : from + lead - from ≡ lead = omega arith in
       let a = low in
@@ -105,7 +109,7 @@ module _ (c : Change) (old now : List Item) (count lead : ℕ) (p : ArePut c old
       ap (take (from + count - (from + lead))) (sym (drop-drop lead from now) ∙ ap (drop lead) from_put ∙ drop-append-le lead new (drop from old) (omega (arith, a, long_new)))
       ∙ take_at (drop lead new) (drop from old) (from + count - (from + lead)) (omega (arith, a, long_new, length-drop lead new))
 
-  stay_put : between (from + count) (from + count + lead) now ≡ stay
+  pub stay_put : between (from + count) (from + count + lead) now ≡ stay
   stay_put =
       let size : from + count + lead - (from + count) ≡ lead = omega arith in
       ap₂ (λ (n : ℕ) (l : List Item). take n l) size behind_put
@@ -120,14 +124,18 @@ module _ (c : Change) (old now : List Item) (count lead : ℕ) (p : ArePut c old
   pub gone_put : between (from + count + lead) (to + count) now ≡ gone
   gone_put = let a = order in gone_at now (from + count) (to + count) behind_put (omega (arith, a))
 
-  same_bodies : bodies_in stay ≡ bodies_in (take lead new)
-  same_bodies = ap bodies_in (sym stay_put) ∙ sym is.same ∙ ap bodies_in again_put
+  -- those of the lead have the bodies of those that stay
+  same_bodies : IsLead c.window count lead now → bodies_in stay ≡ bodies_in (take lead new)
+  same_bodies leads = ap bodies_in (sym stay_put) ∙ sym leads.same ∙ ap bodies_in again_put
 
   -- ---- the tables
 
-  module _ (t : Tables) (plain : DefineNothingBetween (from + lead) (from + count) now) (few : length now < 2 ^ 64) (rest : List Item) (room : length rest ≤ length old - to) (f : AreFollowed (take to old ++ rest) t) where
-    pub old_parts : take to old ++ rest ≡ take from old ++ (stay ++ (gone ++ rest))
-    old_parts = ap (λ (l : List Item). l ++ rest) head_parts ∙ append_assoc (take from old) (stay ++ gone) rest ∙ ap (λ (l : List Item). take from old ++ l) (append_assoc stay gone rest)
+  pub split_old : (rest : List Item) → take to old ++ rest ≡ take from old ++ (stay ++ (gone ++ rest))
+  split_old rest = ap (λ (l : List Item). l ++ rest) head_parts ∙ append_assoc (take from old) (stay ++ gone) rest ∙ ap (λ (l : List Item). take from old ++ l) (append_assoc stay gone rest)
+
+  module _ (leads : IsLead c.window count lead now) (t : Tables) (plain : DefineNothingBetween (from + lead) (from + count) now) (few : length now < 2 ^ 64) (rest : List Item) (room : length rest ≤ length old - to) (f : AreFollowed (take to old ++ rest) t) where
+    old_parts : take to old ++ rest ≡ take from old ++ (stay ++ (gone ++ rest))
+    old_parts = split_old rest
 
     parts : AreFollowed (take from old ++ (stay ++ (gone ++ rest))) t
     parts = subst (λ (l : List Item). AreFollowed l t) old_parts f
@@ -142,7 +150,7 @@ module _ (c : Change) (old now : List Item) (count lead : ℕ) (p : ArePut c old
     place = omega (arith, long_before, long_stay)
 
     same_here : bodies_in stay ≡ bodies_in (take (length stay) new)
-    same_here = same_bodies ∙ ap (λ (n : ℕ). bodies_in (take n new)) (sym long_stay)
+    same_here = same_bodies leads ∙ ap (λ (n : ℕ). bodies_in (take n new)) (sym long_stay)
 
     come_here : bodies_between (from + lead) (from + count) now ≡ bodies_in (drop (length stay) new)
     come_here = ap bodies_in come_put ∙ ap (λ (n : ℕ). bodies_in (drop n new)) (sym long_stay)
@@ -165,14 +173,13 @@ module _ (c : Change) (old now : List Item) (count lead : ℕ) (p : ArePut c old
         (come_back (take from old) stay gone rest inner.items (from + lead) t (bodies_between (from + lead) (from + count) now) parts reads.items inside place same_here come_here plain short_enough back same)
 
   -- once those that came are gone, those that stay have their old trails again
-  pub trails_back : (t back : Tables) (rest : List Item) → AreFollowed (take to old ++ rest) t → AreFollowed ((take from old ++ take lead new) ++ (gone ++ rest)) back → AreFollowed (take to old ++ rest) back
-  trails_back t back rest f g =
-      let split : take to old ++ rest ≡ take from old ++ (stay ++ (gone ++ rest))
-      = ap (λ (l : List Item). l ++ rest) head_parts ∙ append_assoc (take from old) (stay ++ gone) rest ∙ ap (λ (l : List Item). take from old ++ l) (append_assoc stay gone rest) in
+  pub trails_back : IsLead c.window count lead now → (t back : Tables) (rest : List Item) → AreFollowed (take to old ++ rest) t → AreFollowed ((take from old ++ take lead new) ++ (gone ++ rest)) back → AreFollowed (take to old ++ rest) back
+  trails_back leads t back rest f g =
+      let split : take to old ++ rest ≡ take from old ++ (stay ++ (gone ++ rest)) = split_old rest in
       let old_items = sym split ∙ f.same in
       let a = parts_of (take from old) (stay ++ (gone ++ rest)) f.all old_items in
       let b = parts_of stay (gone ++ rest) a.last (sym a.last_is) in
       subst (λ (l : List Item). AreFollowed l back) (sym split)
       (followed_alike (take from old) (take lead new) stay (gone ++ rest) back b.first
       (subst (λ (l : List Item). AreFollowed l back) (append_assoc (take from old) (take lead new) (gone ++ rest)) g)
-      b.first_is (good_first b.first b.last a.last b.whole (good_last a.first a.last f.all a.whole f.good)) (sym same_bodies))
+      b.first_is (good_first b.first b.last a.last b.whole (good_last a.first a.last f.all a.whole f.good)) (sym (same_bodies leads)))

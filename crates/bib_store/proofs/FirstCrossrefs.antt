@@ -20,12 +20,12 @@ use Rattle.bib_store.proofs.RowTexts.{cons_parts, crossref_more}
 
 -- ---- one row
 
-row_is_other : (m : Macros) (row : Row) (rows : List Row) → same row.assignment.name crossref ≡ false → crossref_in m (row ∷ rows) ≡ crossref_in m rows
+pub row_is_other : (m : Macros) (row : Row) (rows : List Row) → same row.assignment.name crossref ≡ false → crossref_in m (row ∷ rows) ≡ crossref_in m rows
 row_is_other m row rows e =
     crossref_more m row rows None
     ∙ ap (λ o. option_or o (crossref_in m rows)) (cond-false (same row.assignment.name crossref) (Some (field_text (raw_text m row.assignment.value))) None e)
 
-row_is_first : (m : Macros) (row : Row) (rows : List Row) → same row.assignment.name crossref ≡ true → crossref_in m (row ∷ rows) ≡ Some (field_text (raw_text m row.assignment.value))
+pub row_is_first : (m : Macros) (row : Row) (rows : List Row) → same row.assignment.name crossref ≡ true → crossref_in m (row ∷ rows) ≡ Some (field_text (raw_text m row.assignment.value))
 row_is_first m row rows e =
     crossref_more m row rows None
     ∙ ap (λ o. option_or o (crossref_in m rows)) (cond-true (same row.assignment.name crossref) (Some (field_text (raw_text m row.assignment.value))) None e)

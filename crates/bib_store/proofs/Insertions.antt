@@ -5,7 +5,7 @@ use Rattle.bib_spec.specs.Tree.{Tree}
 use Rattle.bib_spec.specs.Reading.{Item}
 use Rattle.bib_spec.specs.Texts.{Macros, months, macros_after, macros_at, gathered}
 use Rattle.bib_entries.proofs.Tables.{map-insert, map-remove}
-use Rattle.bib_store.proofs.ItemsMore.{gathered-append}
+use Rattle.bib_definitions.proofs.MacrosAfter.{gathered-append}
 
 -- ---- lists
 

@@ -13,16 +13,10 @@ use Rattle.bib_spec.specs.Bytes.{comma, equals_sign}
 use Rattle.bib_spec.specs.Tree.{Tree, CommentTree, DefinitionTree, PreambleTree, EntryTree, Row, tree_bytes, row_bytes, value_bytes, assignment_bytes, opening_bytes, entry_bytes, behind_key_bytes, last_comma_bytes, close_byte}
 use Rattle.bib_spec.specs.Reading.{Item, item_bytes}
 use Rattle.bib_spec.specs.Texts.{Macros, raw_limit, macros_after, macros_at, gathered, raw_texts_from, raw_texts_in, value_places, row_places, bytes_before_value}
+use Rattle.bib_definitions.proofs.MacrosAfter.{gathered-append}
 use Rattle.bib_store.specs.ItemTexts.{first_too_long, placed_texts}
 
 -- ---- what is gathered
-
-pub gathered-append : {X : Type 0} (say : Macros → Tree → List X) (m : Macros) (items more : List Item)
-    → gathered say m (items ++ more) ≡ gathered say m items ++ gathered say (macros_at m items (length items)) more
-gathered-append say m [] more = refl
-gathered-append say m (item ∷ items) more =
-    ap (λ rest. say m item.tree ++ rest) (gathered-append say (macros_after m item.tree) items more)
-    ∙ sym (append_assoc (say m item.tree) (gathered say (macros_after m item.tree) items) (gathered say (macros_at (macros_after m item.tree) items (length items)) more))
 
 pub gathered-more : {X : Type 0} (say : Macros → Tree → List X) (m : Macros) (items : List Item) (i : Item)
     → gathered say m (items ++ i ∷ []) ≡ gathered say m items ++ say (macros_at m items (length items)) i.tree

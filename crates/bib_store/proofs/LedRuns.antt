@@ -1,5 +1,5 @@
 -- Runs of pieces, of which the last is put in first and taken out last.
-use Rattle.std.proofs.Common.{◌≡◌, ℕ, ◌+◌, ◌-◌, ◌≤◌, Bool, List, [], ◌∷◌, ◌++◌, length, take, drop, refl, sym, subst, ◌∙◌, ap, ap₂, arith, append_assoc, length-append, length-drop, take-append-drop}
+use Rattle.std.proofs.Common.{◌≡◌, ℕ, ◌+◌, ◌-◌, ◌≤◌, Bool, Option, List, [], ◌∷◌, ◌++◌, length, take, drop, refl, sym, subst, ◌∙◌, ap, ap₂, arith, append_assoc, length-append, length-drop, take-append-drop}
 use Rattle.std.specs.List.{between, flat_map}
 use Rattle.std.proofs.lemmas.List.{take_all, take_at, drop_at, drop-drop, append-nil, drop-append-le, length-take-le, take-take, drop-take}
 use Rattle.std.proofs.lemmas.List.Concat.{flat_map-append}
@@ -11,12 +11,14 @@ use Rattle.bib_items.specs.Items.{kept_bytes, all_stored, without_range}
 use Rattle.bib_store.specs.declared.change.Change.{Change}
 use Rattle.bib_store.specs.declared.tables.Tables.{Tables}
 use Rattle.bib_store.specs.Following.{AreItemsOf, DefineNothingBetween}
-use Rattle.bib_store.specs.Runs.{IsRunChange, AreBroughtIn, AreFollowed, StayFollowed, FollowBroughtIn, LeadWithin}
+use Rattle.bib_store.specs.declared.redefining.Former.{Former}
+use Rattle.bib_store.specs.Redefining.{with_former}
+use Rattle.bib_store.specs.Runs.{IsRunChange, AreBroughtIn, AreFollowed, StayFollowed, FollowBroughtIn, ComesBack, LeadWithin}
 use Rattle.bib_store.specs.Shifting.{all_moved_back, FitBehind}
 use Rattle.bib_store.specs.Stored.{file_of}
 use Rattle.bib_store.specs.Windows.{IsWindow, front_before, front_within, bytes_before, bytes_within, bytes_behind}
 use Rattle.bib_store.proofs.BroughtIn as brought_in
-use Rattle.bib_store.proofs.BroughtIn.{long_new, long_before, long_gone, long_now, before_put, come_put, gone_at, gone_put, trails_back}
+use Rattle.bib_store.proofs.BroughtIn.{long_new, long_before, long_gone, long_now, before_put, come_put, gone_at, gone_put}
 use Rattle.bib_store.proofs.KeptItems.{bytes-stored}
 use Rattle.bib_store.proofs.KeptRuns.{bodies_in}
 use Rattle.bib_store.proofs.RunPieces.{both_fit, both_applied}
@@ -272,13 +274,14 @@ module _ (front : Text) (old put led_items : List Item) (t put_t led_t : Tables)
 
 -- ---- a run, where one before it is refused
 
-pub run_back : (front : Text) (old put tried : List Item) (t put_t led_t back_t : Tables) (n count lead : ℕ) (run : List Piece) (c : Change) → IsRunChange run front old n c → (inner : Reading) → Reads c.text inner
+pub run_back : (front : Text) (old put tried : List Item) (t put_t led_t taken_t back_t : Tables) (n count lead : ℕ) (run : List Piece) (c : Change) (former : Option Former) → IsRunChange run front old n c → (inner : Reading) → Reads c.text inner
     → n ≤ length old → AreBroughtIn c old put count lead → tried ≡ put → FollowBroughtIn c lead old t put_t
     → StayFollowed (length put - c.window.from) (take c.window.from put) put_t (take c.window.from put) led_t
     → ((before : List Item) → length before ≡ c.window.from + lead
-    → StayFollowed (length tried - (c.window.from + count)) (before ++ between (c.window.from + lead) (c.window.from + count) tried) led_t before back_t)
+    → StayFollowed (length tried - (c.window.from + count)) (before ++ between (c.window.from + lead) (c.window.from + count) tried) led_t before taken_t)
+    → ComesBack c lead old t former → back_t ≡ with_former former taken_t
     → StayFollowed (length old - n) (take n old) t (take n old) back_t
-run_back front old put tried t put_t led_t back_t n count lead run c r inner reads within brought same brought_t back taken rest room f =
+run_back front old put tried t put_t led_t taken_t back_t n count lead run c former r inner reads within brought same brought_t back taken comes given rest room f =
     let from : ℕ = c.window.from in
     let to : ℕ = c.window.to in
     let new : List Item = all_stored inner.items in
@@ -314,4 +317,5 @@ run_back front old put tried t put_t led_t back_t n count lead run c r inner rea
     let size : length (take from old ++ again) ≡ from + lead = omega (arith, before_long, low, long, length-append (take from old) again, length-take-le lead new (omega (arith, low, long))) in
     let most : length (gone ++ after) ≤ length tried - (from + count) = omega (arith, ap (length {A = Item}) same, all, long_after, wide, high, h, within, length-append gone after) in
     let left = taken (take from old ++ again) size (gone ++ after) most (subst (λ (l : List Item). AreFollowed l led_t) parts g) in
-    subst (λ (l : List Item). AreFollowed l back_t) (sym whole) (trails_back c old put count lead brought.put brought.leads inner reads t back_t after start left)
+    subst (λ (u : Tables). AreFollowed (prefix ++ rest) u) (sym given)
+    (subst (λ (l : List Item). AreFollowed l (with_former former taken_t)) (sym whole) (comes inner reads after long_after start taken_t left))

@@ -17,6 +17,7 @@ pub mod Answered
 pub mod Walks
 pub mod TableSteps
 pub mod ItemsMore
+pub mod BoundedItems
 pub mod Holdings
 pub mod Insertions
 pub mod Followed
@@ -40,3 +41,6 @@ pub mod LedRuns
 pub mod Glances
 pub mod ShortEntries
 pub mod FirstCrossrefs
+pub mod SettledCrossrefs
+pub mod Redefined
+pub mod RedefinedRuns

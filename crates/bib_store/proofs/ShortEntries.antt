@@ -1,13 +1,17 @@
--- How long the texts of an entry are, at most.
-use Rattle.std.proofs.Common.{◌≡◌, ℕ, ◌+◌, ◌*◌, ◌<◌, ◌≤◌, true, List, [], ◌∷◌, ◌++◌, length, map, Option, Some, None, unwrap_or, refl, ◌∙◌, ap, subst, arith, length-append, All}
+-- How long the texts of an item are, at most.
+use Rattle.std.proofs.Common.{◌≡◌, ℕ, suc, ◌+◌, ◌*◌, ◌<◌, ◌≤◌, true, List, [], ◌∷◌, ◌++◌, length, map, Option, Some, None, unwrap_or, ⊎_elim, refl, sym, ◌∙◌, ap, subst, arith, length-append, All}
 use Rattle.std.specs.List.{flat_map}
 use Rattle.std.proofs.Math.Nat.{le-mul_of_pos_right, mul-le-mul_right, add-mul}
+use Rattle.std.specs.List.{AllByRecursion}
+use Rattle.std.specs.Str.{bytes_eq}
+use Rattle.std.proofs.lemmas.Bool.{cases_Bool, cond-true, cond-false}
+use Rattle.std.proofs.lemmas.Option.{none-some}
 use Rattle.std.proofs.lemmas.List.Elements.{All-head, All-tail}
 use Rattle.bib_spec.specs.Bytes.{name_limit, comma, equals_sign, hash, close_brace, quote}
 use Rattle.bib_spec.specs.Text.{Text, folded}
-use Rattle.bib_spec.specs.Tree.{Tree, Part, Braced, Quoted, Digits, Macro, Link, Value, Row, Entry, EntryTree, IsPart, IsLink, IsValue, IsRow, IsTree, part_bytes, link_bytes, value_bytes, row_bytes, assignment_bytes, opening_bytes, behind_key_bytes, last_comma_bytes, close_byte, entry_bytes, tree_bytes}
-use Rattle.bib_spec.specs.Reading.{Item}
-use Rattle.bib_spec.specs.Texts.{Macros, part_text, raw_text, raw_limit, row_start}
+use Rattle.bib_spec.specs.Tree.{Tree, Part, Braced, Quoted, Digits, Macro, Link, Value, Row, Entry, CommentTree, DefinitionTree, PreambleTree, EntryTree, IsPart, IsLink, IsValue, IsRow, IsTree, part_bytes, link_bytes, value_bytes, row_bytes, assignment_bytes, opening_bytes, behind_key_bytes, last_comma_bytes, close_byte, definition_bytes, preamble_bytes, entry_bytes, tree_bytes}
+use Rattle.bib_spec.specs.Reading.{Item, item_bytes}
+use Rattle.bib_spec.specs.Texts.{Macros, updated, macros_after, macros_at, part_text, raw_text, raw_texts_from, raw_limit, row_start, bytes_before_value}
 use Rattle.bib_scan.specs.View.{View, view_of}
 use Rattle.bib_scan.proofs.PartLaws.{name_parts}
 use Rattle.bib_definitions.specs.Definitions.{AreAtMost}
@@ -15,6 +19,7 @@ use Rattle.bib_store.specs.Meaning.{is_entry_tree}
 use Rattle.bib_store.specs.ItemTexts.{first_too_long, placed_texts, row_texts}
 use Rattle.bib_store.proofs.EntryItems.{entry_tree}
 use Rattle.bib_store.proofs.RowTexts.{first_fits}
+use Rattle.bib_store.proofs.Amended.{fit_joined}
 
 module _ (m : Macros) (k : ℕ) (within : AreAtMost k m) (some : 0 < k) where
   wide : (a b : ℕ) → a ≤ b → a ≤ b * k
@@ -86,7 +91,7 @@ module _ (m : Macros) (k : ℕ) (within : AreAtMost k m) (some : 0 < k) where
         length-append e.space_behind_key rows,
       )
 
-  entry_short : (e : Entry) → IsTree name_limit (EntryTree e) → length (entry_bytes e) * k ≤ raw_limit → first_too_long (placed_texts m (EntryTree e)) ≡ None
+  pub entry_short : (e : Entry) → IsTree name_limit (EntryTree e) → length (entry_bytes e) * k ≤ raw_limit → first_too_long (placed_texts m (EntryTree e)) ≡ None
   entry_short e is few =
       rows_short (length (entry_bytes e)) few (length (opening_bytes e.opening ++ (e.key ++ e.space_behind_key))) e.rows is.rows (rows_inside e)
 
@@ -98,3 +103,43 @@ module _ (m : Macros) (k : ℕ) (within : AreAtMost k m) (some : 0 < k) where
           let bytes : v.body ≡ entry_bytes e = body ∙ ap tree_bytes e_is in
           ap (λ (x : Tree). first_too_long (placed_texts m x)) e_is
           ∙ entry_short e (subst (IsTree name_limit) e_is is_tree) (subst (λ (b : Text). length b * k ≤ raw_limit) bytes few)
+
+-- ---- any item
+
+-- in its own definition a name gives nothing
+own_within : (m : Macros) (k : ℕ) (name : Text) → AreAtMost k m → AreAtMost k (updated m name None)
+own_within m k name within x t is = ⊎_elim
+    (λ h. absurd (none-some t (sym (cond-true (bytes_eq x (folded name)) None (m x) h) ∙ is)))
+    (λ h. within x t (sym (cond-false (bytes_eq x (folded name)) None (m x) h) ∙ is))
+    (cases_Bool (bytes_eq x (folded name)))
+
+tree_short : (m : Macros) (k : ℕ) → AreAtMost k m → 0 < k → (tree : Tree) → IsTree name_limit tree → length (tree_bytes tree) * k ≤ raw_limit → first_too_long (placed_texts m tree) ≡ None
+tree_short m k within some (CommentTree h) is few = refl
+tree_short m k within some (EntryTree e) is few = entry_short m k within some e is few
+tree_short m k within some (PreambleTree p) is few =
+    let start = opening_bytes p.opening in
+    let close = close_byte p.opening.delimiter ∷ [] in
+    let inside : length (value_bytes p.value) ≤ length (preamble_bytes p)
+    = omega (arith, length-append (start ++ value_bytes p.value ++ p.space_behind) close, length-append (start ++ value_bytes p.value) p.space_behind, length-append start (value_bytes p.value)) in
+    let value = value_within m k within some p.value is.value in
+    let most = mul-le-mul_right k inside in
+    first_fits (length start) (raw_text m p.value) [] (omega (arith, value, most, few))
+tree_short m k within some (DefinitionTree d) is few =
+    let a = d.assignment in
+    let start = opening_bytes d.opening in
+    let front = a.name ++ a.space_before_equals ++ equals_sign ∷ a.space_before_value in
+    let close = close_byte d.opening.delimiter ∷ [] in
+    let own = updated m a.name None in
+    let inside : length (value_bytes a.value) ≤ length (definition_bytes d)
+    = omega (arith, length-append (start ++ assignment_bytes a) close, length-append start (assignment_bytes a), length-append (front ++ value_bytes a.value) a.space_behind, length-append front (value_bytes a.value)) in
+    let value = value_within own k (own_within m k a.name within) some a.value is.assignment.value in
+    let most = mul-le-mul_right k inside in
+    first_fits (length (start ++ bytes_before_value a)) (raw_text own a.value) [] (omega (arith, value, most, few))
+
+-- items whose bodies are short, where no macro stands for much before any of them
+pub all_short : (k : ℕ) → 0 < k → (at : ℕ) (m : Macros) (items : List Item) → ((n : ℕ) → AreAtMost k (macros_at m items n)) → AllByRecursion (λ i. IsTree name_limit i.tree) items
+    → AllByRecursion (λ i. length (tree_bytes i.tree) * k ≤ raw_limit) items → first_too_long (raw_texts_from at m items) ≡ None
+all_short k some at m [] within trees short = refl
+all_short k some at m (i ∷ items) within trees short =
+    fit_joined at m i items (tree_short m k (within 0) some i.tree trees.0 short.0)
+    (all_short k some (at + length (item_bytes i)) (macros_after m i.tree) items (λ n. within (suc n)) trees.1 short.1)

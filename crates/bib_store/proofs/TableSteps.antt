@@ -1,12 +1,12 @@
 -- What an item that comes or goes does to the tables.
-use Rattle.std.proofs.Common.{◌≡◌, ℕ, suc, ◌+◌, ◌<◌, ◌≤◌, ◌^◌, cond, true, false, List, [], ◌∷◌, ◌++◌, length, map, filter, Option, Some, None, insert, remove, slice_get, ◌⊎◌, ⊎_elim, refl, sym, ◌∙◌, ap, subst, arith, append-nil, length-append}
+use Rattle.std.proofs.Common.{◌≡◌, ℕ, suc, ◌+◌, ◌<◌, ◌≤◌, ◌^◌, cond, Bool, true, false, List, [], ◌∷◌, ◌++◌, length, map, filter, Option, Some, None, insert, remove, slice_get, ◌⊎◌, ⊎_elim, refl, sym, ◌∙◌, ap, subst, arith, append-nil, length-append}
 use Rattle.std.specs.List.{enumerate_from}
 use Rattle.std.proofs.lemmas.List.{length-map}
 use Rattle.bib_spec.specs.Bytes.{equals_sign, name_limit}
-use Rattle.bib_spec.specs.Text.{Text}
+use Rattle.bib_spec.specs.Text.{Text, folded}
 use Rattle.bib_spec.specs.Tree.{Tree, CommentTree, DefinitionTree, PreambleTree, EntryTree, Definition, IsTree, opening_bytes, value_bytes}
 use Rattle.bib_spec.specs.Reading.{Item}
-use Rattle.bib_spec.specs.Texts.{Macros, months, updated, raw_text, raw_limit, macros_after, macros_at, gathered, bytes_before_value}
+use Rattle.bib_spec.specs.Texts.{Macros, months, raw_text, raw_limit, macros_after, macros_at, gathered, bytes_before_value}
 use Rattle.bib_spec.specs.Records.{EntryTexts, entry_in, keys_of, crossref_text, texts_of}
 use Rattle.bib_scan.specs.View.{Field, View, field_behind, fields_of, view_of}
 use Rattle.bib_scan.specs.declared.view.Kind.{Kind}
@@ -23,9 +23,12 @@ use Rattle.bib_store.specs.ItemTexts.{first_too_long, placed_texts, own_text}
 use Rattle.bib_store.specs.Beside.{AreTablesOf, IsStep, IsInsertion, IsRemoval, IsTooLongAt, SayTheSame, OfView, item_with}
 use Rattle.bib_store.proofs.RowTexts.{cons_parts, first_fits, first_over}
 use Rattle.bib_entries.specs.Numbers.{numbers}
-use Rattle.bib_store.proofs.ItemsMore.{gathered-append, gathered-more, number_same}
+use Rattle.bib_store.proofs.ItemsMore.{gathered-more, number_same}
 use Rattle.bib_entries.proofs.ItemNumbers.{numbers-parts, numbers-with, parts_at, put_numbers, moved_numbers, taken_numbers, closed_numbers}
-use Rattle.bib_definitions.proofs.MacrosAfter.{macros_in_front}
+use Rattle.bib_definitions.proofs.MacrosAfter.{macros_in_front, gathered-append}
+use Rattle.bib_store.specs.declared.bounds.Bounds.{Bounds}
+use Rattle.bib_store.specs.Bounds.{IsSettled, IsBounded, AreBounded, Admits}
+use Rattle.bib_store.proofs.BoundedItems.{bounded_with, bounded_without, settled_definition, settled_preamble, settled_comment}
 use Rattle.bib_store.proofs.Insertions.{map-put, map-taken, map-stands, gathered-with}
 
 -- ---- kinds
@@ -98,10 +101,10 @@ unlisted : (before after : List Item) (x : Item) → entry_in (macros_at months 
 unlisted before after x none same = gathered-with entry_in before after x [] same none ∙ sym (gathered-append entry_in months before after)
 
 -- tables whose entries have the same numbers, and whose keys and crossrefs say the same of as many entries
-pub named_kept : (old new : Tables) → new.file_len ≡ old.file_len → new.entries ≡ old.entries → new.preambles ≡ old.preambles → new.definitions ≡ old.definitions
+pub named_kept : (old new : Tables) → new.file_len ≡ old.file_len → new.entries ≡ old.entries → new.preambles ≡ old.preambles → new.definitions ≡ old.definitions → new.bounds ≡ old.bounds
     → ((keys : List Text) (crossrefs : List (Option Text)) → length keys ≡ length old.entries → IsTableOf keys crossrefs old.named → IsTableOf keys crossrefs new.named)
     → SayTheSame old new
-named_kept old new len entries preambles kept named = record {
+named_kept old new len entries preambles kept bounds named = record {
   len = len;
   tables = λ items t. record {
     entries = entries ∙ t.entries;
@@ -111,6 +114,7 @@ named_kept old new len entries preambles kept named = record {
         named (keys_of all) (map crossref_text all)
         (length-map all (λ (entry : EntryTexts). entry.key) ∙ sym (entries_counted 0 months items) ∙ sym (ap (λ (ns : List ℕ). length ns) t.entries)) t.named;
     definitions = subst (AreDefinitionsOf items) (sym kept) t.definitions;
+    bounds = subst (λ (b : Bounds). AreBounded b items) (sym bounds) t.bounds;
   };
 }
 
@@ -125,11 +129,15 @@ module _ (old new : Tables) (n : ℕ) (view : View) where
       → MakesWay n old.definitions new.definitions
       → ((i : Item) → IsTree name_limit i.tree → is_entry_tree i.tree ≡ true → view ≡ view_of i → map crossref_text (entry_in m i.tree) ≡ found ∷ [])
       → ((i : Item) → IsTree name_limit i.tree → is_entry_tree i.tree ≡ true → view ≡ view_of i → first_too_long (placed_texts m i.tree) ≡ None)
+      → (settled : Bool) → (settled ≡ true → (m : Macros) (i : Item) → IsTree name_limit i.tree → is_entry_tree i.tree ≡ true → view ≡ view_of i → map crossref_text (entry_in m i.tree) ≡ found ∷ [] → IsSettled i.tree)
+      → Admits (length view.body) settled old.bounds new.bounds
       → OfView kind.Entry view (λ tree. IsInsertion n tree old new)
-  entry_insertion m found sees entries preambles named defined says short (CommentTree h) is at seen = other_kind kind.Entry kind.Comment (sym at) (omega arith)
-  entry_insertion m found sees entries preambles named defined says short (DefinitionTree d) is at seen = other_kind kind.Entry kind.Macro (sym at) (omega arith)
-  entry_insertion m found sees entries preambles named defined says short (PreambleTree p) is at seen = other_kind kind.Entry kind.Preamble (sym at) (omega arith)
-  entry_insertion m found sees entries preambles named defined says short (EntryTree e) is at seen =
+  entry_insertion m found sees entries preambles named defined says short settled is_settled admits (CommentTree h) is at seen = other_kind kind.Entry kind.Comment (sym at) (omega arith)
+  entry_insertion m found sees entries preambles named defined says short settled is_settled admits (DefinitionTree d) is at seen = other_kind kind.Entry kind.Macro (sym at) (omega arith)
+  entry_insertion m found sees entries preambles named defined says short settled is_settled admits (PreambleTree p) is at seen = other_kind kind.Entry kind.Preamble (sym at) (omega arith)
+  entry_insertion m found sees entries preambles named defined says short settled is_settled admits (EntryTree e) is at seen =
+      let one : IsBounded new.bounds (EntryTree e)
+      = admits.one (EntryTree e) (sym (ap (λ (v : View). length v.body) seen)) (λ t. is_settled t m (item_with (EntryTree e) []) is refl seen (says (item_with (EntryTree e) []) is refl seen)) in
       let here_says : crossref_text (texts_of m e) ≡ found = (cons_parts (crossref_text (texts_of m e)) found [] [] (says (item_with (EntryTree e) []) is refl seen)).0 in
       record {
         tables = λ before after trail count fits t.
@@ -148,6 +156,7 @@ module _ (old new : Tables) (n : ℕ) (view : View) where
                   (λ keys crossrefs. named front (numbers is_entry_tree (length before) after) keys crossrefs parts)
                   (subst (λ (es : List EntryTexts). IsTableOfEntries es old.named) (gathered-append entry_in months before after) t.named));
               definitions = defined before after x count fits refl t.definitions;
+              bounds = bounded_with new.bounds before after x (admits.all (before ++ after) t.bounds) one;
             };
         texts = ap (λ (mm : Macros). first_too_long (placed_texts mm (EntryTree e))) (sym sees) ∙ short (item_with (EntryTree e) []) is refl seen;
       }
@@ -156,12 +165,12 @@ module _ (old new : Tables) (n : ℕ) (view : View) where
       → ((front rest : List ℕ) → PartAt n front rest (front ++ rest) → HaveNext rest → old.preambles ≡ front ++ map suc rest → new.preambles ≡ front ++ rest)
       → (k : ℕ) → ((front rest : List ℕ) → PartAt n front rest old.entries → k ≡ length front)
       → ((keys : List Text) (crossrefs : List (Option Text)) → slice_get keys k ≡ Some view.key → IsTableOf keys crossrefs old.named → IsTableOf (remove keys k) (remove crossrefs k) new.named)
-      → Closes n old.definitions new.definitions
+      → Closes n old.definitions new.definitions → new.bounds ≡ old.bounds
       → OfView kind.Entry view (λ tree. IsRemoval n tree old new)
-  entry_removal entries preambles k rank named defined (CommentTree h) is at seen before after trail count fits t = other_kind kind.Entry kind.Comment (sym at) (omega arith)
-  entry_removal entries preambles k rank named defined (DefinitionTree d) is at seen before after trail count fits t = other_kind kind.Entry kind.Macro (sym at) (omega arith)
-  entry_removal entries preambles k rank named defined (PreambleTree p) is at seen before after trail count fits t = other_kind kind.Entry kind.Preamble (sym at) (omega arith)
-  entry_removal entries preambles k rank named defined (EntryTree e) is at seen before after trail count fits t =
+  entry_removal entries preambles k rank named defined bounds (CommentTree h) is at seen before after trail count fits t = other_kind kind.Entry kind.Comment (sym at) (omega arith)
+  entry_removal entries preambles k rank named defined bounds (DefinitionTree d) is at seen before after trail count fits t = other_kind kind.Entry kind.Macro (sym at) (omega arith)
+  entry_removal entries preambles k rank named defined bounds (PreambleTree p) is at seen before after trail count fits t = other_kind kind.Entry kind.Preamble (sym at) (omega arith)
+  entry_removal entries preambles k rank named defined bounds (EntryTree e) is at seen before after trail count fits t =
       let x = item_with (EntryTree e) trail in
       let here = macros_at months before (length before) in
       let said = texts_of here e in
@@ -177,6 +186,7 @@ module _ (old new : Tables) (n : ℕ) (view : View) where
             (rank front (n ∷ map suc rest) parts ∙ entries_counted 0 months before) named
             (subst (λ (es : List EntryTexts). IsTableOfEntries es old.named) (gathered-with entry_in before after x (said ∷ []) refl refl) t.named));
         definitions = defined before after x count fits refl t.definitions;
+        bounds = subst (λ (b : Bounds). AreBounded b (before ++ after)) (sym bounds) (bounded_without old.bounds before after x t.bounds);
       }
 
   pub entry_over : (m : Macros) (place : ℕ) → m ≡ texts_at old.definitions n
@@ -210,30 +220,36 @@ module _ (old new : Tables) (n : ℕ) (view : View) where
       → Defines (macros_at months items n) item.tree field.name (raw_text (own_text (texts_at old.definitions n) field.name) v) → AreDefinitionsOf (items ++ item ∷ []) new.definitions)
       → new.entries ≡ old.entries → new.preambles ≡ old.preambles → new.named ≡ old.named
       → OfValue field.value (λ v. length (raw_text (own_text (texts_at old.definitions n) field.name) v) ≤ raw_limit)
+      → (settled : Bool) → (settled ≡ true → (text : Text) × OfValue field.value (λ v. (m : Macros) → raw_text m v ≡ text))
+      → Admits (length view.body) settled old.bounds new.bounds
       → OfView kind.Macro view (λ tree. IsStep n tree old new)
-  definition_step field rest first table entries preambles named short (CommentTree h) is at seen = other_kind kind.Macro kind.Comment (sym at) (omega arith)
-  definition_step field rest first table entries preambles named short (EntryTree e) is at seen = other_kind kind.Entry kind.Macro at (omega arith)
-  definition_step field rest first table entries preambles named short (PreambleTree p) is at seen = other_kind kind.Macro kind.Preamble (sym at) (omega arith)
-  definition_step field rest first table entries preambles named short (DefinitionTree d) is at seen =
+  definition_step field rest first table entries preambles named short settled is_settled admits (CommentTree h) is at seen = other_kind kind.Macro kind.Comment (sym at) (omega arith)
+  definition_step field rest first table entries preambles named short settled is_settled admits (EntryTree e) is at seen = other_kind kind.Entry kind.Macro at (omega arith)
+  definition_step field rest first table entries preambles named short settled is_settled admits (PreambleTree p) is at seen = other_kind kind.Macro kind.Preamble (sym at) (omega arith)
+  definition_step field rest first table entries preambles named short settled is_settled admits (DefinitionTree d) is at seen =
       let a = d.assignment in
       let own = field_behind (length (opening_bytes d.opening)) (opening_bytes d.opening) a in
       let same = (cons_parts field own rest [] (sym first ∙ ap (λ (v : View). v.fields) seen)).0 in
       let name : field.name ≡ a.name = ap (λ (f : Field). f.name) same in
       let value : value_bytes a.value ≡ field.value = ap (λ (f : Field). f.value) (sym same) in
+      let one : IsBounded new.bounds (DefinitionTree d)
+      = admits.one (DefinitionTree d) (sym (ap (λ (v : View). length v.body) seen))
+      (λ e. let says = is_settled e in settled_definition d says.0 (says.1 a.value is.assignment.value value)) in
       record {
         tables = λ items trail count t.
             let i = item_with (DefinitionTree d) trail in
             let here = macros_at months items n in
             let macros : texts_at old.definitions n ≡ here = t.definitions.texts n in
             let defined : Defines here (DefinitionTree d) field.name (raw_text (own_text (texts_at old.definitions n) field.name) a.value) =
-            ap (λ (x : Text). updated here x (Some (raw_text (own_text here x) a.value))) (sym name)
-            ∙ ap (λ (mm : Macros). updated here field.name (Some (raw_text (own_text mm field.name) a.value))) (sym macros) in
+            ap (λ (x : Text). (folded x, raw_text (own_text here x) a.value) ∷ []) (sym name)
+            ∙ ap (λ (mm : Macros). (folded field.name, raw_text (own_text mm field.name) a.value) ∷ []) (sym macros) in
             let gone : gathered entry_in months items ≡ gathered entry_in months (items ++ i ∷ []) = sym (gathered-more entry_in months items i ∙ append-nil (gathered entry_in months items)) in
             record {
               entries = entries ∙ t.entries ∙ sym (number_same (λ (item : Item). is_entry_tree item.tree) items i refl);
               preambles = preambles ∙ t.preambles ∙ sym (number_same (λ (item : Item). is_preamble_tree item.tree) items i refl);
               named = subst (λ (k : Kept). IsTableOfEntries (gathered entry_in months (items ++ i ∷ [])) k) (sym named) (subst (λ (es : List EntryTexts). IsTableOfEntries es old.named) gone t.named);
               definitions = table a.value is.assignment.value value items i count refl t.definitions defined;
+              bounds = bounded_with new.bounds items [] i (subst (AreBounded new.bounds) (sym (append-nil items)) (admits.all items t.bounds)) one;
             };
         texts = first_fits (length (opening_bytes d.opening ++ bytes_before_value a)) (raw_text (own_text (texts_at old.definitions n) a.name) a.value) []
             (subst (λ (x : Text). length (raw_text (own_text (texts_at old.definitions n) x) a.value) ≤ raw_limit) name (short a.value is.assignment.value value));
@@ -259,13 +275,13 @@ module _ (old new : Tables) (n : ℕ) (view : View) where
 
   pub preamble_insertion : ((front rest : List ℕ) → PartAt n front rest old.preambles → HaveNext rest → new.preambles ≡ front ++ n ∷ map suc rest)
       → ((front rest : List ℕ) → PartAt n front rest old.entries → HaveNext rest → new.entries ≡ front ++ map suc rest)
-      → new.named ≡ old.named → MakesWay n old.definitions new.definitions
+      → new.named ≡ old.named → MakesWay n old.definitions new.definitions → Admits (length view.body) true old.bounds new.bounds
       → OfView kind.Preamble view (λ tree. first_too_long (placed_texts (texts_at old.definitions n) tree) ≡ None)
       → OfView kind.Preamble view (λ tree. IsInsertion n tree old new)
-  preamble_insertion preambles entries named defined short (CommentTree h) is at seen = other_kind kind.Preamble kind.Comment (sym at) (omega arith)
-  preamble_insertion preambles entries named defined short (EntryTree e) is at seen = other_kind kind.Entry kind.Preamble at (omega arith)
-  preamble_insertion preambles entries named defined short (DefinitionTree d) is at seen = other_kind kind.Macro kind.Preamble at (omega arith)
-  preamble_insertion preambles entries named defined short (PreambleTree p) is at seen = record {
+  preamble_insertion preambles entries named defined admits short (CommentTree h) is at seen = other_kind kind.Preamble kind.Comment (sym at) (omega arith)
+  preamble_insertion preambles entries named defined admits short (EntryTree e) is at seen = other_kind kind.Entry kind.Preamble at (omega arith)
+  preamble_insertion preambles entries named defined admits short (DefinitionTree d) is at seen = other_kind kind.Macro kind.Preamble at (omega arith)
+  preamble_insertion preambles entries named defined admits short (PreambleTree p) is at seen = record {
     tables = λ before after trail count fits t.
         let x = item_with (PreambleTree p) trail in
         record {
@@ -274,18 +290,19 @@ module _ (old new : Tables) (n : ℕ) (view : View) where
           named = subst (λ (es : List EntryTexts). IsTableOfEntries es new.named) (sym (unlisted before after x refl refl))
               (subst (λ (k : Kept). IsTableOfEntries (gathered entry_in months (before ++ after)) k) (sym named) t.named);
           definitions = defined before after x count fits refl t.definitions;
+          bounds = bounded_with new.bounds before after x (admits.all (before ++ after) t.bounds) (admits.one x.tree (sym (ap (λ (v : View). length v.body) seen)) (λ e. settled_preamble p));
         };
     texts = short (PreambleTree p) is at seen;
   }
 
   pub preamble_removal : ((front rest : List ℕ) → PartAt n front rest (front ++ rest) → HaveNext rest → old.preambles ≡ front ++ n ∷ map suc rest → new.preambles ≡ front ++ rest)
       → ((front rest : List ℕ) → PartAt n front rest (front ++ rest) → HaveNext rest → old.entries ≡ front ++ map suc rest → new.entries ≡ front ++ rest)
-      → new.named ≡ old.named → Closes n old.definitions new.definitions
+      → new.named ≡ old.named → Closes n old.definitions new.definitions → new.bounds ≡ old.bounds
       → OfView kind.Preamble view (λ tree. IsRemoval n tree old new)
-  preamble_removal preambles entries named defined (CommentTree h) is at seen before after trail count fits t = other_kind kind.Preamble kind.Comment (sym at) (omega arith)
-  preamble_removal preambles entries named defined (EntryTree e) is at seen before after trail count fits t = other_kind kind.Entry kind.Preamble at (omega arith)
-  preamble_removal preambles entries named defined (DefinitionTree d) is at seen before after trail count fits t = other_kind kind.Macro kind.Preamble at (omega arith)
-  preamble_removal preambles entries named defined (PreambleTree p) is at seen before after trail count fits t =
+  preamble_removal preambles entries named defined bounds (CommentTree h) is at seen before after trail count fits t = other_kind kind.Preamble kind.Comment (sym at) (omega arith)
+  preamble_removal preambles entries named defined bounds (EntryTree e) is at seen before after trail count fits t = other_kind kind.Entry kind.Preamble at (omega arith)
+  preamble_removal preambles entries named defined bounds (DefinitionTree d) is at seen before after trail count fits t = other_kind kind.Macro kind.Preamble at (omega arith)
+  preamble_removal preambles entries named defined bounds (PreambleTree p) is at seen before after trail count fits t =
       let x = item_with (PreambleTree p) trail in
       record {
         entries = closed_numbers is_entry_tree before after x n count fits old.entries new.entries refl entries t.entries;
@@ -293,6 +310,7 @@ module _ (old new : Tables) (n : ℕ) (view : View) where
         named = subst (λ (es : List EntryTexts). IsTableOfEntries es new.named) (unlisted before after x refl refl)
             (subst (λ (k : Kept). IsTableOfEntries (gathered entry_in months (before ++ x ∷ after)) k) (sym named) t.named);
         definitions = defined before after x count fits refl t.definitions;
+        bounds = subst (λ (b : Bounds). AreBounded b (before ++ after)) (sym bounds) (bounded_without old.bounds before after x t.bounds);
       }
 
   pub preamble_fits : (field : Field) (rest : List Field) → view.fields ≡ field ∷ rest
@@ -333,12 +351,12 @@ module _ (old new : Tables) (n : ℕ) (view : View) where
 
   pub comment_insertion : ((front rest : List ℕ) → PartAt n front rest old.entries → HaveNext rest → new.entries ≡ front ++ map suc rest)
       → ((front rest : List ℕ) → PartAt n front rest old.preambles → HaveNext rest → new.preambles ≡ front ++ map suc rest)
-      → new.named ≡ old.named → MakesWay n old.definitions new.definitions
+      → new.named ≡ old.named → MakesWay n old.definitions new.definitions → Admits (length view.body) true old.bounds new.bounds
       → OfView kind.Comment view (λ tree. IsInsertion n tree old new)
-  comment_insertion entries preambles named defined (EntryTree e) is at seen = other_kind kind.Entry kind.Comment at (omega arith)
-  comment_insertion entries preambles named defined (DefinitionTree d) is at seen = other_kind kind.Macro kind.Comment at (omega arith)
-  comment_insertion entries preambles named defined (PreambleTree p) is at seen = other_kind kind.Preamble kind.Comment at (omega arith)
-  comment_insertion entries preambles named defined (CommentTree h) is at seen = record {
+  comment_insertion entries preambles named defined admits (EntryTree e) is at seen = other_kind kind.Entry kind.Comment at (omega arith)
+  comment_insertion entries preambles named defined admits (DefinitionTree d) is at seen = other_kind kind.Macro kind.Comment at (omega arith)
+  comment_insertion entries preambles named defined admits (PreambleTree p) is at seen = other_kind kind.Preamble kind.Comment at (omega arith)
+  comment_insertion entries preambles named defined admits (CommentTree h) is at seen = record {
     tables = λ before after trail count fits t.
         let x = item_with (CommentTree h) trail in
         record {
@@ -347,18 +365,19 @@ module _ (old new : Tables) (n : ℕ) (view : View) where
           named = subst (λ (es : List EntryTexts). IsTableOfEntries es new.named) (sym (unlisted before after x refl refl))
               (subst (λ (k : Kept). IsTableOfEntries (gathered entry_in months (before ++ after)) k) (sym named) t.named);
           definitions = defined before after x count fits refl t.definitions;
+          bounds = bounded_with new.bounds before after x (admits.all (before ++ after) t.bounds) (admits.one x.tree (sym (ap (λ (v : View). length v.body) seen)) (λ e. settled_comment h));
         };
     texts = refl;
   }
 
   pub comment_removal : ((front rest : List ℕ) → PartAt n front rest (front ++ rest) → HaveNext rest → old.entries ≡ front ++ map suc rest → new.entries ≡ front ++ rest)
       → ((front rest : List ℕ) → PartAt n front rest (front ++ rest) → HaveNext rest → old.preambles ≡ front ++ map suc rest → new.preambles ≡ front ++ rest)
-      → new.named ≡ old.named → Closes n old.definitions new.definitions
+      → new.named ≡ old.named → Closes n old.definitions new.definitions → new.bounds ≡ old.bounds
       → OfView kind.Comment view (λ tree. IsRemoval n tree old new)
-  comment_removal entries preambles named defined (EntryTree e) is at seen before after trail count fits t = other_kind kind.Entry kind.Comment at (omega arith)
-  comment_removal entries preambles named defined (DefinitionTree d) is at seen before after trail count fits t = other_kind kind.Macro kind.Comment at (omega arith)
-  comment_removal entries preambles named defined (PreambleTree p) is at seen before after trail count fits t = other_kind kind.Preamble kind.Comment at (omega arith)
-  comment_removal entries preambles named defined (CommentTree h) is at seen before after trail count fits t =
+  comment_removal entries preambles named defined bounds (EntryTree e) is at seen before after trail count fits t = other_kind kind.Entry kind.Comment at (omega arith)
+  comment_removal entries preambles named defined bounds (DefinitionTree d) is at seen before after trail count fits t = other_kind kind.Macro kind.Comment at (omega arith)
+  comment_removal entries preambles named defined bounds (PreambleTree p) is at seen before after trail count fits t = other_kind kind.Preamble kind.Comment at (omega arith)
+  comment_removal entries preambles named defined bounds (CommentTree h) is at seen before after trail count fits t =
       let x = item_with (CommentTree h) trail in
       record {
         entries = closed_numbers is_entry_tree before after x n count fits old.entries new.entries refl entries t.entries;
@@ -366,6 +385,7 @@ module _ (old new : Tables) (n : ℕ) (view : View) where
         named = subst (λ (es : List EntryTexts). IsTableOfEntries es new.named) (unlisted before after x refl refl)
             (subst (λ (k : Kept). IsTableOfEntries (gathered entry_in months (before ++ x ∷ after)) k) (sym named) t.named);
         definitions = defined before after x count fits refl t.definitions;
+        bounds = subst (λ (b : Bounds). AreBounded b (before ++ after)) (sym bounds) (bounded_without old.bounds before after x t.bounds);
       }
 
 -- ---- at the end

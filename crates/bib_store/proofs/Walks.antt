@@ -236,8 +236,8 @@ walk_all front_len from to all n place t order within end so_far db kept =
 
 -- tables are tables of these items, however long the file is said to be
 pub with_len : (items : List reading.Item) (t : Tables) (n : ℕ) → AreTablesOf items t
-    → AreTablesOf items (record { file_len = n; entries = t.entries; preambles = t.preambles; named = t.named; definitions = t.definitions })
-with_len items t n are = record { entries = are.entries; preambles = are.preambles; named = are.named; definitions = are.definitions }
+    → AreTablesOf items (record { file_len = n; entries = t.entries; preambles = t.preambles; named = t.named; definitions = t.definitions; bounds = t.bounds })
+with_len items t n are = record { entries = are.entries; preambles = are.preambles; named = are.named; definitions = are.definitions; bounds = are.bounds }
 
 pub fault_cases : (f : ItemFault) → (f ≡ Memory) ⊎ ((at : ℕ) × (f ≡ TooLong at))
 fault_cases Memory = inl refl

@@ -17,15 +17,17 @@ use Rattle.bib_items.specs.Items.{all_stored}
 use Rattle.bib_entries.specs.EntryTable.{IsTableOf}
 use Rattle.bib_definitions.specs.Definitions.{texts_at, AreDefinitionsOf}
 use Rattle.bib_store.specs.Tables.{preamble_numbers}
+use Rattle.bib_store.specs.Bounds.{AreBounded}
 use Rattle.bib_store.specs.ItemTexts.{first_too_long, placed_texts}
 
 -- the tables say of these items which are entries and preambles, which keys the entries have, what macros stand for
--- where each item stands, and what the crossref of each entry says
+-- where each item stands, what the crossref of each entry says, and what is known of all items
 pub record AreTablesOf (items : List reading.Item) (t : Tables) : Type 0 where
   pub entries : t.entries ≡ entry_numbers items
   pub preambles : t.preambles ≡ preamble_numbers items
   pub named : IsTableOf (keys_of (gathered entry_in months items)) (map crossref_text (gathered entry_in months items)) t.named
   pub definitions : AreDefinitionsOf items t.definitions
+  pub bounds : AreBounded t.bounds items
 
 -- the tables are those of this file
 abbrev pub AreTables : Reading → Tables → Type 0

@@ -7,9 +7,11 @@ pub mod Choosing
 pub mod Shifting
 pub mod Windows
 pub mod ItemTexts
+pub mod Bounds
 pub mod Beside
 pub mod Stored
 pub mod Amending
 pub mod Following
+pub mod Redefining
 pub mod Runs
 pub mod Glancing

@@ -1,5 +1,5 @@
 -- Pieces whose runs lie apart: what each run touches is replaced, and what stands between them stays.
-use Rattle.std.specs.Prelude.{ℕ, ◌≡◌, ◌+◌, ◌-◌, ◌≤◌, false, None, List, ◌++◌, length, take, drop, All}
+use Rattle.std.specs.Prelude.{ℕ, ◌≡◌, ◌+◌, ◌-◌, ◌≤◌, false, Option, None, List, ◌++◌, length, take, drop, All}
 use Rattle.std.specs.List.{between}
 use Rattle.bib_spec.specs.Bytes.{name_limit, file_limit}
 use Rattle.bib_spec.specs.Text.{Text}
@@ -10,13 +10,15 @@ use Rattle.bib_spec.specs.Pieces.{Piece, Fit, applied}
 use Rattle.bib_items.specs.declared.list.Item.{Item}
 use Rattle.bib_items.specs.Items.{all_stored}
 use Rattle.bib_store.specs.declared.change.Change.{Change}
+use Rattle.bib_store.specs.declared.redefining.Former.{Former}
 use Rattle.bib_store.specs.declared.tables.Tables.{Tables}
 use Rattle.bib_store.specs.Beside.{AreTablesOf}
 use Rattle.bib_store.specs.Following.{DefineNothingBetween}
 use Rattle.bib_store.specs.ItemTexts.{first_too_long}
+use Rattle.bib_store.specs.Redefining.{with_former}
 use Rattle.bib_store.specs.Shifting.{all_moved_back, FitBehind}
 use Rattle.bib_store.specs.Stored.{file_of}
-use Rattle.bib_store.specs.Windows.{IsLead, IsChange, ArePut, bytes_before, bytes_within}
+use Rattle.bib_store.specs.Windows.{HasLead, IsChange, ArePut, bytes_before, bytes_within}
 
 -- the pieces lie in the window of the change, and make its text of what stands there
 pub record LieIn (pieces : List Piece) (front : Text) (items : List Item) (c : Change) : Type 0 where
@@ -30,11 +32,11 @@ pub record IsRunChange (run : List Piece) (front : Text) (items : List Item) (n 
   pub after_front : c.window.with_front ≡ false
   pub to : c.window.to ≤ n
 
--- The items of the change stand before those of its window, of which the first have the bodies of the lead; but for those
--- none that comes or goes is a definition.
+-- The items of the change stand before those of its window, and of each so many are the lead; but for those none that comes
+-- or goes is a definition.
 pub record AreBroughtIn (c : Change) (old now : List Item) (count lead : ℕ) : Type 0 where
   pub put : ArePut c old now count
-  pub leads : IsLead c.window count lead now
+  pub leads : HasLead c.window count lead
   pub come : DefineNothingBetween (c.window.from + lead) (c.window.from + count) now
   pub gone : DefineNothingBetween (c.window.from + count + lead) (c.window.to + count) now
 
@@ -67,6 +69,13 @@ StayFollowed most items t new_items new_t = (rest : List Item) → length rest �
 abbrev pub FollowBroughtIn : Change → ℕ → List Item → Tables → Tables → Type 0
 FollowBroughtIn c lead old t new_t = (inner : Reading) → Reads c.text inner
     → StayFollowed (length old - c.window.to) (take c.window.to old) t (take c.window.from old ++ (all_stored inner.items ++ between (c.window.from + lead) c.window.to old)) new_t
+
+-- Where the items that a change brought are gone again, but for the lead, the tables follow the items that there were as
+-- soon as they get back what is kept of them.
+abbrev pub ComesBack : Change → ℕ → List Item → Tables → Option Former → Type 0
+ComesBack c lead old t former = (inner : Reading) → Reads c.text inner → (rest : List Item) → length rest ≤ length old - c.window.to → AreFollowed (take c.window.to old ++ rest) t
+    → (left : Tables) → AreFollowed ((take c.window.from old ++ take lead (all_stored inner.items)) ++ (between (c.window.from + lead) c.window.to old ++ rest)) left
+    → AreFollowed (take c.window.to old ++ rest) (with_former former left)
 
 -- ---- where the pieces lead
 

@@ -95,6 +95,11 @@ pub record ArePut (c : Change) (old now : List Item) (count : ℕ) : Type 0 wher
   pub counted : (inner : Reading) → Reads c.text inner → count ≡ length inner.items
   pub put : (inner : Reading) → Reads c.text inner → now ≡ take c.window.from old ++ (all_stored inner.items ++ drop c.window.from old)
 
+-- the change has so many items, and so many stand in its window
+pub record HasLead (w : Window) (count lead : ℕ) : Type 0 where
+  pub come : lead ≤ count
+  pub go : w.from + lead ≤ w.to
+
 -- So many items of the change, which has this count of them, have the bodies of the first in the window, before which they
 -- stand: of those the trails alone change.
 pub record IsLead (w : Window) (count lead : ℕ) (now : List Item) : Type 0 where

@@ -19,6 +19,7 @@ ghost use Rattle.bib_store.specs.Stored.{SayTheSameOf};
 ghost use Rattle.bib_store.specs.Windows.{IsWindow, OfJoined, exchanged};
 ghost use Rattle.bib_items.specs.declared.fault.StoreFault.TheVariants.{Memory, BadSplice};
 
+use crate::bounds::is_settled_entry;
 use crate::change::Change;
 use crate::crossrefs::entry_crossref;
 use crate::item_fault::ItemFault;
@@ -168,6 +169,7 @@ pub(crate) fn amend<L: ItemList>(
 {
     let crossref = coming_crossref(alloc, change, &tables.definitions)?;
     let item = change.layout.item(change.text.as_slice(), 0);
+    let settled = is_settled_entry(alloc, &item, &crossref);
     // so many entries fit
     let _ = tables.entries.count();
     put_entry(
@@ -178,6 +180,7 @@ pub(crate) fn amend<L: ItemList>(
         m,
         crossref,
     )?;
+    tables.bounds.admit(item.body().len(), settled);
     tables.file_len = change.file_len;
     Ok(())
 }

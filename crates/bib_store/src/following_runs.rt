@@ -1,6 +1,6 @@
 //! Runs of pieces that lie apart. The items that they touch come and go run by run, and what stands between them stays.
 
-ghost use Rattle.std.specs.Prelude.{◌≡◌, ◌+◌, ◌-◌, ◌≤◌, ◌<◌, ◌++◌, [], length, take, List, IfOk, OnOk, OnErr};
+ghost use Rattle.std.specs.Prelude.{◌≡◌, ◌+◌, ◌-◌, ◌≤◌, ◌<◌, ◌++◌, [], length, take, List, Some, None, IfOk, OnOk, OnErr};
 ghost use Rattle.std.specs.List.{between};
 ghost use Rattle.bib_spec.specs.Text.{Text as Bytes};
 ghost use Rattle.bib_spec.specs.Reading.{Reading, Reads};
@@ -8,18 +8,19 @@ ghost use Rattle.bib_scan.specs.Layout.{IsLayoutOf};
 ghost use Rattle.bib_items.specs.declared.list.Item.{Item};
 ghost use Rattle.bib_items.specs.Items.{without_range};
 ghost use Rattle.bib_store.specs.Following.{DefineNothingBetween};
-ghost use Rattle.bib_store.specs.Runs.{IsRunChange, AreBroughtIn, IsMeasured, StaysMeasured, StayFollowed, FollowBroughtIn, LeadWithin};
+ghost use Rattle.bib_store.specs.Runs.{IsRunChange, AreBroughtIn, IsMeasured, StaysMeasured, StayFollowed, FollowBroughtIn, ComesBack, LeadWithin};
 ghost use Rattle.bib_spec.specs.Pieces.{Fit, applied};
 ghost use Rattle.bib_store.specs.Stored.{file_of, IsKept};
-ghost use Rattle.bib_store.specs.Windows.{IsWindow, IsLead, ArePut};
+ghost use Rattle.bib_store.specs.Windows.{IsWindow, HasLead, IsLead, ArePut};
 
 use crate::change::{Change, change_near};
 use crate::exchanging::{can_follow, lead_of};
 use crate::following::{forget, learn};
+use crate::redefining::{Former, give_back, redefine};
 use crate::tables::Tables;
 use bib_data::Piece;
 use bib_items::{ItemList, StoreFault};
-use bib_scan::FILE_LIMIT;
+use bib_scan::{FILE_LIMIT, ItemView};
 use std::alloc::Global;
 
 /// What replaces the window of a run that touches none but the first `n` items. Refused where the pieces don't serve
@@ -44,54 +45,143 @@ fn run_change<L: ItemList>(
     Ok(change)
 }
 
-/// Lets the tables follow the items that came for a change, of this count, before those of its window. Gives how many of
-/// them are the lead: with these the first of the window go at once, in the tables. Refused where the items are many or
-/// one is a definition, but for the lead; the tables then say what they said.
+/// What a change brought before the items of its window.
+#[derive(Drop)]
+struct Brought {
+    /// How many items.
+    count: usize,
+    /// How many of these are the lead: with them the first of the window go at once, in the tables.
+    lead: usize,
+    /// What the tables kept before, where the lead is a definition that takes the place of another.
+    former: Option<Former>,
+}
+
+/// Lets the tables follow the items that came for a change, of this count, before those of its window, where none is a
+/// definition but for those of the lead, which stay in the tables. Where it is refused, the tables say what they said.
+fn learn_others<L: ItemList>(
+    alloc: Global,
+    tables: &mut Tables,
+    items: &L,
+    change: &Change,
+    count: usize,
+    lead: usize,
+) -> Result<Brought, StoreFault>
+    requires within { change.now.window.to + count ≤ length (L.items items.now) }
+    requires lead { IsLead change.now.window count lead (L.items items.now) }
+    requires come { DefineNothingBetween (change.now.window.from + lead) (change.now.window.from + count) (L.items items.now) }
+    requires gone { DefineNothingBetween (change.now.window.from + count + lead) (change.now.window.to + count) (L.items items.now) }
+    ensures count { IfOk result (λ b. b.count ≡ count) }
+    ensures lead { IfOk result (λ b. HasLead change.now.window count b.lead) }
+    ensures come { IfOk result (λ b. DefineNothingBetween (change.now.window.from + b.lead) (change.now.window.from + count) (L.items items.now)) }
+    ensures gone { IfOk result (λ b. DefineNothingBetween (change.now.window.from + count + b.lead) (change.now.window.to + count) (L.items items.now)) }
+    ensures followed { IfOk result (λ b. (old : List Item) → ArePut change.now old (L.items items.now) count → FollowBroughtIn change.now b.lead old tables.old tables.new) }
+    ensures comes { IfOk result (λ b. (old : List Item) → ArePut change.now old (L.items items.now) count → ComesBack change.now b.lead old tables.old b.former) }
+    ensures len { tables.new.file_len ≡ tables.old.file_len }
+    ensures back { OnErr result ((old : List Item) (inner : Reading) → Reads change.now.text inner → ArePut change.now old (L.items items.now) count → StayFollowed (length old - change.now.window.to) (take change.now.window.to old) tables.old (take change.now.window.to old) tables.new) }
+{
+    // so many items fit
+    let _ = items.count();
+    let first = change.window.from + lead;
+    match learn(
+        alloc,
+        tables,
+        items,
+        first,
+        first,
+        change.window.from + count,
+    ) {
+        Ok(()) => Ok(Brought {
+            count,
+            lead,
+            former: None,
+        }),
+        Err(fault) => Err(fault),
+    }
+}
+
+/// Lets the one item that came for a change take the place of the one in its window, in the tables, where both are
+/// definitions. Where it is refused, the tables stay as they are.
+fn learn_definition<L: ItemList>(
+    alloc: Global,
+    tables: &mut Tables,
+    items: &L,
+    change: &Change,
+    count: usize,
+) -> Result<Brought, StoreFault>
+    requires ordered { change.now.window.from ≤ change.now.window.to }
+    requires within { change.now.window.to + count ≤ length (L.items items.now) }
+    ensures count { IfOk result (λ b. b.count ≡ count) }
+    ensures lead { IfOk result (λ b. HasLead change.now.window count b.lead) }
+    ensures come { IfOk result (λ b. DefineNothingBetween (change.now.window.from + b.lead) (change.now.window.from + count) (L.items items.now)) }
+    ensures gone { IfOk result (λ b. DefineNothingBetween (change.now.window.from + count + b.lead) (change.now.window.to + count) (L.items items.now)) }
+    ensures followed { IfOk result (λ b. (old : List Item) → ArePut change.now old (L.items items.now) count → FollowBroughtIn change.now b.lead old tables.old tables.new) }
+    ensures comes { IfOk result (λ b. (old : List Item) → ArePut change.now old (L.items items.now) count → ComesBack change.now b.lead old tables.old b.former) }
+    ensures len { tables.new.file_len ≡ tables.old.file_len }
+    ensures back { OnErr result ((old : List Item) (inner : Reading) → Reads change.now.text inner → ArePut change.now old (L.items items.now) count → StayFollowed (length old - change.now.window.to) (take change.now.window.to old) tables.old (take change.now.window.to old) tables.new) }
+{
+    let n = change.window.from;
+    let touched = change.window.to - n;
+    if count != 1 {
+        return Err(StoreFault::BadSplice);
+    }
+    if touched != 1 {
+        return Err(StoreFault::BadSplice);
+    }
+    // so many items fit
+    let _ = items.count();
+    let new = ItemView::of(items.body(n), b"");
+    let old = ItemView::of(items.body(n + 1), b"");
+    let former = redefine(alloc, tables, n, &old, &new)?;
+    Ok(Brought {
+        count,
+        lead: 1,
+        former: Some(former),
+    })
+}
+
+/// Lets the tables follow the items that came for a change, of this count, before those of its window. Refused where the
+/// items are many, or where one is a definition that the tables can't follow; the tables then say what they said.
 fn learn_few<L: ItemList>(
     alloc: Global,
     tables: &mut Tables,
     items: &L,
     change: &Change,
     count: usize,
-) -> Result<usize, StoreFault>
+) -> Result<Brought, StoreFault>
     requires ordered { change.now.window.from ≤ change.now.window.to }
     requires within { change.now.window.to + count ≤ length (L.items items.now) }
-    ensures lead { IfOk result (λ lead. IsLead change.now.window count lead (L.items items.now)) }
-    ensures come { IfOk result (λ lead. DefineNothingBetween (change.now.window.from + lead) (change.now.window.from + count) (L.items items.now)) }
-    ensures gone { IfOk result (λ lead. DefineNothingBetween (change.now.window.from + count + lead) (change.now.window.to + count) (L.items items.now)) }
-    ensures followed { IfOk result (λ lead. (old : List Item) → ArePut change.now old (L.items items.now) count → FollowBroughtIn change.now lead old tables.old tables.new) }
+    ensures count { IfOk result (λ b. b.count ≡ count) }
+    ensures lead { IfOk result (λ b. HasLead change.now.window count b.lead) }
+    ensures come { IfOk result (λ b. DefineNothingBetween (change.now.window.from + b.lead) (change.now.window.from + count) (L.items items.now)) }
+    ensures gone { IfOk result (λ b. DefineNothingBetween (change.now.window.from + count + b.lead) (change.now.window.to + count) (L.items items.now)) }
+    ensures followed { IfOk result (λ b. (old : List Item) → ArePut change.now old (L.items items.now) count → FollowBroughtIn change.now b.lead old tables.old tables.new) }
+    ensures comes { IfOk result (λ b. (old : List Item) → ArePut change.now old (L.items items.now) count → ComesBack change.now b.lead old tables.old b.former) }
     ensures len { tables.new.file_len ≡ tables.old.file_len }
     ensures back { OnErr result ((old : List Item) (inner : Reading) → Reads change.now.text inner → ArePut change.now old (L.items items.now) count → StayFollowed (length old - change.now.window.to) (take change.now.window.to old) tables.old (take change.now.window.to old) tables.new) }
 {
     let window = change.window;
     let lead = lead_of(items, window, count);
-    if !can_follow(items, window, count, lead) {
-        return Err(StoreFault::BadSplice);
+    if can_follow(items, window, count, lead) {
+        return learn_others(alloc, tables, items, change, count, lead);
     }
-    // so many items fit
-    let _ = items.count();
-    let first = window.from + lead;
-    match learn(alloc, tables, items, first, first, window.from + count) {
-        Ok(()) => Ok(lead),
-        Err(fault) => Err(fault),
-    }
+    learn_definition(alloc, tables, items, change, count)
 }
 
-/// Puts the items of a change before those of its window. Gives how many they are, and how many of them are the lead.
-/// Refused where they are many, one has a text that is too long or is a definition and not of the lead, or the file would
-/// be too long; nothing has changed then.
+/// Puts the items of a change before those of its window. Refused where they are many, one has a text that is too long or
+/// is a definition that the tables can't follow, or the file would be too long; nothing has changed then.
 fn bring_in<L: ItemList>(
     alloc: Global,
     items: &mut L,
     tables: &mut Tables,
     change: &Change,
-) -> Result<(usize, usize), StoreFault>
+) -> Result<Brought, StoreFault>
     requires window { IsWindow (L.items items.old) change.now.window }
     requires layout { IsLayoutOf change.now.text change.now.layout }
     requires begins { (inner : Reading) → Reads change.now.text inner → inner.front ≡ [] }
-    ensures brought { IfOk result (λ counts. AreBroughtIn change.now (L.items items.old) (L.items items.new) counts.0 counts.1) }
+    ensures brought { IfOk result (λ b. AreBroughtIn change.now (L.items items.old) (L.items items.new) b.count b.lead) }
     ensures measured { StaysMeasured (L.items items.old) tables.old (L.items items.new) tables.new }
-    ensures followed { IfOk result (λ counts. FollowBroughtIn change.now counts.1 (L.items items.old) tables.old tables.new) }
+    ensures followed { IfOk result (λ b. FollowBroughtIn change.now b.lead (L.items items.old) tables.old tables.new) }
+    ensures comes { IfOk result (λ b. ComesBack change.now b.lead (L.items items.old) tables.old b.former) }
     ensures back { OnErr result (StayFollowed (length (L.items items.old) - change.now.window.to) (take change.now.window.to (L.items items.old)) tables.old (take change.now.window.to (L.items items.old)) tables.new) }
     ensures err { OnErr result (L.items items.new ≡ L.items items.old) }
 {
@@ -105,9 +195,9 @@ fn bring_in<L: ItemList>(
     items.insert_all(from, text, &change.layout)?;
     let count = items.count() - old_count;
     match learn_few(alloc, tables, &*items, change, count) {
-        Ok(lead) => {
+        Ok(brought) => {
             tables.file_len = file_len;
-            Ok((count, lead))
+            Ok(brought)
         }
         Err(fault) => {
             items.remove_range(from, from + count);
@@ -174,7 +264,7 @@ fn follow_runs<L: ItemList>(
     let from = change.window.from;
     let touched = change.window.to - from;
     let old_count = items.count();
-    let (count, lead) = bring_in(alloc, items, tables, &change)?;
+    let brought = bring_in(alloc, items, tables, &change)?;
     // so many items fit
     let _ = items.count();
     match follow_runs(alloc, front, items, tables, from, starts, earlier) {
@@ -185,13 +275,21 @@ fn follow_runs<L: ItemList>(
                 tables,
                 first_old,
                 first_old,
-                lead,
+                brought.lead,
                 first_old + touched,
             );
             Ok(())
         }
         Err(fault) => {
-            take_out(items, tables, from + lead, from, lead, from + count);
+            take_out(
+                items,
+                tables,
+                from + brought.lead,
+                from,
+                brought.lead,
+                from + brought.count,
+            );
+            give_back(tables, brought.former);
             Err(fault)
         }
     }

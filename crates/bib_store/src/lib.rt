@@ -5,6 +5,7 @@
 
 mod amending;
 mod applying;
+mod bounds;
 mod change;
 mod choosing;
 mod citing;
@@ -23,6 +24,7 @@ mod keeping;
 mod measuring;
 mod preambles;
 mod record;
+mod redefining;
 mod reversing;
 mod runs;
 mod splicing;

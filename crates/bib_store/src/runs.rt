@@ -3,10 +3,14 @@
 ghost use Rattle.std.specs.Prelude.{◌≡◌, ◌≤◌, length};
 ghost use Rattle.bib_spec.specs.Bytes.{file_limit};
 ghost use Rattle.bib_store.specs.Stored.{file_of};
+ghost use Rattle.bib_store.specs.Windows.{IsWindow};
 
+use crate::redefining::is_definition;
 use crate::touching::touched;
+use crate::window::Window;
 use bib_data::Piece;
 use bib_items::{ItemList, StoreFault};
+use bib_scan::ItemView;
 use std::alloc::Global;
 
 /// So many pieces are sought for runs. Each takes a few steps for each page of items, so that for more of them it costs
@@ -16,9 +20,16 @@ const PIECES_LIMIT: usize = 256;
 /// So many runs are read apart.
 const RUNS_LIMIT: usize = 64;
 
+/// Whether the window is a definition alone.
+fn is_one_definition<L: ItemList>(items: &L, window: Window) -> bool
+    requires { IsWindow (L.items items.now) window }
+{
+    window.to - window.from == 1 && is_definition(&ItemView::of(items.body(window.from), b""))
+}
+
 /// The numbers of the pieces with which the runs begin. The pieces of a run touch items that stand side by side; an item
-/// that none touches stands between two runs. Refused where they aren't read apart: there is one run, there are more than
-/// 64, or one of them touches the front. Only time rests on where they begin.
+/// that none touches stands between two runs. Refused where they aren't read apart: there is one run, which is
+/// no definition alone, there are more than 64, or one of them touches the front. Only time rests on where they begin.
 pub(crate) fn run_starts<L: ItemList>(
     alloc: Global,
     front: &[u8],
@@ -29,7 +40,7 @@ pub(crate) fn run_starts<L: ItemList>(
     requires len { file_len ≡ length (file_of front.now (L.items items.now)) }
     requires short { file_len ≤ file_limit }
 {
-    if pieces.len() < 2 || pieces.len() > PIECES_LIMIT {
+    if pieces.len() > PIECES_LIMIT {
         return Err(StoreFault::BadSplice);
     }
     let mut starts = Vec::new(alloc);
@@ -44,7 +55,10 @@ pub(crate) fn run_starts<L: ItemList>(
         }
         end = window.to;
     }
-    if starts.len() < 2 || starts.len() > RUNS_LIMIT {
+    if starts.len() > RUNS_LIMIT {
+        return Err(StoreFault::BadSplice);
+    }
+    if starts.len() < 2 && !is_one_definition(items, touched(front, items, file_len, pieces)) {
         return Err(StoreFault::BadSplice);
     }
     Ok(starts)

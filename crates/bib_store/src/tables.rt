@@ -11,6 +11,7 @@ ghost use Rattle.bib_spec.specs.Text.{Text as Bytes};
 ghost use Rattle.bib_entries.specs.Numbers.{PartAt, HaveNext};
 ghost use Rattle.bib_entries.specs.EntryTable.{IsTableOf};
 
+use crate::bounds::{Bounds, is_settled_entry, is_settled_value};
 use crate::crossrefs::crossref_within;
 use crate::item_fault::ItemFault;
 use crate::measuring::{measure, value_text};
@@ -33,6 +34,8 @@ pub(crate) struct Tables {
     pub named: EntryTable,
     /// What macros stand for where each item stands.
     pub definitions: Definitions,
+    /// What is known of all items.
+    pub bounds: Bounds,
 }
 
 impl Tables {
@@ -88,6 +91,10 @@ impl Tables {
             preambles: Numbers::new(alloc),
             named: EntryTable::new(alloc),
             definitions: Definitions::new(alloc),
+            bounds: Bounds {
+                settled: true,
+                longest_body: 0,
+            },
         }
     }
 
@@ -133,6 +140,7 @@ impl Tables {
                 self.entries.make_way(n);
                 self.preambles.make_way(n);
                 self.definitions.make_way(n);
+                self.bounds.admit(view.body().len(), true);
                 Ok(())
             }
             Kind::Macro => Ok(()),
@@ -154,9 +162,11 @@ impl Tables {
     {
         let longest = self.definitions.longest();
         let crossref = crossref_within(alloc, view, &self.definitions.at(n), longest)?;
+        let settled = is_settled_entry(alloc, view, &crossref);
         insert_named(&mut self.entries, &mut self.named, n, view.key(), crossref)?;
         self.preambles.make_way(n);
         self.definitions.make_way(n);
+        self.bounds.admit(view.body().len(), settled);
         Ok(())
     }
 
@@ -197,7 +207,12 @@ impl Tables {
         ensures too_long { IfErr result (λ fault. (place : ℕ) → fault ≡ ItemTooLong place → OfView kind.Macro view.now (λ tree. IsTooLongAt n tree self.old place)) }
     {
         match view.fields().next() {
-            Some(field) => self.define(alloc, n, field),
+            Some(field) => {
+                let settled = is_settled_value(alloc, field.value);
+                self.define(alloc, n, field)?;
+                self.bounds.admit(view.body().len(), settled);
+                Ok(())
+            }
             None => Ok(()),
         }
     }
@@ -206,7 +221,7 @@ impl Tables {
     fn define(&mut self, alloc: Global, n: usize, field: FieldView<'_>) -> Result<(), ItemFault>
         ensures table { OnOk result (OfValue field.entry.value.now (λ v. (items : List Item) (item : Item) → length items ≡ n → is_definition_tree item.tree ≡ true → AreDefinitionsOf items self.old.definitions
             → Defines (macros_at months items n) item.tree field.entry.name.now (raw_text (own_text (texts_at self.old.definitions n) field.entry.name.now) v) → AreDefinitionsOf (items ++ item ∷ []) self.new.definitions)) }
-        ensures rest { OnOk result ((self.new.entries ≡ self.old.entries) × (self.new.preambles ≡ self.old.preambles) × (self.new.named ≡ self.old.named)) }
+        ensures rest { OnOk result ((self.new.entries ≡ self.old.entries) × (self.new.preambles ≡ self.old.preambles) × (self.new.named ≡ self.old.named) × (self.new.bounds ≡ self.old.bounds)) }
         ensures short { OnOk result (OfValue field.entry.value.now (λ v. length (raw_text (own_text (texts_at self.old.definitions n) field.entry.name.now) v) ≤ raw_limit)) }
         ensures too_long { IfErr result (λ fault. (place : ℕ) → fault ≡ ItemTooLong place
             → (place ≡ field.entry.value_at) × OfValue field.entry.value.now (λ v. raw_limit < length (raw_text (own_text (texts_at self.old.definitions n) field.entry.name.now) v))) }
@@ -221,7 +236,7 @@ impl Tables {
     }
 
     /// What the name of the definition that is item `n` stands for behind it.
-    fn definition_text(
+    pub(crate) fn definition_text(
         &self,
         alloc: Global,
         n: usize,
@@ -260,6 +275,7 @@ impl Tables {
         self.preambles.insert(n)?;
         self.entries.make_way(n);
         self.definitions.make_way(n);
+        self.bounds.admit(view.body().len(), true);
         Ok(())
     }
 

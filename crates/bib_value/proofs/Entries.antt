@@ -9,6 +9,7 @@ use Rattle.std.specs.Map.{KeepsOthers}
 use Rattle.indexmap.specs.IndexMap.{insert_entry, get_by, UpdatesBy}
 use Rattle.bib_spec.specs.Bytes.{name_limit}
 use Rattle.bib_spec.specs.Text.{Text, folded, is_name, is_name_within, does_not_begin_with}
+use Rattle.bib_spec.proofs.Names.{eq-true}
 use Rattle.std.specs.Prelude.{◌&&◌, nat_lt, nat_le, IsTrue}
 use Rattle.std.specs.Char.{to_ascii_lowercase, is_ascii_digit}
 use Rattle.std.proofs.lemmas.List.{length-map}
@@ -26,11 +27,8 @@ value_at-by_name {V} {Z} m name = along m.entries
     along [] = refl
     along (e ∷ es) = ap (cond (bytes_eq name e.0.items) (Some e.1)) (along es)
 
-same_text : (a b : Text) → bytes_eq a b ≡ true → a ≡ b
-same_text a b h = (bytes_eq-Decides a b).0 h
-
 not_longer : (a b : Text) → length b < length a → bytes_eq a b ≡ false
-not_longer a b longer = false_from_ne_true (bytes_eq a b) (λ h. let e = ap (length {A = ℕ}) (same_text a b h) in absurd (omega (arith, e, longer)))
+not_longer a b longer = false_from_ne_true (bytes_eq a b) (λ h. let e = ap (length {A = ℕ}) (eq-true a b h) in absurd (omega (arith, e, longer)))
 
 -- what is put in is found, and the rest is found as before
 pub value_at-insert : {V Z : Type 0} (es : List (Vec ℕ Z × V)) (k : Vec ℕ Z) (v : V) (x : Text) → value_at (by_name (insert_entry same_name es k v)) x ≡ (if bytes_eq x k.items then Some v else value_at (by_name es) x)
@@ -39,7 +37,7 @@ value_at-insert {V} {Z} (e ∷ es) k v x = ⊎_elim same (other (value_at-insert
   where
     same : same_name k e.0 ≡ true → value_at (by_name (insert_entry same_name (e ∷ es) k v)) x ≡ (if bytes_eq x k.items then Some v else value_at (by_name (e ∷ es)) x)
     same h =
-        let e1 : k.items ≡ e.0.items = same_text k.items e.0.items h in
+        let e1 : k.items ≡ e.0.items = eq-true k.items e.0.items h in
         let e2 : value_at (by_name (insert_entry same_name (e ∷ es) k v)) x ≡ (if bytes_eq x e.0.items then Some v else value_at (by_name es) x) = ap (λ l. value_at (by_name l) x) (cond-true (same_name k e.0) ((e.0, v) ∷ es) (e ∷ insert_entry same_name es k v) h) in
         let twice : (b : Bool) → cond b (Some v) (value_at (by_name es) x) ≡ cond b (Some v) (cond b (Some e.1) (value_at (by_name es) x)) = elim [ true ↦ refl | false ↦ refl ] in
         e2 ∙ twice (bytes_eq x e.0.items) ∙ ap (λ (t : Text). if bytes_eq x t then Some v else value_at (by_name (e ∷ es)) x) (sym e1)
@@ -50,7 +48,7 @@ value_at-insert {V} {Z} (e ∷ es) k v x = ⊎_elim same (other (value_at-insert
         e2 ∙ swapped (bytes_eq x e.0.items) (bytes_eq x k.items) (Some e.1) (Some v) (value_at (by_name es) x) apart
       where
         apart : bytes_eq x e.0.items ≡ true → bytes_eq x k.items ≡ true → ⊥
-        apart p q = both_ways (same_name k e.0) h ((bytes_eq-Decides k.items e.0.items).1 (sym (same_text x k.items q) ∙ same_text x e.0.items p))
+        apart p q = both_ways (same_name k e.0) h ((bytes_eq-Decides k.items e.0.items).1 (sym (eq-true x k.items q) ∙ eq-true x e.0.items p))
 
         swapped : (a b : Bool) (p q r : Option V) → (a ≡ true → b ≡ true → ⊥) → cond a p (cond b q r) ≡ cond b q (cond a p r)
         swapped true true p q r never = absurd (never refl refl)
@@ -75,24 +73,24 @@ value_at-updates {V} {Z} {S} old new t w u x = ⊎_elim here there (cases_Bool (
     here : bytes_eq x t ≡ true → value_at (by_name new.entries) x ≡ (if bytes_eq x t then w else value_at (by_name old.entries) x)
     here e =
         sym (value_at-by_name new x)
-        ∙ ap (λ (y : Text). get_by (λ k. bytes_eq y k.items) new) (same_text x t e)
+        ∙ ap (λ (y : Text). get_by (λ k. bytes_eq y k.items) new) (eq-true x t e)
         ∙ u.1
         ∙ sym (cond-true (bytes_eq x t) w (value_at (by_name old.entries) x) e)
 
     there : bytes_eq x t ≡ false → value_at (by_name new.entries) x ≡ (if bytes_eq x t then w else value_at (by_name old.entries) x)
     there e =
         sym (value_at-by_name new x)
-        ∙ u.3 (λ k. bytes_eq x k.items) (λ a b h. ap (λ (y : Text). bytes_eq y b.items) (same_text x a.items h)) apart
+        ∙ u.3 (λ k. bytes_eq x k.items) (λ a b h. ap (λ (y : Text). bytes_eq y b.items) (eq-true x a.items h)) apart
         ∙ value_at-by_name old x
         ∙ sym (cond-false (bytes_eq x t) w (value_at (by_name old.entries) x) e)
       where
         apart : (k : Vec ℕ Z) → bytes_eq t k.items ≡ true → bytes_eq x k.items ≡ false
-        apart k p = false_from_ne_true (bytes_eq x k.items) (λ h. both_ways (bytes_eq x t) e ((bytes_eq-Decides x t).1 (same_text x k.items h ∙ sym (same_text t k.items p))))
+        apart k p = false_from_ne_true (bytes_eq x k.items) (λ h. both_ways (bytes_eq x t) e ((bytes_eq-Decides x t).1 (eq-true x k.items h ∙ sym (eq-true t k.items p))))
 
 -- where a name has no value, it is as if it were taken away
 pub value_at-absent : {V : Type 0} (es : List (Text × V)) (t : Text) → value_at es t ≡ None → (x : Text) → value_at es x ≡ (if bytes_eq x t then None else value_at es x)
 value_at-absent es t none x = ⊎_elim
-    (λ e. ap (value_at es) (same_text x t e) ∙ none ∙ sym (cond-true (bytes_eq x t) None (value_at es x) e))
+    (λ e. ap (value_at es) (eq-true x t e) ∙ none ∙ sym (cond-true (bytes_eq x t) None (value_at es x) e))
     (λ e. sym (cond-false (bytes_eq x t) None (value_at es x) e))
     (cases_Bool (bytes_eq x t))
 

@@ -4,6 +4,7 @@ use Rattle.std.specs.Option.{option_map, option_copied}
 use Rattle.std.specs.Str.{bytes_eq}
 use Rattle.std.specs.List.{AllByRecursion}
 use Rattle.std.proofs.lemmas.Bool.{cases_Bool, cond-true, cond-false}
+use Rattle.std.proofs.lemmas.Option.{none-some, same_Some}
 use Rattle.bib_spec.specs.Text.{Text}
 use Rattle.bib_spec.specs.Texts.{months, month_names, raw_limit}
 use Rattle.bib_value.specs.Months.{shown, text_in}
@@ -17,18 +18,12 @@ pub record NoneBefore (names : Names) (i : ℕ) (name : Text) : Type 0 where
 
 -- the texts of months are short
 all_short : (test : Text × Text → Bool) (names : List (Text × Text)) → AllByRecursion (λ m. length m.1 ≤ raw_limit) names → (t : Text) → option_map (λ m. m.1) (find test names) ≡ Some t → length t ≤ raw_limit
-all_short test [] short t is = absurd (none_some t is)
-  where
-    none_some : (u : Text) → ◌≡◌ {A = Option Text} None (Some u) → ⊥
-    none_some u e = cc
+all_short test [] short t is = absurd (none-some t is)
 all_short test (m ∷ ms) short t is = ⊎_elim (here short.0) (later (all_short test ms short.1 t)) (cases_Bool (test m))
   where
-    some_same : (u v : Text) → ◌≡◌ {A = Option Text} (Some u) (Some v) → u ≡ v
-    some_same u v e = cc
-
     here : length m.1 ≤ raw_limit → test m ≡ true → length t ≤ raw_limit
     here low h =
-        let e : m.1 ≡ t = some_same m.1 t (sym (ap (option_map (λ m. m.1)) (cond-true (test m) (Some m) (find test ms) h)) ∙ is) in
+        let e : m.1 ≡ t = same_Some m.1 t (sym (ap (option_map (λ m. m.1)) (cond-true (test m) (Some m) (find test ms) h)) ∙ is) in
         omega (arith, low, ap (length {A = ℕ}) e)
 
     later : (option_map (λ m. m.1) (find test ms) ≡ Some t → length t ≤ raw_limit) → test m ≡ false → length t ≤ raw_limit

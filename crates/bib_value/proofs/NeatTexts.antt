@@ -1,6 +1,6 @@
 -- Texts that are their own field texts.
 use Rattle.std.proofs.Common.{◌≡◌, ◌∙◌, ◌≤◌, ◌<◌, ◌+◌, ◌-◌, ℕ, length, drop, get_or, arith, Bool, true, false, cond, not, ◌&&◌, ◌||◌, eqb, [], ◌∷◌, refl, sym, ap, ⊎_elim}
-use Rattle.std.proofs.lemmas.Bool.{cases_Bool, cond-true, cond-false, eqb-true, and_parts}
+use Rattle.std.proofs.lemmas.Bool.{not-true, cases_Bool, cond-true, cond-false, eqb-true, and_parts}
 use Rattle.bib_spec.specs.Text.{Text, is_space}
 use Rattle.bib_spec.specs.Texts.{field_text}
 use Rattle.bib_value.specs.Spacing.{can_go_on, neat}
@@ -11,16 +11,12 @@ pub space_is : is_space 32 ≡ true
 unfolding is_space
 space_is = refl
 
--- a neat text that goes on with white space: a space, and a word after it
+-- a neat text that continues with white space: a space, and a word after it
 pub neat-space : (apart : Bool) (b : ℕ) (t : Text) → is_space b ≡ true → neat apart (b ∷ t) ≡ true → (b ≡ 32) × (apart ≡ false) × (neat true t ≡ true)
 neat-space apart b t h n =
     let p = and_parts (eqb b 32) (not apart && neat true t) (sym (cond-true (is_space b) _ _ h) ∙ n) in
     let q = and_parts (not apart) (neat true t) p.1 in
-    (eqb-true b 32 p.0, not_is apart q.0, q.1)
-  where
-    not_is : (a : Bool) → not a ≡ true → a ≡ false
-    not_is true e = sym e
-    not_is false e = refl
+    (eqb-true b 32 p.0, not-true apart q.0, q.1)
 
 pub neat-word : (apart : Bool) (b : ℕ) (t : Text) → is_space b ≡ false → neat apart (b ∷ t) ≡ neat false t
 neat-word apart b t h = cond-false (is_space b) _ _ h
@@ -53,7 +49,7 @@ whole-neat (b ∷ t) n =
 pub field_text-neat : (t : Text) → neat true t ≡ true → field_text t ≡ t
 field_text-neat t n = sym (more_text-all t) ∙ whole-neat t n
 
--- a text goes on neat, byte by byte
+-- a neat text continues as one, byte by byte
 pub neat_step : (so_far apart : Bool) (b : ℕ) (t : Text) → so_far && neat apart (b ∷ t) ≡ (so_far && can_go_on apart b) && neat (eqb b 32) t
 neat_step so_far apart b t =
     ⊎_elim

@@ -8,6 +8,6 @@ abbrev pub neat : Bool → Text → Bool
 neat apart [] = not apart
 neat apart (b ∷ t) = if is_space b then b == space && (not apart && neat true t) else neat false t
 
--- a neat text can go on with this byte, where a word has to begin here if the text stands apart
+-- a neat text can continue with this byte, where a word has to begin here if the text stands apart
 abbrev pub can_go_on : Bool → ℕ → Bool
 can_go_on apart b = not (is_space b) || (b == space && not apart)

@@ -1,6 +1,6 @@
 //! Values by names, without regard to ASCII case.
 
-ghost use Rattle.std.specs.Prelude.{◌≡◌, ◌≤◌, None, length, OnOk, OnErr};
+ghost use Rattle.std.specs.Prelude.{◌≡◌, ◌≤◌, None, length, IfOk, OnOk, OnErr};
 ghost use Rattle.std.specs.Option.{option_copied, IfSome, IfNone};
 ghost use Rattle.bib_spec.specs.Bytes.{name_limit};
 ghost use Rattle.bib_spec.specs.Text.{Text, folded};
@@ -60,17 +60,18 @@ impl<V> FoldedMap<V> {
         entries.get(FoldedName::of(name).as_slice())
     }
 
-    /// Gives the name this value, in the place of the one that it has. Where memory is refused, nothing changes.
-    pub fn insert(&mut self, name: &[u8], value: V) -> Result<(), AllocError>
+    /// Gives the name this value, in the place of the one that it has, which is returned. Where memory is refused, nothing
+    /// changes.
+    pub fn insert(&mut self, name: &[u8], value: V) -> Result<Option<V>, AllocError>
     where
         V: Drop,
         requires { length name.now ≤ name_limit }
+        ensures value { IfOk result (λ old. old ≡ value_at self.old (folded name.now)) }
         ensures ok { OnOk result (IsWith self.old name.now value self.new) }
         ensures err { OnErr result (self.new ≡ self.old) }
     {
         let folded = Vec::from_slice(self.alloc, FoldedName::of(name).as_slice())?;
-        self.entries.insert(folded, value)?;
-        Ok(())
+        Ok(self.entries.insert(folded, value)?)
     }
 
     /// Gives the name this value in the place of the one that it has, which is returned. A name without a value is left

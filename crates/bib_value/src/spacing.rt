@@ -18,7 +18,7 @@ fn is_space(byte: u8) -> bool
     matches!(byte, b' ' | b'\t' | b'\n' | b'\r')
 }
 
-/// Whether a neat text can go on with this byte, where a word has to begin if it stands apart. It takes no branch.
+/// Whether a neat text can continue with this byte, where a word has to begin if it stands apart. It takes no branch.
 #[tactic(auto, unfolding(bib_spec::specs::Text::is_space))]
 fn can_go_on(apart: bool, byte: u8) -> bool
     ensures { result ≡ can_go_on apart byte }

@@ -19,7 +19,7 @@ pub no_command_fact : Refuses author_year WouldMerge address_before (RemoveEntry
 unfolding begins_command is_space is_name_byte is_name_within
 no_command_fact clean = false≢true (sym (clean.front 1))
 
--- the joined text would go on with the comment's name
+-- the joined text would continue the comment's name
 pub no_other_name_fact : Refuses author_year WouldMerge comment_before (RemoveEntry (codes "k"))
 unfolding is_name_byte
 no_other_name_fact clean = false≢true ((clean.trails 0 (comment_item) (zero-lt-suc 0)).ends_name refl)

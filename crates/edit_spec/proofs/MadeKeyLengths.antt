@@ -1,13 +1,13 @@
 -- Made keys are keys that an edit may write: as many letters as their length allows are enough for a file.
-use Rattle.std.proofs.Common.{◌≡◌, ℕ, zero, suc, ◌+◌, ◌-◌, ◌*◌, ◌≤◌, ◌<◌, ◌==◌, nat_lt, nat_le, Bool, true, false, not, ◌&&◌, List, [], ◌∷◌, Option, Some, None, unwrap_or, length, map, find, filter_map, reverse, slice_get, codes, ⊎_elim, refl, sym, ◌∙◌, ap, subst, ne_eqb, ltb-true, lt-ltb, arith}
-use Rattle.std.specs.List.{flat_map, list_any, list_all, enumerate_from, cons_option, AllByRecursion}
+use Rattle.std.proofs.Common.{◌≡◌, ℕ, zero, suc, ◌+◌, ◌≤◌, ◌<◌, nat_lt, nat_le, Bool, true, not, ◌&&◌, List, [], ◌∷◌, Option, Some, None, unwrap_or, length, map, find, filter_map, reverse, slice_get, ⊎_elim, refl, sym, ◌∙◌, ap, subst, ltb-true, lt-ltb, arith}
+use Rattle.std.specs.List.{flat_map, list_all, enumerate_from, cons_option, AllByRecursion}
 use mathlib.Core.List.{reverse-cons}
-use Rattle.std.proofs.lemmas.Bool.{cases_Bool, cond-true, cond-false, and_parts, and_from, or_from, not_from_false, ltb-false, le-leb}
+use Rattle.std.proofs.lemmas.Bool.{cases_Bool, cond-true, cond-false, and_parts, and_from, ltb-false, le-leb}
 use Rattle.std.proofs.lemmas.Option.{none-some, same_Some}
 use Rattle.std.proofs.lemmas.List.{length-append, length-map, length-reverse}
 use Rattle.std.proofs.lemmas.List.Folds.{list_all-append}
 use Rattle.std.proofs.lemmas.List.FromFn.{length-enumerate_from}
-use Rattle.bib_spec.specs.Bytes.{name_limit, file_limit, delete, comma, open_brace, close_brace}
+use Rattle.bib_spec.specs.Bytes.{name_limit, file_limit}
 use Rattle.bib_spec.specs.Text.{Text, is_new_key, is_new_key_byte}
 use Rattle.bib_spec.specs.Tree.{Tree, CommentTree, DefinitionTree, PreambleTree, EntryTree, tree_bytes}
 use Rattle.bib_spec.specs.Reading.{Item, Reading, item_bytes, bytes_of, Reads}
@@ -15,32 +15,12 @@ use Rattle.bib_spec.specs.Texts.{Macros, months, macros_after, gathered}
 use Rattle.bib_spec.specs.Records.{EntryTexts, Record, record_of, entry_in, entries_of, dangling_text, dangling_texts}
 use Rattle.bib_spec.specs.MadeKeys.{letters, candidate, candidates, is_taken, free_key, made_keys, bases, new_keys, base_limit, IsKeyBase}
 use Rattle.edit_spec.specs.Edits.{RegenerateKeys, next_number, items_with_keys, regenerate_keys, IsAccepted}
-use Rattle.bib_spec.proofs.FreeKeys.{AreLower, lower_letters, written, written-letters, free_key_free}
+use Rattle.bib_spec.proofs.FreeKeys.{AreLower, lower_letters, written-letters, doubled, doubled-grows, doubled-written, free_key_free}
+use Rattle.bib_spec.proofs.NewKeyBytes.{new_key_byte-lower}
 use Rattle.edit_spec.proofs.RekeyedEntries.{with_keys-reads}
 use Rattle.edit_spec.proofs.Unrefuted.{edited-short}
 
 -- ---- how many letters a number takes
-
--- two to the power
-abbrev doubled : ℕ → ℕ
-doubled zero = 1
-doubled (suc n) = 2 * doubled n
-
-doubled-some : (n : ℕ) → 1 ≤ doubled n
-doubled-some zero = omega arith
-doubled-some (suc n) = let le = doubled-some n in omega (arith, le)
-
-doubled-grows : (k n : ℕ) → k ≤ n → doubled k ≤ doubled n
-doubled-grows zero n le = doubled-some n
-doubled-grows (suc k) zero le = absurd (omega (arith, le))
-doubled-grows (suc k) (suc n) le = let less = doubled-grows k n (omega (arith, le)) in omega (arith, less)
-
-doubled-written : (cs : Text) → AreLower cs → doubled (length cs) ≤ suc (written cs)
-doubled-written [] h = let le : 1 ≤ 1 = omega arith in le
-doubled-written (c ∷ cs) h = more c (doubled (length cs)) (written cs) h.0.0 (doubled-written cs h.1)
-  where
-    more : (c d w : ℕ) → 97 ≤ c → d ≤ suc w → 2 * d ≤ suc ((c - 96) + 26 * w)
-    more c d w low le = omega (arith, low, le)
 
 few_letters : (n : ℕ) → suc n < 67108864 → length (letters n) < 26
 few_letters n small = ⊎_elim
@@ -57,21 +37,11 @@ few_letters n small = ⊎_elim
 
 -- ---- candidates
 
-lower_byte : (c : ℕ) → 97 ≤ c → c ≤ 122 → is_new_key_byte c ≡ true
-unfolding is_new_key_byte
-lower_byte c low high =
-    and_from (nat_lt 32 c) (not (list_any (λ b. b == c) (delete ∷ codes ",{}"))) (lt-ltb 32 c (omega (arith, low)))
-    (not_from_false (list_any (λ b. b == c) (delete ∷ codes ",{}"))
-    (or_from (delete == c) (list_any (λ b. b == c) (codes ",{}")) (ne_eqb delete c (λ e. omega (arith, e, high)))
-    (or_from (comma == c) (list_any (λ b. b == c) (codes "{}")) (ne_eqb comma c (λ e. omega (arith, e, low)))
-    (or_from (open_brace == c) (list_any (λ b. b == c) (codes "}")) (ne_eqb open_brace c (λ e. omega (arith, e, high)))
-    (or_from (close_brace == c) false (ne_eqb close_brace c (λ e. omega (arith, e, high))) refl)))))
-
 lower_bytes : (cs : Text) → AreLower cs → list_all is_new_key_byte (reverse cs) ≡ true
 lower_bytes [] h = refl
 lower_bytes (c ∷ cs) h =
     ap (list_all is_new_key_byte) (reverse-cons c cs) ∙ list_all-append is_new_key_byte (reverse cs) (c ∷ [])
-    ∙ and_from (list_all is_new_key_byte (reverse cs)) (is_new_key_byte c && true) (lower_bytes cs h.1) (and_from (is_new_key_byte c) true (lower_byte c h.0.0 h.0.1) refl)
+    ∙ and_from (list_all is_new_key_byte (reverse cs)) (is_new_key_byte c && true) (lower_bytes cs h.1) (and_from (is_new_key_byte c) true (new_key_byte-lower c h.0.0 h.0.1) refl)
 
 candidate-new : (base : Text) (n : ℕ) → is_new_key base ≡ true → length base ≤ base_limit → suc n < 67108864 → is_new_key (candidate base n) ≡ true
 unfolding is_new_key

@@ -1,10 +1,9 @@
 -- RegenerateKeys: the made keys meet what the law of new keys asks, they differ, and making them again changes nothing.
-use Rattle.std.proofs.Common.{◌≡◌, ◌<◌, ℕ, zero, suc, ◌+◌, Bool, true, false, cond, not, ◌==◌, ◌≤◌, nat_lt, lt-ltb, ne_eqb, List, [], ◌∷◌, ◌++◌, Option, Some, None, is_some, is_none, unwrap_or, option_and_then, slice_get, length, filter_map, map, reverse, ⊎_elim, refl, sym, ◌∙◌, ap, ap₂, subst, arith, add-one, add-zero, zero-add, ◌⊎◌, inl, inr}
-use Rattle.std.specs.Prelude.{codes}
-use Rattle.std.specs.List.{list_any, list_all, enumerate_from, cons_option, AllByRecursion}
-use Rattle.std.proofs.lemmas.Bool.{cases_Bool, cond-true, cond-false, false≢true, or_parts, or_from, and_from, and_parts, not_from_false}
+use Rattle.std.proofs.Common.{◌≡◌, ◌<◌, ℕ, zero, suc, ◌+◌, Bool, true, false, cond, ◌≤◌, List, [], ◌∷◌, ◌++◌, Option, Some, None, is_some, is_none, unwrap_or, option_and_then, slice_get, length, filter_map, map, reverse, ⊎_elim, refl, sym, ◌∙◌, ap, ap₂, subst, arith, add-one, add-zero, zero-add}
+use Rattle.std.specs.List.{list_all, enumerate_from, cons_option, AllByRecursion}
+use Rattle.std.proofs.lemmas.Bool.{cases_Bool, cond-true, cond-false, false≢true, or_parts, and_from, and_parts}
 use Rattle.std.proofs.lemmas.Option.{none-some, same_Some, slice_get_past}
-use Rattle.bib_spec.specs.Bytes.{delete, file_limit}
+use Rattle.bib_spec.specs.Bytes.{file_limit}
 use Rattle.bib_spec.specs.Text.{Text, same, is_new_key_byte}
 use Rattle.bib_spec.specs.Tree.{Value, Row, Entry, Tree, CommentTree, DefinitionTree, PreambleTree, EntryTree}
 use Rattle.bib_spec.specs.Reading.{Item, Reading, bytes_of}
@@ -22,6 +21,7 @@ use Rattle.edit_spec.proofs.RenameKey.{field_text-key, new_key_parts}
 use Rattle.bib_spec.proofs.Accepted.{dangling_among}
 use Rattle.edit_spec.proofs.OneMore.{length-keys}
 use Rattle.bib_spec.proofs.FreeKeys.{free_key_free, lower_letters}
+use Rattle.bib_spec.proofs.NewKeyBytes.{new_key_byte-lower}
 use mathlib.Core.List.{reverse-cons}
 
 slice_get_none : {X : Type 0} (xs : List X) (n : ℕ) → slice_get xs n ≡ None → length xs ≤ n
@@ -85,19 +85,9 @@ list_all-reverse p (x ∷ xs) h =
     let both = and_parts (p x) (list_all p xs) h in
     ap (list_all p) (reverse-cons x xs) ∙ list_all-append p (reverse xs) (x ∷ []) (list_all-reverse p xs both.1) (and_from (p x) true both.0 refl)
 
--- a byte above all of these is none of them
-none_above : (c : ℕ) (xs : List ℕ) → AllByRecursion (λ x. (x < c) ⊎ (c < x)) xs → list_any (λ x. x == c) xs ≡ false
-none_above c [] h = refl
-none_above c (x ∷ xs) h = or_from (x == c) (list_any (λ x. x == c) xs) (ne_eqb x c (⊎_elim (λ lt e. absurd (omega (arith, e, lt))) (λ lt e. absurd (omega (arith, e, lt))) h.0)) (none_above c xs h.1)
-
-lower_key_byte : (c : ℕ) → 97 ≤ c → c ≤ 122 → is_new_key_byte c ≡ true
-unfolding is_new_key_byte
-lower_key_byte c a b = and_from (nat_lt 32 c) (not (list_any (λ x. x == c) (delete ∷ codes ",{}"))) (lt-ltb 32 c (omega arith))
-    (not_from_false (list_any (λ x. x == c) (delete ∷ codes ",{}")) (none_above c (delete ∷ codes ",{}") (inr (omega arith), (inl (omega arith), (inr (omega arith), (inr (omega arith), tt))))))
-
 lower_key_bytes : (cs : Text) → AllByRecursion (λ c. (97 ≤ c) × (c ≤ 122)) cs → list_all is_new_key_byte cs ≡ true
 lower_key_bytes [] h = refl
-lower_key_bytes (c ∷ cs) h = and_from (is_new_key_byte c) (list_all is_new_key_byte cs) (lower_key_byte c h.0.0 h.0.1) (lower_key_bytes cs h.1)
+lower_key_bytes (c ∷ cs) h = and_from (is_new_key_byte c) (list_all is_new_key_byte cs) (new_key_byte-lower c h.0.0 h.0.1) (lower_key_bytes cs h.1)
 
 candidate_bytes : (base : Text) (n : ℕ) → list_all is_new_key_byte base ≡ true → list_all is_new_key_byte (candidate base n) ≡ true
 candidate_bytes base n h = list_all-append is_new_key_byte base (reverse (letters n)) h (list_all-reverse is_new_key_byte (letters n) (lower_key_bytes (letters n) (lower_letters n)))

@@ -1,10 +1,9 @@
 -- RenameKey: the new key meets what the law of new keys asks.
-use Rattle.std.proofs.Common.{◌≡◌, ◌≢◌, ℕ, zero, suc, ◌<◌, Bool, true, false, not, ◌&&◌, ◌||◌, ◌==◌, nat_lt, nat_le, List, [], ◌∷◌, Some, None, unwrap_or, option_map, slice_get, length, ⊎_elim, refl, sym, ◌∙◌, ap, ap₂, count_by, filter, eqb-true, ne_eqb, ltb-true, arith}
+use Rattle.std.proofs.Common.{◌≡◌, ◌≢◌, ℕ, zero, suc, Bool, true, false, not, ◌&&◌, ◌||◌, ◌==◌, nat_lt, nat_le, List, [], ◌∷◌, Some, None, unwrap_or, option_map, slice_get, length, ⊎_elim, refl, sym, ◌∙◌, ap, ap₂, count_by, filter, eqb-true, ne_eqb, arith}
 use Rattle.std.specs.List.{list_any, list_all, join_with_byte}
-use Rattle.std.proofs.lemmas.Bool.{cases_Bool, cond-true, cond-false, false_from_ne_true, true_from_ne_false, both_ways, and_parts, and_cases, or_from, or_parts, not-false}
+use Rattle.std.proofs.lemmas.Bool.{cases_Bool, cond-true, cond-false, false_from_ne_true, true_from_ne_false, both_ways, and_parts, and_cases, or_parts, not-false}
 use Rattle.std.proofs.lemmas.Option.{same_Some, none-some, cond_some}
-use Rattle.std.specs.Prelude.{codes}
-use Rattle.bib_spec.specs.Bytes.{delete, name_limit}
+use Rattle.bib_spec.specs.Bytes.{name_limit}
 use Rattle.bib_spec.specs.Text.{Text, same, is_space, is_new_key_byte, is_new_key}
 use Rattle.bib_spec.specs.Reading.{Reading}
 use Rattle.bib_spec.specs.Texts.{is_empty, onto_first, words, field_text}
@@ -16,23 +15,17 @@ use Rattle.bib_spec.proofs.Accepted.{there_once, dangling_among}
 use Rattle.bib_spec.proofs.Counts.{count-yes, count-no}
 use Rattle.bib_spec.proofs.Places.{none_at}
 use Rattle.bib_spec.proofs.Keys.{keys_with, key_before}
+use Rattle.bib_spec.proofs.NewKeyBytes.{new_key_byte-plain}
 use Rattle.edit_spec.proofs.Rekeyed.{CanRekey}
 use Rattle.edit_spec.proofs.CitedLists.{rekeying_keeps}
 
 -- A key is its own field text.
 
-pub key_byte_plain : (b : ℕ) → is_new_key_byte b ≡ true → is_space b ≡ false
-unfolding is_new_key_byte is_space
-key_byte_plain b h =
-    let above : 32 < b = ltb-true 32 b (and_parts (nat_lt 32 b) (not (list_any (λ c. c == b) (delete ∷ codes ",{}"))) h).0 in
-    or_from (b == 32 || b == 9 || b == 10) (b == 13) (or_from (b == 32 || b == 9) (b == 10) (or_from (b == 32) (b == 9)
-    (ne_eqb b 32 (omega arith)) (ne_eqb b 9 (omega arith))) (ne_eqb b 10 (omega arith))) (ne_eqb b 13 (omega arith))
-
 words-key : (key : Text) → list_all is_new_key_byte key ≡ true → words key ≡ key ∷ []
 words-key [] h = refl
 words-key (b ∷ bs) h =
     let both = and_parts (is_new_key_byte b) (list_all is_new_key_byte bs) h in
-    cond-false (is_space b) ([] ∷ words bs) (onto_first b (words bs)) (key_byte_plain b both.0) ∙ ap (onto_first b) (words-key bs both.1)
+    cond-false (is_space b) ([] ∷ words bs) (onto_first b (words bs)) (new_key_byte-plain b both.0) ∙ ap (onto_first b) (words-key bs both.1)
 
 pub field_text-key : (key : Text) → list_all is_new_key_byte key ≡ true → field_text key ≡ key
 unfolding field_text

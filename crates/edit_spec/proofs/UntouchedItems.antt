@@ -12,7 +12,7 @@ use Rattle.bib_spec.specs.Records.{EntryTexts, Record, entry_in, entries_of, key
 use Rattle.edit_spec.specs.Edits.{SetField, DropField, AddEntry, RemoveEntry, MoveEntry, RenameKey, RenameMacro, InlineMacro, IntroduceMacro, RegenerateKeys, AddMany, NotFound, Ambiguous, BadPosition, IsAccepted, edited, leaving, item_with, items_with, defines, uses, holds, any_part, is_entry, from_first, with_first_tree, without_first, of_entry, entry_with_field, entry_without_field, in_line, item_of, with_item, remove_entry, next_number, tree_with_keys, item_with_keys, items_with_keys, with_crossref, key_for, name_renamed, use_renamed, use_inlined, uses_inlined, text_of_macro, part_introduced, introduced, holders, last_position}
 use Rattle.bib_spec.specs.MadeKeys.{new_keys}
 use Rattle.edit_spec.specs.Laws.{is_behind, is_reached}
-use Rattle.edit_spec.specs.OtherLaws.{number_with_one_more, number_with_one_less, entries_before, passes, number_of_first, is_first, is_any_entry, is_or_names, is_changed, gained, StandsAt, KeepsItems, untouched_items_stay, moved_entry_stays}
+use Rattle.edit_spec.specs.OtherLaws.{number_with_one_more, number_with_one_less, entries_before, passes, number_of_first, is_first, is_any_entry, is_or_refers_to, is_changed, gained, StandsAt, KeepsItems, untouched_items_stay, moved_entry_stays}
 use Rattle.bib_spec.proofs.Names.{both_true}
 use Rattle.bib_spec.proofs.Counts.{count-no}
 use Rattle.bib_spec.proofs.Keys.{option_cases}
@@ -189,7 +189,7 @@ no_entry : (tree : Tree) → is_any_entry tree ≡ false → (new : ℕ → Opti
 no_entry tree e new entries n = keyed_tree new entries n tree (λ t. absurd (both_ways (is_any_entry tree) e t))
 
 -- an entry that does not get the key, and does not name the one that gets it
-not_keyed : (entries : List EntryTexts) (named : Option ℕ) (to : Text) (n : ℕ) → is_or_names entries named n ≡ false →
+not_keyed : (entries : List EntryTexts) (named : Option ℕ) (to : Text) (n : ℕ) → is_or_refers_to entries named n ≡ false →
     (key_for named to n ≡ None) × (option_and_then (key_for named to) (target entries n) ≡ None)
 not_keyed entries None to n h = (refl, none_of (target entries n))
   where
@@ -494,7 +494,7 @@ untouched_items-stay key_base db (RenameKey from to) accepted =
     (λ n item at. keys_at (key_for (entry_named (entries_of db) from) to) db n (is_changed db (RenameKey from to) n) item at
     (λ e. keyed_tree (key_for (entry_named (entries_of db) from) to) (entries_of db) (entries_before n db) item.tree
     (λ entry. not_keyed (entries_of db) (entry_named (entries_of db) from) to (entries_before n db)
-    (ap (λ b. b && is_or_names (entries_of db) (entry_named (entries_of db) from) (entries_before n db)) (sym (passes-at is_any_entry db.items n item at ∙ entry)) ∙ e))))
+    (ap (λ b. b && is_or_refers_to (entries_of db) (entry_named (entries_of db) from) (entries_before n db)) (sym (passes-at is_any_entry db.items n item at ∙ entry)) ∙ e))))
 untouched_items-stay key_base db (RenameMacro from to) accepted =
     in_place (is_changed db (RenameMacro from to)) db (edited key_base db (RenameMacro from to)) refl (λ n item at. renamed_at from to db.items n item at)
 untouched_items-stay key_base db (InlineMacro name) accepted = record {

@@ -8,9 +8,10 @@ use Rattle.bib_spec.specs.Bytes.{name_limit, delete, comma, close_paren, open_br
 use Rattle.bib_spec.specs.Text.{Text, is_space, is_name, is_new_key, is_new_key_byte, does_not_begin_with}
 use Rattle.bib_spec.specs.Tree.{Value, Row, Delimiter, Brace, Paren, Entry, row_bytes, last_comma_bytes, close_byte, goes_on_key, IsSpace, IsValue, IsRow, IsEntry}
 use Rattle.bib_spec.specs.Texts.{is_empty}
+use Rattle.bib_spec.proofs.NewKeyBytes.{new_key_byte-plain}
 use Rattle.edit_spec.specs.Edits.{new_row, row_to, row_before, in_braces}
 use Rattle.edit_spec.proofs.Balanced.{unbraced_balanced}
-use Rattle.edit_spec.proofs.RenameKey.{key_byte_plain, new_key_parts}
+use Rattle.edit_spec.proofs.RenameKey.{new_key_parts}
 
 -- ---- white space
 
@@ -127,7 +128,7 @@ entry-is e key space rows is k len empty are ends = record {
 byte_goes_on : (d : Delimiter) (b : ℕ) → is_new_key_byte b ≡ true → (goes_on_key d b ≡ true) × ((b == close_brace) ≡ false) × ((b == open_brace) ≡ false)
 unfolding is_new_key_byte
 byte_goes_on d b h =
-    let plain = key_byte_plain b h in
+    let plain = new_key_byte-plain b h in
     let none = not-true (list_any (λ c. c == b) (delete ∷ codes ",{}")) (and_parts (nat_lt 32 b) (not (list_any (λ c. c == b) (delete ∷ codes ",{}"))) h).1 in
     let one = or_parts (delete == b) (list_any (λ c. c == b) (codes ",{}")) none in
     let two = or_parts (comma == b) (list_any (λ c. c == b) (codes "{}")) one.1 in
@@ -163,7 +164,7 @@ no_open_brace (b ∷ key) h =
     ((byte_goes_on Brace b both.0).2, no_open_brace key both.1)
 
 module _ (key : Text) (h : is_new_key key ≡ true) where
-  -- either delimiter lets every byte of a new key go on
+  -- either delimiter lets every byte of a new key continue it
   pub new_key-goes_on : (d : Delimiter) → AllPass (goes_on_key d) key
   new_key-goes_on d = bytes_go_on d key (new_key_parts key h).1
 

@@ -1,11 +1,11 @@
--- What each edit makes of a database, which stretches of the file it replaces, and when it is refused.
+-- What each edit makes of a database, and when it is refused.
 use Rattle.std.specs.Prelude.{◌≡◌, ◌<◌, ◌⊎◌, ℕ, suc, ◌-◌, Bool, true, false, not, ◌&&◌, ◌||◌, ◌==◌, List, [], ◌∷◌, ◌++◌, Option, Some, None, is_some, unwrap_or, length, insert, if◌then◌else◌, bytes_eq, codes, map, find, scan, count_by, option_and_then, slice_get, All}
 use Rattle.std.specs.List.{flat_map, list_any, list_all}
 use Rattle.std.specs.Option.{option_map_or}
 use Rattle.bib_spec.specs.Bytes.{name_limit, file_limit, close_paren}
 use Rattle.bib_spec.specs.Text.{Text, folded, same, is_name, is_new_key}
 use Rattle.bib_spec.specs.Clean.{IsClean, IsCleanTrail}
-use Rattle.bib_spec.specs.Tree.{Part, Braced, Quoted, Digits, Macro, Link, Value, Assignment, Row, Brace, Definition, Entry, Tree, CommentTree, DefinitionTree, PreambleTree, EntryTree, is_comment, is_type, behind_key_bytes, IsValue, value_bytes, IsValue}
+use Rattle.bib_spec.specs.Tree.{Part, Braced, Quoted, Digits, Macro, Link, Value, Assignment, Row, Brace, Definition, Entry, Tree, CommentTree, DefinitionTree, PreambleTree, EntryTree, is_comment, is_type, behind_key_bytes, value_bytes, IsValue}
 use Rattle.bib_spec.specs.Reading.{Item, Reading, bytes_of, IsValueWithin}
 use Rattle.bib_spec.specs.Texts.{months, parts_of, values_of, seen, too_long_at}
 use Rattle.bib_spec.specs.Records.{EntryTexts, Record, entries_of, keys_of, crossref, has_name, is_named, entry_named, target, parent, dangling_texts}

@@ -95,16 +95,16 @@ is_any_entry (EntryTree e) = true
 is_any_entry other = false
 
 -- entry m is that entry, or its crossref names it
-abbrev pub is_or_names : List EntryTexts → Option ℕ → ℕ → Bool
-is_or_names entries None m = false
-is_or_names entries (Some i) m = m == i || option_map_or (λ t. t == i) (target entries m) false
+abbrev pub is_or_refers_to : List EntryTexts → Option ℕ → ℕ → Bool
+is_or_refers_to entries None m = false
+is_or_refers_to entries (Some i) m = m == i || option_map_or (λ t. t == i) (target entries m) false
 
 -- the edit replaces something in the body of item n
 abbrev pub is_changed : Reading → Edit → ℕ → Bool
 is_changed db (SetField key name value) n = is_first (is_entry key) db.items n
 is_changed db (DropField key name) n = is_first (is_entry key) db.items n
 is_changed db (RenameKey from to) n =
-    passes is_any_entry db.items n && is_or_names (entries_of db) (entry_named (entries_of db) from) (entries_before n db)
+    passes is_any_entry db.items n && is_or_refers_to (entries_of db) (entry_named (entries_of db) from) (entries_before n db)
 is_changed db (RenameMacro from to) n = is_reached (defines from) db.items n && passes (λ tree. defines from tree || any_part (uses from) tree) db.items n
 is_changed db (InlineMacro name) n = is_behind name db.items n && passes (any_part (uses name)) db.items n
 is_changed db (IntroduceMacro name text) n = passes (any_part (holds text)) db.items n

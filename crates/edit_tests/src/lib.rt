@@ -4,11 +4,17 @@
 #[cfg(test)]
 mod additions;
 #[cfg(test)]
+mod answers;
+#[cfg(test)]
 mod lengths;
 #[cfg(test)]
 mod lists;
 #[cfg(test)]
 mod macros;
+#[cfg(test)]
+mod planning;
+#[cfg(test)]
+mod redefinitions;
 #[cfg(test)]
 mod renames;
 #[cfg(test)]
@@ -19,7 +25,5 @@ mod runs;
 mod sessions;
 #[cfg(test)]
 mod splicing;
-#[cfg(test)]
-mod stores;
 #[cfg(test)]
 mod turns;

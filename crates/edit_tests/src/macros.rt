@@ -1,127 +1,229 @@
 //! Macros that are renamed, inlined and introduced.
 
-use crate::rows::{makes, refuses};
-use crate::splicing::{is_piece, planned, text};
-use crate::turns::{Turn, after, is_file};
-use bib_edit::Edit;
+use crate::rows::{Course, Row, Step, all_come_out, all_hold};
+use crate::turns::Turn;
 use std::test::Fail;
 
 const MONTH: &[u8] = b"@string{jan = jan # { x}}@misc{a, month = jan}";
-
-const TWICE: &[u8] = b"@string{p={A}}@misc{a,t=p}@string{p={B}}@misc{b,t=p}";
 
 const BESIDE: &[u8] =
     b"@string{m={x}}\n@misc{a}\n@misc{b,t=n}\n@string{n=m # {y}}\n@misc{c,t=n}\n@misc{d,t=n}\n";
 
 const PARTS: &[u8] = b"@misc{a, t = {x} # \"x\"}";
 
+const RENAMED: &[Row<'_>] = &[
+    Row {
+        name: "a macro is renamed in its own definition too",
+        file: MONTH,
+        turn: Turn::Script(b"rename-macro\tjan\tj"),
+        refusal: 0,
+        left: b"@string{j = j # { x}}@misc{a, month = j}",
+    },
+    Row {
+        name: "a macro is spelled otherwise",
+        file: MONTH,
+        turn: Turn::Script(b"rename-macro\tjan\tJAN"),
+        refusal: 0,
+        left: b"@string{JAN = JAN # { x}}@misc{a, month = JAN}",
+    },
+    Row {
+        name: "the name of a macro to rename is a name",
+        file: MONTH,
+        turn: Turn::Script(b"rename-macro\t1\tx"),
+        refusal: 32,
+        left: MONTH,
+    },
+    Row {
+        name: "a month without a definition is not renamed",
+        file: MONTH,
+        turn: Turn::Script(b"rename-macro\tfeb\tj"),
+        refusal: 35,
+        left: MONTH,
+    },
+    Row {
+        name: "a macro with two definitions is not renamed",
+        file: b"@string{p={A}}@misc{a,t=p}@string{p={B}}@misc{b,t=p}",
+        turn: Turn::Script(b"rename-macro\tp\tq"),
+        refusal: 36,
+        left: b"@string{p={A}}@misc{a,t=p}@string{p={B}}@misc{b,t=p}",
+    },
+    Row {
+        name: "a macro does not get the name of a month",
+        file: MONTH,
+        turn: Turn::Script(b"rename-macro\tjan\tMay"),
+        refusal: 38,
+        left: MONTH,
+    },
+    Row {
+        name: "a use before the definition keeps its name",
+        file: b"@misc{a, t = m}@string{m = 1}@misc{b, t = m}",
+        turn: Turn::Script(b"rename-macro\tm\tn"),
+        refusal: 0,
+        left: b"@misc{a, t = m}@string{n = 1}@misc{b, t = n}",
+    },
+    Row {
+        name: "a crossref of parts is renamed with its macro",
+        file: b"@string{conf={conf}}@misc{conf95}@misc{b, crossref = conf # {95}}",
+        turn: Turn::Script(b"rename-macro\tconf\tc"),
+        refusal: 0,
+        left: b"@string{c={conf}}@misc{conf95}@misc{b, crossref = c # {95}}",
+    },
+];
+
+const INLINED: &[Row<'_>] = &[
+    Row {
+        name: "what a macro says stands for its uses in braces",
+        file: b"@string{m = \"a\" # {\"}}@misc{k, t = m # 1}",
+        turn: Turn::Script(b"inline\tm"),
+        refusal: 0,
+        left: b"@misc{k, t = {a\"} # 1}",
+    },
+    Row {
+        name: "what a macro says is what it said at its definition",
+        file: b"@string{x={1}}@string{m=x}@string{x={2}}@misc{k,t=m}",
+        turn: Turn::Script(b"inline\tm"),
+        refusal: 0,
+        left: b"@string{x={1}}@string{x={2}}@misc{k,t={1}}",
+    },
+];
+
+const INTRODUCED: &[Row<'_>] = &[
+    Row {
+        name: "a text in braces and in quotes gets one name",
+        file: PARTS,
+        turn: Turn::Script(b"introduce\tm\tx"),
+        refusal: 0,
+        left: b"@string{m = {x}}\n@misc{a, t = m # m}",
+    },
+    Row {
+        name: "a text does not get the name of a month",
+        file: PARTS,
+        turn: Turn::Script(b"introduce\tmay\tx"),
+        refusal: 38,
+        left: PARTS,
+    },
+    Row {
+        name: "a text that no part has gets no name",
+        file: PARTS,
+        turn: Turn::Script(b"introduce\tm\ty"),
+        refusal: 35,
+        left: PARTS,
+    },
+    Row {
+        name: "a text that does not balance gets no name",
+        file: PARTS,
+        turn: Turn::Script(b"introduce\tm\t}"),
+        refusal: 33,
+        left: PARTS,
+    },
+    Row {
+        name: "a number is no text that gets a name",
+        file: b"@misc{a, t = m}@string{n = 1}@misc{b, t = n}",
+        turn: Turn::Script(b"introduce\tm\t1"),
+        refusal: 35,
+        left: b"@misc{a, t = m}@string{n = 1}@misc{b, t = n}",
+    },
+];
+
+const INLINED_BESIDE: &[u8] = b"@string{m={x}}\n\n@misc{b,t=n}\n\n\n@misc{d,t={xy}}\n";
+
+const MOVED_AND_INLINED: &[u8] =
+    b"@string{m={x}}\n\n@misc{c,t=n}\n@misc{b,t=n}\n\n\n@misc{d,t={xy}}\n@misc{a}\n";
+
+const MOVED_BACK: &[u8] =
+    b"@string{m={x}}\n\n@misc{a}\n@misc{c,t=n}\n@misc{b,t=n}\n@string{n=m # {y}}\n\n@misc{d,t=n}\n\n";
+
+const BESIDE_DEFINITIONS: &[Course<'_>] = &[
+    Course {
+        name: "an entry goes from beside a definition and comes back",
+        file: BESIDE,
+        steps: &[
+            Step {
+                turn: Turn::Script(b"remove\ta"),
+                refusal: 0,
+                file: Some(
+                    b"@string{m={x}}\n\n@misc{b,t=n}\n@string{n=m # {y}}\n@misc{c,t=n}\n@misc{d,t=n}\n",
+                ),
+                counts: None,
+            },
+            Step {
+                turn: Turn::Script(b"remove\tc\ninline\tn"),
+                refusal: 0,
+                file: Some(INLINED_BESIDE),
+                counts: None,
+            },
+            Step {
+                turn: Turn::Undo(3),
+                refusal: 0,
+                file: Some(BESIDE),
+                counts: None,
+            },
+            Step {
+                turn: Turn::Redo(3),
+                refusal: 0,
+                file: Some(INLINED_BESIDE),
+                counts: None,
+            },
+        ],
+    },
+    Course {
+        name: "an entry moves away from a definition and back",
+        file: BESIDE,
+        steps: &[
+            Step {
+                turn: Turn::Script(b"move\ta\t5"),
+                refusal: 0,
+                file: Some(
+                    b"@string{m={x}}\n\n@misc{b,t=n}\n@string{n=m # {y}}\n@misc{c,t=n}\n@misc{d,t=n}\n@misc{a}\n",
+                ),
+                counts: None,
+            },
+            Step {
+                turn: Turn::Script(b"move\tc\t1\ninline\tn"),
+                refusal: 0,
+                file: Some(MOVED_AND_INLINED),
+                counts: None,
+            },
+            Step {
+                turn: Turn::Undo(3),
+                refusal: 0,
+                file: Some(BESIDE),
+                counts: None,
+            },
+            Step {
+                turn: Turn::Redo(2),
+                refusal: 0,
+                file: Some(
+                    b"@string{m={x}}\n\n@misc{c,t=n}\n@misc{b,t=n}\n@string{n=m # {y}}\n\n@misc{d,t=n}\n@misc{a}\n",
+                ),
+                counts: None,
+            },
+            Step {
+                turn: Turn::Script(b"move\ta\t1"),
+                refusal: 0,
+                file: Some(MOVED_BACK),
+                counts: None,
+            },
+        ],
+    },
+];
+
 #[test]
-fn a_macro_is_renamed_in_its_own_definition_too(rt: HostRuntime) -> Result<(), Fail> {
-    let alloc = rt.alloc();
-    let renamed = b"@string{j = j # { x}}@misc{a, month = j}";
-    let respelled = b"@string{JAN = JAN # { x}}@misc{a, month = JAN}";
-    assert!(rt; makes(alloc, MONTH, b"rename-macro\tjan\tj", renamed)?);
-    assert!(rt; makes(alloc, MONTH, b"rename-macro\tjan\tJAN", respelled)?);
-    Ok(())
+fn a_macro_is_renamed(rt: HostRuntime) -> Result<(), Fail> {
+    all_hold(rt.alloc(), RENAMED)
 }
 
 #[test]
-fn a_renaming_is_refused_in_order(rt: HostRuntime) -> Result<(), Fail> {
-    let alloc = rt.alloc();
-    assert!(rt; refuses(alloc, 32, MONTH, b"rename-macro\t1\tx")?);
-    assert!(rt; refuses(alloc, 35, MONTH, b"rename-macro\tfeb\tj")?);
-    assert!(rt; refuses(alloc, 36, TWICE, b"rename-macro\tp\tq")?);
-    assert!(rt; refuses(alloc, 38, MONTH, b"rename-macro\tjan\tMay")?);
-    Ok(())
+fn a_macro_is_inlined(rt: HostRuntime) -> Result<(), Fail> {
+    all_hold(rt.alloc(), INLINED)
 }
 
 #[test]
-fn a_use_before_the_definition_keeps_its_name(rt: HostRuntime) -> Result<(), Fail> {
-    let alloc = rt.alloc();
-    let old = b"@misc{a, t = m}@string{m = 1}@misc{b, t = m}";
-    let new = b"@misc{a, t = m}@string{n = 1}@misc{b, t = n}";
-    assert!(rt; makes(alloc, old, b"rename-macro\tm\tn", new)?);
-    assert!(rt; refuses(alloc, 35, new, b"introduce\tm\t1")?);
-    Ok(())
+fn a_macro_is_introduced(rt: HostRuntime) -> Result<(), Fail> {
+    all_hold(rt.alloc(), INTRODUCED)
 }
 
 #[test]
-fn a_crossref_of_parts_is_renamed_with_its_macro(rt: HostRuntime) -> Result<(), Fail> {
-    let old = b"@string{conf={conf}}@misc{conf95}@misc{b, crossref = conf # {95}}";
-    let new = b"@string{c={conf}}@misc{conf95}@misc{b, crossref = c # {95}}";
-    assert!(rt; makes(rt.alloc(), old, b"rename-macro\tconf\tc", new)?);
-    Ok(())
-}
-
-#[test]
-fn what_a_macro_says_stands_for_its_uses(rt: HostRuntime) -> Result<(), Fail> {
-    let alloc = rt.alloc();
-    let quoted = b"@string{m = \"a\" # {\"}}@misc{k, t = m # 1}";
-    assert!(rt; makes(alloc, quoted, b"inline\tm", b"@misc{k, t = {a\"} # 1}")?);
-    let changed = b"@string{x={1}}@string{m=x}@string{x={2}}@misc{k,t=m}";
-    let new = b"@string{x={1}}@string{x={2}}@misc{k,t={1}}";
-    assert!(rt; makes(alloc, changed, b"inline\tm", new)?);
-    let edit = Edit::InlineMacro {
-        name: text(alloc, b"m")?,
-    };
-    let pieces = planned(alloc, changed, &edit)?;
-    assert_eq!(rt; pieces.as_slice().len(), 2);
-    assert!(rt; is_piece(&pieces.as_slice()[0], 14, b"@string{m=x}", b""));
-    assert!(rt; is_piece(&pieces.as_slice()[1], 50, b"m", b"{1}"));
-    Ok(())
-}
-
-#[test]
-fn a_text_in_braces_and_in_quotes_gets_one_name(rt: HostRuntime) -> Result<(), Fail> {
-    let alloc = rt.alloc();
-    let new = b"@string{m = {x}}\n@misc{a, t = m # m}";
-    assert!(rt; makes(alloc, PARTS, b"introduce\tm\tx", new)?);
-    assert!(rt; refuses(alloc, 38, PARTS, b"introduce\tmay\tx")?);
-    assert!(rt; refuses(alloc, 35, PARTS, b"introduce\tm\ty")?);
-    assert!(rt; refuses(alloc, 33, PARTS, b"introduce\tm\t}")?);
-    Ok(())
-}
-
-#[test]
-fn an_entry_goes_from_beside_a_definition_and_comes_back(rt: HostRuntime) -> Result<(), Fail> {
-    let turns = [
-        Turn::Script(b"remove\ta"),
-        Turn::Script(b"remove\tc\ninline\tn"),
-        Turn::Undo(3),
-        Turn::Redo(3),
-    ];
-    let left = after(rt.alloc(), BESIDE, turns.as_slice())?;
-    let without =
-        b"@string{m={x}}\n\n@misc{b,t=n}\n@string{n=m # {y}}\n@misc{c,t=n}\n@misc{d,t=n}\n";
-    let inlined = b"@string{m={x}}\n\n@misc{b,t=n}\n\n\n@misc{d,t={xy}}\n";
-    assert!(rt; is_file(&left, 0, without));
-    assert!(rt; is_file(&left, 1, inlined));
-    assert!(rt; is_file(&left, 2, BESIDE));
-    assert!(rt; is_file(&left, 3, inlined));
-    Ok(())
-}
-
-#[test]
-fn an_entry_moves_away_from_a_definition_and_back(rt: HostRuntime) -> Result<(), Fail> {
-    let turns = [
-        Turn::Script(b"move\ta\t5"),
-        Turn::Script(b"move\tc\t1\ninline\tn"),
-        Turn::Undo(3),
-        Turn::Redo(2),
-        Turn::Script(b"move\ta\t1"),
-    ];
-    let left = after(rt.alloc(), BESIDE, turns.as_slice())?;
-    let moved =
-        b"@string{m={x}}\n\n@misc{b,t=n}\n@string{n=m # {y}}\n@misc{c,t=n}\n@misc{d,t=n}\n@misc{a}\n";
-    let inlined = b"@string{m={x}}\n\n@misc{c,t=n}\n@misc{b,t=n}\n\n\n@misc{d,t={xy}}\n@misc{a}\n";
-    let both =
-        b"@string{m={x}}\n\n@misc{c,t=n}\n@misc{b,t=n}\n@string{n=m # {y}}\n\n@misc{d,t=n}\n@misc{a}\n";
-    let back =
-        b"@string{m={x}}\n\n@misc{a}\n@misc{c,t=n}\n@misc{b,t=n}\n@string{n=m # {y}}\n\n@misc{d,t=n}\n\n";
-    assert!(rt; is_file(&left, 0, moved));
-    assert!(rt; is_file(&left, 1, inlined));
-    assert!(rt; is_file(&left, 2, BESIDE));
-    assert!(rt; is_file(&left, 3, both));
-    assert!(rt; is_file(&left, 4, back));
-    Ok(())
+fn definitions_are_followed(rt: HostRuntime) -> Result<(), Fail> {
+    all_come_out(rt.alloc(), BESIDE_DEFINITIONS)
 }

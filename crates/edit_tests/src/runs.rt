@@ -2,27 +2,193 @@
 
 ghost use Rattle.std.specs.Prelude.{◌≡◌, []};
 
-use crate::turns::{DIFFERENCE, Left, Turn, is_same, left_after};
+use crate::rows::{Step, Stop, is_left, told};
+use crate::turns::{Asked, Left, Turn, asked_of, is_same, left_after};
 use bib_journal::{Saved, Session, SessionFault};
 use bib_store::{Flat, ItemList, Paged};
-use std::alloc::Global;
+use std::alloc::{AllocError, Global};
 use std::test::Fail;
 
-/// The journal of the file `abc`, from whose end an entry was removed.
-const REMOVED: &[u8] =
-    b"bibkeep 1\nba7816bf8f01cfea414140de5dae2223b00361a396177a9cb410ff61f20015ad\n1 0\n1\n3 8 0\n@misc{k}\n";
+/// How the journal of the file `abc` begins.
+const HEAD: &[u8] =
+    b"bibkeep 1\nba7816bf8f01cfea414140de5dae2223b00361a396177a9cb410ff61f20015ad\n";
+
+/// The rest of it where an entry was removed from the end.
+const REMOVED: &[u8] = b"1 0\n1\n3 8 0\n@misc{k}\n";
+
+/// A run, and the rest of the journal that it saves after `HEAD`, where the example says one.
+struct Run {
+    step: Step<'static>,
+    journal: Option<&'static [u8]>,
+}
+
+/// A file, the rest of its journal after `HEAD`, if it has one, and several runs.
+struct Runs {
+    name: &'static str,
+    file: &'static [u8],
+    journal: Option<&'static [u8]>,
+    runs: &'static [Run],
+}
+
+/// A file, the rest of its journal after `HEAD`, and the number and the place of their fault.
+struct Loaded {
+    name: &'static str,
+    file: &'static [u8],
+    journal: &'static [u8],
+    fault: (u16, Option<usize>),
+}
+
+const FOLLOWING_RUNS: &[Runs] = &[
+    Runs {
+        name: "a later run takes back what an earlier one did",
+        file: b"abc@misc{k}",
+        journal: None,
+        runs: &[
+            Run {
+                step: Step {
+                    turn: Turn::Script(b"remove\tk\n"),
+                    refusal: 0,
+                    file: Some(b"abc"),
+                    counts: None,
+                },
+                journal: Some(REMOVED),
+            },
+            Run {
+                step: Step {
+                    turn: Turn::Undo(2),
+                    refusal: 51,
+                    file: Some(b"abc@misc{k}"),
+                    counts: Some((0, 1)),
+                },
+                journal: None,
+            },
+            Run {
+                step: Step {
+                    turn: Turn::Redo(1),
+                    refusal: 0,
+                    file: Some(b"abc"),
+                    counts: None,
+                },
+                journal: Some(REMOVED),
+            },
+        ],
+    },
+    Runs {
+        name: "undoing all reaches the first file over several runs",
+        file: b"@misc{a, t = 1,}",
+        journal: None,
+        runs: &[
+            Run {
+                step: Step {
+                    turn: Turn::Script(b"set\ta\ty\t{2}\ndrop\ta\tt"),
+                    refusal: 0,
+                    file: None,
+                    counts: None,
+                },
+                journal: None,
+            },
+            Run {
+                step: Step {
+                    turn: Turn::Script(b"move\ta\t0\nadd\t0\tmisc\tb"),
+                    refusal: 0,
+                    file: None,
+                    counts: Some((4, 0)),
+                },
+                journal: None,
+            },
+            Run {
+                step: Step {
+                    turn: Turn::Undo(1),
+                    refusal: 0,
+                    file: None,
+                    counts: None,
+                },
+                journal: None,
+            },
+            Run {
+                step: Step {
+                    turn: Turn::Undo(3),
+                    refusal: 0,
+                    file: Some(b"@misc{a, t = 1,}"),
+                    counts: Some((0, 4)),
+                },
+                journal: None,
+            },
+        ],
+    },
+    Runs {
+        name: "a forged journal that fits leads where it says",
+        file: b"abc",
+        journal: Some(b"1 0\n1\n0 8 0\n@misc{k}\n"),
+        runs: &[Run {
+            step: Step {
+                turn: Turn::Undo(1),
+                refusal: 0,
+                file: Some(b"@misc{k}abc"),
+                counts: None,
+            },
+            journal: None,
+        }],
+    },
+];
+
+const JOURNALS: &[Loaded] = &[
+    Loaded {
+        name: "a journal that fits",
+        file: b"abc",
+        journal: REMOVED,
+        fault: (0, None),
+    },
+    Loaded {
+        name: "the journal of another file",
+        file: b"abd",
+        journal: REMOVED,
+        fault: (54, None),
+    },
+    Loaded {
+        name: "a journal that names another place",
+        file: b"abc",
+        journal: b"1 0\n1\n4 8 0\n@misc{k}\n",
+        fault: (54, None),
+    },
+    Loaded {
+        name: "a journal whose old bytes lead to no file",
+        file: b"abc",
+        journal: b"1 0\n1\n3 8 0\n@misc{k]\n",
+        fault: (54, None),
+    },
+    Loaded {
+        name: "a journal that is cut",
+        file: b"abc",
+        journal: b"1 0\n1\n3 8 0\n@mi",
+        fault: (53, Some(90)),
+    },
+    Loaded {
+        name: "a file that does not open",
+        file: b"@misc{",
+        journal: REMOVED,
+        fault: (1, Some(6)),
+    },
+];
+
+/// The journal of which this is the rest.
+fn journal_of(alloc: Global, rest: &[u8]) -> Result<Vec<u8>, AllocError> {
+    let mut journal = HEAD.to_vec(alloc)?;
+    journal.extend_from_slice(rest)?;
+    Ok(journal)
+}
 
 fn ran_in<L: ItemList>(
     alloc: Global,
     file: &[u8],
     journal: Option<&[u8]>,
     items: L,
-    turn: &Turn<'_>,
+    asked: &Asked,
 ) -> Result<(Left, Saved), SessionFault>
     requires { L.items items ≡ [] }
 {
     let mut session = Session::open(alloc, file, journal, items)?;
-    let left = left_after(alloc, &mut session, turn)?;
+    let left = left_after(&mut session, asked)?;
     Ok((left, session.saved()?))
 }
 
@@ -31,119 +197,79 @@ fn is_saved_alike(one: &Saved, other: &Saved) -> bool {
         && one.journal.as_slice() == other.journal.as_slice()
 }
 
-/// One run: what its turn leaves, and the file and the journal that it saves. It fails where it makes a difference in
-/// which list the file is kept.
+/// Whether the example says no journal, or this one.
+fn is_journal(journal: &[u8], said: Option<&[u8]>) -> bool {
+    match said {
+        Some(rest) => journal.strip_prefix(HEAD) == Some(rest),
+        None => true,
+    }
+}
+
+/// What a run saves, if it comes out as it says, and it makes no difference in which list the file is kept.
 fn ran(
     alloc: Global,
     file: &[u8],
     journal: Option<&[u8]>,
-    turn: &Turn<'_>,
-) -> Result<(Left, Saved), Fail> {
-    let (left, saved) = ran_in(alloc, file, journal, Flat::new(alloc), turn)?;
-    let (left_too, saved_too) = ran_in(alloc, file, journal, Paged::new(alloc), turn)?;
-    if !is_same(&left, &left_too) || !is_saved_alike(&saved, &saved_too) {
-        return Err(Fail::new(DIFFERENCE));
+    run: &Run,
+) -> Result<Option<Saved>, Stop> {
+    let asked = asked_of(alloc, &run.step.turn)?;
+    let (left, saved) = ran_in(alloc, file, journal, Flat::new(alloc), &asked)?;
+    let (left_too, saved_too) = ran_in(alloc, file, journal, Paged::new(alloc), &asked)?;
+    let is_so = is_left(&left, &run.step) && is_journal(saved.journal.as_slice(), run.journal);
+    if is_so && is_same(&left, &left_too) && is_saved_alike(&saved, &saved_too) {
+        return Ok(Some(saved));
     }
-    Ok((left, saved))
+    Ok(None)
 }
 
-/// A run that takes changes back, of what an earlier one saved.
-fn undone(alloc: Global, saved: &Saved, times: usize) -> Result<(Left, Saved), Fail> {
-    let journal = saved.journal.as_slice();
-    ran(
-        alloc,
-        saved.file.as_slice(),
-        Some(journal),
-        &Turn::Undo(times),
-    )
-}
-
-/// The number and the place of the fault of a file and its journal.
-fn fault(alloc: Global, file: &[u8], journal: &[u8]) -> (u16, Option<usize>) {
-    match Session::load(alloc, file, journal, Flat::new(alloc)) {
-        Ok(_) => (0, None),
-        Err(fault) => (fault.number(), fault.place()),
+/// The first run, from what the example gives.
+fn first_ran(alloc: Global, runs: &Runs, run: &Run) -> Result<Option<Saved>, Stop> {
+    match runs.journal {
+        Some(rest) => {
+            let journal = journal_of(alloc, rest)?;
+            ran(alloc, runs.file, Some(journal.as_slice()), run)
+        }
+        None => ran(alloc, runs.file, None, run),
     }
 }
 
-/// The journal `REMOVED` with this byte in place of the one at this place.
-fn forged(alloc: Global, place: usize, byte: u8) -> Result<Vec<u8>, Fail> {
-    let mut bytes = REMOVED.to_vec(alloc)?;
-    if place < bytes.len() {
-        bytes[place] = byte;
+fn runs_hold(alloc: Global, runs: &Runs) -> Result<bool, Stop> {
+    let mut last: Option<Saved> = None;
+    for run in runs.runs {
+        last = match &last {
+            Some(saved) => {
+                let journal = saved.journal.as_slice();
+                ran(alloc, saved.file.as_slice(), Some(journal), run)?
+            }
+            None => first_ran(alloc, runs, run)?,
+        };
+        if last.is_none() {
+            return Ok(false);
+        }
     }
-    Ok(bytes)
+    Ok(true)
+}
+
+fn loaded_holds(alloc: Global, loaded: &Loaded) -> Result<bool, Stop> {
+    let journal = journal_of(alloc, loaded.journal)?;
+    match Session::load(alloc, loaded.file, journal.as_slice(), Flat::new(alloc)) {
+        Ok(_) => Ok(loaded.fault == (0, None)),
+        Err(fault) => Ok(loaded.fault == (fault.number(), fault.place())),
+    }
 }
 
 #[test]
-fn a_later_run_takes_back_what_an_earlier_one_did(rt: HostRuntime) -> Result<(), Fail> {
-    let alloc = rt.alloc();
-    let script = Turn::Script(b"remove\tk\n");
-    let (left, removed) = ran(alloc, b"abc@misc{k}", None, &script)?;
-    assert_eq!(rt; left.refusal, 0);
-    assert!(rt; removed.file.as_slice() == b"abc".as_slice());
-    assert!(rt; removed.journal.as_slice() == REMOVED);
-    let (left, back) = undone(alloc, &removed, 2)?;
-    assert_eq!(rt; left.refusal, 51);
-    assert_eq!(rt; (left.undo_count, left.redo_count), (0, 1));
-    assert!(rt; back.file.as_slice() == b"abc@misc{k}".as_slice());
-    let journal = back.journal.as_slice();
-    let (left, again) = ran(alloc, back.file.as_slice(), Some(journal), &Turn::Redo(1))?;
-    assert_eq!(rt; left.refusal, 0);
-    assert!(rt; again.file.as_slice() == b"abc".as_slice());
-    assert!(rt; again.journal.as_slice() == REMOVED);
-    Ok(())
-}
-
-#[test]
-fn undoing_all_reaches_the_first_file_over_several_runs(rt: HostRuntime) -> Result<(), Fail> {
-    let alloc = rt.alloc();
-    let file: &[u8] = b"@misc{a, t = 1,}";
-    let (_, first) = ran(
-        alloc,
-        file,
-        None,
-        &Turn::Script(b"set\ta\ty\t{2}\ndrop\ta\tt"),
-    )?;
-    let journal = first.journal.as_slice();
-    let script = Turn::Script(b"move\ta\t0\nadd\t0\tmisc\tb");
-    let (left, second) = ran(alloc, first.file.as_slice(), Some(journal), &script)?;
-    assert_eq!(rt; (left.undo_count, left.redo_count), (4, 0));
-    let (_, third) = undone(alloc, &second, 1)?;
-    let (left, fourth) = undone(alloc, &third, 3)?;
-    assert_eq!(rt; (left.undo_count, left.redo_count), (0, 4));
-    assert!(rt; fourth.file.as_slice() == file);
+fn runs_follow_one_another(rt: HostRuntime) -> Result<(), Fail> {
+    for runs in FOLLOWING_RUNS {
+        told(runs.name, runs_hold(rt.alloc(), runs))?;
+    }
     Ok(())
 }
 
 #[test]
 fn a_journal_that_does_not_fit_is_refused(rt: HostRuntime) -> Result<(), Fail> {
-    let alloc = rt.alloc();
-    // another file, another place, old bytes that lead to no file, a journal that is cut, a file that does not open
-    assert_eq!(rt; fault(alloc, b"abc", REMOVED), (0, None));
-    assert_eq!(rt; fault(alloc, b"abd", REMOVED), (54, None));
-    assert_eq!(rt;
-        fault(alloc, b"abc", forged(alloc, 81, b'4')?.as_slice()),
-        (54, None)
-    );
-    assert_eq!(rt;
-        fault(alloc, b"abc", forged(alloc, 94, b']')?.as_slice()),
-        (54, None)
-    );
-    assert_eq!(rt;
-        fault(alloc, b"abc", REMOVED.split_at(90).0),
-        (53, Some(90))
-    );
-    assert_eq!(rt; fault(alloc, b"@misc{", REMOVED), (1, Some(6)));
-    Ok(())
-}
-
-#[test]
-fn a_forged_journal_that_fits_leads_where_it_says(rt: HostRuntime) -> Result<(), Fail> {
-    let alloc = rt.alloc();
-    let journal = forged(alloc, 81, b'0')?;
-    let (left, saved) = ran(alloc, b"abc", Some(journal.as_slice()), &Turn::Undo(1))?;
-    assert_eq!(rt; left.refusal, 0);
-    assert!(rt; saved.file.as_slice() == b"@misc{k}abc".as_slice());
+    for loaded in JOURNALS {
+        told(loaded.name, loaded_holds(rt.alloc(), loaded))?;
+    }
     Ok(())
 }

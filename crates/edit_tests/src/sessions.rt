@@ -1,110 +1,174 @@
 //! Sessions over several edits.
 
-use crate::turns::{Turn, after, asked_for, counts, is_file, refusal, set};
+use crate::rows::{Course, Row, Step, Stop, all_come_out, all_hold, told};
+use crate::turns::{Asked, Left, Turn, after, requests_of};
 use bib_journal::Request;
+use bib_scan::Seq;
 use bib_script::read_script;
+use bib_store::{Flat, Paged};
+use std::alloc::{AllocError, Global};
 use std::test::Fail;
 
 const FILE: &[u8] = b"@misc{a, t = 1,}";
 
-#[test]
-fn an_edit_after_undo_drops_what_could_be_redone(rt: HostRuntime) -> Result<(), Fail> {
-    let turns = [
-        Turn::Script(b"set\ta\ty\t{2}\nset\ta\tz\t{3}"),
-        Turn::Script(b"drop\ta\tq"),
-        Turn::Undo(2),
-        Turn::Script(b"set\ta\tw\t{4}"),
-        Turn::Redo(1),
-    ];
-    let left = after(rt.alloc(), FILE, turns.as_slice())?;
-    assert_eq!(rt; refusal(&left, 0), Some(0));
-    assert_eq!(rt; refusal(&left, 1), Some(35));
-    assert_eq!(rt; refusal(&left, 2), Some(0));
-    assert!(rt; is_file(&left, 2, FILE));
-    assert_eq!(rt; counts(&left, 2), Some((0, 2)));
-    assert_eq!(rt; refusal(&left, 3), Some(0));
-    assert!(rt; is_file(&left, 3, b"@misc{a, t = 1,\n  w = {4},}"));
-    assert_eq!(rt; refusal(&left, 4), Some(52));
-    assert_eq!(rt; counts(&left, 4), Some((1, 0)));
-    Ok(())
-}
+const SESSIONS: &[Course<'_>] = &[
+    Course {
+        name: "an edit after undo drops what could be redone",
+        file: FILE,
+        steps: &[
+            Step {
+                turn: Turn::Script(b"set\ta\ty\t{2}\nset\ta\tz\t{3}"),
+                refusal: 0,
+                file: None,
+                counts: None,
+            },
+            Step {
+                turn: Turn::Script(b"drop\ta\tq"),
+                refusal: 35,
+                file: None,
+                counts: None,
+            },
+            Step {
+                turn: Turn::Undo(2),
+                refusal: 0,
+                file: Some(FILE),
+                counts: Some((0, 2)),
+            },
+            Step {
+                turn: Turn::Script(b"set\ta\tw\t{4}"),
+                refusal: 0,
+                file: Some(b"@misc{a, t = 1,\n  w = {4},}"),
+                counts: None,
+            },
+            Step {
+                turn: Turn::Redo(1),
+                refusal: 52,
+                file: None,
+                counts: Some((1, 0)),
+            },
+        ],
+    },
+    Course {
+        name: "all is undone and redone",
+        file: FILE,
+        steps: &[
+            Step {
+                turn: Turn::Script(b"set\ta\ty\t{2}\nset\ta\tz\t{3}"),
+                refusal: 0,
+                file: None,
+                counts: None,
+            },
+            Step {
+                turn: Turn::Undo(2),
+                refusal: 0,
+                file: None,
+                counts: None,
+            },
+            Step {
+                turn: Turn::Undo(1),
+                refusal: 51,
+                file: None,
+                counts: None,
+            },
+            Step {
+                turn: Turn::Redo(2),
+                refusal: 0,
+                file: Some(b"@misc{a, t = 1,\n  y = {2},\n  z = {3},}"),
+                counts: None,
+            },
+            Step {
+                turn: Turn::Redo(1),
+                refusal: 52,
+                file: None,
+                counts: None,
+            },
+        ],
+    },
+    Course {
+        name: "the number of changes is limited",
+        file: FILE,
+        steps: &[
+            Step {
+                turn: Turn::Times(65_535, b"set\ta\tt\t1"),
+                refusal: 0,
+                file: Some(FILE),
+                counts: None,
+            },
+            Step {
+                turn: Turn::Times(1, b"set\ta\tt\t1"),
+                refusal: 41,
+                file: None,
+                counts: None,
+            },
+            Step {
+                turn: Turn::Times(1, b"set\ta\tt\t{x"),
+                refusal: 33,
+                file: None,
+                counts: None,
+            },
+            Step {
+                turn: Turn::Undo(1),
+                refusal: 0,
+                file: None,
+                counts: None,
+            },
+            Step {
+                turn: Turn::Times(1, b"set\ta\tt\t1"),
+                refusal: 0,
+                file: None,
+                counts: None,
+            },
+        ],
+    },
+];
+
+const EMPTY: &[Row<'_>] = &[Row {
+    name: "an empty file has nothing to undo",
+    file: b"",
+    turn: Turn::Undo(1),
+    refusal: 51,
+    left: b"",
+}];
 
 #[test]
-fn all_is_undone_and_redone(rt: HostRuntime) -> Result<(), Fail> {
-    let turns = [
-        Turn::Script(b"set\ta\ty\t{2}\nset\ta\tz\t{3}"),
-        Turn::Undo(2),
-        Turn::Undo(1),
-        Turn::Redo(2),
-        Turn::Redo(1),
-    ];
-    let left = after(rt.alloc(), FILE, turns.as_slice())?;
-    assert_eq!(rt; refusal(&left, 0), Some(0));
-    assert_eq!(rt; refusal(&left, 1), Some(0));
-    assert_eq!(rt; refusal(&left, 2), Some(51));
-    assert_eq!(rt; refusal(&left, 3), Some(0));
-    assert!(rt; is_file(&left, 3, b"@misc{a, t = 1,\n  y = {2},\n  z = {3},}"));
-    assert_eq!(rt; refusal(&left, 4), Some(52));
-    Ok(())
+fn changes_are_undone_and_redone(rt: HostRuntime) -> Result<(), Fail> {
+    all_come_out(rt.alloc(), SESSIONS)
 }
 
 #[test]
 fn an_empty_file_has_nothing_to_undo(rt: HostRuntime) -> Result<(), Fail> {
-    let left = after(rt.alloc(), b"", [Turn::Undo(1)].as_slice())?;
-    assert_eq!(rt; refusal(&left, 0), Some(51));
-    Ok(())
+    all_hold(rt.alloc(), EMPTY)
 }
 
-#[test]
-fn the_texts_of_steps_are_limited(rt: HostRuntime) -> Result<(), Fail> {
-    let alloc = rt.alloc();
-    let mut value = Vec::new(alloc);
-    value.resize(1_048_576, b'1')?;
-    let turns = [
-        Turn::Set(32, value.as_slice()),
-        Turn::Set(1, value.as_slice()),
-    ];
-    let left = after(alloc, b"@misc{a,t=1}", turns.as_slice())?;
-    assert_eq!(rt; refusal(&left, 0), Some(0));
-    assert_eq!(rt; refusal(&left, 1), Some(41));
-    assert_eq!(rt; counts(&left, 1), Some((32, 0)));
-    Ok(())
+/// An edit, undo, redo twice, and undo.
+fn forth_and_back(alloc: Global) -> Result<Asked, AllocError> {
+    let set = requests_of(alloc, &Turn::Script(b"set\ta\tt\t2"))?;
+    let mut requests = set.into_vec();
+    requests.push(Request::Undo)?;
+    requests.push(Request::Redo)?;
+    requests.push(Request::Redo)?;
+    requests.push(Request::Undo)?;
+    Ok(Asked {
+        times: 1,
+        requests: Seq::from_vec(requests),
+    })
 }
 
-#[test]
-fn the_number_of_changes_is_limited(rt: HostRuntime) -> Result<(), Fail> {
-    let turns = [
-        Turn::Set(65_535, b"1"),
-        Turn::Set(1, b"1"),
-        Turn::Set(1, b"{x"),
-        Turn::Undo(1),
-        Turn::Set(1, b"1"),
-    ];
-    let left = after(rt.alloc(), FILE, turns.as_slice())?;
-    assert_eq!(rt; refusal(&left, 0), Some(0));
-    assert!(rt; is_file(&left, 0, FILE));
-    assert_eq!(rt; refusal(&left, 1), Some(41));
-    assert_eq!(rt; refusal(&left, 2), Some(33));
-    assert_eq!(rt; refusal(&left, 3), Some(0));
-    assert_eq!(rt; refusal(&left, 4), Some(0));
-    Ok(())
+/// Whether three of the requests are made, and the file is left as these three leave it.
+fn is_third(left: &Left) -> bool {
+    left.done == 3 && left.refusal == 52 && left.file.as_slice() == b"@misc{a, t = 2,}".as_slice()
+}
+
+fn goes_forth_and_back(alloc: Global) -> Result<bool, Stop> {
+    let turns = [forth_and_back(alloc)?];
+    let plain = after(alloc, FILE, Flat::new(alloc), &turns)?;
+    let paged = after(alloc, FILE, Paged::new(alloc), &turns)?;
+    Ok(plain.iter().all(is_third) && paged.iter().all(is_third))
 }
 
 #[test]
 fn requests_are_done_up_to_the_first_refusal(rt: HostRuntime) -> Result<(), Fail> {
-    let alloc = rt.alloc();
-    let requests = [
-        Request::Edit(set(alloc, b"2")?),
-        Request::Undo,
-        Request::Redo,
-        Request::Redo,
-        Request::Undo,
-    ];
-    let (done, left) = asked_for(alloc, FILE, requests.as_slice())?;
-    assert_eq!(rt; done, 3);
-    assert_eq!(rt; left.refusal, 52);
-    assert!(rt; left.file.as_slice() == b"@misc{a, t = 2,}".as_slice());
-    Ok(())
+    told("requests of all kinds", goes_forth_and_back(rt.alloc()))
 }
 
 #[test]

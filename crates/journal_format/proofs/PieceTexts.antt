@@ -6,6 +6,7 @@ use Rattle.bib_spec.specs.Bytes.{line_feed}
 use Rattle.bib_spec.specs.Text.{Text}
 use Rattle.bib_spec.specs.Pieces.{Piece, end_of, AscendFrom}
 use Rattle.edit_spec.specs.Steps.{Step, IsStep, HasSmallNumbers, piece_text, step_text, number_limit, step_texts_limit}
+use Rattle.edit_spec.proofs.StepLemmas.{all_push}
 use Rattle.journal_format.specs.JournalText.{numbers, numbers_of, numbers_line, AreNumbers, IsSmall}
 use Rattle.journal_format.specs.Wrong.{BeginsWith, BeginsWithPiece, BeginsWithStep, IsWrongPiece, AreWrongPieces, IsWrongStep, AreWrongSteps, IsWrongTail}
 use Rattle.journal_format.specs.Faults.{StopsWhere}
@@ -52,10 +53,6 @@ piece_read from place old_len new_len text rest bytes after old new b whole len 
     }
 
 -- ---- pieces, read one by one
-
-all_push : {X : Type 0} (P : X → Type 0) (xs : List X) (x : X) → AllByRecursion P xs → P x → AllByRecursion P (xs ++ x ∷ [])
-all_push P [] x h p = (p, tt)
-all_push P (y ∷ xs) x h p = (h.0, all_push P xs x h.1 p)
 
 pub flat_push : {X : Type 0} (f : X → Text) (xs : List X) (x : X) (text rest next : Text) → text ≡ flat_map f xs ++ rest → rest ≡ f x ++ next → text ≡ flat_map f (xs ++ x ∷ []) ++ next
 flat_push f xs x text rest next whole begins =

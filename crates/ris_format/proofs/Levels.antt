@@ -121,14 +121,14 @@ space-no_brace b k lt h = ne_eqb b k (λ e. absurd (small b k lt e h))
         both_ways (eqb b 32 || eqb b 9 || eqb b 10 || eqb b 13)
         (rw (ne_eqb b 32 (λ i. omega arith), ne_eqb b 9 (λ i. omega arith), ne_eqb b 10 (λ i. omega arith), ne_eqb b 13 (λ i. omega arith)) refl) h
 
--- ---- stretches between commas
+-- ---- stretches between cuts
 
--- a stretch of a text between commas, at depth 0 at both ends, with no comma in it
-pub record IsStretch (text : Text) (s : Stretch) : Type 0 where
+-- a stretch of a text between places where it is cut, as at commas: at depth 0 at both ends, with no such place in it
+pub record IsStretch (cut : ℕ → Bool) (text : Text) (s : Stretch) : Type 0 where
   pub within : IsWithin text s.text
   pub at_is : s.at ≡ length within.front
   pub level : opens s.text ≡ closes s.text
-  pub alone : (k : ℕ) → k < length s.text → is_comma text (s.at + k) ≡ false
+  pub alone : (k : ℕ) → k < length s.text → cut (s.at + k) ≡ false
 
 pub level_at : (text : Text) (at : ℕ) → is_level text at ≡ true → opens (take at text) ≡ closes (take at text)
 level_at text at h = eqb-true (opened_before text at) (closed_before text at) h
@@ -143,8 +143,9 @@ take-sum text at m le =
     ∙ ap (λ n. take (n + m) (take at text ++ drop at text)) (sym e)
     ∙ take-append-add (take at text) (drop at text) m
 
-pub stretch-is : (text : Text) (at place : ℕ) → at ≤ place → place ≤ length text → is_level text at ≡ true → is_level text place ≡ true → ((p : ℕ) → at ≤ p → p < place → is_comma text p ≡ false) → IsStretch text (stretch at (slice_range text at place))
-stretch-is text at place le within start end none =
+pub stretch-is : (cut : ℕ → Bool) (text : Text) (at place : ℕ) → at ≤ place → place ≤ length text → is_level text at ≡ true → is_level text place ≡ true → ((p : ℕ) → at ≤ p → p < place → cut p ≡ false)
+    → IsStretch cut text (stretch at (slice_range text at place))
+stretch-is cut text at place le within start end none =
     let m : at + (place - at) ≡ place = omega arith in
     let parts : take place text ≡ take at text ++ take (place - at) (drop at text) = ap (λ n. take n text) (sym m) ∙ take-sum text at (place - at) (omega arith) in
     let o = ap opens parts ∙ count-append (λ b. eqb b 123) (take at text) (take (place - at) (drop at text)) in
@@ -158,24 +159,24 @@ stretch-is text at place le within start end none =
     }
 
 stretches : (text : Text) (at place n : ℕ) → at ≤ place → place + n ≡ length text → is_level text at ≡ true → is_level text (length text) ≡ true → ((p : ℕ) → at ≤ p → p < place → is_comma text p ≡ false)
-    → AllByRecursion (IsStretch text) (between 1 text at (places_from (is_comma text) place n))
+    → AllByRecursion (IsStretch (is_comma text) text) (between 1 text at (places_from (is_comma text) place n))
 stretches text at place zero le sum start end none =
     let whole : slice_range text at place ≡ drop at text = take_all (place - at) (drop at text) (omega (arith, length-drop at text)) in
-    let here : IsStretch text (stretch at (slice_range text at place)) = stretch-is text at place le (omega arith) start (ap (is_level text) (omega arith) ∙ end) none in
-    (subst (λ (u : Text). IsStretch text (stretch at u)) whole here, tt)
+    let here : IsStretch (is_comma text) text (stretch at (slice_range text at place)) = stretch-is (is_comma text) text at place le (omega arith) start (ap (is_level text) (omega arith) ∙ end) none in
+    (subst (λ (u : Text). IsStretch (is_comma text) text (stretch at u)) whole here, tt)
 stretches text at place (suc n) le sum start end none =
     ⊎_elim
     (λ (h : is_comma text place ≡ true).
     let p = and_parts (is_level text place) (eqb (get_or text place 0) 44) h in
-    let here = stretch-is text at place le (omega arith) start p.0 none in
+    let here = stretch-is (is_comma text) text at place le (omega arith) start p.0 none in
     let later = stretches text (place + 1) (place + 1) n (omega arith) (omega arith) (level_behind text place (omega arith) p.0 (eqb-true (get_or text place 0) 44 p.1)) end (λ q low high. absurd (omega arith)) in
-    subst (λ (ps : List ℕ). AllByRecursion (IsStretch text) (between 1 text at ps)) (sym (cond-true (is_comma text place) (place ∷ places_from (is_comma text) (place + 1) n) _ h)) (here, later))
+    subst (λ (ps : List ℕ). AllByRecursion (IsStretch (is_comma text) text) (between 1 text at ps)) (sym (cond-true (is_comma text place) (place ∷ places_from (is_comma text) (place + 1) n) _ h)) (here, later))
     (λ (h : is_comma text place ≡ false).
     let later = stretches text at (place + 1) n (omega arith) (omega arith) start end (λ q low high. below_more (λ r. at ≤ r → is_comma text r ≡ false) place (λ r hr lr. none r lr hr) (λ _. h) q high low) in
-    subst (λ (ps : List ℕ). AllByRecursion (IsStretch text) (between 1 text at ps)) (sym (cond-false (is_comma text place) (place ∷ places_from (is_comma text) (place + 1) n) _ h)) later)
+    subst (λ (ps : List ℕ). AllByRecursion (IsStretch (is_comma text) text) (between 1 text at ps)) (sym (cond-false (is_comma text place) (place ∷ places_from (is_comma text) (place + 1) n) _ h)) later)
     (cases_Bool (is_comma text place))
 
-pub all-stretches : (text : Text) → opens text ≡ closes text → AllByRecursion (IsStretch text) (between 1 text 0 (commas text))
+pub all-stretches : (text : Text) → opens text ≡ closes text → AllByRecursion (IsStretch (is_comma text) text) (between 1 text 0 (commas text))
 all-stretches text level =
     let whole : take (length text) text ≡ text = take_all (length text) text (omega arith) in
     stretches text 0 0 (length text) (omega arith) (omega arith) refl (eq-eqb (opened_before text (length text)) (closed_before text (length text)) (ap opens whole ∙ level ∙ sym (ap closes whole))) (λ q low high. absurd (omega arith))

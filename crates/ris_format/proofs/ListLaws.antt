@@ -13,7 +13,7 @@ use Rattle.bib_names.specs.NameList.{is_and, is_cut, cuts, names_of}
 use Rattle.bib_value.specs.Spacing.{neat}
 use Rattle.ris_format.specs.Lines.{has_bytes}
 use Rattle.ris_format.proofs.Trims.{cut_out, neat-cut}
-use Rattle.ris_format.proofs.Levels.{opens, closes, count-append, count-cons, count-before_run, count-after_run, space-no_brace, IsWithin, level-within, byte-within, balanced-within, level_at, cut_off, take-sum}
+use Rattle.ris_format.proofs.Levels.{opens, closes, count-append, count-cons, count-before_run, count-after_run, space-no_brace, IsWithin, IsStretch, stretch-is, level-within, byte-within, balanced-within, level_at, take-sum}
 use Rattle.ris_format.proofs.PartLaws.{none-in}
 
 -- how often a byte stands in the text
@@ -54,29 +54,8 @@ cut-within text part w k h =
 
 -- ---- stretches between cuts
 
--- a stretch of a list between its cuts
-record IsListStretch (text : Text) (s : Stretch) : Type 0 where
-  within : IsWithin text s.text
-  at_is : s.at ≡ length within.front
-  level : opens s.text ≡ closes s.text
-  alone : (k : ℕ) → k < length s.text → is_cut text (s.at + k) ≡ false
-
-list-stretch : (text : Text) (at place : ℕ) → at ≤ place → place ≤ length text → is_level text at ≡ true → is_level text place ≡ true → ((p : ℕ) → at ≤ p → p < place → is_cut text p ≡ false) → IsListStretch text (stretch at (slice_range text at place))
-list-stretch text at place le within start end none =
-    let m : at + (place - at) ≡ place = omega arith in
-    let parts : take place text ≡ take at text ++ take (place - at) (drop at text) = ap (λ n. take n text) (sym m) ∙ take-sum text at (place - at) (omega arith) in
-    let o = ap opens parts ∙ count-append (λ b. eqb b 123) (take at text) (take (place - at) (drop at text)) in
-    let c = ap closes parts ∙ count-append (λ b. eqb b 125) (take at text) (take (place - at) (drop at text)) in
-    let len : length (take (place - at) (drop at text)) ≡ place - at = length-take-le (place - at) (drop at text) (omega (arith, length-drop at text)) in
-    record {
-      within = record { front = take at text; rest = drop (place - at) (drop at text); is = sym (cut_off text at (place - at)); level = level_at text at start };
-      at_is = sym (length-take-le at text (omega arith));
-      level = omega (arith, o, c, level_at text at start, level_at text place end);
-      alone = λ k lt. none (at + k) (omega arith) (omega (arith, len));
-    }
-
 -- an empty one
-no-stretch : (text : Text) (at : ℕ) → at ≤ length text → is_level text at ≡ true → IsListStretch text (stretch at [])
+no-stretch : (text : Text) (at : ℕ) → at ≤ length text → is_level text at ≡ true → IsStretch (is_cut text) text (stretch at [])
 no-stretch text at le start = record {
   within = record { front = take at text; rest = drop at text; is = sym (take-append-drop at text); level = level_at text at start };
   at_is = sym (length-take-le at text le);
@@ -84,11 +63,11 @@ no-stretch text at le start = record {
   alone = λ k lt. absurd (omega arith);
 }
 
-any-stretch : (text : Text) (at place : ℕ) → at ≤ length text → place ≤ length text → is_level text at ≡ true → is_level text place ≡ true → ((p : ℕ) → at ≤ p → p < place → is_cut text p ≡ false) → IsListStretch text (stretch at (slice_range text at place))
+any-stretch : (text : Text) (at place : ℕ) → at ≤ length text → place ≤ length text → is_level text at ≡ true → is_level text place ≡ true → ((p : ℕ) → at ≤ p → p < place → is_cut text p ≡ false) → IsStretch (is_cut text) text (stretch at (slice_range text at place))
 any-stretch text at place inside within start end none =
     ⊎_elim
-    (λ (lt : place < at). let e : place - at ≡ 0 = omega arith in subst (λ n. IsListStretch text (stretch at (take n (drop at text)))) (sym e) (no-stretch text at inside start))
-    (λ (le : at ≤ place). list-stretch text at place le within start end none)
+    (λ (lt : place < at). let e : place - at ≡ 0 = omega arith in subst (λ n. IsStretch (is_cut text) text (stretch at (take n (drop at text)))) (sym e) (no-stretch text at inside start))
+    (λ (le : at ≤ place). stretch-is (is_cut text) text at place le within start end none)
     (cases_lt place at)
 
 -- none of the bytes of `and` is a brace
@@ -114,8 +93,8 @@ and-no_brace (a ∷ b ∷ c ∷ rest) k which h =
     let z : cond (eqb c k) 1 0 ≡ 0 = ap {B = ℕ} (λ t. cond t 1 0) (letter-no_brace c 100 k (lit< tt) (lit< tt) which r.0) in
     count-cons test a (b ∷ c ∷ []) ∙ omega (arith, x, y, z, count-cons test b (c ∷ []), count-cons test c [])
 
-level-behind_and : (text : Text) (place : ℕ) → is_level text place ≡ true → is_and text place ≡ true → (place + 3 < length text) × (is_level text (place + 3) ≡ true)
-level-behind_and text place level h =
+level-after_and : (text : Text) (place : ℕ) → is_level text place ≡ true → is_and text place ≡ true → (place + 3 < length text) × (is_level text (place + 3) ≡ true)
+level-after_and text place level h =
     let q = and_parts (ltb 0 place && is_space (get_or text (place - 1) 0) && same (take 3 (drop place text)) (codes "and")) (is_space (get_or text (place + 3) 0)) h in
     let r = and_parts (ltb 0 place && is_space (get_or text (place - 1) 0)) (same (take 3 (drop place text)) (codes "and")) q.0 in
     let inside = space_within text (place + 3) q.1 in
@@ -128,22 +107,22 @@ level-behind_and text place level h =
     )
 
 list-stretches : (text : Text) (at place n : ℕ) → at ≤ length text → place + n ≡ length text → is_level text at ≡ true → is_level text (length text) ≡ true → ((p : ℕ) → at ≤ p → p < place → is_cut text p ≡ false)
-    → AllByRecursion (IsListStretch text) (between 3 text at (places_from (is_cut text) place n))
+    → AllByRecursion (IsStretch (is_cut text) text) (between 3 text at (places_from (is_cut text) place n))
 list-stretches text at place zero inside sum start end none =
     let whole : slice_range text at place ≡ drop at text = take_all (place - at) (drop at text) (omega (arith, length-drop at text)) in
     let here = any-stretch text at place inside (omega arith) start (ap (is_level text) (omega arith) ∙ end) none in
-    (subst (λ (u : Text). IsListStretch text (stretch at u)) whole here, tt)
+    (subst (λ (u : Text). IsStretch (is_cut text) text (stretch at u)) whole here, tt)
 list-stretches text at place (suc n) inside sum start end none =
     ⊎_elim
     (λ (h : is_cut text place ≡ true).
     let p = and_parts (is_level text place) (is_and text place) h in
-    let after = level-behind_and text place p.0 p.1 in
+    let after = level-after_and text place p.0 p.1 in
     let here = any-stretch text at place inside (omega arith) start p.0 none in
     let later = list-stretches text (place + 3) (place + 1) n (omega (arith, after.0)) (omega arith) after.1 end (λ q low high. absurd (omega arith)) in
-    subst (λ (ps : List ℕ). AllByRecursion (IsListStretch text) (between 3 text at ps)) (sym (cond-true (is_cut text place) (place ∷ places_from (is_cut text) (place + 1) n) _ h)) (here, later))
+    subst (λ (ps : List ℕ). AllByRecursion (IsStretch (is_cut text) text) (between 3 text at ps)) (sym (cond-true (is_cut text place) (place ∷ places_from (is_cut text) (place + 1) n) _ h)) (here, later))
     (λ (h : is_cut text place ≡ false).
     let later = list-stretches text at (place + 1) n inside (omega arith) start end (λ q low high. below_more (λ r. at ≤ r → is_cut text r ≡ false) place (λ r hr lr. none r lr hr) (λ _. h) q high low) in
-    subst (λ (ps : List ℕ). AllByRecursion (IsListStretch text) (between 3 text at ps)) (sym (cond-false (is_cut text place) (place ∷ places_from (is_cut text) (place + 1) n) _ h)) later)
+    subst (λ (ps : List ℕ). AllByRecursion (IsStretch (is_cut text) text) (between 3 text at ps)) (sym (cond-false (is_cut text place) (place ∷ places_from (is_cut text) (place + 1) n) _ h)) later)
     (cases_Bool (is_cut text place))
 
 -- ---- names
@@ -170,7 +149,7 @@ trimmed-within u level =
     let ccc = count-after_run is_space (λ b. eqb b 125) u (λ b h. space-no_brace b 125 (lit< tt) h) in
     record { front = take n u; rest = cut.rest; is = cut.is; level = omega (arith, o, c, oo, ccc) }
 
-listed : (text : Text) (s : Stretch) → IsListStretch text s → IsListed text (trimmed s.text)
+listed : (text : Text) (s : Stretch) → IsStretch (is_cut text) text s → IsListed text (trimmed s.text)
 listed text s is =
     let u = s.text in
     let name = trimmed u in
@@ -188,7 +167,7 @@ listed text s is =
       neat_is = λ n some. neat-cut is_space true is.within.front u is.within.rest (λ b h. h) (ap (neat true) (sym is.within.is) ∙ n) some;
     }
 
-all-listed : (text : Text) (ss : List Stretch) → AllByRecursion (IsListStretch text) ss → AllByRecursion (IsListed text) (map (λ (s : Stretch). trimmed s.text) ss)
+all-listed : (text : Text) (ss : List Stretch) → AllByRecursion (IsStretch (is_cut text) text) ss → AllByRecursion (IsListed text) (map (λ (s : Stretch). trimmed s.text) ss)
 all-listed text [] all = tt
 all-listed text (s ∷ ss) all = (listed text s all.0, all-listed text ss all.1)
 

@@ -218,7 +218,7 @@ level-end text level =
 slice-part : (piece : Text) (p q : ℕ) → IsBalanced piece → ((k : ℕ) → k < length piece → is_comma piece k ≡ false) → p < q → q ≤ length piece → is_level piece p ≡ true → is_level piece q ≡ true
     → is_space (get_or piece p 0) ≡ false → is_space (get_or piece (q - 1) 0) ≡ false → IsPart (slice_range piece p q)
 slice-part piece p q is none lt le start end begins ends =
-    let s = stretch-is piece p q (omega arith) le start end (λ k low high. none k (omega arith)) in
+    let s = stretch-is (is_comma piece) piece p q (omega arith) le start end (λ k low high. none k (omega arith)) in
     let part = slice_range piece p q in
     let size : length part ≡ q - p = length-take-le (q - p) (drop p piece) (omega (arith, length-drop p piece)) in
     let first : get_or part 0 0 ≡ get_or piece p 0 = get_or-take (q - p) (drop p piece) 0 0 (omega arith) ∙ get_or-drop p piece 0 0 ∙ ap (λ n. get_or piece n 0) (omega arith) in
@@ -334,7 +334,7 @@ from-pieces name (p ∷ q ∷ r ∷ []) all is parts e =
 from-pieces name (p ∷ q ∷ r ∷ s ∷ ps) all is parts e = absurd (cc)
 
 -- the pieces of a text's front are pieces of the text
-pieces-of : (front rest : Text) (ps : List Stretch) → AllByRecursion (IsStretch front) ps → AllByRecursion (IsPieceOf (front ++ rest)) ps
+pieces-of : (front rest : Text) (ps : List Stretch) → AllByRecursion (IsStretch (is_comma front) front) ps → AllByRecursion (IsPieceOf (front ++ rest)) ps
 pieces-of front rest [] all = tt
 pieces-of front rest (s ∷ ps) all =
     let here = all.0 in (

@@ -8,6 +8,9 @@ use crate::text::{copy, copy_with_room, has_bytes};
 use bib_scan::Text;
 use std::alloc::{AllocError, Global};
 
+/// How many fields a record made of RIS has at most, however many lines it has.
+pub(crate) const MOST_FIELDS: usize = 19;
+
 /// Whether the field has this name, and a text that is not empty.
 fn is_filled(name: &[u8], field: &(Text, Text)) -> bool
     ensures { result ≡ is_filled name.now field.now }
@@ -64,7 +67,7 @@ pub(crate) fn push_text(
 pub(crate) fn field_names(alloc: Global, kind: Kind) -> Result<Vec<&'static [u8]>, AllocError>
     ensures { IfOk result (λ names. map (λ n. n.now) names.items ≡ field_names kind) }
 {
-    let mut names: Vec<&'static [u8]> = Vec::with_capacity(alloc, 19)?;
+    let mut names: Vec<&'static [u8]> = Vec::with_capacity(alloc, MOST_FIELDS)?;
     names.push(b"author")?;
     names.push(b"editor")?;
     names.push(b"title")?;
@@ -98,8 +101,8 @@ fn later_names(kind: Kind) -> [&'static [u8]; 15]
     ]
 }
 
-/// The names of the fields that RIS records are made of, of whatever kind: whoever gathers fields for them needs no
-/// others.
+/// The names of the fields that RIS records are made of, whatever their type: whoever gathers fields for them needs no
+/// others. It takes no memory.
 pub fn ris_names() -> [&'static [u8]; 22]
     ensures { map (λ n. n.now) result ≡ ris_names }
 {

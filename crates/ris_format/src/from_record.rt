@@ -225,7 +225,8 @@ pub fn write_entry(alloc: Global, text: &mut Vec<u8>, entry: &Record) -> Result<
     Ok(())
 }
 
-/// The RIS record of a record, as `to_ris` makes it, for those who don't ask what is dropped.
+/// The RIS record of a record, as `to_ris` makes it, for those who don't ask what is dropped. It takes time in the record's
+/// size. The one refusal is want of memory.
 pub fn ris_of(alloc: Global, entry: &Record) -> Result<RisRecord, MappingFault>
     ensures record { IfOk result (λ r. r ≡ ris entry.now) }
     ensures memory { IfErr result (λ fault. fault ≡ Memory) }

@@ -6,7 +6,7 @@ ghost use Rattle.ris_format.specs.declared.fault.MappingFault.TheVariants.{Memor
 
 use crate::dates::{read_month, read_year};
 use crate::fault::MappingFault;
-use crate::fields::{push_field, push_text};
+use crate::fields::{MOST_FIELDS, push_field, push_text};
 use crate::kinds::Kind;
 use crate::lines::{are_neat_lines, or_else, read_lines, value_at, values_at};
 use crate::pages::read_pages;
@@ -149,7 +149,7 @@ fn read_fields(
 ) -> Result<Vec<(Text, Text)>, AllocError>
     ensures { IfOk result (λ fields. fields.items ≡ filter has_text (read_fields kind lines.now)) }
 {
-    let mut fields = Vec::with_capacity(alloc, lines.len())?;
+    let mut fields = Vec::with_capacity(alloc, lines.len().min(MOST_FIELDS))?;
     push_names(alloc, &mut fields, lines)?;
     push_booktitle(alloc, &mut fields, kind, lines)?;
     push_titles(alloc, &mut fields, kind, lines)?;
@@ -172,7 +172,8 @@ fn record_in(alloc: Global, kind: Kind, lines: &[RisLine]) -> Result<Record, All
 }
 
 /// The record of a RIS record. Its values are read as field texts, and its key is the text after ID, empty without
-/// one. It takes time in the record's size. The one refusal is want of memory.
+/// one; which tag gives which field stands in docs/FORMAT-RIS.md. It takes time in the record's size. The one refusal is
+/// want of memory.
 pub fn from_ris(alloc: Global, ris: &RisRecord) -> Result<Record, MappingFault>
     ensures record { IfOk result (λ entry. entry ≡ back ris.now) }
     ensures memory { IfErr result (λ fault. fault ≡ Memory) }

@@ -1,4 +1,4 @@
--- Values that go on over several lines.
+-- Values that continue over several lines.
 use Rattle.std.proofs.Common.{◌≡◌, ◌<◌, true, false, List, [], ◌∷◌, ◌++◌, length, refl, sym, ap, ◌∙◌, arith, append-nil, append_assoc, inl, inr}
 use Rattle.std.specs.Prelude.{not, filter, ◌⊎◌, Result, Ok, Err, is_ok, if◌then◌else◌, IfOk}
 use Rattle.std.specs.List.{join_with_byte}
@@ -51,14 +51,14 @@ joined-more (b ∷ value) (c ∷ text) texts = joined_first (b ∷ value) (c ∷
 -- ---- lines that continue a value
 
 -- the value so far with what continues it, and the lines after, are those of all the lines
-pub record GoesOn (value whole : Text) (all rest : List Line) : Type 0 where
+pub record IsJoined (value whole : Text) (all rest : List Line) : Type 0 where
   pub joined : joined whole (continuation rest) ≡ joined value (continuation all)
   pub after : after_continuation rest ≡ after_continuation all
 
 -- one line more
-pub GoesOn-more : (value whole whole' : Text) (all rest after : List Line) (line : Line) → GoesOn value whole all rest → rest ≡ line ∷ after
-    → is_untagged line.class ≡ true → whole' ≡ joined whole (line.text ∷ []) → GoesOn value whole' all after
-GoesOn-more value whole whole' all rest after line so_far first untagged longer =
+pub IsJoined-more : (value whole whole' : Text) (all rest after : List Line) (line : Line) → IsJoined value whole all rest → rest ≡ line ∷ after
+    → is_untagged line.class ≡ true → whole' ≡ joined whole (line.text ∷ []) → IsJoined value whole' all after
+IsJoined-more value whole whole' all rest after line so_far first untagged longer =
     let texts : continuation rest ≡ line.text ∷ continuation after = ap continuation first ∙ rw untagged refl in
     let lines : after_continuation rest ≡ after_continuation after = ap after_continuation first ∙ rw untagged refl in
     record {
@@ -69,21 +69,21 @@ GoesOn-more value whole whole' all rest after line so_far first untagged longer 
     }
 
 -- no line more, since none is left
-GoesOn-none : (value whole : Text) (all rest : List Line) → GoesOn value whole all rest → rest ≡ []
+IsJoined-none : (value whole : Text) (all rest : List Line) → IsJoined value whole all rest → rest ≡ []
     → (whole ≡ joined value (continuation all)) × (rest ≡ after_continuation all)
-GoesOn-none value whole all rest so_far none =
+IsJoined-none value whole all rest so_far none =
     (sym (joined-none whole) ∙ ap (λ (ls : List Line). joined whole (continuation ls)) (sym none) ∙ so_far.joined, none ∙ ap after_continuation (sym none) ∙ so_far.after)
 
 -- no line more, since the next has a tag
-GoesOn-all : (value whole : Text) (all rest after : List Line) (line : Line) → GoesOn value whole all rest → rest ≡ line ∷ after
+IsJoined-all : (value whole : Text) (all rest after : List Line) (line : Line) → IsJoined value whole all rest → rest ≡ line ∷ after
     → is_untagged line.class ≡ false → (whole ≡ joined value (continuation all)) × (rest ≡ after_continuation all)
-GoesOn-all value whole all rest after line so_far first tagged =
+IsJoined-all value whole all rest after line so_far first tagged =
     let texts : continuation rest ≡ [] = ap continuation first ∙ rw tagged refl in
     let lines : after_continuation rest ≡ rest = ap after_continuation first ∙ rw tagged (sym first) in
     (sym (joined-none whole) ∙ ap (joined whole) (sym texts) ∙ so_far.joined, sym lines ∙ so_far.after)
 
 -- no line more, since none is left or the next has a tag
-pub GoesOn-stops : (value whole : Text) (all rest : List Line) → GoesOn value whole all rest → continues rest ≡ false
+pub IsJoined-stops : (value whole : Text) (all rest : List Line) → IsJoined value whole all rest → continues rest ≡ false
     → (whole ≡ joined value (continuation all)) × (rest ≡ after_continuation all)
-GoesOn-stops value whole all [] so_far stops = GoesOn-none value whole all [] so_far refl
-GoesOn-stops value whole all (line ∷ after) so_far stops = GoesOn-all value whole all (line ∷ after) after line so_far refl stops
+IsJoined-stops value whole all [] so_far stops = IsJoined-none value whole all [] so_far refl
+IsJoined-stops value whole all (line ∷ after) so_far stops = IsJoined-all value whole all (line ∷ after) after line so_far refl stops

@@ -1,7 +1,8 @@
 -- Where a line ends, and whether it has a tag, told without looking for its end.
 use Rattle.std.proofs.Common.{◌≡◌, ℕ, zero, suc, ◌+◌, ◌≤◌, ◌<◌, Bool, true, false, not, ◌&&◌, ◌==◌, [], ◌∷◌, length, cond, take, drop, min, get_or, refl, sym, ap, ◌∙◌, arith, inl, inr}
 use Rattle.std.specs.Str.{bytes_eq}
-use Rattle.std.proofs.lemmas.Bool.{cases_lt, eqb-true, false≢true}
+use Rattle.std.proofs.Math.Bool.{and-false}
+use Rattle.std.proofs.lemmas.Bool.{cases_lt, eqb-true, false≢true, not-false}
 use Rattle.std.proofs.lemmas.List.{length-take, get_or-take}
 use Rattle.std.proofs.lemmas.List.Sums.{prefix_len_passes, prefix_len_stops, prefix_len-le-length}
 use Rattle.memchr.specs.Find.{NoneBefore, Nowhere, Passes, is_byte}
@@ -19,11 +20,7 @@ use Rattle.ris_text.proofs.TagLemmas.{tagged_by, untagged_since}
 -- ---- the first line feed
 
 feed_at : (t : Text) → line_len t < length t → (get_or t (line_len t) 0 == line_feed) ≡ true
-feed_at t lt = is (get_or t (line_len t) 0 == line_feed) (prefix_len_stops (λ b. not (b == line_feed)) t 0 lt)
-  where
-    is : (b : Bool) → not b ≡ false → b ≡ true
-    is true e = refl
-    is false e = absurd (false≢true (sym e))
+feed_at t lt = not-false (get_or t (line_len t) 0 == line_feed) (prefix_len_stops (λ b. not (b == line_feed)) t 0 lt)
 
 no_feed_at : (t : Text) (k : ℕ) → k < line_len t → (get_or t k 0 == line_feed) ≡ true → ⊥
 no_feed_at t k lt feed = false≢true (sym (ap not feed) ∙ prefix_len_passes (λ b. not (b == line_feed)) t k 0 lt)
@@ -49,17 +46,13 @@ no_feed t nowhere =
 
 -- ---- tags
 
-none_after : (b : Bool) → b && false ≡ false
-none_after true = refl
-none_after false = refl
-
 -- a line feed is no byte of a tag
 no_tag_over : (t : Text) (n : ℕ) → n < 5 → get_or t n 0 ≡ 10 → is_tag (get_or t 0 0) (get_or t 1 0) && is_rule (get_or t 2 0) (get_or t 3 0) (get_or t 4 0) ≡ false
 no_tag_over t zero lt feed = rw feed refl
-no_tag_over t (suc zero) lt feed = rw feed (grind (arith, none_after))
-no_tag_over t (suc (suc zero)) lt feed = rw feed (none_after (is_tag (get_or t 0 0) (get_or t 1 0)))
-no_tag_over t (suc (suc (suc zero))) lt feed = rw feed (grind (arith, none_after))
-no_tag_over t (suc (suc (suc (suc zero)))) lt feed = rw feed (grind (arith, none_after))
+no_tag_over t (suc zero) lt feed = rw feed (grind (arith, and-false))
+no_tag_over t (suc (suc zero)) lt feed = rw feed (and-false (is_tag (get_or t 0 0) (get_or t 1 0)))
+no_tag_over t (suc (suc (suc zero))) lt feed = rw feed (grind (arith, and-false))
+no_tag_over t (suc (suc (suc (suc zero)))) lt feed = rw feed (grind (arith, and-false))
 no_tag_over t (suc (suc (suc (suc (suc n))))) lt feed = absurd (omega (arith, lt))
 
 same_front : (s t : Text) → 5 ≤ length s → 5 ≤ length t → ((n : ℕ) → n < 5 → get_or s n 0 ≡ get_or t n 0) → has_tag s ≡ has_tag t

@@ -17,8 +17,8 @@ line_len t = prefix_len (λ b. not (b == line_feed)) t
 ends_here : (b : ℕ) (t : Text) → (b == line_feed) ≡ true → (line_len (b ∷ t) ≡ 0) × (line_texts (b ∷ t) ≡ [] ∷ line_texts t)
 ends_here b t is = (rw is refl, rw is refl)
 
-goes_on : (b : ℕ) (t : Text) → (b == line_feed) ≡ false → (line_len (b ∷ t) ≡ suc (line_len t)) × (line_texts (b ∷ t) ≡ onto_first b (line_texts t))
-goes_on b t is = (rw is (omega arith), rw is refl)
+ends_later : (b : ℕ) (t : Text) → (b == line_feed) ≡ false → (line_len (b ∷ t) ≡ suc (line_len t)) × (line_texts (b ∷ t) ≡ onto_first b (line_texts t))
+ends_later b t is = (rw is (omega arith), rw is refl)
 
 -- a line that ends in a line feed
 pub line_more : (t : Text) → line_len t < length t → line_texts t ≡ take (line_len t) t ∷ line_texts (drop (line_len t + 1) t)
@@ -29,7 +29,7 @@ line_more (b ∷ t) some =
           let here = ends_here b t is in
           here.1 ∙ ap (λ n. take n (b ∷ t) ∷ line_texts (drop (n + 1) (b ∷ t))) (sym here.0)
       | inr is ↦
-          let there = goes_on b t is in
+          let there = ends_later b t is in
           let rest : line_texts t ≡ take (line_len t) t ∷ line_texts (drop (line_len t + 1) t) = line_more t (omega (arith, some, there.0)) in
           let len : suc (line_len t) + 1 ≡ suc (line_len t + 1) = omega arith in
           there.1 ∙ ap (onto_first b) rest ∙ ap (λ n. (b ∷ take (line_len t) t) ∷ line_texts (drop n (b ∷ t))) (sym len)
@@ -42,12 +42,12 @@ line_last [] some all = absurd (omega (arith, some))
 line_last (b ∷ []) some all =
     elim (cases_Bool (b == line_feed)) [
       | inl is ↦ absurd (omega (arith, all, (ends_here b [] is).0))
-      | inr is ↦ (goes_on b [] is).1
+      | inr is ↦ (ends_later b [] is).1
     ]
 line_last (b ∷ c ∷ t) some all =
     elim (cases_Bool (b == line_feed)) [
       | inl is ↦ absurd (omega (arith, all, (ends_here b (c ∷ t) is).0))
-      | inr is ↦ (goes_on b (c ∷ t) is).1 ∙ ap (onto_first b) (line_last (c ∷ t) (omega arith) (omega (arith, all, (goes_on b (c ∷ t) is).0)))
+      | inr is ↦ (ends_later b (c ∷ t) is).1 ∙ ap (onto_first b) (line_last (c ∷ t) (omega arith) (omega (arith, all, (ends_later b (c ∷ t) is).0)))
     ]
 
 -- the first line, and the lines from the byte on that stands so far after its first
@@ -88,7 +88,7 @@ length-line_texts [] = omega arith
 length-line_texts (b ∷ t) =
     elim (cases_Bool (b == line_feed)) [
       | inl is ↦ omega (arith, ap length (ends_here b t is).1, length-line_texts t)
-      | inr is ↦ omega (arith, ap length (goes_on b t is).1, length-onto_first b (line_texts t), length-line_texts t)
+      | inr is ↦ omega (arith, ap length (ends_later b t is).1, length-onto_first b (line_texts t), length-line_texts t)
     ]
 
 length-lines_from : (place : ℕ) (ts : List Text) → length (lines_from place ts) ≡ length ts

@@ -12,7 +12,7 @@ use Rattle.ris_text.specs.declared.fault.RisFault.{RisFault}
 use Rattle.ris_text.specs.declared.fault.RisFault.TheVariants.{NoStart, NoEnd, EmptyType}
 use Rattle.ris_text.specs.Lines.{Line, lines_of, is_untagged}
 use Rattle.ris_text.specs.Trees.{Paragraph, paragraph_lines, all_untagged, is_inner, is_inner_paragraph, Begun, IsBegun, begun_lines, record_of, Block, block_lines, none, more, Tree, IsTree, tree_lines, file_of}
-use Rattle.ris_text.specs.Reading.{Says, GoesWrong, Reads, IsFaultOf, IsWrong, inner, ends, begins_again, goes_on, untyped}
+use Rattle.ris_text.specs.Reading.{Says, GoesWrong, Reads, IsFaultOf, IsWrong, inner, ends, begins_again, unended, untyped}
 use Rattle.ris_text.specs.Laws.{SaysOrGoesWrong, SaysOne, OneFault, WrongSaysNothing}
 use Rattle.ris_text.specs.Code.{told}
 use Rattle.ris_text.proofs.MeaningLemmas.{told_if_says, told_if_goes_wrong}
@@ -98,7 +98,7 @@ with_block end b line lines is typed ends_it d =
 
 -- the lines after a TY line, which begins this record
 begun_decided : (end : ℕ) (b : Begun) (rest : List Line) → IsBegun b → Ending end rest → Decided end (begun_lines b ++ rest)
-begun_decided end b _ is over = subst (Decided end) (sym (append-nil (begun_lines b))) (wrong_here end (begun_lines b) (NoEnd end) (goes_on b is))
+begun_decided end b _ is over = subst (Decided end) (sym (append-nil (begun_lines b))) (wrong_here end (begun_lines b) (NoEnd end) (unended b is))
 begun_decided end b _ is (again line rest begins) = wrong_here end (begun_lines b ++ line ∷ rest) (NoEnd line.place) (begins_again b line rest is begins)
 begun_decided end b _ is (closed line rest ends_it d) = elim (cases_Bool (is_empty (record_of b).kind_name)) [
   | inl untyped_it ↦ wrong_here end (begun_lines b ++ line ∷ rest) (EmptyType b.first.head.place) (untyped b line rest is ends_it untyped_it)

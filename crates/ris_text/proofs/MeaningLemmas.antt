@@ -15,7 +15,7 @@ use Rattle.ris_text.specs.declared.fault.RisFault.{RisFault}
 use Rattle.ris_text.specs.declared.fault.RisFault.TheVariants.{NoStart, NoEnd, EmptyType}
 use Rattle.ris_text.specs.Lines.{Line, is_untagged}
 use Rattle.ris_text.specs.Trees.{joined, Paragraph, paragraph_lines, value_of, all_untagged, is_inner, is_inner_paragraph, line_with, kept_line, is_other, Begun, IsBegun, begun_lines, record_of, skipped_inside, Block, IsBlock, block_lines, AreBlocks, more, Tree, IsTree, tree_lines, is_counted, skipped_outside, skipped_by, file_of}
-use Rattle.ris_text.specs.Reading.{Says, GoesWrong, IsWrong, inner, ends, begins_again, goes_on, untyped}
+use Rattle.ris_text.specs.Reading.{Says, GoesWrong, IsWrong, inner, ends, begins_again, unended, untyped}
 use Rattle.ris_text.specs.Code.{continuation, Outcome, Inside, inside, Told, told, told_inner, ris_file, ris_line, ris_record, with_skipped, with_record, with_front, whole_record}
 use Rattle.ris_text.proofs.ToldLemmas.{told-class}
 
@@ -47,7 +47,8 @@ told_inner-untagged end (line ∷ lines) rest untagged =
 
 -- ---- paragraphs inside a record
 
-tagged_stops : (line : Line) (lines : List Line) → is_untagged line.class ≡ false → continuation (line ∷ lines) ≡ []
+-- a line with a tag continues nothing
+pub tagged_stops : (line : Line) (lines : List Line) → is_untagged line.class ≡ false → continuation (line ∷ lines) ≡ []
 tagged_stops line lines is = rw is refl
 
 inner_is_tagged : (class : Class) → is_inner class ≡ true → is_untagged class ≡ false
@@ -204,14 +205,15 @@ front_more : (r : RisRecord) (rs : List RisRecord) (n m k : ℕ) (o : Outcome) �
 front_more r rs n m k (Ok file) is = let count : n + (m + file.skipped) ≡ k + file.skipped = omega arith in ap (λ j. Ok (ris_file (r ∷ rs ++ file.records) j)) count
 front_more r rs n m k (Err fault) is = refl
 
-with_front-none : (o : Outcome) → o ≡ with_front [] 0 o
-with_front-none (Ok file) = ap (λ n. Ok (ris_file file.records n)) (sym (zero-add file.skipped))
+-- nothing before it changes nothing
+pub with_front-none : (o : Outcome) → with_front [] 0 o ≡ o
+with_front-none (Ok file) = ap (λ n. Ok (ris_file file.records n)) (zero-add file.skipped)
 with_front-none (Err fault) = refl
 
 -- records
 pub blocks_told : (end : ℕ) (bs : List Block) (rest : List Line) → AreBlocks bs
     → (told end (flat_map block_lines bs ++ rest)).outside ≡ with_front (map (λ b. record_of b.begun) bs) (sum_by skipped_by bs) (told end rest).outside
-blocks_told end [] rest are = with_front-none (told end rest).outside
+blocks_told end [] rest are = sym (with_front-none (told end rest).outside)
 blocks_told end (b ∷ bs) rest (more is are) =
     let o : Outcome = (told end rest).outside in
     ap (λ (ls : List Line). (told end ls).outside) (append_assoc (block_lines b) (flat_map block_lines bs) rest)
@@ -260,7 +262,7 @@ told_if_wrong end _ _ (begins_again b line rest is begins) =
     let here : told_inner end (line ∷ rest) ≡ inside [] 0 (Err (NoEnd line.place)) = ap (λ (t : Told). t.inside) (told-class end line rest Begin begins) in
     begun_told end b (line ∷ rest) is (tagged_stops line rest (ap is_untagged begins))
     ∙ ap (λ (i : Inside). whole_record b.first.head.place (record_of b).kind_name (paragraphs_told b.inner i) i.after) here
-told_if_wrong end _ _ (goes_on b is) =
+told_if_wrong end _ _ (unended b is) =
     ap (λ (ls : List Line). (told end ls).outside) (sym (append-nil (begun_lines b))) ∙ begun_told end b [] is refl
 told_if_wrong end _ _ (untyped b line rest is ends_it none_given) =
     ended_told end b line rest is ends_it

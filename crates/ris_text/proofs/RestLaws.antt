@@ -1,19 +1,13 @@
 -- What is left of a file after some of its records.
-use Rattle.std.proofs.Common.{◌≡◌, ◌+◌, arith, List, [], ◌∷◌, ◌++◌, length, refl, sym, ap, ◌∙◌, append_assoc}
+use Rattle.std.proofs.Common.{◌≡◌, ◌+◌, List, [], ◌∷◌, ◌++◌, length, refl, sym, ap, ◌∙◌, append_assoc}
 use Rattle.std.specs.Prelude.{Ok, Err}
 use Rattle.bib_spec.specs.Text.{Text}
 use Rattle.ris_text.specs.declared.records.RisRecord.{RisRecord}
 use Rattle.ris_text.specs.Lines.{Line, lines_of}
 use Rattle.ris_text.specs.Code.{Outcome, told, ris_file, with_record, with_front}
 use Rattle.ris_text.specs.Rest.{Rest, rest_of, IsLeft}
+use Rattle.ris_text.proofs.MeaningLemmas.{with_front-none}
 use Rattle.ris_text.proofs.MeaningLaws.{reads_if_told, fault_if_told}
-
--- nothing before it changes nothing
-pub front-none : (outcome : Outcome) → with_front [] 0 outcome ≡ outcome
-front-none (Ok file) =
-    let count : 0 + file.skipped ≡ file.skipped = omega arith in
-    ap (λ k. Ok (ris_file file.records k)) count
-front-none (Err fault) = refl
 
 front-more : (records : List RisRecord) (r : RisRecord) (outcome : Outcome) → with_front (records ++ r ∷ []) 0 outcome ≡ with_front records 0 (with_record r outcome)
 front-more records r (Ok file) = ap (λ (rs : List RisRecord). Ok (ris_file rs (0 + file.skipped))) (append_assoc records (r ∷ []) file.records)
@@ -22,8 +16,8 @@ front-more records r (Err fault) = refl
 -- where all of the file is left
 pub all-left : (file : Text) (lines : List Line) → lines ≡ lines_of file → IsLeft file [] (rest_of (length file) 0 lines)
 all-left file lines is = record {
-  reads = λ said says. reads_if_told file lines said is (sym (front-none outcome) ∙ sym (front-none (with_front [] 0 outcome)) ∙ says);
-  wrong = λ fault says. fault_if_told file lines fault is (sym (front-none outcome) ∙ says);
+  reads = λ said says. reads_if_told file lines said is (sym (with_front-none outcome) ∙ sym (with_front-none (with_front [] 0 outcome)) ∙ says);
+  wrong = λ fault says. fault_if_told file lines fault is (sym (with_front-none outcome) ∙ says);
 }
   where
     outcome : Outcome

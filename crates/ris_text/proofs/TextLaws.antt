@@ -21,6 +21,7 @@ use Rattle.ris_text.specs.Laws.{just, TextSaysRecords, TextSaysNothingElse, Text
 use Rattle.ris_text.specs.Code.{continuation, Outcome, Inside, inside, Told, told, told_inner, with_skipped, with_record, whole_record, ris_line}
 use Rattle.ris_text.proofs.JoinLemmas.{joined-none}
 use Rattle.ris_text.proofs.ToldLemmas.{told-class}
+use Rattle.ris_text.proofs.MeaningLemmas.{tagged_stops}
 use Rattle.ris_text.proofs.MeaningLaws.{reads_if_told, says_one, wrong_says_nothing}
 
 -- ---- tags
@@ -219,17 +220,14 @@ text_lines records are =
 
 -- ---- what they say
 
-class_stops : (line : Line) (lines : List Line) → is_untagged line.class ≡ false → continuation (line ∷ lines) ≡ []
-class_stops line lines is = rw is refl
-
 -- the lines of a record after its TY line continue nothing
 kept_stop : (place : ℕ) (lines : List RisLine) (rest : List Text) → list_all is_well_formed_line lines ≡ true
     → continuation (lines_from place (kept_lines lines ++ written end_tag [] ∷ rest)) ≡ []
-kept_stop place [] rest are = class_stops (line_at place (written end_tag [])) _ (ap is_untagged (end_class place))
+kept_stop place [] rest are = tagged_stops (line_at place (written end_tag [])) _ (ap is_untagged (end_class place))
 kept_stop place (line ∷ lines) rest are =
     let parts = and_parts (is_well_formed_line line) (list_all is_well_formed_line lines) are in
     let own = and_parts (is_known line.tag) (fits_line line.value) parts.0 in
-    class_stops (line_at place (written line.tag line.value)) _ (ap (λ (l : Line). is_untagged l.class) (kept_seen place line.tag line.value own.0 own.1))
+    tagged_stops (line_at place (written line.tag line.value)) _ (ap (λ (l : Line). is_untagged l.class) (kept_seen place line.tag line.value own.0 own.1))
 
 -- inside the record they are kept, where what is after says the same from each place on
 kept_told : (end place : ℕ) (lines : List RisLine) (rest : List Text) (outcome : Outcome) → list_all is_well_formed_line lines ≡ true

@@ -32,9 +32,9 @@ record_in_parts r =
     ∙ sym (flat_map-append ended lines (last ∷ [])))
 
 -- and after other text
-pub record_behind : (r : RisRecord) (text first others all : Text) → first ≡ text ++ ended (written begin_tag r.kind_name) → others ≡ first ++ kept_text r.lines
+pub record_after : (r : RisRecord) (text first others all : Text) → first ≡ text ++ ended (written begin_tag r.kind_name) → others ≡ first ++ kept_text r.lines
     → all ≡ others ++ ended (written end_tag []) → all ≡ text ++ record_text r
-record_behind r text first others all is_first is_others is_all =
+record_after r text first others all is_first is_others is_all =
     let head : Text = ended (written begin_tag r.kind_name) in
     is_all ∙ ap (λ (t : Text). t ++ ended (written end_tag [])) (is_others ∙ ap (λ (t : Text). t ++ kept_text r.lines) is_first)
     ∙ append_assoc (text ++ head) (kept_text r.lines) (ended (written end_tag [])) ∙ append_assoc text head (kept_text r.lines ++ ended (written end_tag []))

@@ -24,7 +24,7 @@ pub data IsWrong (end : ℕ) : List Line → RisFault → Type 0 where
   -- a record begins inside another
   begins_again : (b : Begun) (line : Line) (rest : List Line) → IsBegun b → line.class ≡ Begin → IsWrong end (begun_lines b ++ line ∷ rest) (NoEnd line.place)
   -- the file ends inside a record
-  goes_on : (b : Begun) → IsBegun b → IsWrong end (begun_lines b) (NoEnd end)
+  unended : (b : Begun) → IsBegun b → IsWrong end (begun_lines b) (NoEnd end)
   -- a record ends that has no type
   untyped : (b : Begun) (line : Line) (rest : List Line) → IsBegun b → line.class ≡ End → is_empty (record_of b).kind_name ≡ true
       → IsWrong end (begun_lines b ++ line ∷ rest) (EmptyType b.first.head.place)

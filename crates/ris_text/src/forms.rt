@@ -45,8 +45,8 @@ fn are_well_formed_lines(lines: &[RisLine]) -> bool
     lines.iter().all(|line| is_well_formed_line(line))
 }
 
-/// Whether a record can be written and read back: it has a type, its tags are known, and type and values can stand in a
-/// line.
+/// Whether a record can be written and read back: it has a type, its tags are known (docs/FORMAT-RIS.md), and type and
+/// values can stand in a line. It takes time in the record's size, and no memory.
 #[tactic(auto, unfolding(crate::specs::Writing::is_well_formed))]
 pub fn is_well_formed(rec: &RisRecord) -> bool
     ensures { result ≡ is_well_formed rec.now }
@@ -55,7 +55,7 @@ pub fn is_well_formed(rec: &RisRecord) -> bool
     !kind_name.is_empty() && fits_line(kind_name) && are_well_formed_lines(rec.lines.as_slice())
 }
 
-/// Whether all records can be written and read back.
+/// Whether all records can be written and read back. It takes time in their size, and no memory.
 pub fn are_well_formed(records: &[RisRecord]) -> bool
     ensures { result ≡ list_all is_well_formed records.now }
 {

@@ -170,7 +170,7 @@ impl<'a> Unread<'a> {
     ghost use Rattle.ris_text.specs.Code.{ris_file, with_record};
     ghost use Rattle.ris_text.specs.declared.fault.RisFault.TheVariants.{Memory};
 
-    /// The whole file. A mark of UTF-8 at its front is dropped, and counted in places.
+    /// The whole file, of which nothing is read yet. A mark of UTF-8 at its front is dropped, and counted in places.
     pub fn of(file: &'a [u8]) -> Self
         ensures { IsLeft file.now [] result }
     {
@@ -189,7 +189,8 @@ impl<'a> Unread<'a> {
     }
 
     /// The next record, or none where the file ends, and what is left after it; or the line at which the file goes wrong.
-    /// It takes time in the length of what it reads, and memory for the record.
+    /// It takes time in the length of what it reads, and memory for the record. A file that goes wrong is refused as 61 to
+    /// 63, with its place; else the one refusal is want of memory.
     pub fn next(self, alloc: Global) -> Result<(Option<RisRecord>, Unread<'a>), RisFault>
         ensures some { IfOk result (λ r. IfSome r.0 (λ rec. self.entry.says ≡ with_record rec r.1.says)) }
         ensures fewer { IfOk result (λ r. IfSome r.0 (λ _. r.1.lines < self.entry.lines)) }
@@ -208,7 +209,10 @@ impl<'a> Unread<'a> {
 }
 
 /// Reads a file: the records that it says, or the first line at which it goes wrong. A mark of UTF-8 at its front is
-/// dropped, and counted in places. It takes time in the length of the file, and memory for what it says.
+/// dropped, and counted in places. It takes time in the length of the file, and memory for what it says: `Unread` reads
+/// with memory for one record at a time. (RIS format specification; dialect: docs/FORMAT-RIS.md)
+///
+/// A file that goes wrong is refused as 61 to 63, with its place in bytes from 0; else the one refusal is want of memory.
 pub fn read_ris(alloc: Global, bytes: &[u8]) -> Result<RisFile, RisFault>
     ensures read { IfOk result (λ file. Reads bytes.now file) }
     ensures refused { IfErr result (λ fault. (fault ≡ Memory) ⊎ IsFaultOf bytes.now fault) }

@@ -1,4 +1,4 @@
-use Rattle.std.proofs.Common.{◌≡◌, ◌||◌, Bool, true, false, is_some, length, sym, ◌∙◌, ap, ap₂, subst, arith, not-suc-le-zero}
+use Rattle.std.proofs.Common.{◌≡◌, ◌||◌, Bool, true, false, is_some, length, sym, ◌∙◌, ap, subst, arith, not-suc-le-zero}
 use Rattle.std.specs.List.{list_any}
 use Rattle.bib_spec.specs.Text.{folded}
 use Rattle.bib_spec.specs.Tree.{Tree}
@@ -16,16 +16,8 @@ returns-then-is_some-clause-used g c db reads =
 pub items-init : goal.items-init
 items-init g c db reads k item lt at = absurd (not-suc-le-zero lt)
 
-pub has_sought-requires : goal.has_sought-requires
-has_sought-requires g c db reads = let count = c.item_count-n-end.ensures db reads in omega (arith, count, c.items-test.true)
-
-pub returns-then-defines-clause-used : goal.returns-then-defines-clause-used
-returns-then-defines-clause-used g c db reads =
-    let none : is_some (months (folded c.args.name.now)) ≡ false = ap is_some (sym c.month.ensures) ∙ some-copied c.month.result ∙ sym c.is_some.ensures ∙ c.if-is_some.false in
-    let count = c.item_count-n-end.ensures db reads in
-    in-use (is_some (months (folded c.args.name.now))) _ none
-    (any-first (λ tree. defines c.args.name.now tree || any_part (uses c.args.name.now) tree) db.items c.items.n (omega (arith, count, c.items-test.true))
-    (λ item at. ap (λ b. b || any_part (uses c.args.name.now) item.tree) (sym (c.defines.ensures item (c.item.ensures db reads item at)) ∙ c.if-defines.true)))
+pub speaks_of-requires : goal.speaks_of-requires
+speaks_of-requires g c db reads = let count = c.item_count-n-end.ensures db reads in omega (arith, count, c.items-test.true)
 
 pub returns-then-branch-clause-used : goal.returns-then-branch-clause-used
 returns-then-branch-clause-used g c db reads =
@@ -33,12 +25,12 @@ returns-then-branch-clause-used g c db reads =
     let count = c.item_count-n-end.ensures db reads in
     in-use (is_some (months (folded c.args.name.now))) _ none
     (any-first (λ tree. defines c.args.name.now tree || any_part (uses c.args.name.now) tree) db.items c.items.n (omega (arith, count, c.items-test.true))
-    (λ item at. ap₂ ◌||◌ (sym (c.defines.ensures item (c.item.ensures db reads item at)) ∙ c.if-defines.false) (sym (c.in_ok-has_sought.ensures.has db reads item at) ∙ c.if-branch.true)))
+    (λ item at. sym (c.in_ok-speaks_of.ensures.speaks db reads item at) ∙ c.if-branch.true))
 
 pub items-preserved : goal.items-preserved
 items-preserved g c db reads =
     none-more (λ tree. defines c.args.name.now tree || any_part (uses c.args.name.now) tree) db.items c.items.n (c.items.invariant db reads)
-    (λ item at. ap₂ ◌||◌ (sym (c.defines.ensures item (c.item.ensures db reads item at)) ∙ c.if-defines.false) (sym (c.in_ok-has_sought.ensures.has db reads item at) ∙ c.if-branch.false))
+    (λ item at. sym (c.in_ok-speaks_of.ensures.speaks db reads item at) ∙ c.if-branch.false)
 
 pub returns-clause-used : goal.returns-clause-used
 returns-clause-used g c db reads =

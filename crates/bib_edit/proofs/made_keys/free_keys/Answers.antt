@@ -9,18 +9,16 @@ use Rattle.bib_edit.proofs.made_keys.free_keys.Goals as goal
 pub bases-preserved : goal.bases-preserved
 bases-preserved g c = record {
   made = λ db reads.
-      made-more (taken_in db c.args.taken.now) c.args.bases.now c.bases.base-index c.bases.known c.free_key.new.self c.add.new.self c.bases.keys.items c.push.new.self.items c.base-item.result c.in_ok-key.key
+      made-more (taken_in db c.args.taken.now) c.args.bases.now c.bases.base-index c.bases.known c.take_free.new.self c.bases.keys.items c.push.new.self.items c.base-item.result c.in_ok-take_free.field-0
       (c.bases.invariant.made db reads)
       (slice_get_read c.args.bases.now (length c.args.bases.now) c.bases.base-index c.base-item.result refl c.bases-test.true c.base-item.is)
-      (λ taken are. c.in_ok-key.ensures.key taken are ∙ ap (free_key taken) c.as_slice.ensures)
-      c.in_ok-key.ensures.taken
-      (λ taken are. subst (λ (key : Text). AreTaken (key ∷ taken) c.add.new.self) c.as_slice-in-bases.ensures (c.in_ok-add.ensures.taken taken are))
+      (λ taken are. c.in_ok-take_free.ensures.key taken are ∙ ap (free_key taken) c.as_slice.ensures)
+      c.in_ok-take_free.ensures.taken
       c.in_ok-push.ensures.items;
   count =
       let so_far = c.bases.invariant.count in
-      let still = c.in_ok-key.ensures.count in
-      let more = c.in_ok-add.ensures.count in
-      omega (arith, so_far, still, more);
+      let more = c.in_ok-take_free.ensures.count in
+      omega (arith, so_far, more);
 }
 
 pub returns-clause-keys : goal.returns-clause-keys

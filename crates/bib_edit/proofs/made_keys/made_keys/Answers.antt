@@ -26,8 +26,8 @@ entries-init g c = (
   λ db reads. let none = c.none-taken.ensures.count in let dangling = c.in_ok-add_dangling.ensures.count db reads in omega (arith, none, dangling),
 )
 
-pub free_key-requires-clause-count : goal.free_key-requires-clause-count
-free_key-requires-clause-count g c =
+pub take_free-requires-clause-count : goal.take_free-requires-clause-count
+take_free-requires-clause-count g c =
     let db : Reading = c.opens.ensures.0 in
     let reads : Reads c.args.db.now db = c.opens.ensures.1.reads in
     let few = few-entries db in
@@ -38,37 +38,22 @@ free_key-requires-clause-count g c =
     let taken = c.entries.invariant.2 db reads in
     omega (arith, few, bytes, short, count, test, taken)
 
-pub add-requires : goal.add-requires
-add-requires g c =
-    let db : Reading = c.opens.ensures.0 in
-    let reads : Reads c.args.db.now db = c.opens.ensures.1.reads in
-    let few = few-entries db in
-    let bytes = ap length reads.bytes in
-    let short = c.opens.ensures.1.short in
-    let count = c.entry_count-n-end.ensures db reads in
-    let test = c.entries-test.true in
-    let taken = c.entries.invariant.2 db reads in
-    let still = c.in_ok-key.ensures.count in
-    omega (arith, few, bytes, short, count, test, taken, still)
-
 pub entries-preserved : goal.entries-preserved
 entries-preserved g c = (
   λ db reads.
       let count = c.entry_count-n-end.ensures db reads in
       let test = c.entries-test.true in
       let lt : c.entries.n < length (entries_of db) = omega (arith, count, test) in
-      made-more (dangling_texts (entries_of db)) (bases_of (entries_of db)) c.entries.n c.entries.taken c.free_key.new.self c.add.new.self c.entries.keys.items c.push.new.self.items c.in_ok-base.base c.in_ok-key.key
+      made-more (dangling_texts (entries_of db)) (bases_of (entries_of db)) c.entries.n c.entries.taken c.take_free.new.self c.entries.keys.items c.push.new.self.items c.in_ok-base.base c.in_ok-take_free.field-0
       (c.entries.invariant.0 db reads) (base-at (entries_of db) c.entries.n c.in_ok-base.base lt (c.in_ok-base.ensures.base db reads))
-      (λ taken are. c.in_ok-key.ensures.key taken are ∙ ap (free_key taken) c.as_slice.ensures)
-      c.in_ok-key.ensures.taken
-      (λ taken are. subst (λ (key : Text). AreTaken (key ∷ taken) c.add.new.self) c.as_slice-in-entries.ensures (c.in_ok-add.ensures.taken taken are))
+      (λ taken are. c.in_ok-take_free.ensures.key taken are ∙ ap (free_key taken) c.as_slice.ensures)
+      c.in_ok-take_free.ensures.taken
       c.in_ok-push.ensures.items,
-  subst (AllByRecursion (λ key. length key ≤ name_limit)) (sym c.in_ok-push.ensures.items) (short-more c.entries.keys.items c.in_ok-key.key c.entries.invariant.1 c.in_ok-key.ensures.short),
+  subst (AllByRecursion (λ key. length key ≤ name_limit)) (sym c.in_ok-push.ensures.items) (short-more c.entries.keys.items c.in_ok-take_free.field-0 c.entries.invariant.1 c.in_ok-take_free.ensures.short),
   λ db reads.
       let taken = c.entries.invariant.2 db reads in
-      let still = c.in_ok-key.ensures.count in
-      let more = c.in_ok-add.ensures.count in
-      omega (arith, taken, still, more),
+      let more = c.in_ok-take_free.ensures.count in
+      omega (arith, taken, more),
 )
 
 pub returns-clause-keys : goal.returns-clause-keys

@@ -15,8 +15,8 @@ push_key-requires g c =
     let reads = c.opens.ensures.1.reads in
     let lt = c.requires.number db reads in
     let e = entry_at db c.args.n lt in
-    entry-seen c.args.new.now db c.args.db.now c.args.n e.1.number c.args.start c.entry-view.result reads c.opens.ensures.1.short
-    lt e.1.numbered (c.requires.place db reads e.1.number e.1.numbered) (c.entry-view.ensures db reads)
+    entry-seen c.args.new.now db c.args.db.now c.args.n e.1.number c.args.start c.args.view.now reads c.opens.ensures.1.short
+    lt e.1.numbered (c.requires.place db reads e.1.number e.1.numbered) (c.requires.view db reads)
 
 pub push_crossref-requires : goal.push_crossref-requires
 push_crossref-requires g c =
@@ -24,13 +24,13 @@ push_crossref-requires g c =
     let reads = c.opens.ensures.1.reads in
     let lt = c.requires.number db reads in
     let e = entry_at db c.args.n lt in
-    entry-seen c.args.new.now db c.args.db.now c.args.n e.1.number c.args.start c.entry-view.result reads c.opens.ensures.1.short
-    lt e.1.numbered (c.requires.place db reads e.1.number e.1.numbered) (c.entry-view.ensures db reads)
+    entry-seen c.args.new.now db c.args.db.now c.args.n e.1.number c.args.start c.args.view.now reads c.opens.ensures.1.short
+    lt e.1.numbered (c.requires.place db reads e.1.number e.1.numbered) (c.requires.view db reads)
 
 pub returns-clause-pieces : goal.returns-clause-pieces
 returns-clause-pieces g c =
     let start = c.args.start in
-    let view = c.entry-view.result in
+    let view = c.args.view.now in
     on_ok-as (c.push_crossref.new.pieces.items ≡ c.push_key.new.pieces.items ++ crossref_piece start view (option_copied c.new_target.result))
     (OfReading c.args.db.now (λ r. c.push_crossref.new.pieces.items ≡ c.args.pieces.now.items ++ pieces_at c.args.new.now r c.args.n))
     (λ is db reads.
@@ -42,5 +42,5 @@ returns-clause-pieces g c =
     (c.new_target.ensures db reads)
     ∙ append_assoc c.args.pieces.now.items (key_piece start view (key_of c.args.new.now c.args.n)) (crossref_piece start view (new_target c.args.new.now db c.args.n))
     ∙ ap (λ ps. c.args.pieces.now.items ++ ps)
-    (pieces-seen c.args.new.now db c.args.n e.1.number start view lt e.1.numbered (c.requires.place db reads e.1.number e.1.numbered) (c.entry-view.ensures db reads)))
+    (pieces-seen c.args.new.now db c.args.n e.1.number start view lt e.1.numbered (c.requires.place db reads e.1.number e.1.numbered) (c.requires.view db reads)))
     c.push_crossref.result c.push_crossref.ensures.pieces

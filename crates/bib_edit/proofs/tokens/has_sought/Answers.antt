@@ -1,18 +1,16 @@
-use Rattle.std.proofs.Common.{◌==◌, not, List, length, sym, ◌∙◌, ap, subst, arith, ℕ}
-use Rattle.std.proofs.lemmas.List.{length-map}
-use Rattle.bib_spec.specs.Text.{Text}
-use Rattle.bib_edit.specs.PlacedParts.{test_of, token_seen, tokens_seen, AreFieldTokens}
-use Rattle.bib_edit.proofs.PlacedItems.{placed-fields, has-tokens, not_none}
+use Rattle.std.proofs.Common.{◌∙◌, arith}
+use Rattle.bib_edit.specs.PlacedParts.{test_of}
+use Rattle.bib_edit.proofs.PlacedItems.{placed-fields, has-tokens}
+use Rattle.bib_edit.proofs.Results.{if_ok-as}
 use Rattle.bib_edit.proofs.tokens.has_sought.Goals as goal
 
-pub push_in_fields-requires : goal.push_in_fields-requires
-push_in_fields-requires g c =
+pub have_sought-requires : goal.have_sought-requires
+have_sought-requires g c =
     placed-fields c.args.db.now c.args.n 0 c.item.result c.fields.result c.opens.ensures c.requires (λ db reads. omega arith) c.item.ensures c.fields.ensures.fields
 
 pub returns-clause-has : goal.returns-clause-has
-returns-clause-has g c db reads i at =
-    let none = ap tokens_seen c.new-tokens.ensures.items in
-    let has = has-tokens (test_of c.args.sought) c.args.db.now db c.args.n i c.item.result c.fields.result (tokens_seen c.push_in_fields.new.tokens.items) reads at (c.item.ensures db reads i at) c.fields.ensures.fields
-    (subst (λ (l : List (ℕ × Text)). AreFieldTokens (test_of c.args.sought) 0 c.fields.result l (tokens_seen c.push_in_fields.new.tokens.items)) none c.in_ok-push_in_fields.ensures.tokens) in
-    ap not (c.is_empty.ensures ∙ ap (λ n. n == 0) (ap length c.as_slice.ensures.value ∙ sym (length-map c.push_in_fields.new.tokens.items token_seen)))
-    ∙ not_none (length (tokens_seen c.push_in_fields.new.tokens.items)) ∙ has
+returns-clause-has g c =
+    if_ok-as _ _
+    (λ has found db reads i at.
+    found.2 ∙ has-tokens (test_of c.args.sought) c.args.db.now db c.args.n i c.item.result c.fields.result found.0 reads at (c.item.ensures db reads i at) c.fields.ensures.fields found.1)
+    c.have_sought.result c.have_sought.ensures.have

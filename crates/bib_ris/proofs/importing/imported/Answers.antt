@@ -1,20 +1,20 @@
 use Rattle.std.proofs.Common.{◌∙◌, List, ap}
 use Rattle.bib_spec.specs.Text.{Text}
 use Rattle.bib_spec.specs.MadeKeys.{made_keys}
+use Rattle.bib_data.specs.declared.edit.NewEntry.{NewEntry}
 use Rattle.bib_edit.specs.TakenKeys.{taken_in}
-use Rattle.bib_ris.specs.Import.{records_of, usable_ids}
-use Rattle.bib_ris.specs.Drafts.{bases_of, with_keys}
-use Rattle.bib_ris.proofs.KeyedRecords.{keyed-with}
+use Rattle.bib_ris.specs.Import.{usable_ids}
+use Rattle.bib_ris.specs.Drafts.{bases_of, usable_keys, with_keys}
+use Rattle.bib_ris.proofs.KeyedRecords.{usable-entries, keyed-with}
 use Rattle.bib_ris.proofs.importing.imported.Goals as goal
 
 pub returns-clause-entries : goal.returns-clause-entries
-returns-clause-entries g c db reads =
-    let records = records_of c.args.records in
-    let drafts = c.in_ok-drafts.ensures.drafts in
+returns-clause-entries g c records drafts db reads =
     c.with_keys.ensures
-    ∙ ap (λ (keys : List Text). with_keys keys c.in_ok-drafts.drafts.entries.items)
+    ∙ ap (λ (keys : List Text). with_keys keys c.args.drafts.entries.items)
     (c.in_ok-keys.ensures.keys db reads
-    ∙ ap (λ (ids : List Text). made_keys (taken_in db ids) c.as_slice.result.now) (c.as_slice-2.ensures.value ∙ drafts.ids)
+    ∙ ap (λ (entries : List NewEntry). made_keys (taken_in db (usable_keys entries)) c.as_slice.result.now) (c.as_slice-2.ensures.value ∙ drafts.entries)
+    ∙ ap (λ (ids : List Text). made_keys (taken_in db ids) c.as_slice.result.now) (usable-entries records)
     ∙ ap (made_keys (taken_in db (usable_ids records))) (c.as_slice.ensures.value ∙ drafts.bases))
     ∙ ap (with_keys (made_keys (taken_in db (usable_ids records)) (bases_of records))) drafts.entries
     ∙ keyed-with (taken_in db (usable_ids records)) records

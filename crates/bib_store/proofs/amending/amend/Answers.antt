@@ -1,4 +1,5 @@
-use Rattle.std.proofs.Common.{refl, sym, subst}
+use Rattle.std.proofs.Common.{length, refl, sym, subst}
+use Rattle.bib_store.specs.Bounds.{Admits}
 use Rattle.std.proofs.lemmas.Result.{err_from_is_err_and}
 use Rattle.bib_spec.specs.Text.{Text}
 use Rattle.bib_spec.specs.Reading.{Reads}
@@ -21,8 +22,9 @@ returns-clause-tables g c =
     amended_file (g.L.ItemList.items c.args.items.now) c.args.tables.now c.args.change.now c.args.m c.requires.window c.requires.layout c.requires.amendment _ c.in_ok-crossref.crossref
     c.item-item.result (λ db i reads at. c.item-item.ensures db i (subst (λ (t : Text). Reads t db) (sym c.as_slice.ensures) reads) at) c.in_ok-crossref.ensures.text c.in_ok-crossref.ensures.short
     refl refl refl c.in_ok-put_entry.ensures.named
+    c.is_settled_entry-settled.result c.is_settled_entry-settled.ensures (subst (λ (b : Text). Admits (length b) c.is_settled_entry-settled.result c.args.tables.now.bounds c.admit.new.self) c.body.ensures c.admit.ensures)
 
 pub returns-in_err-put_entry-clause-tables_err : goal.returns-in_err-put_entry-clause-tables_err
 returns-in_err-put_entry-clause-tables_err g c =
     err_always c.from_residual-in_err-put_entry.result
-    (kept_still (g.L.ItemList.items c.args.items.now) c.args.tables.now _ c.args.m c.args.change.now.window.from c.requires.amendment.number refl refl refl refl c.in_err-put_entry.ensures.named_err)
+    (kept_still (g.L.ItemList.items c.args.items.now) c.args.tables.now _ c.args.m c.args.change.now.window.from c.requires.amendment.number refl refl refl refl refl c.in_err-put_entry.ensures.named_err)

@@ -11,16 +11,16 @@ use Rattle.bib_store.proofs.following_runs.+follow_runs.Goals as goal
 pub returns-then-is_empty-clause-led : goal.returns-then-is_empty-clause-led
 returns-then-is_empty-clause-led g t c = none_lead c.args.pieces.now c.args.front.now c.args.n (g.L.ItemList.items c.args.items.now) c.args.tables.now (eqb-true _ _ (sym c.is_empty.ensures ∙ c.if-is_empty.true))
 
-pub returns-in_err-count-clause-back : goal.returns-in_err-count-clause-back
-returns-in_err-count-clause-back g t c =
-    err_always c.from_residual-in_err-count.result
-    (longer_back (g.L.ItemList.items c.args.items.now) c.args.tables.now c.bring_in.new.tables c.in_ok-change.change.window.to c.args.n c.in_ok-change.ensures.to c.requires.within c.in_err-count.ensures.back)
+pub returns-in_err-brought-clause-back : goal.returns-in_err-brought-clause-back
+returns-in_err-brought-clause-back g t c =
+    err_always c.from_residual-in_err-brought.result
+    (longer_back (g.L.ItemList.items c.args.items.now) c.args.tables.now c.bring_in.new.tables c.in_ok-change.change.window.to c.args.n c.in_ok-change.ensures.to c.requires.within c.in_err-brought.ensures.back)
 
 pub follow_runs-requires : goal.follow_runs-requires
 follow_runs-requires g t c =
     let r = c.in_ok-change.ensures in
-    let b = c.in_ok-count.ensures.brought in
-    let long = long_now c.in_ok-change.change (g.L.ItemList.items c.args.items.now) (g.L.ItemList.items c.bring_in.new.items) c.in_ok-count.count c.in_ok-count.lead b.put b.leads r.change.layout.0 r.change.layout.1 in
+    let b = c.in_ok-brought.ensures.brought in
+    let long = long_now c.in_ok-change.change (g.L.ItemList.items c.args.items.now) (g.L.ItemList.items c.bring_in.new.items) c.in_ok-brought.brought.count c.in_ok-brought.brought.lead b.put b.leads r.change.layout.0 r.change.layout.1 in
     let fewer : length c.in-Some.starts.now < length c.args.starts.now = omega (arith, c.in-Some.ensures.cases.1) in
     let measured = c.bring_in.ensures.measured c.args.front.now c.requires.measured in
     let within : c.in_ok-change.change.window.from ≤ length (g.L.ItemList.items c.bring_in.new.items) = omega (arith, r.change.window.ordered, r.change.window.within, long) in
@@ -30,84 +30,85 @@ pub overflow_sub-first_old-in-Ok : goal.overflow_sub-first_old-in-Ok
 overflow_sub-first_old-in-Ok g t c =
     let r = c.in_ok-change.ensures in
     let long = long_led c.args.front.now (g.L.ItemList.items c.args.items.now) (g.L.ItemList.items c.bring_in.new.items) (g.L.ItemList.items c.follow_runs.new.items)
-    c.args.tables.now c.bring_in.new.tables c.follow_runs.new.tables c.args.n c.in_ok-count.count c.in_ok-count.lead c.split_at.result.0.now c.split_at.result.1.now c.in_ok-change.change r r.change.layout.0 r.change.layout.1
-    c.requires.within c.in_ok-count.ensures.brought c.in-Ok.ensures.led in
+    c.args.tables.now c.bring_in.new.tables c.follow_runs.new.tables c.args.n c.in_ok-brought.brought.count c.in_ok-brought.brought.lead c.split_at.result.0.now c.split_at.result.1.now c.in_ok-change.change r r.change.layout.0 r.change.layout.1
+    c.requires.within c.in_ok-brought.ensures.brought c.in-Ok.ensures.led in
     omega (arith, long, c.count-old_count.ensures, c.count-in-Ok.ensures)
 
 pub overflow_add-first_old : goal.overflow_add-first_old
 overflow_add-first_old g t c =
     let r = c.in_ok-change.ensures in
     let place = old_place c.args.front.now (g.L.ItemList.items c.args.items.now) (g.L.ItemList.items c.bring_in.new.items) (g.L.ItemList.items c.follow_runs.new.items)
-    c.args.tables.now c.bring_in.new.tables c.follow_runs.new.tables c.args.n c.in_ok-count.count c.in_ok-count.lead c.split_at.result.0.now c.split_at.result.1.now c.in_ok-change.change r r.change.layout.0 r.change.layout.1
-    c.requires.within c.in_ok-count.ensures.brought c.in-Ok.ensures.led in
+    c.args.tables.now c.bring_in.new.tables c.follow_runs.new.tables c.args.n c.in_ok-brought.brought.count c.in_ok-brought.brought.lead c.split_at.result.0.now c.split_at.result.1.now c.in_ok-change.change r r.change.layout.0 r.change.layout.1
+    c.requires.within c.in_ok-brought.ensures.brought c.in-Ok.ensures.led in
     let long = long_led c.args.front.now (g.L.ItemList.items c.args.items.now) (g.L.ItemList.items c.bring_in.new.items) (g.L.ItemList.items c.follow_runs.new.items)
-    c.args.tables.now c.bring_in.new.tables c.follow_runs.new.tables c.args.n c.in_ok-count.count c.in_ok-count.lead c.split_at.result.0.now c.split_at.result.1.now c.in_ok-change.change r r.change.layout.0 r.change.layout.1
-    c.requires.within c.in_ok-count.ensures.brought c.in-Ok.ensures.led in
+    c.args.tables.now c.bring_in.new.tables c.follow_runs.new.tables c.args.n c.in_ok-brought.brought.count c.in_ok-brought.brought.lead c.split_at.result.0.now c.split_at.result.1.now c.in_ok-change.change r r.change.layout.0 r.change.layout.1
+    c.requires.within c.in_ok-brought.ensures.brought c.in-Ok.ensures.led in
     omega (arith, place, long, r.change.window.within, c.count-old_count.ensures, c.count-in-Ok.ensures, c.count-in-Ok.type_inv)
 
 pub take_out-requires-clause-within : goal.take_out-requires-clause-within
 take_out-requires-clause-within g t c =
     let r = c.in_ok-change.ensures in
     let place = old_place c.args.front.now (g.L.ItemList.items c.args.items.now) (g.L.ItemList.items c.bring_in.new.items) (g.L.ItemList.items c.follow_runs.new.items)
-    c.args.tables.now c.bring_in.new.tables c.follow_runs.new.tables c.args.n c.in_ok-count.count c.in_ok-count.lead c.split_at.result.0.now c.split_at.result.1.now c.in_ok-change.change r r.change.layout.0 r.change.layout.1
-    c.requires.within c.in_ok-count.ensures.brought c.in-Ok.ensures.led in
+    c.args.tables.now c.bring_in.new.tables c.follow_runs.new.tables c.args.n c.in_ok-brought.brought.count c.in_ok-brought.brought.lead c.split_at.result.0.now c.split_at.result.1.now c.in_ok-change.change r r.change.layout.0 r.change.layout.1
+    c.requires.within c.in_ok-brought.ensures.brought c.in-Ok.ensures.led in
     let long = long_led c.args.front.now (g.L.ItemList.items c.args.items.now) (g.L.ItemList.items c.bring_in.new.items) (g.L.ItemList.items c.follow_runs.new.items)
-    c.args.tables.now c.bring_in.new.tables c.follow_runs.new.tables c.args.n c.in_ok-count.count c.in_ok-count.lead c.split_at.result.0.now c.split_at.result.1.now c.in_ok-change.change r r.change.layout.0 r.change.layout.1
-    c.requires.within c.in_ok-count.ensures.brought c.in-Ok.ensures.led in
+    c.args.tables.now c.bring_in.new.tables c.follow_runs.new.tables c.args.n c.in_ok-brought.brought.count c.in_ok-brought.brought.lead c.split_at.result.0.now c.split_at.result.1.now c.in_ok-change.change r r.change.layout.0 r.change.layout.1
+    c.requires.within c.in_ok-brought.ensures.brought c.in-Ok.ensures.led in
     omega (arith, place, long, r.change.window.within, r.change.window.ordered, c.count-old_count.ensures, c.count-in-Ok.ensures)
 
 pub take_out-requires-clause-others : goal.take_out-requires-clause-others
 take_out-requires-clause-others g t c =
     let r = c.in_ok-change.ensures in
     let place = old_place c.args.front.now (g.L.ItemList.items c.args.items.now) (g.L.ItemList.items c.bring_in.new.items) (g.L.ItemList.items c.follow_runs.new.items)
-    c.args.tables.now c.bring_in.new.tables c.follow_runs.new.tables c.args.n c.in_ok-count.count c.in_ok-count.lead c.split_at.result.0.now c.split_at.result.1.now c.in_ok-change.change r r.change.layout.0 r.change.layout.1
-    c.requires.within c.in_ok-count.ensures.brought c.in-Ok.ensures.led in
+    c.args.tables.now c.bring_in.new.tables c.follow_runs.new.tables c.args.n c.in_ok-brought.brought.count c.in_ok-brought.brought.lead c.split_at.result.0.now c.split_at.result.1.now c.in_ok-change.change r r.change.layout.0 r.change.layout.1
+    c.requires.within c.in_ok-brought.ensures.brought c.in-Ok.ensures.led in
     old_others c.args.front.now (g.L.ItemList.items c.args.items.now) (g.L.ItemList.items c.bring_in.new.items) (g.L.ItemList.items c.follow_runs.new.items)
-    c.args.tables.now c.bring_in.new.tables c.follow_runs.new.tables c.args.n c.in_ok-count.count c.in_ok-count.lead c.split_at.result.0.now c.split_at.result.1.now c.in_ok-change.change r r.change.layout.0 r.change.layout.1
-    c.requires.within c.in_ok-count.ensures.brought c.in-Ok.ensures.led
+    c.args.tables.now c.bring_in.new.tables c.follow_runs.new.tables c.args.n c.in_ok-brought.brought.count c.in_ok-brought.brought.lead c.split_at.result.0.now c.split_at.result.1.now c.in_ok-change.change r r.change.layout.0 r.change.layout.1
+    c.requires.within c.in_ok-brought.ensures.brought c.in-Ok.ensures.led
     _ _ (omega (arith, place, c.count-old_count.ensures, c.count-in-Ok.ensures)) refl
 
 pub returns-in-Ok-clause-led : goal.returns-in-Ok-clause-led
 returns-in-Ok-clause-led g t c =
     let r = c.in_ok-change.ensures in
     let place = old_place c.args.front.now (g.L.ItemList.items c.args.items.now) (g.L.ItemList.items c.bring_in.new.items) (g.L.ItemList.items c.follow_runs.new.items)
-    c.args.tables.now c.bring_in.new.tables c.follow_runs.new.tables c.args.n c.in_ok-count.count c.in_ok-count.lead c.split_at.result.0.now c.split_at.result.1.now c.in_ok-change.change r r.change.layout.0 r.change.layout.1
-    c.requires.within c.in_ok-count.ensures.brought c.in-Ok.ensures.led in
+    c.args.tables.now c.bring_in.new.tables c.follow_runs.new.tables c.args.n c.in_ok-brought.brought.count c.in_ok-brought.brought.lead c.split_at.result.0.now c.split_at.result.1.now c.in_ok-change.change r r.change.layout.0 r.change.layout.1
+    c.requires.within c.in_ok-brought.ensures.brought c.in-Ok.ensures.led in
     run_led c.args.front.now (g.L.ItemList.items c.args.items.now) (g.L.ItemList.items c.bring_in.new.items) (g.L.ItemList.items c.follow_runs.new.items)
-    c.args.tables.now c.bring_in.new.tables c.follow_runs.new.tables c.args.n c.in_ok-count.count c.in_ok-count.lead c.split_at.result.0.now c.split_at.result.1.now c.in_ok-change.change r r.change.layout.0 r.change.layout.1
-    c.requires.within c.in_ok-count.ensures.brought c.in-Ok.ensures.led
+    c.args.tables.now c.bring_in.new.tables c.follow_runs.new.tables c.args.n c.in_ok-brought.brought.count c.in_ok-brought.brought.lead c.split_at.result.0.now c.split_at.result.1.now c.in_ok-change.change r r.change.layout.0 r.change.layout.1
+    c.requires.within c.in_ok-brought.ensures.brought c.in-Ok.ensures.led
     c.args.pieces.now (g.L.ItemList.items c.take_out.new.items) c.take_out.new.tables _ _ c.split_at.ensures.by_index.0
-    (omega (arith, place, c.count-old_count.ensures, c.count-in-Ok.ensures)) refl c.take_out.ensures.items c.in_ok-count.ensures.followed c.take_out.ensures.followed
+    (omega (arith, place, c.count-old_count.ensures, c.count-in-Ok.ensures)) refl c.take_out.ensures.items c.in_ok-brought.ensures.followed c.take_out.ensures.followed
 
 pub overflow_add-from-in-Err : goal.overflow_add-from-in-Err
 overflow_add-from-in-Err g t c =
     let r = c.in_ok-change.ensures in
-    let b = c.in_ok-count.ensures.brought in
-    let long = long_now c.in_ok-change.change (g.L.ItemList.items c.args.items.now) (g.L.ItemList.items c.bring_in.new.items) c.in_ok-count.count c.in_ok-count.lead b.put b.leads r.change.layout.0 r.change.layout.1 in
+    let b = c.in_ok-brought.ensures.brought in
+    let long = long_now c.in_ok-change.change (g.L.ItemList.items c.args.items.now) (g.L.ItemList.items c.bring_in.new.items) c.in_ok-brought.brought.count c.in_ok-brought.brought.lead b.put b.leads r.change.layout.0 r.change.layout.1 in
     omega (arith, long, r.change.window.ordered, r.change.window.within, c.count.ensures, c.count.type_inv)
 
 pub take_out-requires-in-Err-clause-within : goal.take_out-requires-in-Err-clause-within
 take_out-requires-in-Err-clause-within g t c =
     let r = c.in_ok-change.ensures in
-    let b = c.in_ok-count.ensures.brought in
-    let long = long_now c.in_ok-change.change (g.L.ItemList.items c.args.items.now) (g.L.ItemList.items c.bring_in.new.items) c.in_ok-count.count c.in_ok-count.lead b.put b.leads r.change.layout.0 r.change.layout.1 in
+    let b = c.in_ok-brought.ensures.brought in
+    let long = long_now c.in_ok-change.change (g.L.ItemList.items c.args.items.now) (g.L.ItemList.items c.bring_in.new.items) c.in_ok-brought.brought.count c.in_ok-brought.brought.lead b.put b.leads r.change.layout.0 r.change.layout.1 in
     omega (arith, long, r.change.window.ordered, r.change.window.within, ap (length {A = Item}) c.in-Err.ensures.err)
 
 pub returns-clause-back : goal.returns-clause-back
 returns-clause-back g t c =
     let r = c.in_ok-change.ensures in
     run_back c.args.front.now (g.L.ItemList.items c.args.items.now) (g.L.ItemList.items c.bring_in.new.items) (g.L.ItemList.items c.follow_runs.new.items)
-    c.args.tables.now c.bring_in.new.tables c.follow_runs.new.tables c.take_out-in-Err.new.tables c.args.n c.in_ok-count.count c.in_ok-count.lead c.split_at.result.1.now c.in_ok-change.change r r.change.layout.0 r.change.layout.1
-    c.requires.within c.in_ok-count.ensures.brought c.in-Err.ensures.err c.in_ok-count.ensures.followed c.in-Err.ensures.back c.take_out-in-Err.ensures.followed
+    c.args.tables.now c.bring_in.new.tables c.follow_runs.new.tables c.take_out-in-Err.new.tables c.give_back.new.tables c.args.n c.in_ok-brought.brought.count c.in_ok-brought.brought.lead c.split_at.result.1.now c.in_ok-change.change
+    c.in_ok-brought.brought.former r r.change.layout.0 r.change.layout.1
+    c.requires.within c.in_ok-brought.ensures.brought c.in-Err.ensures.err c.in_ok-brought.ensures.followed c.in-Err.ensures.back c.take_out-in-Err.ensures.followed c.in_ok-brought.ensures.comes c.give_back.ensures.back
 
 pub returns-clause-err : goal.returns-clause-err
 returns-clause-err g t c =
     let r = c.in_ok-change.ensures in
-    let b = c.in_ok-count.ensures.brought in
+    let b = c.in_ok-brought.ensures.brought in
     let inner = r.change.layout.0 in
     let from : ℕ = c.in_ok-change.change.window.from in
     let old = g.L.ItemList.items c.args.items.now in
     let low : from ≤ length old = omega (arith, r.change.window.ordered, r.change.window.within) in
     c.take_out-in-Err.ensures.items
-    ∙ ap (without_range from (from + c.in_ok-count.count)) (c.in-Err.ensures.err ∙ b.put.put inner r.change.layout.1)
-    ∙ without-put old (all_stored inner.items) from c.in_ok-count.count low (sym (long_new c.in_ok-change.change (g.L.ItemList.items c.args.items.now) (g.L.ItemList.items c.bring_in.new.items) c.in_ok-count.count c.in_ok-count.lead b.put b.leads r.change.layout.0 r.change.layout.1))
+    ∙ ap (without_range from (from + c.in_ok-brought.brought.count)) (c.in-Err.ensures.err ∙ b.put.put inner r.change.layout.1)
+    ∙ without-put old (all_stored inner.items) from c.in_ok-brought.brought.count low (sym (long_new c.in_ok-change.change (g.L.ItemList.items c.args.items.now) (g.L.ItemList.items c.bring_in.new.items) c.in_ok-brought.brought.count c.in_ok-brought.brought.lead b.put b.leads r.change.layout.0 r.change.layout.1))

@@ -1,5 +1,6 @@
-use Rattle.std.proofs.Common.{◌∙◌, ℕ, List, length, refl, sym, ap, arith}
+use Rattle.std.proofs.Common.{◌∙◌, ℕ, List, length, refl, sym, ap, subst, arith}
 use Rattle.bib_items.specs.declared.list.Item.{Item}
+use Rattle.bib_store.specs.Runs.{AreBroughtIn}
 use Rattle.bib_store.specs.Stored.{file_of}
 use Rattle.bib_store.proofs.Exchanges.{put_of, are_put, taken-new}
 use Rattle.bib_store.proofs.KeptRuns.{followed_same, come_measured}
@@ -7,12 +8,13 @@ use Rattle.bib_store.proofs.Walks.{with_len}
 use Rattle.bib_store.proofs.following_runs.bring_in.Goals as goal
 
 pub returns-in-Ok-clause-brought : goal.returns-in-Ok-clause-brought
-returns-in-Ok-clause-brought g c = record {
-  put = are_put c.args.change.now (g.L.ItemList.items c.args.items.now) _ _ _ _ c.requires.window c.as_slice-text.ensures c.in_ok-insert_all.ensures.ok c.count-old_count.ensures c.count.ensures;
-  leads = c.in-Ok.ensures.lead;
-  come = c.in-Ok.ensures.come;
-  gone = c.in-Ok.ensures.gone;
-}
+returns-in-Ok-clause-brought g c =
+    subst (λ (k : ℕ). AreBroughtIn c.args.change.now (g.L.ItemList.items c.args.items.now) (g.L.ItemList.items c.insert_all.new.self) k c.in-Ok.brought.lead) (sym c.in-Ok.ensures.count) (record {
+      put = are_put c.args.change.now (g.L.ItemList.items c.args.items.now) _ _ _ _ c.requires.window c.as_slice-text.ensures c.in_ok-insert_all.ensures.ok c.count-old_count.ensures c.count.ensures;
+      leads = c.in-Ok.ensures.lead;
+      come = c.in-Ok.ensures.come;
+      gone = c.in-Ok.ensures.gone;
+    })
 
 pub returns-in-Ok-clause-measured : goal.returns-in-Ok-clause-measured
 returns-in-Ok-clause-measured g c = λ front m.
@@ -30,6 +32,12 @@ returns-in-Ok-clause-followed g c = λ inner reads rest room f.
     let now = g.L.ItemList.items c.insert_all.new.self in
     let are = are_put c.args.change.now old now _ _ _ c.requires.window c.as_slice-text.ensures c.in_ok-insert_all.ensures.ok c.count-old_count.ensures c.count.ensures in
     followed_same _ _ c.learn_few.new.tables _ (c.in-Ok.ensures.followed old are inner reads rest room f) refl (λ items. with_len items c.learn_few.new.tables c.saturating_add-file_len.result)
+
+pub returns-in-Ok-clause-comes : goal.returns-in-Ok-clause-comes
+returns-in-Ok-clause-comes g c =
+    let old = g.L.ItemList.items c.args.items.now in
+    let now = g.L.ItemList.items c.insert_all.new.self in
+    c.in-Ok.ensures.comes old (are_put c.args.change.now old now _ _ _ c.requires.window c.as_slice-text.ensures c.in_ok-insert_all.ensures.ok c.count-old_count.ensures c.count.ensures)
 
 pub returns-in-Err-clause-measured : goal.returns-in-Err-clause-measured
 returns-in-Err-clause-measured g c = λ front m.

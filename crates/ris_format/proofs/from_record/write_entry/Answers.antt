@@ -2,7 +2,7 @@ use Rattle.std.proofs.Common.{◌≡◌, ◌∙◌, ◌++◌, ap, rules}
 use Rattle.bib_spec.specs.Text.{Text}
 use Rattle.ris_text.specs.Tags.{begin_tag}
 use Rattle.ris_text.specs.Writing.{written, ended}
-use Rattle.ris_text.proofs.WriteLemmas.{kept_text, record_behind}
+use Rattle.ris_text.proofs.WriteLemmas.{kept_text, record_after}
 use Rattle.ris_format.specs.declared.kinds.Kind.{Kind}
 use Rattle.ris_format.specs.Kinds.{kind_of_entry, ris_type}
 use Rattle.ris_format.specs.Lines.{lines_of}
@@ -16,7 +16,7 @@ returns-clause-text c =
     let first : Text = c.write_line.new.text.items in
     let name : c.as_slice.result.now ≡ entry.kind_name = search rules in
     let kind : c.of_entry-kind.result ≡ kind_of_entry entry.kind_name = c.of_entry-kind.ensures ∙ ap kind_of_entry name in
-    record_behind (ris entry) text first c.push_record.new.lines.items c.write_line-2.new.text.items
+    record_after (ris entry) text first c.push_record.new.lines.items c.write_line-2.new.text.items
     (c.in_ok-write_line.ensures ∙ ap (λ (t : Text). text ++ ended (written begin_tag t)) (c.ris_type.ensures ∙ ap ris_type kind))
     (c.in_ok-push_record.ensures ∙ ap (λ (k : Kind). first ++ kept_text (lines_of (written_groups k entry))) kind)
     c.in_ok-write_line-2.ensures

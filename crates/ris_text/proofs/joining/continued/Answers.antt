@@ -1,14 +1,14 @@
 use Rattle.std.proofs.Common.{sym, ap, ◌∙◌}
 use Rattle.ris_text.specs.Code.{continues}
-use Rattle.ris_text.proofs.JoinLemmas.{GoesOn-more, GoesOn-stops}
+use Rattle.ris_text.proofs.JoinLemmas.{IsJoined-more, IsJoined-stops}
 use Rattle.ris_text.proofs.joining.continued.Goals as goal
 
 pub line-preserved : goal.line-preserved
 line-preserved c =
-    GoesOn-more _ _ _ _ _ c.in-Some.after _ c.line.invariant c.in-Some.ensures.some (ap continues (sym c.in-Some.ensures.some) ∙ sym c.continues.ensures ∙ c.line-test.true) c.in_ok-join.ensures
+    IsJoined-more _ _ _ _ _ c.in-Some.after _ c.line.invariant c.in-Some.ensures.some (ap continues (sym c.in-Some.ensures.some) ∙ sym c.continues.ensures ∙ c.line-test.true) c.in_ok-join.ensures
 
 pub returns-clause-value : goal.returns-clause-value
-returns-clause-value c = c.from_vec.ensures ∙ (GoesOn-stops _ _ _ c.line.rest c.line.invariant (sym c.continues.ensures ∙ c.line-test.false)).0
+returns-clause-value c = c.from_vec.ensures ∙ (IsJoined-stops _ _ _ c.line.rest c.line.invariant (sym c.continues.ensures ∙ c.line-test.false)).0
 
 pub returns-clause-after : goal.returns-clause-after
-returns-clause-after c = (GoesOn-stops _ c.line.whole.items _ c.line.rest c.line.invariant (sym c.continues.ensures ∙ c.line-test.false)).1
+returns-clause-after c = (IsJoined-stops _ c.line.whole.items _ c.line.rest c.line.invariant (sym c.continues.ensures ∙ c.line-test.false)).1

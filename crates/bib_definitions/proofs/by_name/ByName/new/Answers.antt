@@ -1,5 +1,5 @@
 use Rattle.bib_definitions.specs.ByName.{lists_of}
-use Rattle.bib_definitions.proofs.DefinitionTables.{no_texts, no_ends}
+use Rattle.bib_definitions.proofs.DefinedNames.{no_texts, no_ends}
 use Rattle.bib_definitions.proofs.NumberedLists.{none-named}
 use Rattle.bib_definitions.proofs.by_name.ByName.new.Goals as goal
 

@@ -1,11 +1,8 @@
-use Rattle.std.proofs.Common.{◌∙◌, ℕ, sym, ap, subst}
-use Rattle.bib_definitions.specs.ByName.{EndsBy, texts_after}
+use Rattle.std.proofs.Common.{◌∙◌, sym, ap, subst}
+use Rattle.bib_definitions.specs.ByName.{texts_after}
 use Rattle.bib_definitions.specs.Definitions.{Known, texts_at, AreDefinitionsOf}
 use Rattle.bib_definitions.proofs.DefinitionTables.{definitions_come}
 use Rattle.bib_definitions.proofs.definitions.Definitions.make_way.Goals as goal
-
-pub invariant_of-self : goal.invariant_of-self
-invariant_of-self c = (subst (λ (k : ℕ). EndsBy k c.self.inside.names) (sym c.make_way.ensures.count) c.self.invariant.0, c.self.invariant.1)
 
 pub returns-clause-come : goal.returns-clause-come
 returns-clause-come c before after item count fits other are =
@@ -13,4 +10,4 @@ returns-clause-come c before after item count fits other are =
     (subst (AreDefinitionsOf _) (sym c.self.view_is) are)
 
 pub returns-clause-seen : goal.returns-clause-seen
-returns-clause-seen c = ap (texts_after c.self.inside.names) c.make_way.ensures.rank ∙ ap (λ (known : Known). texts_at known c.args.n) c.self.view_is
+returns-clause-seen c = ap (texts_after c.self.inside.names.defined) c.make_way.ensures.rank ∙ ap (λ (known : Known). texts_at known c.args.n) c.self.view_is

@@ -1,22 +1,24 @@
-use Rattle.std.proofs.Common.{inl, inr}
-use Rattle.std.proofs.lemmas.Result.{err_from_is_err_and}
-use Rattle.bib_ris.proofs.DraftSteps.{drafting-more, drafting-unbalanced}
+use Rattle.std.proofs.Common.{◌∙◌, [], sym, ap}
+use Rattle.std.specs.Prelude.{Ok}
+use Rattle.ris_text.specs.Code.{ris_file}
+use Rattle.bib_ris.proofs.DraftSteps.{said-more, said-all, said-unbalanced}
 use Rattle.bib_ris.proofs.drafts.Drafts.of.Goals as goal
+
+pub returns-in_default-clause-drafts : goal.returns-in_default-clause-drafts
+returns-in_default-clause-drafts c =
+    let ends = rw c.in_default.is at c.in_ok-first.ensures.none in
+    said-all c.args.text.now c.records.rest c.records.drafts c.skipped.result c.records.invariant
+    (ends ∙ ap (λ n. Ok (ris_file [] n)) (sym c.skipped.ensures))
+
+pub returns-then-not-branch-clause-refused : goal.returns-then-not-branch-clause-refused
+returns-then-not-branch-clause-refused c =
+    let next = rw c.in-Some.is at c.in_ok-first.ensures.some in
+    let later = c.in_ok-read_on.ensures.said in
+    said-unbalanced c.args.text.now c.records.rest c.in_ok-first.after c.records.drafts c.in-Some.ris later.0 c.records.invariant next
+    (c.in_ok-add.ensures.unbalanced c.if-not-branch.true) later.1
 
 pub records-preserved : goal.records-preserved
 records-preserved c =
-    drafting-more c.args.records c.records.left.items c.pop.new.self.items c.records.drafts c.add.new.self c.in-Some.record c.in_ok-entry.entry c.records.invariant c.in-Some.ensures.items
-    c.in_ok-entry.ensures.record c.in_ok-add.ensures.added
-
-pub returns-in_err-add-clause-refused : goal.returns-in_err-add-clause-refused
-returns-in_err-add-clause-refused c =
-    let p = err_from_is_err_and c.from_residual-in_err-add.result c.from_residual-in_err-add.ensures.1 in
-    rw (p.1, p.2) (elim c.in_err-add.ensures.refused [
-      | inl memory ↦ inl memory
-      | inr unbalanced ↦
-          inr (
-            unbalanced.0,
-            drafting-unbalanced c.args.records c.records.left.items c.pop.new.self.items c.records.drafts c.in-Some.record c.in_ok-entry.entry c.records.invariant
-                c.in-Some.ensures.items c.in_ok-entry.ensures.record unbalanced.1,
-          )
-    ])
+    let next = rw c.in-Some.is at c.in_ok-first.ensures.some in
+    said-more c.args.text.now c.records.rest c.in_ok-first.after c.records.drafts c.add.new.self c.in-Some.ris c.records.invariant next
+    (c.in_ok-add.ensures.added c.if-not-branch.false)

@@ -1,4 +1,6 @@
-use Rattle.std.proofs.Common.{◌∙◌, refl, sym, ap}
+use Rattle.std.proofs.Common.{◌∙◌, true, length, refl, sym, ap, subst}
+use Rattle.bib_spec.specs.Text.{Text}
+use Rattle.bib_store.specs.Bounds.{Admits}
 use Rattle.bib_scan.specs.View.{View}
 use Rattle.bib_store.specs.declared.tables.Tables.{Tables}
 use Rattle.bib_store.proofs.Answered.{err_from}
@@ -14,8 +16,9 @@ returns-in-Comment-clause-step c tree is other seen =
       preambles = c.make_way-in-Comment.new.self;
       named = old.named;
       definitions = c.make_way-in-Comment-2.new.self;
+      bounds = c.admit.new.self;
     } in
-    comment_insertion old new c.args.n c.args.view.now c.make_way.ensures.moved c.make_way-in-Comment.ensures.moved refl c.make_way-in-Comment-2.ensures.come tree is (sym (ap (λ (v : View). v.kind) seen) ∙ sym c.kind.ensures ∙ c.in-Comment.is) seen
+    comment_insertion old new c.args.n c.args.view.now c.make_way.ensures.moved c.make_way-in-Comment.ensures.moved refl c.make_way-in-Comment-2.ensures.come (subst (λ (b : Text). Admits (length b) true old.bounds c.admit.new.self) c.body.ensures c.admit.ensures) tree is (sym (ap (λ (v : View). v.kind) seen) ∙ sym c.kind.ensures ∙ c.in-Comment.is) seen
 
 pub returns-in-Entry-clause-too_long : goal.returns-in-Entry-clause-too_long
 returns-in-Entry-clause-too_long c = err_from c.insert_entry.result _ _

@@ -5,6 +5,7 @@ use Rattle.bib_entries.specs.EntryTable.{IsTableOf}
 use Rattle.bib_store.proofs.Answered.{err_always}
 use Rattle.bib_definitions.specs.Definitions.{AreAtMost}
 use Rattle.bib_definitions.specs.MacrosSeen.{macros_seen}
+use Rattle.bib_store.specs.Bounds.{Admits}
 use Rattle.bib_store.specs.declared.tables.Tables.{Tables}
 use Rattle.bib_store.proofs.TableSteps.{entry_insertion, entry_over, named_kept}
 use Rattle.bib_store.proofs.tables.Tables.insert_entry.Goals as goal
@@ -24,8 +25,9 @@ returns-in_err-insert_named-clause-err c =
       preambles = c.args.self.now.preambles;
       named = c.insert_named.new.named;
       definitions = c.args.self.now.definitions;
+      bounds = c.args.self.now.bounds;
     } in
-    err_always c.from_residual-in_err-insert_named.result (named_kept c.args.self.now new refl c.in_err-insert_named.ensures.err.0 refl refl c.in_err-insert_named.ensures.err.1)
+    err_always c.from_residual-in_err-insert_named.result (named_kept c.args.self.now new refl c.in_err-insert_named.ensures.err.0 refl refl refl c.in_err-insert_named.ensures.err.1)
 
 pub returns-clause-step : goal.returns-clause-step
 returns-clause-step c =
@@ -35,6 +37,7 @@ returns-clause-step c =
       preambles = c.make_way.new.self;
       named = c.insert_named.new.named;
       definitions = c.make_way-2.new.self;
+      bounds = c.admit.new.self;
     } in
     entry_insertion c.args.self.now new c.args.n c.args.view.now (macros_seen c.at.result) c.in_ok-crossref.crossref c.at.ensures
     c.in_ok-insert_named.ensures.entries c.make_way.ensures.moved
@@ -43,6 +46,7 @@ returns-clause-step c =
     c.make_way-2.ensures.come
     c.in_ok-crossref.ensures.text
     c.in_ok-crossref.ensures.short
+    c.is_settled_entry-settled.result c.is_settled_entry-settled.ensures (subst (λ (b : Text). Admits (length b) c.is_settled_entry-settled.result c.args.self.now.bounds c.admit.new.self) c.body.ensures c.admit.ensures)
 
 pub crossref_within-requires : goal.crossref_within-requires
 crossref_within-requires c = subst (AreAtMost c.longest-longest.result) (sym c.at.ensures) (c.longest-longest.ensures c.args.n)

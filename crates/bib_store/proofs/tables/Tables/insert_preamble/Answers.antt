@@ -1,4 +1,6 @@
-use Rattle.std.proofs.Common.{refl}
+use Rattle.std.proofs.Common.{true, length, refl, subst}
+use Rattle.bib_spec.specs.Text.{Text}
+use Rattle.bib_store.specs.Bounds.{Admits}
 use Rattle.bib_store.specs.declared.tables.Tables.{Tables}
 use Rattle.bib_store.proofs.TableSteps.{preamble_insertion}
 use Rattle.bib_store.proofs.tables.Tables.insert_preamble.Goals as goal
@@ -12,5 +14,6 @@ returns-clause-step c =
       preambles = c.insert.new.self;
       named = old.named;
       definitions = c.make_way-2.new.self;
+      bounds = c.admit.new.self;
     } in
-    preamble_insertion old new c.args.n c.args.view.now c.in_ok-insert.ensures.ok c.make_way.ensures.moved refl c.make_way-2.ensures.come c.in_ok-measure_preamble.ensures.short
+    preamble_insertion old new c.args.n c.args.view.now c.in_ok-insert.ensures.ok c.make_way.ensures.moved refl c.make_way-2.ensures.come (subst (λ (b : Text). Admits (length b) true old.bounds c.admit.new.self) c.body.ensures c.admit.ensures) c.in_ok-measure_preamble.ensures.short

@@ -2,10 +2,10 @@ use Rattle.std.proofs.Common.{◌≡◌, ◌≤◌, ◌∙◌, ap, sym, subst, l
 use Rattle.std.specs.Str.{bytes_eq}
 use Rattle.bib_spec.specs.Text.{Text, folded}
 use Rattle.bib_value.specs.FoldedMap.{value_at, by_name}
-use Rattle.bib_value.proofs.Entries.{value_at-insert, names_stay_short, folded_short}
+use Rattle.bib_value.proofs.Entries.{value_at-by_name, value_at-insert, names_stay_short, folded_short}
 use Rattle.bib_value.proofs.folded_map.FoldedMap.insert.Goals as goal
 
-key : (g : _) (c : goal.Joined-branch-3 g) → c.in_ok-folded.folded.items ≡ folded c.args.name.now
+key : (g : _) (c : goal.In_ok-insert g) → c.in_ok-folded.folded.items ≡ folded c.args.name.now
 key g c = c.in_ok-folded.ensures.items ∙ c.as_slice.ensures ∙ c.of.ensures
 
 pub invariant_of-self-2 : goal.invariant_of-self-2
@@ -21,3 +21,10 @@ returns-clause-ok g c x =
     ∙ value_at-insert c.self.inside.entries.entries c.in_ok-folded.folded c.args.value x
     ∙ ap (λ (t : Text). if bytes_eq x t then Some c.args.value else value_at (by_name c.self.inside.entries.entries) x) (key g c)
     ∙ ap (λ l. if bytes_eq x (folded c.args.name.now) then Some c.args.value else value_at l x) c.self.view_is
+
+pub returns-clause-value : goal.returns-clause-value
+returns-clause-value g c =
+    c.in_ok-insert.ensures.old
+    ∙ value_at-by_name c.self.inside.entries c.in_ok-folded.folded.items
+    ∙ ap (value_at (by_name c.self.inside.entries.entries)) (key g c)
+    ∙ ap (λ l. value_at l (folded c.args.name.now)) c.self.view_is

@@ -1,0 +1,10 @@
+use Rattle.std.proofs.Common.{length}
+use Rattle.bib_spec.specs.Texts.{Macros}
+use Rattle.bib_store.proofs.FirstCrossrefs.{AreAhead}
+use Rattle.bib_store.proofs.bounds.are_settled.Given as goal
+
+abbrev pub decreases-rows : goal.decreases-rows
+decreases-rows l = length l.fields
+
+abbrev pub invariant-rows : goal.invariant-rows
+invariant-rows l = (m : Macros) → AreAhead l.fn.fields m l.fields

@@ -1,0 +1,37 @@
+-- What holds of each item whatever macros stand for, and how long the items are at most.
+use Rattle.std.specs.Prelude.{ℕ, ◌≡◌, ◌≤◌, Bool, true, false, List, length, map}
+use Rattle.std.specs.List.{AllByRecursion}
+use Rattle.bib_spec.specs.Tree.{Part, Braced, Quoted, Digits, Macro, Tree, tree_bytes}
+use Rattle.bib_spec.specs.Reading as reading
+use Rattle.bib_spec.specs.Texts.{Macros}
+use Rattle.bib_spec.specs.Records.{entry_in, crossref_text}
+use Rattle.bib_definitions.specs.Definitions.{defined_by}
+use Rattle.bib_store.specs.declared.bounds.Bounds.{Bounds}
+
+-- the part is no name of a macro
+abbrev pub is_literal : Part → Bool
+is_literal (Braced t) = true
+is_literal (Quoted t) = true
+is_literal (Digits t) = true
+is_literal (Macro t) = false
+
+abbrev pub AreLiteral : List Part → Type 0
+AreLiteral parts = AllByRecursion (λ p. is_literal p ≡ true) parts
+
+-- whatever macros stand for, an entry's crossref says the same, and a definition gives the same text
+pub record IsSettled (tree : Tree) : Type 0 where
+  pub crossref : (a b : Macros) → map crossref_text (entry_in a tree) ≡ map crossref_text (entry_in b tree)
+  pub text : (a b : Macros) → defined_by a tree ≡ defined_by b tree
+
+-- the body is no longer than the longest, and where the bounds say so of all items, this one is settled
+pub record IsBounded (bounds : Bounds) (tree : Tree) : Type 0 where
+  pub body : length (tree_bytes tree) ≤ bounds.longest_body
+  pub settled : bounds.settled ≡ true → IsSettled tree
+
+abbrev pub AreBounded : Bounds → List reading.Item → Type 0
+AreBounded bounds items = AllByRecursion (λ i. IsBounded bounds i.tree) items
+
+-- the bounds hold of an item more: one whose body has so many bytes, and which is settled where that is said
+pub record Admits (len : ℕ) (settled : Bool) (old new : Bounds) : Type 0 where
+  pub one : (tree : Tree) → length (tree_bytes tree) ≡ len → (settled ≡ true → IsSettled tree) → IsBounded new tree
+  pub all : (items : List reading.Item) → AreBounded old items → AreBounded new items

@@ -1,0 +1,100 @@
+//! What holds of all items whatever macros stand for.
+
+ghost use Rattle.std.specs.Prelude.{◌≡◌, ◌∷◌, [], true, Option, map};
+ghost use Rattle.bib_spec.specs.Bytes.{name_limit};
+ghost use Rattle.bib_spec.specs.Text.{Text as Bytes};
+ghost use Rattle.bib_spec.specs.Tree.{IsTree};
+ghost use Rattle.bib_spec.specs.Reading.{Item};
+ghost use Rattle.bib_spec.specs.Texts.{Macros, parts_of, raw_text};
+ghost use Rattle.bib_spec.specs.Records.{entry_in, crossref_text};
+ghost use Rattle.bib_scan.specs.PartView.{part_view};
+ghost use Rattle.bib_scan.specs.ValueParts.{IsPartsOf};
+ghost use Rattle.bib_scan.specs.View.{view_of};
+ghost use Rattle.bib_value.specs.Raw.{OfValue};
+ghost use Rattle.bib_store.specs.Meaning.{is_entry_tree};
+ghost use Rattle.bib_store.specs.ItemTexts.{crossref_in, OfRows};
+ghost use Rattle.bib_store.specs.Bounds.{is_literal, AreLiteral, IsSettled, Admits};
+
+use bib_scan::{Fields, ItemView, Part, Parts, Text, only_part, read_value, same_folded};
+use std::alloc::Global;
+
+/// What is known of all items, so that none need be read again where a macro comes to stand for another text.
+#[derive(Clone, Copy)]
+pub(crate) struct Bounds {
+    /// Whatever macros stand for, crossrefs say the same, and definitions give the same texts.
+    pub settled: bool,
+    /// No item's body has more bytes.
+    pub longest_body: usize,
+}
+
+impl Bounds {
+    /// Lets the bounds hold of an item more, whose body has so many bytes. They stay as they were where they held of it.
+    pub(crate) fn admit(&mut self, len: usize, settled: bool)
+        ensures { Admits len settled self.old self.new }
+    {
+        self.settled = self.settled && settled;
+        self.longest_body = self.longest_body.max(len);
+    }
+}
+
+/// Whether the part is no name of a macro.
+fn is_literal(part: Part<'_>) -> bool
+    ensures { result ≡ is_literal (part_view part.entry) }
+{
+    match part {
+        Part::Macro(_) => false,
+        Part::Braced(_) => true,
+        Part::Quoted(_) => true,
+        Part::Digits(_) => true,
+    }
+}
+
+/// Whether no part of the value that these bytes are is the name of a macro.
+fn are_literal(parts: &Parts, bytes: &[u8]) -> bool
+    requires { IsPartsOf bytes.now parts.now }
+    ensures { result ≡ true → OfValue bytes.now (λ v. AreLiteral (parts_of v)) }
+{
+    'parts: for n in 0..parts.len() {
+        if !is_literal(parts.part(bytes, n)) {
+            return false;
+        }
+    }
+    true
+}
+
+/// Whether the value that these bytes are says the same whatever macros stand for. Where memory is refused, it counts as
+/// one that does not.
+pub(crate) fn is_settled_value(alloc: Global, bytes: &[u8]) -> bool
+    ensures { result ≡ true → (text : Bytes) × OfValue bytes.now (λ v. (m : Macros) → raw_text m v ≡ text) }
+{
+    if let Some(part) = only_part(bytes) {
+        return is_literal(part);
+    }
+    match read_value(alloc, bytes) {
+        Ok(parts) => are_literal(&parts, bytes),
+        Err(_) => false,
+    }
+}
+
+/// Whether the crossref of an entry with these fields says the same whatever macros stand for.
+fn are_settled(alloc: Global, fields: Fields<'_>) -> bool
+    ensures { result ≡ true → (said : Option Bytes) × OfRows fields.entry (λ before rows. (m : Macros) → said ≡ crossref_in m rows) }
+{
+    let mut fields = fields;
+    'rows: while let Some(field) = fields.next() {
+        if same_folded(field.name, b"crossref") {
+            return is_settled_value(alloc, field.value);
+        }
+    }
+    true
+}
+
+/// Whether the crossref of an entry, which says this where the entry stands, says it whatever macros stand for.
+pub(crate) fn is_settled_entry(alloc: Global, entry: &ItemView<'_>, crossref: &Option<Text>) -> bool
+    ensures { result ≡ true → (m : Macros) (i : Item) → IsTree name_limit i.tree → is_entry_tree i.tree ≡ true → entry.now ≡ view_of i → map crossref_text (entry_in m i.tree) ≡ crossref.now ∷ [] → IsSettled i.tree }
+{
+    match crossref {
+        None => true,
+        Some(_) => are_settled(alloc, entry.fields()),
+    }
+}

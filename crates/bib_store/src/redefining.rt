@@ -1,0 +1,102 @@
+//! Definitions that give way to others, where nothing but what macros stand for rests on them.
+
+ghost use Rattle.std.specs.Prelude.{◌≡◌, ◌∷◌, true, List, IsTrue, IfSome, IfOk, OnErr};
+ghost use Rattle.bib_spec.specs.Text.{Text as Bytes};
+ghost use Rattle.bib_spec.specs.Texts.{Macros, raw_text};
+ghost use Rattle.bib_scan.specs.View.{Field, field_seen};
+ghost use Rattle.bib_scan.specs.declared.view.Kind.TheVariants as kind;
+ghost use Rattle.bib_value.specs.Raw.{OfValue};
+ghost use Rattle.bib_store.specs.Redefining.{IsRedefinition, with_former};
+
+use crate::bounds::{Bounds, is_settled_value};
+use crate::glancing::are_short;
+use crate::tables::Tables;
+use bib_definitions::Names;
+use bib_items::StoreFault;
+use bib_scan::{FieldView, ItemView, Kind};
+use std::alloc::Global;
+
+/// What the tables kept before a definition gave way to another.
+#[derive(Drop)]
+pub(crate) struct Former {
+    names: Names,
+    bounds: Bounds,
+}
+
+/// Whether the item is a definition.
+pub(crate) fn is_definition(item: &ItemView<'_>) -> bool
+    ensures { IsTrue result → item.now.kind ≡ kind.Macro }
+{
+    item.kind() == Kind::Macro
+}
+
+/// Whether both items are definitions, and all items that the tables know are settled.
+fn may_give_way(tables: &Tables, old: &ItemView<'_>, new: &ItemView<'_>) -> bool
+    ensures settled { IsTrue result → tables.now.bounds.settled ≡ true }
+    ensures old { IsTrue result → old.now.kind ≡ kind.Macro }
+    ensures new { IsTrue result → new.now.kind ≡ kind.Macro }
+{
+    tables.bounds.settled && is_definition(old) && is_definition(new)
+}
+
+/// The first field of an item, where its value says the same whatever macros stand for.
+fn settled_field<'a>(alloc: Global, item: &ItemView<'a>) -> Option<FieldView<'a>>
+    ensures first { IfSome result (λ field. (rest : List Field) × (item.now.fields ≡ field_seen field ∷ rest)) }
+    ensures settled { IfSome result (λ field. (text : Bytes) × OfValue field.value.now (λ v. (m : Macros) → raw_text m v ≡ text)) }
+{
+    let field = item.fields().next()?;
+    if !is_settled_value(alloc, field.value) {
+        return None;
+    }
+    Some(field)
+}
+
+/// Lets the definition that is item `n` give way to another. Gives what the tables kept before. Refused where one of them
+/// is no definition, where what a crossref says or a definition gives may rest on macros, or where a raw text may be too
+/// long; the tables then stay as they are. It takes time in the count of definitions, and memory in their length.
+pub(crate) fn redefine(
+    alloc: Global,
+    tables: &mut Tables,
+    n: usize,
+    old: &ItemView<'_>,
+    new: &ItemView<'_>,
+) -> Result<Former, StoreFault>
+    ensures redefined { IfOk result (IsRedefinition n old.now new.now tables.old tables.new) }
+    ensures len { tables.new.file_len ≡ tables.old.file_len }
+    ensures err { OnErr result (tables.new ≡ tables.old) }
+{
+    if !may_give_way(&*tables, old, new) {
+        return Err(StoreFault::BadSplice);
+    }
+    let Some(field) = settled_field(alloc, new) else {
+        return Err(StoreFault::BadSplice);
+    };
+    let Ok(text) = tables.definition_text(alloc, n, field) else {
+        return Err(StoreFault::BadSplice);
+    };
+    let names = tables
+        .definitions
+        .redefined(alloc, n, field.name, text.as_slice())?;
+    let mut bounds = tables.bounds;
+    bounds.admit(new.body().len(), true);
+    if !are_short(bounds.longest_body, names.longest()) {
+        return Err(StoreFault::BadSplice);
+    }
+    let former = Former {
+        names: tables.definitions.exchange(names),
+        bounds: tables.bounds,
+    };
+    tables.bounds = bounds;
+    Ok(former)
+}
+
+/// Gives the tables back what they kept before, if anything is given. It asks for no memory.
+pub(crate) fn give_back(tables: &mut Tables, former: Option<Former>)
+    ensures back { tables.new ≡ with_former former tables.old }
+    ensures len { tables.new.file_len ≡ tables.old.file_len }
+{
+    if let Some(former) = former {
+        tables.definitions.exchange(former.names);
+        tables.bounds = former.bounds;
+    }
+}
