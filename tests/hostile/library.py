@@ -31,7 +31,7 @@ ROWS = {
     "files": 9,
     "parts": 7,
     "values": 5,
-    "indexes": 8,
+    "indexes": 9,
     "flat_lists": 3,
     "paged_lists": 3,
     "flat_stores": 12,
