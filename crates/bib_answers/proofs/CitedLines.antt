@@ -8,7 +8,7 @@ use Rattle.bib_spec.specs.Records.{EntryTexts, parent}
 use Rattle.bib_answers.specs.Entries.{key_at}
 use Rattle.bib_answers.specs.Cite.{with_listed}
 use Rattle.bib_answers.specs.Marks.{AreMarks}
-use Rattle.bib_store.proofs.Parents.{parent_within}
+use Rattle.bib_spec.proofs.Parents.{parent_within}
 
 module _ (entries : List EntryTexts) (list : List ℕ) (marks : List Bool) (n : ℕ) (are : AreMarks (length entries) list marks) where
   -- the parent is in the list

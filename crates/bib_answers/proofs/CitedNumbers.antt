@@ -4,7 +4,7 @@ use Rattle.std.specs.List.{AllByRecursion, range_with_len, enumerate_from, cons_
 use Rattle.std.proofs.lemmas.Bool.{cases_Bool, cond-true, cond-false}
 use Rattle.bib_spec.specs.Text.{Text}
 use Rattle.bib_spec.specs.Records.{EntryTexts, entry_named, numbers_of, once, cited_by_key, with_parents, cites_all, listed, unknown}
-use Rattle.bib_store.proofs.Parents.{named_within}
+use Rattle.bib_spec.proofs.Parents.{named_within}
 
 all_from : {X : Type 0} (P : X → Type 0) (xs : List X) → AllByRecursion P xs → All P xs
 all_from P [] all k d within = absurd (omega (arith, within))

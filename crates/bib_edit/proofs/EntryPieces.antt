@@ -29,7 +29,7 @@ use Rattle.bib_edit.proofs.Referrers.{numbers-ascend, none-after, target-referre
 -- ---- the number of an entry
 
 module _ {X : Type 0} (passes : X → Bool) where
-  -- what passes has the number of those before it, and stands behind as many that pass as there are
+  -- what passes has the number of those before it, and stands after as many that pass as there are
   number-of : (b : ℕ) (before : List X) (x : X) (xs : List X) → passes x ≡ true → slice_get (numbers_from passes b (before ++ x ∷ xs)) (length (filter passes before)) ≡ Some (b + length before)
   number-of b [] x xs t = ap (λ (l : List ℕ). slice_get l 0) (numbered_first passes b x xs t) ∙ ap Some (zeroth b)
     where

@@ -17,7 +17,7 @@ use Rattle.bib_entries.specs.EntryTable.{refers, referrers}
 use Rattle.bib_entries.proofs.Tables.{numbers_from, numbered_first, numbered_later}
 use Rattle.bib_store.proofs.EntryItems.{entry_at, key_at_entry}
 use Rattle.bib_store.proofs.KeptItems.{item_in}
-use Rattle.bib_store.proofs.Parents.{named_within}
+use Rattle.bib_spec.proofs.Parents.{named_within}
 use Rattle.bib_edit.specs.Removal.{IsParent}
 use Rattle.bib_edit.specs.Dangling.{is_awaited}
 

@@ -3,9 +3,6 @@ use Rattle.std.proofs.Common.{◌≡◌, ℕ, zero, ◌+◌, ◌-◌, ◌≤◌,
 use Rattle.std.specs.List.{flat_map}
 use Rattle.std.proofs.lemmas.List.{append-nil, take_at, drop_at, drop-drop, take_more, take_all, take-append-le, drop-append-le, length-take-le, length-map, map-append, map-set, take-map, drop-map, get_or-map, get_or_default}
 use Rattle.std.proofs.lemmas.List.Elements.{All-head, All-tail, All-cons, All-nil, All-take, All-drop, All-append, All-push, All-set, All-get_or, All-weaker}
-use Rattle.std.specs.Result.{OnErr}
-use Rattle.std.specs.declared.result.Result.{Result}
-use Rattle.std.specs.declared.result.Result.TheVariants.{Ok, Err}
 use Rattle.bib_spec.specs.Text.{Text}
 use Rattle.bib_items.specs.declared.list.Item.{Item}
 use Rattle.bib_items.specs.declared.span.Span.{Span}
@@ -204,11 +201,6 @@ items_further a old new (s ∷ spans) all e =
     ap₂ (λ i l. i ∷ l)
     (ap (λ t. item_in (a ++ t) s) e.is ∙ same_further a old e.more s (All-head (LiesInEither a old) s spans all))
     (items_further a old new spans (All-tail (LiesInEither a old) s spans all) e)
-
--- what is so either way is so where it is refused
-pub on_err_always : {T E P : Type 0} (r : Result T E) → P → OnErr r P
-on_err_always (Ok x) p = tt
-on_err_always (Err e) p = p
 
 -- the items are the same with more own bytes
 pub same_items : (a old new : Text) (spans : List Span) (items was : List Item) → LieInEither a old spans → Extends old new → items_in (a ++ old) spans ≡ items → items ≡ was → items_in (a ++ new) spans ≡ was

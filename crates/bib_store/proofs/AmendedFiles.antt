@@ -148,7 +148,7 @@ kept_still items t new m n at len entries preambles definitions bounds named =
 
 -- ---- the file
 
--- a list, an element of it, and what stands before and behind
+-- a list, an element of it, and what stands before and after it
 parted_at : {X : Type 0} (xs : List X) (n : ℕ) (x : X) → slice_get xs n ≡ Some x → xs ≡ take n xs ++ x ∷ drop (n + 1) xs
 parted_at xs n x at =
     sym (take-append-drop n xs) ∙ ap (λ rest. take n xs ++ rest) (drop_more xs n x (slice_get_within xs n x at) ∙ ap (λ y. y ∷ drop (n + 1) xs) (get_or_from_slice_get xs n x x at))

@@ -1,4 +1,4 @@
--- An entry comes behind all items, and trails may change: what is said of the others stays.
+-- An entry comes after all items, and trails may change: what is said of the others stays.
 use Rattle.std.proofs.Common.{◌≡◌, ℕ, zero, suc, ◌+◌, cond, Bool, List, [], ◌∷◌, ◌++◌, length, map, Some, None, refl, sym, ◌∙◌, ap, ap₂, subst, arith, append-nil}
 use Rattle.std.specs.List.{flat_map, All}
 use Rattle.std.specs.Option.{option_or}
@@ -24,7 +24,7 @@ use Rattle.bib_store.specs.ItemTexts.{first_too_long, placed_texts}
 use Rattle.bib_store.specs.Beside.{AreTablesOf}
 use Rattle.bib_entries.specs.Numbers.{numbered, numbers}
 use Rattle.bib_store.proofs.RowTexts.{cons_parts}
-use Rattle.bib_store.proofs.ItemsMore.{raw_texts-append, first-append}
+use Rattle.bib_store.proofs.OneItemMore.{raw_texts-append, first-append}
 use Rattle.bib_store.proofs.Amended.{first_of, first_kept, none_both, fit_parts, fit_joined}
 
 -- ---- items that differ in their trails alone
@@ -116,7 +116,7 @@ fit_alike at there m (x ∷ xs) (y ∷ ys) e fits =
     (subst (λ (t : Tree). first_too_long (raw_texts_from (there + length (item_bytes y)) (macros_after m t) ys) ≡ None) parts.0
     (fit_alike (at + length (item_bytes x)) (there + length (item_bytes y)) (macros_after m x.tree) xs ys parts.1 tail.1))
 
--- ---- one item more, behind all others
+-- ---- one item more, after all others
 
 module _ (old new : List Item) (x : Item) (alike : trees new ≡ trees (old ++ x ∷ [])) where
   abbrev here : Macros

@@ -13,7 +13,7 @@ use Rattle.bib_spec.specs.Records.{EntryTexts, entry_named, once, with_parents, 
 use Rattle.bib_spec.proofs.Names.{both_true}
 use Rattle.bib_store.specs.Citing.{is_among, AreMarks, AreCounts, is_added, with_added}
 use Rattle.bib_store.proofs.Filters.{filter_twice}
-use Rattle.bib_store.proofs.Parents.{named_within}
+use Rattle.bib_spec.proofs.Parents.{named_within}
 
 -- ---- tables
 

@@ -1,5 +1,5 @@
 -- The first crossref of an entry: where its word does not stand in the entry's bytes there is none, and else it is found row by row.
-use Rattle.std.proofs.Common.{◌≡◌, true, false, List, [], ◌∷◌, ◌++◌, length, map, Option, Some, None, refl, sym, ◌∙◌, ap, subst, arith, append_assoc, All}
+use Rattle.std.proofs.Common.{◌≡◌, true, false, List, [], ◌∷◌, ◌++◌, length, map, Option, Some, None, refl, sym, ◌∙◌, ap, subst, append_assoc, All}
 use Rattle.std.specs.List.{flat_map}
 use Rattle.std.specs.Option.{option_or}
 use Rattle.std.proofs.lemmas.Bool.{cond-true, cond-false}
@@ -16,7 +16,7 @@ use Rattle.bib_store.specs.Meaning.{is_entry_tree}
 use Rattle.bib_store.specs.ItemTexts.{crossref_in, OfRows}
 use Rattle.bib_store.specs.Glancing.{LacksWord}
 use Rattle.bib_store.proofs.EntryItems.{entry_tree}
-use Rattle.bib_store.proofs.RowTexts.{cons_parts, crossref_more}
+use Rattle.bib_store.proofs.RowTexts.{cons_parts, crossref_more, nil_cons}
 
 -- ---- one row
 
@@ -82,9 +82,6 @@ pub ahead_start : (all : List Field) (m : Macros) → AreAhead all m all
 ahead_start all m = record {
   rest = λ before rows are fields. record { before = before; rows_left = rows; are_rows = are; fields = fields; crossref_text = refl };
 }
-
-nil_cons : {X : Type 0} (x : X) (xs : List X) → [] ≡ x ∷ xs → ⊥
-nil_cons x xs e = absurd (omega (arith, ap length e))
 
 is_more : (m : Macros) (rows : List Row) (field : Field) (left : List Field) → same field.name crossref ≡ false
     → (before : Text) (rows_left : List Row) → All (IsRow name_limit) rows_left → field ∷ left ≡ fields_behind before rows_left → crossref_in m rows ≡ crossref_in m rows_left

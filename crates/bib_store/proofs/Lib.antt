@@ -1,46 +1,51 @@
+-- ---- records and cited lists
 pub mod Citations
 pub mod Filters
 pub mod GatheredFields
 pub mod ChosenFields
 pub mod Inherited
-pub mod Changes
-pub mod Exchanges
-pub mod Loops
-pub mod Parents
-pub mod ReadableFields
-pub mod Standing
-pub mod WindowLaws
+-- ---- pieces that fit a text, and what they make of it
+pub mod PieceTests
+pub mod PieceLoops
 pub mod Shifts
+pub mod RunPieces
+-- ---- windows: the items that a change touches, and the file around them
+pub mod WalkedFiles
+pub mod WindowLaws
+pub mod WindowChanges
+pub mod Exchanges
+pub mod SplicedFiles
+-- ---- rows and values: what they say, and how long that is
+pub mod ReadableFields
 pub mod RowTexts
 pub mod ShortValues
-pub mod Answered
-pub mod Walks
-pub mod TableSteps
-pub mod ItemsMore
+pub mod Glances
+pub mod FirstCrossrefs
+pub mod SettledCrossrefs
+pub mod ShortEntries
+pub mod ShortTexts
+pub mod CrossrefTexts
+pub mod PreambleTexts
+-- ---- items of a kind, by their numbers
+pub mod RepeatedKeys
+pub mod OneItemMore
 pub mod BoundedItems
-pub mod Holdings
 pub mod Insertions
-pub mod Followed
-pub mod FollowedFiles
 pub mod Numbered
 pub mod EntryItems
-pub mod CrossrefTexts
-pub mod ShortTexts
 pub mod KeptItems
+-- ---- tables that are made, and tables that follow items
+pub mod TableSteps
 pub mod OpenedFiles
-pub mod PreambleTexts
-pub mod SplicedFiles
+pub mod Followed
+pub mod FollowedFiles
+pub mod Appended
 pub mod Amended
 pub mod AmendedFiles
-pub mod Appended
 pub mod Renewed
-pub mod RunPieces
+-- ---- tables that follow runs of pieces
 pub mod KeptRuns
 pub mod BroughtIn
 pub mod LedRuns
-pub mod Glances
-pub mod ShortEntries
-pub mod FirstCrossrefs
-pub mod SettledCrossrefs
 pub mod Redefined
 pub mod RedefinedRuns

@@ -57,7 +57,7 @@ module _ {X : Type 0} (test : Tree → Bool) (say : Macros → Tree → List X)
       (λ t. ap length (those-other item items t) ∙ length-those (macros_after m item.tree) items ∙ sym (ap length (told-other m item items t)))
       (cases_Bool (test item.tree))
 
-  -- behind an item of the kind, the others are one further
+  -- after an item of the kind, the others are one further
   behind_such : (m : Macros) (from : ℕ) (item : Item) (items : List Item) → test item.tree ≡ true →
       ((k : ℕ) → k < length (gathered say (macros_after m item.tree) items) → StandsAt test say (macros_after m item.tree) (from + 1) items k) →
       (n : ℕ) → n < length (gathered say m (item ∷ items)) → StandsAt test say m from (item ∷ items) n

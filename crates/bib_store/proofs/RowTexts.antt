@@ -27,7 +27,7 @@ cons_parts {X} x y xs ys e = (ap (λ (l : List X). first l) e, ap (λ (l : List 
     others [] = []
     others (z ∷ zs) = zs
 
-nil_cons : {X : Type 0} (x : X) (xs : List X) → [] ≡ x ∷ xs → ⊥
+pub nil_cons : {X : Type 0} (x : X) (xs : List X) → [] ≡ x ∷ xs → ⊥
 nil_cons x xs e = absurd (omega (arith, ap length e))
 
 -- ---- the first text that is too long

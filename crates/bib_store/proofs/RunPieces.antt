@@ -1,4 +1,4 @@
--- Pieces in two parts, of which the later lie behind the text that the earlier fit.
+-- Pieces in two parts, of which the later lie after the text that the earlier fit.
 use Rattle.std.proofs.Common.{◌≡◌, ℕ, ◌+◌, ◌≤◌, List, [], ◌∷◌, ◌++◌, length, drop, refl, sym, ◌∙◌, ap, ap₂, arith, append_assoc, length-append}
 use Rattle.std.proofs.lemmas.List.{take_at, drop-append-le}
 use Rattle.std.specs.List.{AllByRecursion}
@@ -29,7 +29,7 @@ ascend_both at mid [] [] h a e b c = tt
 ascend_both at mid [] (q ∷ qs) h a e b c = (omega (arith, h, b.0), c.1)
 ascend_both at mid (p ∷ ps) qs h a e b c = (a.0, ascend_both (end_of p) mid ps qs e.0 a.1 e.1 b c)
 
--- what fits the text before, and what lies in the bytes behind it, fit both
+-- what fits the text before, and what lies in the bytes after it, fit both
 pub both_fit : (before bytes behind : Text) (ps qs : List Piece) → Fit ps before → FitBehind (length before) qs bytes → Fit (ps ++ qs) (before ++ (bytes ++ behind))
 both_fit before bytes behind ps qs f g =
     let later = fit-behind before bytes behind (length before) qs refl g in

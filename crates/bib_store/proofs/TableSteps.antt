@@ -23,7 +23,7 @@ use Rattle.bib_store.specs.ItemTexts.{first_too_long, placed_texts, own_text}
 use Rattle.bib_store.specs.Beside.{AreTablesOf, IsStep, IsInsertion, IsRemoval, IsTooLongAt, SayTheSame, OfView, item_with}
 use Rattle.bib_store.proofs.RowTexts.{cons_parts, first_fits, first_over}
 use Rattle.bib_entries.specs.Numbers.{numbers}
-use Rattle.bib_store.proofs.ItemsMore.{gathered-more, number_same}
+use Rattle.bib_store.proofs.OneItemMore.{gathered-more, number_same}
 use Rattle.bib_entries.proofs.ItemNumbers.{numbers-parts, numbers-with, parts_at, put_numbers, moved_numbers, taken_numbers, closed_numbers}
 use Rattle.bib_definitions.proofs.MacrosAfter.{macros_in_front, gathered-append}
 use Rattle.bib_store.specs.declared.bounds.Bounds.{Bounds}

@@ -59,7 +59,7 @@ pub record IsInsertion (n : ℕ) (tree : Tree) (old new : Tables) : Type 0 where
 abbrev pub IsRemoval : ℕ → Tree → Tables → Tables → Type 0
 IsRemoval n tree old new = (before after : List reading.Item) (trail : Text) → length before ≡ n → n + length after < 2 ^ 64 → AreTablesOf (before ++ item_with tree trail ∷ after) old → AreTablesOf (before ++ after) new
 
--- item n stands behind those whose tables these were, and no raw text in it is too long
+-- item n stands after those whose tables these were, and no raw text in it is too long
 pub record IsStep (n : ℕ) (tree : Tree) (old new : Tables) : Type 0 where
   pub tables : (items : List reading.Item) (trail : Text) → length items ≡ n → AreTablesOf items old → AreTablesOf (items ++ item_with tree trail ∷ []) new
   pub texts : first_too_long (placed_texts (texts_at old.definitions n) tree) ≡ None

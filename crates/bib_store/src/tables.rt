@@ -98,7 +98,7 @@ impl Tables {
         }
     }
 
-    /// Puts in item `n`, behind all others.
+    /// Puts in item `n`, after all others.
     fn add(&mut self, alloc: Global, n: usize, body: &[u8]) -> Result<(), ItemFault>
         ensures step { OnOk result (OfTree body.now (λ tree. IsStep n tree self.old self.new)) }
         ensures too_long { IfErr result (λ fault. (place : ℕ) → fault ≡ ItemTooLong place → OfTree body.now (λ tree. IsTooLongAt n tree self.old place)) }
@@ -110,7 +110,7 @@ impl Tables {
         }
     }
 
-    /// Puts in item `n`, which is no definition, behind all others.
+    /// Puts in item `n`, which is no definition, after all others.
     fn add_other(&mut self, alloc: Global, n: usize, view: &ItemView<'_>) -> Result<(), ItemFault>
         ensures step { OnOk result (OfOther view.now (λ tree. IsStep n tree self.old self.new)) }
         ensures too_long { IfErr result (λ fault. (place : ℕ) → fault ≡ ItemTooLong place → OfOther view.now (λ tree. IsTooLongAt n tree self.old place)) }
@@ -235,7 +235,7 @@ impl Tables {
         Ok(())
     }
 
-    /// What the name of the definition that is item `n` stands for behind it.
+    /// What the name of the definition that is item `n` stands for after it.
     pub(crate) fn definition_text(
         &self,
         alloc: Global,
@@ -346,7 +346,7 @@ fn kept_number(n: usize, from: usize, to: usize) -> usize
     if n < from { n } else { n + (to - from) }
 }
 
-/// The place behind an item that begins at `start`.
+/// The place after an item that begins at `start`.
 fn behind(start: usize, body: &[u8], trail: &[u8]) -> usize
     ensures { start + length body.now + length trail.now < 2 ^ 64 → result ≡ start + length body.now + length trail.now }
 {

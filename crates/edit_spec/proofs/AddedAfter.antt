@@ -1,5 +1,5 @@
 -- Adding many entries: they stand after the last one, and no old entry's crossref names them.
-use Rattle.std.proofs.Common.{◌≡◌, ℕ, zero, suc, ◌+◌, ◌<◌, ◌==◌, ◌||◌, false, cond, List, [], ◌∷◌, ◌++◌, Option, Some, None, option_map, option_and_then, slice_get, length, map, ⊎_elim, refl, sym, ◌∙◌, ap, subst, append_assoc, length-append, arith, le_of_suc-le-suc, not-suc-le-zero}
+use Rattle.std.proofs.Common.{◌≡◌, ℕ, zero, suc, ◌+◌, ◌<◌, ◌==◌, ◌||◌, false, cond, List, [], ◌∷◌, ◌++◌, Option, Some, None, option_map, option_and_then, slice_get, length, map, ⊎_elim, refl, sym, ◌∙◌, ap, subst, append_assoc, length-append, le_of_suc-le-suc, not-suc-le-zero}
 use Rattle.std.specs.List.{list_any, AllByRecursion}
 use Rattle.std.specs.Option.{option_map_or}
 use Rattle.std.proofs.lemmas.Bool.{cases_Bool, cond-true, cond-false, or_parts, false_from_ne_true}
@@ -11,9 +11,10 @@ use Rattle.bib_spec.specs.Texts.{Macros, months, macros_after, gathered}
 use Rattle.bib_spec.specs.Records.{EntryTexts, Record, RecordField, texts_of, entry_in, preamble_in, entries_of, crossref_text, keys_of, first_named, entry_named, is_named, target_of, target, other_than, parent, own_fields, missing, unvisited, ancestors, ancestors_from, fields_at, with_inherited, record_of, expanded}
 use Rattle.edit_spec.specs.Edits.{NewEntry, KeyInUse, has_same, entry_of, item_of, add_many}
 use Rattle.edit_spec.specs.OtherLaws.{same_number, is_awaited, add_many_keeps_others}
-use Rattle.bib_spec.proofs.Places.{IsFirst, first_is, none_from, none_at}
+use Rattle.bib_spec.proofs.Places.{none_from, none_at}
 use Rattle.bib_spec.proofs.Keys.{option_cases}
-use Rattle.edit_spec.proofs.OneMore.{within, length-keys}
+use Rattle.bib_spec.proofs.Parents.{parent_within}
+use Rattle.edit_spec.proofs.OneMore.{length-keys}
 use Rattle.edit_spec.proofs.OtherEntries.{unnamed_new}
 
 pub slice_get-append : {X : Type 0} (xs ys : List X) (n : ℕ) → n < length xs → slice_get (xs ++ ys) n ≡ slice_get xs n
@@ -48,37 +49,12 @@ module _ (entries more : List EntryTexts)
   pub parent_before : (n : ℕ) → n < length entries → parent (entries ++ more) n ≡ parent entries n
   parent_before n h = ap (option_and_then (other_than n)) (target_before n h)
 
-  -- a parent is an old entry
-  target_within : (entry : EntryTexts) (m : ℕ) → target_of entries entry ≡ Some m → m < length entries
-  target_within entry m e = ⊎_elim
-      (λ none. absurd (none-some m (sym (ap (option_and_then (entry_named entries)) none) ∙ e)))
-      (λ some.
-      let names : first_named some.0 (keys_of entries) ≡ Some m = sym (ap (option_and_then (entry_named entries)) some.1) ∙ e in
-      let first : IsFirst some.0 (keys_of entries) m = first_is some.0 (keys_of entries) m names in
-      let w = within (keys_of entries) m first.key first.stands in let l = length-keys entries in omega (arith, w, l))
-      (option_cases (crossref_text entry))
-
-  other_is : (n m : ℕ) (o : Option ℕ) → option_and_then (other_than n) o ≡ Some m → o ≡ Some m
-  other_is n m None e = absurd (none-some m e)
-  other_is n m (Some p) e = ⊎_elim
-      (λ t. absurd (none-some m (sym (cond-true (p == n) None (Some p) t) ∙ e)))
-      (λ t. sym (cond-false (p == n) None (Some p) t) ∙ e)
-      (cases_Bool (p == n))
-
   unvisited_is : (visited : List ℕ) (m : ℕ) (o : Option ℕ) → option_and_then (unvisited visited) o ≡ Some m → o ≡ Some m
   unvisited_is visited m None e = absurd (none-some m e)
   unvisited_is visited m (Some p) e = ⊎_elim
       (λ t. absurd (none-some m (sym (cond-true (list_any (λ v. v == p) visited) None (Some p) t) ∙ e)))
       (λ t. sym (cond-false (list_any (λ v. v == p) visited) None (Some p) t) ∙ e)
       (cases_Bool (list_any (λ v. v == p) visited))
-
-  parent_within : (n m : ℕ) → parent entries n ≡ Some m → m < length entries
-  parent_within n m e =
-      let is : target entries n ≡ Some m = other_is n m (target entries n) e in
-      ⊎_elim
-      (λ none. absurd (none-some m (sym (ap (option_and_then (target_of entries)) none) ∙ is)))
-      (λ some. target_within some.0 m (sym (ap (option_and_then (target_of entries)) some.1) ∙ is))
-      (option_cases (slice_get entries n))
 
   ancestors_before : (depth : ℕ) (visited : List ℕ) (n : ℕ) → n < length entries →
       (ancestors_from (parent (entries ++ more)) depth visited n ≡ ancestors_from (parent entries) depth visited n)
@@ -93,7 +69,7 @@ module _ (entries more : List EntryTexts)
       ⊎_elim
       (λ none. (ap G (same_parent ∙ none) ∙ sym (ap F none), subst W (sym (ap F none)) tt))
       (λ some.
-      let w : some.0 < length entries = parent_within n some.0 (unvisited_is visited some.0 (parent entries n) some.1) in (
+      let w : some.0 < length entries = parent_within entries n some.0 (unvisited_is visited some.0 (parent entries n) some.1) in (
         ap G (same_parent ∙ some.1) ∙ ap (λ l. some.0 ∷ l) (rest some.0 w).0 ∙ sym (ap F some.1),
         subst W (sym (ap F some.1)) (w, (rest some.0 w).1),
       ))

@@ -1,7 +1,7 @@
 use Rattle.std.proofs.Common.{◌≡◌, ◌∙◌, ◌++◌, Some, true, false, rules, sym, ap, append_assoc}
 use Rattle.bib_spec.specs.Text.{Text}
 use Rattle.bib_spec.specs.Records.{entries_of, parent}
-use Rattle.bib_store.proofs.Parents.{parent_within}
+use Rattle.bib_spec.proofs.Parents.{parent_within}
 use Rattle.bib_answers.proofs.EntryNumbers.{entry_key}
 use Rattle.bib_answers.proofs.CitedLines.{parent_listed, parent_unlisted}
 use Rattle.bib_answers.proofs.cite.add_parent.Goals as goal

@@ -1,5 +1,5 @@
 use Rattle.bib_spec.specs.Records.{entries_of}
-use Rattle.bib_store.proofs.Parents.{named_within}
+use Rattle.bib_spec.proofs.Parents.{named_within}
 use Rattle.bib_answers.proofs.names.names.Goals as goal
 
 pub entry_answer-requires : goal.entry_answer-requires

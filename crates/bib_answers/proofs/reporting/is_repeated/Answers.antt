@@ -1,7 +1,7 @@
 use Rattle.std.proofs.Common.{ℕ, false, nat_lt, Option, sym, ap, ◌∙◌}
 use Rattle.std.specs.Option.{option_map_or}
 use Rattle.bib_spec.specs.Records.{entries_of, entry_named}
-use Rattle.bib_store.proofs.Holdings.{repeated-first}
+use Rattle.bib_store.proofs.RepeatedKeys.{repeated-first}
 use Rattle.bib_answers.proofs.reporting.is_repeated.Goals as goal
 
 pub returns-in-Ok : goal.returns-in-Ok

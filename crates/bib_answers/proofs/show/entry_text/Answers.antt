@@ -1,6 +1,6 @@
 use Rattle.std.proofs.Common.{◌≡◌, Some, sym, ◌∙◌}
 use Rattle.bib_spec.specs.Records.{entries_of, parent}
-use Rattle.bib_store.proofs.Parents.{parent_within}
+use Rattle.bib_spec.proofs.Parents.{parent_within}
 use Rattle.bib_answers.proofs.EntryNumbers.{entry_key}
 use Rattle.bib_answers.proofs.Shown.{shown_with}
 use Rattle.bib_answers.proofs.show.entry_text.Goals as goal

@@ -1,6 +1,6 @@
 use Rattle.std.proofs.Common.{◌≡◌, ℕ, ◌≤◌, ◌<◌, ◌+◌, ◌∙◌, length, sym, subst, arith}
 use Rattle.bib_spec.specs.Records.{entries_of}
-use Rattle.bib_store.proofs.Parents.{named_within}
+use Rattle.bib_spec.proofs.Parents.{named_within}
 use Rattle.bib_edit.specs.NewKeys.{AreQuiet, HavePieces}
 use Rattle.bib_edit.proofs.EntryPieces.{first-pieces, next-pieces, all-pieces, none-passed, quiet-before, quiet-behind}
 use Rattle.bib_edit.proofs.Referrers.{key-short}

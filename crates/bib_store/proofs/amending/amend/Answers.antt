@@ -4,7 +4,7 @@ use Rattle.std.proofs.lemmas.Result.{err_from_is_err_and}
 use Rattle.bib_spec.specs.Text.{Text}
 use Rattle.bib_spec.specs.Reading.{Reads}
 use Rattle.bib_store.proofs.AmendedFiles.{replaced, amended_file, amended_refused, kept_still}
-use Rattle.bib_store.proofs.Answered.{err_always}
+use Rattle.bib_spec.proofs.Results.{err_always}
 use Rattle.bib_store.proofs.amending.amend.Goals as goal
 
 pub returns-in_err-crossref-clause-refused : goal.returns-in_err-crossref-clause-refused

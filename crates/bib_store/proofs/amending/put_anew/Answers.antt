@@ -1,7 +1,7 @@
 use Rattle.std.proofs.Common.{◌≤◌, ◌<◌, ◌∙◌, Some, length, sym, ap, arith}
 use Rattle.std.proofs.lemmas.Option.{slice_get_within}
 use Rattle.bib_entries.proofs.Tables.{put_back}
-use Rattle.bib_store.proofs.Answered.{err_always}
+use Rattle.bib_spec.proofs.Results.{err_always}
 use Rattle.bib_store.proofs.Renewed.{renewed}
 use Rattle.bib_store.proofs.amending.put_anew.Goals as goal
 

@@ -3,7 +3,7 @@ use Rattle.std.proofs.lemmas.Option.{slice_get_within}
 use Rattle.bib_spec.specs.Text.{Text}
 use Rattle.bib_entries.specs.EntryTable.{IsTableOf}
 use Rattle.bib_entries.proofs.Tables.{same_length}
-use Rattle.bib_store.proofs.Answered.{ok_from}
+use Rattle.bib_spec.proofs.Results.{ok_from}
 use Rattle.bib_store.proofs.Renewed.{said_still}
 use Rattle.bib_store.proofs.amending.put_entry.Goals as goal
 

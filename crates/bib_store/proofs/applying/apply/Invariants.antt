@@ -1,4 +1,4 @@
-use Rattle.bib_store.proofs.Loops.{IsApplied}
+use Rattle.bib_store.proofs.PieceLoops.{IsApplied}
 use Rattle.bib_store.proofs.applying.apply.Given as goal
 
 abbrev pub invariant-loop-piece : goal.invariant-loop-piece

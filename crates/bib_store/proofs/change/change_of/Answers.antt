@@ -4,7 +4,7 @@ use Rattle.bib_spec.specs.Text.{Text}
 use Rattle.bib_spec.specs.Reading.{Reading, Reads, HasReading}
 use Rattle.bib_scan.specs.Layout.{IsLayoutOf}
 use Rattle.bib_store.specs.Windows.{bytes_behind}
-use Rattle.bib_store.proofs.Changes.{not_served, lent_made, too_long_made, unread_made, len-around}
+use Rattle.bib_store.proofs.WindowChanges.{not_served, lent_made, too_long_made, unread_made, len-around}
 use Rattle.bib_store.proofs.change.change_of.Goals as goal
 
 pub returns-then-not-fits-clause-none : goal.returns-then-not-fits-clause-none

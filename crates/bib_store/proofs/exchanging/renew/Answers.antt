@@ -3,7 +3,7 @@ use Rattle.std.proofs.lemmas.Result.{err_from_is_err_and, on_ok_weaker}
 use Rattle.bib_items.specs.declared.list.Item.{Item}
 use Rattle.bib_store.specs.Beside.{HasItems}
 use Rattle.bib_store.specs.Windows.{joined}
-use Rattle.bib_store.proofs.Answered.{err_from}
+use Rattle.bib_spec.proofs.Results.{err_from}
 use Rattle.bib_store.proofs.Exchanges.{put_without}
 use Rattle.bib_store.proofs.exchanging.renew.Goals as goal
 

@@ -1,4 +1,4 @@
-use Rattle.bib_store.proofs.Loops.{IsFitting}
+use Rattle.bib_store.proofs.PieceLoops.{IsFitting}
 use Rattle.bib_store.proofs.fitting.fits.Given as goal
 
 abbrev pub invariant-loop-piece : goal.invariant-loop-piece

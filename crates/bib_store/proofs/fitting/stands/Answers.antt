@@ -1,7 +1,7 @@
 use Rattle.std.proofs.Common.{◌≤◌, arith}
 use Rattle.bib_spec.specs.Pieces.{Piece}
 use Rattle.bib_store.specs.Shifting.{moved_back}
-use Rattle.bib_store.proofs.Standing.{stands_tested}
+use Rattle.bib_store.proofs.PieceTests.{stands_tested}
 use Rattle.bib_store.proofs.fitting.stands.Goals as goal
 
 pub returns-then-place-bytes : goal.returns-then-place-bytes

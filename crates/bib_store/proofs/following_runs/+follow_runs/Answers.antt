@@ -3,7 +3,7 @@ use Rattle.std.proofs.lemmas.Bool.{eqb-true}
 use Rattle.bib_items.specs.declared.list.Item.{Item}
 use Rattle.bib_items.specs.Items.{all_stored, without_range}
 use Rattle.bib_items.proofs.Filled.{without-put}
-use Rattle.bib_store.proofs.Answered.{err_always}
+use Rattle.bib_spec.proofs.Results.{err_always}
 use Rattle.bib_store.proofs.BroughtIn.{long_new, long_now}
 use Rattle.bib_store.proofs.LedRuns.{none_lead, longer_back, long_led, old_place, old_others, run_led, run_back}
 use Rattle.bib_store.proofs.following_runs.+follow_runs.Goals as goal

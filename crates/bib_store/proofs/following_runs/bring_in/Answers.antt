@@ -4,7 +4,7 @@ use Rattle.bib_store.specs.Runs.{AreBroughtIn}
 use Rattle.bib_store.specs.Stored.{file_of}
 use Rattle.bib_store.proofs.Exchanges.{put_of, are_put, taken-new}
 use Rattle.bib_store.proofs.KeptRuns.{followed_same, come_measured}
-use Rattle.bib_store.proofs.Walks.{with_len}
+use Rattle.bib_store.proofs.WalkedFiles.{with_len}
 use Rattle.bib_store.proofs.following_runs.bring_in.Goals as goal
 
 pub returns-in-Ok-clause-brought : goal.returns-in-Ok-clause-brought

@@ -3,7 +3,7 @@ use Rattle.bib_store.specs.declared.tables.Tables.{Tables}
 use Rattle.bib_store.specs.Following.{DefineNothingBetween}
 use Rattle.bib_store.specs.Runs.{AreFollowed}
 use Rattle.bib_store.specs.Windows.{ArePut, HasLead}
-use Rattle.bib_store.proofs.Answered.{err_always}
+use Rattle.bib_spec.proofs.Results.{err_always}
 use Rattle.bib_store.proofs.Followed.{one_between}
 use Rattle.bib_store.proofs.RedefinedRuns.{define_none, redefined_followed, redefined_comes}
 use Rattle.bib_store.proofs.following_runs.learn_definition.Goals as goal

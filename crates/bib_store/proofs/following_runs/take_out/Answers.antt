@@ -6,7 +6,7 @@ use Rattle.bib_store.specs.Following.{bodies_between}
 use Rattle.bib_store.specs.Runs.{AreFollowed}
 use Rattle.bib_store.specs.Stored.{file_of}
 use Rattle.bib_store.proofs.KeptRuns.{followed_same, go_followed, go_len, len-ordered, len-within}
-use Rattle.bib_store.proofs.Walks.{with_len}
+use Rattle.bib_store.proofs.WalkedFiles.{with_len}
 use Rattle.bib_store.proofs.following_runs.take_out.Goals as goal
 
 pub overflow_sub-len : goal.overflow_sub-len

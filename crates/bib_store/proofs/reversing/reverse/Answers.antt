@@ -1,7 +1,7 @@
 use Rattle.std.proofs.Common.{List, sym, subst, ◌∙◌, ap}
 use Rattle.bib_spec.specs.Pieces.{Piece, Fit, applied}
 use Rattle.bib_spec.proofs.WayBack.{fit_back, applied-reversed}
-use Rattle.bib_store.proofs.Loops.{reversed_all}
+use Rattle.bib_store.proofs.PieceLoops.{reversed_all}
 use Rattle.bib_store.proofs.reversing.reverse.Goals as goal
 
 pub returns-clause-fit : goal.returns-clause-fit

@@ -1,4 +1,4 @@
-use Rattle.bib_store.proofs.Loops.{IsReversed}
+use Rattle.bib_store.proofs.PieceLoops.{IsReversed}
 use Rattle.bib_store.proofs.reversing.reverse.Given as goal
 
 abbrev pub invariant-loop-piece : goal.invariant-loop-piece

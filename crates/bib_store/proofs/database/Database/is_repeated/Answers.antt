@@ -3,7 +3,7 @@ use Rattle.std.specs.Option.{option_map_or}
 use Rattle.bib_spec.specs.Texts.{months, macros_at}
 use Rattle.bib_spec.specs.Records.{texts_of, entries_of, entry_named}
 use Rattle.bib_store.proofs.EntryItems.{entry_at, key_seen}
-use Rattle.bib_store.proofs.Holdings.{repeated-first}
+use Rattle.bib_store.proofs.RepeatedKeys.{repeated-first}
 use Rattle.bib_store.proofs.database.Database.is_repeated.Goals as goal
 
 pub returns-in-Ok : goal.returns-in-Ok

@@ -1,6 +1,6 @@
 use Rattle.std.proofs.Common.{sym, ◌∙◌}
 use Rattle.bib_spec.specs.Records.{entries_of}
-use Rattle.bib_store.proofs.Parents.{target_within}
+use Rattle.bib_spec.proofs.Parents.{target_within}
 use Rattle.bib_store.proofs.database.Database.parent.Goals as goal
 
 pub returns-else-target-n-clause-number : goal.returns-else-target-n-clause-number

@@ -3,7 +3,7 @@ use Rattle.bib_spec.specs.Text.{Text}
 use Rattle.bib_store.specs.Bounds.{Admits}
 use Rattle.bib_scan.specs.View.{View}
 use Rattle.bib_store.specs.declared.tables.Tables.{Tables}
-use Rattle.bib_store.proofs.Answered.{err_from}
+use Rattle.bib_spec.proofs.Results.{err_from}
 use Rattle.bib_store.proofs.TableSteps.{comment_insertion}
 use Rattle.bib_store.proofs.tables.Tables.insert.Goals as goal
 

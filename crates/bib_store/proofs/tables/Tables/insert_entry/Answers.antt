@@ -2,7 +2,7 @@ use Rattle.std.proofs.Common.{length, sym, insert, subst, refl}
 use Rattle.std.proofs.lemmas.Result.{err_from_is_err_and}
 use Rattle.bib_spec.specs.Text.{Text}
 use Rattle.bib_entries.specs.EntryTable.{IsTableOf}
-use Rattle.bib_store.proofs.Answered.{err_always}
+use Rattle.bib_spec.proofs.Results.{err_always}
 use Rattle.bib_definitions.specs.Definitions.{AreAtMost}
 use Rattle.bib_definitions.specs.MacrosSeen.{macros_seen}
 use Rattle.bib_store.specs.Bounds.{Admits}

@@ -1,5 +1,5 @@
 use Rattle.bib_items.specs.Items.{without_range}
-use Rattle.bib_store.proofs.Walks.{WalkedTo}
+use Rattle.bib_store.proofs.WalkedFiles.{WalkedTo}
 use Rattle.bib_store.proofs.tables.Tables.of.Given as goal
 
 abbrev pub invariant-walk : goal.invariant-walk

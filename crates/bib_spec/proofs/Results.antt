@@ -1,4 +1,4 @@
--- What holds of a result follows from what else holds of it.
+-- What holds of a result follows from what else holds of it, and what holds anyway holds of it.
 use Rattle.std.specs.Prelude.{Result, Ok, Err, OnOk, OnErr, IfErr}
 
 pub ok_from : {T E : Type 0} (r : Result T E) (P Q : Type 0) → (P → Q) → OnOk r P → OnOk r Q

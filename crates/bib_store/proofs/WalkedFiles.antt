@@ -21,11 +21,11 @@ use Rattle.bib_items.specs.Items.{item, item_at, stored, without_range}
 use Rattle.bib_definitions.specs.Definitions.{texts_at}
 use Rattle.bib_store.specs.ItemTexts.{first_too_long, placed_texts, OfTree}
 use Rattle.bib_store.specs.Beside.{AreTablesOf, AreTables, HasItems, IsStep, IsTooLongAt}
-use Rattle.bib_store.proofs.ItemsMore.{first-append, first-shift, raw_texts-append, too_long_within}
+use Rattle.bib_store.proofs.OneItemMore.{first-append, first-shift, raw_texts-append, too_long_within}
 
 -- ---- lists
 
--- an element, and the list before and behind it
+-- an element, and the list before and after it
 parted : {X : Type 0} (xs : List X) (n : ℕ) (x : X) → slice_get xs n ≡ Some x → (rest : List X) × (xs ≡ take n xs ++ x ∷ rest)
 parted [] n x e = absurd (none-some x e)
 parted {X} (y ∷ ys) zero x e = (ys, ap (λ (z : X). z ∷ ys) (same_Some y x e))
@@ -120,7 +120,7 @@ item_is front_len from to all db n k order within number low kept =
 
 -- ---- the first text that is too long
 
--- behind items none of whose texts is too long, it is that of the next item, or one behind it
+-- after items none of whose texts is too long, it is that of the next item, or one after it
 first_here : (at : ℕ) (before rest : List reading.Item) (it : reading.Item) (o : Option ℕ)
     → first_too_long (raw_texts_from at months before) ≡ None
     → first_too_long (placed_texts (macros_at months before (length before)) it.tree) ≡ o
