@@ -58,7 +58,7 @@ module _ (test : Tree → Bool) where
   number_from k [] n j at = absurd (none-some n at)
   number_from k (x ∷ items) n j at = first_from (test x.tree) k n j (k, x) (numbered test (k + 1) items) refl (λ i. number_from (k + 1) items n i) at
 
-  -- an item of the kind has as many before it as its number is listed after
+  -- an item of the kind, whose number is the m-th of those listed, has m of the kind before it
   listed_behind : (k : ℕ) (before behind : List Item) (x : Item) (n m : ℕ) → test x.tree ≡ true → n ≡ k + length before → slice_get (numbers test k (before ++ x ∷ behind)) m ≡ Some n → m ≡ length (numbers test k before)
   listed_behind k [] behind x n zero t is at = refl
   listed_behind k [] behind x n (suc m) t is at =
