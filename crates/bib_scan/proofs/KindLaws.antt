@@ -13,7 +13,7 @@ use Rattle.bib_scan.proofs.LocalLaws.{rest_of}
 use Rattle.bib_scan.proofs.LocalRows.{plain, ready, fault_of}
 use Rattle.bib_scan.proofs.PlaceLaws.{front_cut, front_more}
 use Rattle.bib_scan.proofs.StopLaws.{inside, FileStop, file_stop}
-use Rattle.bib_scan.proofs.HopelessLaws.{of_inside, stuck_at, viable_at, hopeless}
+use Rattle.bib_scan.proofs.FailsAtLaws.{of_inside, stuck_at, viable_at, hopeless}
 use Rattle.bib_scan.proofs.TellLaws.{Passes, Blocks, AsksDigit, IsEnd, DigitToo, Past, Stopped, TellsAt, Tells}
 use Rattle.bib_scan.proofs.TellTrees.{close_untried, tell_definition, tell_preamble, tell_entry}
 use Rattle.bib_scan.proofs.WidenLaws.{IsLong, IsShort, Widens}

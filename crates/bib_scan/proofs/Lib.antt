@@ -45,7 +45,7 @@ pub mod WidenTrees
 pub mod PlaceLaws
 pub mod KindLaws
 pub mod StopLaws
-pub mod HopelessLaws
+pub mod FailsAtLaws
 pub mod WholeValueLaws
 pub mod PlaceOfFault
 -- ---- views: fields, places, and values taken apart

@@ -2,7 +2,7 @@
 use Rattle.std.proofs.Common.{◌≡◌, ℕ, ◌+◌, ◌-◌, ◌<◌, ◌≤◌, [], ◌∷◌, ◌++◌, length, take, drop, refl, sym, ap, subst, ◌∙◌, arith, append_assoc, inl, inr, ◌⊎◌}
 use Rattle.std.proofs.lemmas.List.{length-append, take-append-drop, take_at, take-take}
 use Rattle.bib_spec.specs.Text.{Text}
-use Rattle.bib_spec.specs.Reading.{IsViable, IsHopeless}
+use Rattle.bib_spec.specs.Reading.{IsViable, FailsAt}
 use Rattle.bib_spec.specs.Bytes.{quote, comma, digit_one, equals_sign, letter_x}
 use Rattle.bib_spec.specs.Fault.{TextKind, MayStand, IsOneTooLong, IsFaultAt, ReadingFault, Unended, ExpectedName, ExpectedEquals, ExpectedCommaOrClose, ExpectedValue, UnbalancedBrace, KeyTooLong}
 use Rattle.bib_spec.specs.Fault as fault
@@ -31,11 +31,11 @@ front_more t u c v split =
 
 -- ---- the one place
 
-no_earlier : (IsSuch : Text → Type 0) (t : Text) (p q : ℕ) → IsHopeless IsSuch t p → IsHopeless IsSuch t q → p < q → ⊥
+no_earlier : (IsSuch : Text → Type 0) (t : Text) (p q : ℕ) → FailsAt IsSuch t p → FailsAt IsSuch t q → p < q → ⊥
 no_earlier IsSuch t p q first second less = first.stuck (omega (arith, second.within)) (viable_take IsSuch (p + 1) q t (omega arith) second.viable)
 
 -- a text goes wrong at one place
-pub one_place : (IsSuch : Text → Type 0) (t : Text) (p q : ℕ) → IsHopeless IsSuch t p → IsHopeless IsSuch t q → p ≡ q
+pub one_place : (IsSuch : Text → Type 0) (t : Text) (p q : ℕ) → FailsAt IsSuch t p → FailsAt IsSuch t q → p ≡ q
 one_place IsSuch t p q first second = omega (arith, no_earlier IsSuch t p q first second, no_earlier IsSuch t q p second first)
 
 -- ---- the one kind

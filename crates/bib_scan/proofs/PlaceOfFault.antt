@@ -4,25 +4,25 @@ use Rattle.std.proofs.Common.{◌≡◌, ℕ, ◌+◌, ◌-◌, ◌<◌, List, �
 use Rattle.std.proofs.lemmas.List.{take-append-drop}
 use Rattle.bib_spec.specs.Bytes.{name_limit}
 use Rattle.bib_spec.specs.Text.{Text}
-use Rattle.bib_spec.specs.Reading.{HasReadingWithin, IsValueWithin, IsViable, IsHopeless}
+use Rattle.bib_spec.specs.Reading.{HasReadingWithin, IsValueWithin, IsViable, FailsAt}
 use Rattle.bib_spec.specs.Fault.{TextKind, IsFaultAt, ReadingFault, Unended}
 use Rattle.bib_spec.specs.Fault as fault
 use Rattle.bib_scan.specs.declared.layout.Span.{Span}
-use Rattle.bib_scan.specs.Laws.{IsSuchOrHopeless, OneFault, CutEnds}
+use Rattle.bib_scan.specs.Laws.{IsSuchOrFails, OneFault, CutEnds}
 use Rattle.bib_scan.specs.LeftToRight.{Halt, read_all_commands, read_whole_value}
 use Rattle.bib_scan.proofs.ReadingLaws.{reading_of}
-use Rattle.bib_scan.proofs.HopelessLaws.{hopeless}
+use Rattle.bib_scan.proofs.FailsAtLaws.{hopeless}
 use Rattle.bib_scan.proofs.PlaceLaws.{one_place, one_fault, viable_front}
 use Rattle.bib_scan.proofs.KindLaws.{file_fault}
 use Rattle.bib_scan.proofs.WholeValueLaws.{whole_value, hopeless_value, value_fault}
 
 -- a reader of this kind of text: what it gives is such a text, and what it refuses goes wrong where it stops, and so
-module _ {A : Type 0} (IsSuch : TextKind) (read : Text → Result A Halt) (sound : (t : Text) (x : A) → read t ≡ Ok x → IsSuch name_limit t) (wrong : (t : Text) (h : Halt) → read t ≡ Err h → IsHopeless (IsSuch name_limit) t (length t - length h.rest)) (kind : (t : Text) (h : Halt) → read t ≡ Err h → IsFaultAt IsSuch t (length t - length h.rest) h.fault) where
+module _ {A : Type 0} (IsSuch : TextKind) (read : Text → Result A Halt) (sound : (t : Text) (x : A) → read t ≡ Ok x → IsSuch name_limit t) (wrong : (t : Text) (h : Halt) → read t ≡ Err h → FailsAt (IsSuch name_limit) t (length t - length h.rest)) (kind : (t : Text) (h : Halt) → read t ≡ Err h → IsFaultAt IsSuch t (length t - length h.rest) h.fault) where
   such_or : (t : Text) (m : Result A Halt) → read t ≡ m → IsSuch name_limit t ⊎ ((h : Halt) × (read t ≡ Err h))
   such_or t (Ok x) is = inl (sound t x is)
   such_or t (Err h) is = inr (h, is)
 
-  pub such_or_hopeless : IsSuchOrHopeless (IsSuch name_limit)
+  pub such_or_hopeless : IsSuchOrFails (IsSuch name_limit)
   such_or_hopeless t = elim (such_or t (read t) refl) [ inl such ↦ inl such | inr r ↦ inr (length t - length r.0.rest, wrong t r.0 r.1) ]
 
   pub fault_of_place : OneFault IsSuch
@@ -43,11 +43,11 @@ module _ {A : Type 0} (IsSuch : TextKind) (read : Text → Result A Halt) (sound
         | inr r ↦
             let viable : IsViable (IsSuch name_limit) u = (drop n t, subst (IsSuch name_limit) (sym (take-append-drop n t)) such) in
             let end : length u - length r.0.rest ≡ length u = at_end u (length u - length r.0.rest) (wrong u r.0 r.1) viable in
-            inr (subst (IsHopeless (IsSuch name_limit) u) end (wrong u r.0 r.1), fault.unended refl)
+            inr (subst (FailsAt (IsSuch name_limit) u) end (wrong u r.0 r.1), fault.unended refl)
       ]
     where
       -- a front of such a text goes wrong at its end
-      at_end : (u : Text) (p : ℕ) → IsHopeless (IsSuch name_limit) u p → IsViable (IsSuch name_limit) u → p ≡ length u
+      at_end : (u : Text) (p : ℕ) → FailsAt (IsSuch name_limit) u p → IsViable (IsSuch name_limit) u → p ≡ length u
       at_end u p at viable =
           let whole : u ≡ take (p + 1) u ++ drop (p + 1) u = sym (take-append-drop (p + 1) u) in
           let not_before : p < length u → ⊥ = λ low. at.stuck low (viable_front (IsSuch name_limit) (take (p + 1) u) (drop (p + 1) u) (subst (IsViable (IsSuch name_limit)) whole viable)) in
@@ -56,7 +56,7 @@ module _ {A : Type 0} (IsSuch : TextKind) (read : Text → Result A Halt) (sound
 file_is_read : (t : Text) (x : List Span) → read_all_commands name_limit t ≡ Ok x → HasReadingWithin name_limit t
 file_is_read t x is = let r = reading_of name_limit t x is in (r.0, r.1)
 
-pub file_or_hopeless : IsSuchOrHopeless (HasReadingWithin name_limit)
+pub file_or_hopeless : IsSuchOrFails (HasReadingWithin name_limit)
 file_or_hopeless = such_or_hopeless HasReadingWithin (read_all_commands name_limit) file_is_read (hopeless name_limit (omega arith)) file_fault
 
 pub fault_of_file : OneFault HasReadingWithin
@@ -65,7 +65,7 @@ fault_of_file = fault_of_place HasReadingWithin (read_all_commands name_limit) f
 pub file_cut : CutEnds HasReadingWithin
 file_cut = cut_ends HasReadingWithin (read_all_commands name_limit) file_is_read (hopeless name_limit (omega arith)) file_fault
 
-pub value_or_hopeless : IsSuchOrHopeless (IsValueWithin name_limit)
+pub value_or_hopeless : IsSuchOrFails (IsValueWithin name_limit)
 value_or_hopeless = such_or_hopeless IsValueWithin (read_whole_value name_limit) (whole_value name_limit) (hopeless_value name_limit (omega arith)) value_fault
 
 pub fault_of_value : OneFault IsValueWithin

@@ -3,7 +3,7 @@ use Rattle.std.specs.Prelude.{ℕ, ◌≡◌, ◌↔◌, ◌⊎◌, ◌<◌, fal
 use Rattle.bib_spec.specs.Bytes.{at_sign, name_limit}
 use Rattle.bib_spec.specs.Text.{Text}
 use Rattle.bib_spec.specs.Clean.{begins_command, IsClean}
-use Rattle.bib_spec.specs.Reading.{Reading, Reads, IsHopeless}
+use Rattle.bib_spec.specs.Reading.{Reading, Reads, FailsAt}
 use Rattle.bib_spec.specs.Fault.{TextKind, ReadingFault, Unended, IsFaultAt}
 
 -- no file has two readings
@@ -19,24 +19,24 @@ abbrev pub CleanBeforeSign : Type 0
 CleanBeforeSign = (t : Text) → IsClean t ↔ IsCleanBeforeSign t
 
 -- a text of this kind, or it goes wrong at a place
-abbrev pub IsSuchOrHopeless : (Text → Type 0) → Type 0
-IsSuchOrHopeless IsSuch = (t : Text) → IsSuch t ⊎ ((place : ℕ) × IsHopeless IsSuch t place)
+abbrev pub IsSuchOrFails : (Text → Type 0) → Type 0
+IsSuchOrFails IsSuch = (t : Text) → IsSuch t ⊎ ((place : ℕ) × FailsAt IsSuch t place)
 
 -- it goes wrong at one place
 abbrev pub OnePlace : (Text → Type 0) → Type 0
-OnePlace IsSuch = (t : Text) (place other : ℕ) → IsHopeless IsSuch t place → IsHopeless IsSuch t other → place ≡ other
+OnePlace IsSuch = (t : Text) (place other : ℕ) → FailsAt IsSuch t place → FailsAt IsSuch t other → place ≡ other
 
 -- where it goes wrong, one thing is wrong
 abbrev pub OneFault : TextKind → Type 0
 OneFault IsSuch =
-    (t : Text) (place : ℕ) → IsHopeless (IsSuch name_limit) t place
+    (t : Text) (place : ℕ) → FailsAt (IsSuch name_limit) t place
     → (fault : ReadingFault) × IsFaultAt IsSuch t place fault × ((other : ReadingFault) → IsFaultAt IsSuch t place other → other ≡ fault)
 
 -- cut anywhere, such a text is such a text or has ended too early
 abbrev pub CutEnds : TextKind → Type 0
 CutEnds IsSuch =
     (t : Text) (n : ℕ) → IsSuch name_limit t
-    → IsSuch name_limit (take n t) ⊎ (IsHopeless (IsSuch name_limit) (take n t) (length (take n t)) × IsFaultAt IsSuch (take n t) (length (take n t)) Unended)
+    → IsSuch name_limit (take n t) ⊎ (FailsAt (IsSuch name_limit) (take n t) (length (take n t)) × IsFaultAt IsSuch (take n t) (length (take n t)) Unended)
 
 -- one reading after the other: the front of the first, and the items of both
 abbrev pub both : Reading → Reading → Reading

@@ -5,7 +5,7 @@ use Rattle.bib_spec.specs.Bytes.{open_brace, quote, hash, name_limit}
 use Rattle.bib_spec.specs.Text.{Text}
 use Rattle.bib_spec.specs.Tree as tree
 use Rattle.bib_spec.specs.Tree.{Link, Value, part_bytes, link_bytes, value_bytes, IsValue}
-use Rattle.bib_spec.specs.Reading.{IsValueWithin, IsHopeless}
+use Rattle.bib_spec.specs.Reading.{IsValueWithin, FailsAt}
 use Rattle.bib_spec.specs.Fault.{ReadingFault, fault_number, IsFaultAt}
 use Rattle.bib_scan.specs.declared.parts.PartKind.{PartKind}
 use Rattle.bib_scan.specs.declared.parts.PartKind.TheVariants as kind
@@ -59,6 +59,6 @@ span_start s = s.start
 
 -- why a text is not taken apart: it is no value, or memory ran out
 pub data IsValueFault (t : Text) : ℕ → ℕ → Type 0 where
-  no_value : (fault : ReadingFault) → (place : ℕ) → IsHopeless (IsValueWithin name_limit) t place → IsFaultAt IsValueWithin t place fault
+  no_value : (fault : ReadingFault) → (place : ℕ) → FailsAt (IsValueWithin name_limit) t place → IsFaultAt IsValueWithin t place fault
       → IsValueFault t (fault_number fault) place
   no_memory : IsValueFault t 10 0

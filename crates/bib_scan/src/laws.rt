@@ -2,7 +2,7 @@
 
 ghost use Rattle.bib_spec.specs.Bytes.{name_limit};
 ghost use Rattle.bib_spec.specs.Reading.{HasReading, HasReadingWithin, IsValueWithin};
-ghost use Rattle.bib_scan.specs.Laws.{OneReading, CleanBeforeSign, IsSuchOrHopeless, OnePlace, OneFault, CutEnds, JoinedReadings};
+ghost use Rattle.bib_scan.specs.Laws.{OneReading, CleanBeforeSign, IsSuchOrFails, OnePlace, OneFault, CutEnds, JoinedReadings};
 
 /// No file has two readings.
 pub fn one_reading()
@@ -16,8 +16,8 @@ pub fn clean_before_sign()
 
 /// A text is a file, or goes wrong at one place. So is a text one value, or goes wrong at one place.
 pub fn one_place()
-    ensures file { IsSuchOrHopeless HasReading }
-    ensures value { IsSuchOrHopeless (IsValueWithin name_limit) }
+    ensures file { IsSuchOrFails HasReading }
+    ensures value { IsSuchOrFails (IsValueWithin name_limit) }
     ensures one_in_file { OnePlace HasReading }
     ensures one_in_value { OnePlace (IsValueWithin name_limit) }
 {}

@@ -2,7 +2,7 @@
 use Rattle.std.specs.Prelude.{ℕ, ◌≡◌, ◌+◌, ◌<◌, ◌≤◌, ◌++◌, ◌∷◌, [], length, take}
 use Rattle.bib_spec.specs.Bytes.{quote, comma, digit_one, equals_sign, letter_x, name_limit, file_limit}
 use Rattle.bib_spec.specs.Text.{Text}
-use Rattle.bib_spec.specs.Reading.{HasReading, HasReadingWithin, IsViable, IsHopeless}
+use Rattle.bib_spec.specs.Reading.{HasReading, HasReadingWithin, IsViable, FailsAt}
 
 -- a kind of text, with names and keys of at most so many bytes
 abbrev pub TextKind : Type 1
@@ -56,6 +56,6 @@ pub data IsFaultAt (IsSuch : TextKind) (t : Text) (place : ℕ) : ReadingFault �
 -- ran out.
 pub data IsReadFault (bytes : Text) : ℕ → ℕ → Type 0 where
   too_long : file_limit < length bytes → IsReadFault bytes 9 file_limit
-  no_reading : (fault : ReadingFault) → (place : ℕ) → length bytes ≤ file_limit → IsHopeless HasReading bytes place
+  no_reading : (fault : ReadingFault) → (place : ℕ) → length bytes ≤ file_limit → FailsAt HasReading bytes place
       → IsFaultAt HasReadingWithin bytes place fault → IsReadFault bytes (fault_number fault) place
   no_memory : length bytes ≤ file_limit → IsReadFault bytes 10 0

@@ -57,7 +57,7 @@ IsViable IsSuch t = (more : Text) × IsSuch (t ++ more)
 
 -- The text is not of this kind, and at the place that becomes certain: what stands before the place can still become such a
 -- text, but with the byte at the place it no longer can.
-pub record IsHopeless (IsSuch : Text → Type 0) (t : Text) (place : ℕ) : Type 0 where
+pub record FailsAt (IsSuch : Text → Type 0) (t : Text) (place : ℕ) : Type 0 where
   pub fails : IsSuch t → ⊥
   pub within : place ≤ length t
   pub viable : IsViable IsSuch (take place t)

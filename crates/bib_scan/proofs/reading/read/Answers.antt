@@ -4,7 +4,7 @@ use Rattle.bib_spec.specs.Bytes.{name_limit}
 use Rattle.bib_spec.specs.Fault.{too_long, no_memory}
 use Rattle.bib_scan.specs.Code.{halt_of}
 use Rattle.bib_scan.proofs.ReadingLaws.{reading_of}
-use Rattle.bib_scan.proofs.HopelessLaws.{stops_at}
+use Rattle.bib_scan.proofs.FailsAtLaws.{stops_at}
 use Rattle.bib_scan.proofs.KindLaws.{read_fault}
 use Rattle.bib_scan.proofs.reading.read.Goals as goal
 

@@ -5,7 +5,7 @@ use Rattle.std.proofs.lemmas.List.{append_cancel_right}
 use Rattle.std.specs.Prelude.{codes}
 use Rattle.bib_spec.specs.Text.{Text, same}
 use Rattle.bib_spec.specs.Tree.{Delimiter, close_byte}
-use Rattle.bib_spec.specs.Reading.{HasReadingWithin, IsViable, IsHopeless}
+use Rattle.bib_spec.specs.Reading.{HasReadingWithin, IsViable, FailsAt}
 use Rattle.bib_scan.specs.Layout.{places_of}
 use Rattle.bib_scan.specs.LeftToRight.{Halt, stop, read_definition, read_preamble, read_entry, read_all_commands, ◌>>=◌}
 use Rattle.bib_scan.proofs.RunLaws.{bind_ok, ok_same, not_ok}
@@ -64,7 +64,7 @@ module _ {A : Type 0} (IsSuch : Text → Type 0) (read : Text → Result A Halt)
       subst (IsViable IsSuch) (sym (at.split ∙ ap (λ (u : Text). at.front ++ u) none ∙ append-nil at.front)) at.viable
 
   -- the place of a fault is the hopeless one
-  pub hopeless_by : (t : Text) (h : Halt) → read t ≡ Err h → IsHopeless IsSuch t (length t - length h.rest)
+  pub hopeless_by : (t : Text) (h : Halt) → read t ≡ Err h → FailsAt IsSuch t (length t - length h.rest)
   hopeless_by t h is =
       let at = stops t h is in
       record {
@@ -113,5 +113,5 @@ pub viable_at : (limit : ℕ) (some : 0 < limit) (t : Text) (h : Halt) → read_
 viable_at limit some = viable_by (HasReadingWithin limit) (read_all_commands limit) (no_fault limit) (stops_at limit some)
 
 -- a refused file goes wrong where reading stops
-pub hopeless : (limit : ℕ) (some : 0 < limit) (t : Text) (h : Halt) → read_all_commands limit t ≡ Err h → IsHopeless (HasReadingWithin limit) t (length t - length h.rest)
+pub hopeless : (limit : ℕ) (some : 0 < limit) (t : Text) (h : Halt) → read_all_commands limit t ≡ Err h → FailsAt (HasReadingWithin limit) t (length t - length h.rest)
 hopeless limit some = hopeless_by (HasReadingWithin limit) (read_all_commands limit) (no_fault limit) (stops_at limit some)
