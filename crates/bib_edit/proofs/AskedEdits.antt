@@ -1,7 +1,7 @@
 -- What is asked for, by the kind of edit.
 use Rattle.std.proofs.Common.{ℕ, List, [], ◌∷◌, ⊎_elim, refl, append-nil}
 use Rattle.bib_spec.specs.Tree.{Digits}
-use Rattle.bib_scan.proofs.PlaceOfFault.{value_or_hopeless}
+use Rattle.bib_scan.proofs.PlaceOfFault.{value_or_failing}
 use Rattle.bib_edit.specs.Laws.{EditsAreAskedFor}
 use Rattle.bib_spec.specs.Text.{Text}
 use Rattle.bib_spec.specs.Tree.{Value}
@@ -24,7 +24,7 @@ some_value : (t : Text) → (v : Value) × Spells t v
 some_value t = ⊎_elim
     (λ is. (is.0, record { bytes = is.2; value = λ _. is.1 }))
     (λ none. (record { first = Digits t; links = [] }, record { bytes = append-nil t; value = λ is. absurd (none.1.fails is) }))
-    (value_or_hopeless t)
+    (value_or_failing t)
 
 some_fields : (asked : List (Text × Text)) → (fields : List (Text × Value)) × SpellFields asked fields
 some_fields [] = ([], tt)

@@ -73,7 +73,7 @@ source_bytes most (Some told) (Some rest) v r =
 -- a file that is too long is refused as its front is that has one byte past the limit
 IsReadFault-long : (bytes : Text) (kind place : ℕ) → file_limit < length bytes → IsReadFault (take (file_limit + 1) bytes) kind place → IsReadFault bytes kind place
 IsReadFault-long bytes kind place long (too_long over) = too_long long
-IsReadFault-long bytes kind place long (no_reading fault at within hopeless wrong) = absurd (omega (arith, long, within, length-take-le (file_limit + 1) bytes (omega (arith, long))))
+IsReadFault-long bytes kind place long (no_reading fault at within failing wrong) = absurd (omega (arith, long, within, length-take-le (file_limit + 1) bytes (omega (arith, long))))
 IsReadFault-long bytes kind place long (no_memory within) = absurd (omega (arith, long, within, length-take-le (file_limit + 1) bytes (omega (arith, long))))
 
 IsCatAnswer-long : (bytes : Text) (answer : Answer) → file_limit < length bytes

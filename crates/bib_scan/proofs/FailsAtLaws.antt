@@ -63,9 +63,9 @@ module _ {A : Type 0} (IsSuch : Text → Type 0) (read : Text → Result A Halt)
       let at = stops t h is in
       subst (IsViable IsSuch) (sym (at.split ∙ ap (λ (u : Text). at.front ++ u) none ∙ append-nil at.front)) at.viable
 
-  -- the place of a fault is the hopeless one
-  pub hopeless_by : (t : Text) (h : Halt) → read t ≡ Err h → FailsAt IsSuch t (length t - length h.rest)
-  hopeless_by t h is =
+  -- the place of a fault is the failing one
+  pub failing_by : (t : Text) (h : Halt) → read t ≡ Err h → FailsAt IsSuch t (length t - length h.rest)
+  failing_by t h is =
       let at = stops t h is in
       record {
         fails = λ such. no_fault t h such is;
@@ -113,5 +113,5 @@ pub viable_at : (limit : ℕ) (some : 0 < limit) (t : Text) (h : Halt) → read_
 viable_at limit some = viable_by (HasReadingWithin limit) (read_all_commands limit) (no_fault limit) (stops_at limit some)
 
 -- a refused file goes wrong where reading stops
-pub hopeless : (limit : ℕ) (some : 0 < limit) (t : Text) (h : Halt) → read_all_commands limit t ≡ Err h → FailsAt (HasReadingWithin limit) t (length t - length h.rest)
-hopeless limit some = hopeless_by (HasReadingWithin limit) (read_all_commands limit) (no_fault limit) (stops_at limit some)
+pub failing : (limit : ℕ) (some : 0 < limit) (t : Text) (h : Halt) → read_all_commands limit t ≡ Err h → FailsAt (HasReadingWithin limit) t (length t - length h.rest)
+failing limit some = failing_by (HasReadingWithin limit) (read_all_commands limit) (no_fault limit) (stops_at limit some)

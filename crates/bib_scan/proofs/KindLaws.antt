@@ -13,7 +13,7 @@ use Rattle.bib_scan.proofs.LocalLaws.{rest_of}
 use Rattle.bib_scan.proofs.LocalRows.{plain, ready, fault_of}
 use Rattle.bib_scan.proofs.PlaceLaws.{front_cut, front_more}
 use Rattle.bib_scan.proofs.StopLaws.{inside, FileStop, file_stop}
-use Rattle.bib_scan.proofs.FailsAtLaws.{of_inside, stuck_at, viable_at, hopeless}
+use Rattle.bib_scan.proofs.FailsAtLaws.{of_inside, stuck_at, viable_at, failing}
 use Rattle.bib_scan.proofs.TellLaws.{Passes, Blocks, AsksDigit, IsEnd, DigitToo, Past, Stopped, TellsAt, Tells}
 use Rattle.bib_scan.proofs.TellTrees.{close_untried, tell_definition, tell_preamble, tell_entry}
 use Rattle.bib_scan.proofs.WidenLaws.{IsLong, IsShort, Widens}
@@ -139,4 +139,4 @@ file_fault t h is = fault_at HasReadingWithin t h.fault h.rest (file_wrong t h i
 
 -- why a file is not read
 pub read_fault : (t : Text) (h : Halt) → length t ≤ file_limit → read_all_commands name_limit t ≡ Err h → IsReadFault t (fault_number h.fault) (length t - length h.rest)
-read_fault t h fits is = fault.no_reading h.fault (length t - length h.rest) fits (hopeless name_limit (omega arith) t h is) (file_fault t h is)
+read_fault t h fits is = fault.no_reading h.fault (length t - length h.rest) fits (failing name_limit (omega arith) t h is) (file_fault t h is)

@@ -11,10 +11,10 @@ use Rattle.bib_scan.specs.declared.layout.Span.{Span}
 use Rattle.bib_scan.specs.Laws.{IsSuchOrFails, OneFault, CutEnds}
 use Rattle.bib_scan.specs.LeftToRight.{Halt, read_all_commands, read_whole_value}
 use Rattle.bib_scan.proofs.ReadingLaws.{reading_of}
-use Rattle.bib_scan.proofs.FailsAtLaws.{hopeless}
+use Rattle.bib_scan.proofs.FailsAtLaws.{failing}
 use Rattle.bib_scan.proofs.PlaceLaws.{one_place, one_fault, viable_front}
 use Rattle.bib_scan.proofs.KindLaws.{file_fault}
-use Rattle.bib_scan.proofs.WholeValueLaws.{whole_value, hopeless_value, value_fault}
+use Rattle.bib_scan.proofs.WholeValueLaws.{whole_value, failing_value, value_fault}
 
 -- a reader of this kind of text: what it gives is such a text, and what it refuses goes wrong where it stops, and so
 module _ {A : Type 0} (IsSuch : TextKind) (read : Text → Result A Halt) (sound : (t : Text) (x : A) → read t ≡ Ok x → IsSuch name_limit t) (wrong : (t : Text) (h : Halt) → read t ≡ Err h → FailsAt (IsSuch name_limit) t (length t - length h.rest)) (kind : (t : Text) (h : Halt) → read t ≡ Err h → IsFaultAt IsSuch t (length t - length h.rest) h.fault) where
@@ -22,8 +22,8 @@ module _ {A : Type 0} (IsSuch : TextKind) (read : Text → Result A Halt) (sound
   such_or t (Ok x) is = inl (sound t x is)
   such_or t (Err h) is = inr (h, is)
 
-  pub such_or_hopeless : IsSuchOrFails (IsSuch name_limit)
-  such_or_hopeless t = elim (such_or t (read t) refl) [ inl such ↦ inl such | inr r ↦ inr (length t - length r.0.rest, wrong t r.0 r.1) ]
+  pub such_or_failing : IsSuchOrFails (IsSuch name_limit)
+  such_or_failing t = elim (such_or t (read t) refl) [ inl such ↦ inl such | inr r ↦ inr (length t - length r.0.rest, wrong t r.0 r.1) ]
 
   pub fault_of_place : OneFault IsSuch
   fault_of_place t place at =
@@ -56,20 +56,20 @@ module _ {A : Type 0} (IsSuch : TextKind) (read : Text → Result A Halt) (sound
 file_is_read : (t : Text) (x : List Span) → read_all_commands name_limit t ≡ Ok x → HasReadingWithin name_limit t
 file_is_read t x is = let r = reading_of name_limit t x is in (r.0, r.1)
 
-pub file_or_hopeless : IsSuchOrFails (HasReadingWithin name_limit)
-file_or_hopeless = such_or_hopeless HasReadingWithin (read_all_commands name_limit) file_is_read (hopeless name_limit (omega arith)) file_fault
+pub file_or_failing : IsSuchOrFails (HasReadingWithin name_limit)
+file_or_failing = such_or_failing HasReadingWithin (read_all_commands name_limit) file_is_read (failing name_limit (omega arith)) file_fault
 
 pub fault_of_file : OneFault HasReadingWithin
-fault_of_file = fault_of_place HasReadingWithin (read_all_commands name_limit) file_is_read (hopeless name_limit (omega arith)) file_fault
+fault_of_file = fault_of_place HasReadingWithin (read_all_commands name_limit) file_is_read (failing name_limit (omega arith)) file_fault
 
 pub file_cut : CutEnds HasReadingWithin
-file_cut = cut_ends HasReadingWithin (read_all_commands name_limit) file_is_read (hopeless name_limit (omega arith)) file_fault
+file_cut = cut_ends HasReadingWithin (read_all_commands name_limit) file_is_read (failing name_limit (omega arith)) file_fault
 
-pub value_or_hopeless : IsSuchOrFails (IsValueWithin name_limit)
-value_or_hopeless = such_or_hopeless IsValueWithin (read_whole_value name_limit) (whole_value name_limit) (hopeless_value name_limit (omega arith)) value_fault
+pub value_or_failing : IsSuchOrFails (IsValueWithin name_limit)
+value_or_failing = such_or_failing IsValueWithin (read_whole_value name_limit) (whole_value name_limit) (failing_value name_limit (omega arith)) value_fault
 
 pub fault_of_value : OneFault IsValueWithin
-fault_of_value = fault_of_place IsValueWithin (read_whole_value name_limit) (whole_value name_limit) (hopeless_value name_limit (omega arith)) value_fault
+fault_of_value = fault_of_place IsValueWithin (read_whole_value name_limit) (whole_value name_limit) (failing_value name_limit (omega arith)) value_fault
 
 pub value_cut : CutEnds IsValueWithin
-value_cut = cut_ends IsValueWithin (read_whole_value name_limit) (whole_value name_limit) (hopeless_value name_limit (omega arith)) value_fault
+value_cut = cut_ends IsValueWithin (read_whole_value name_limit) (whole_value name_limit) (failing_value name_limit (omega arith)) value_fault

@@ -19,7 +19,7 @@ use Rattle.bib_scan.proofs.LocalLaws.{rest_of, LocalAt}
 use Rattle.bib_scan.proofs.LocalRows.{skip, value_gap, local_value}
 use Rattle.bib_scan.proofs.MendLaws.{err_is, Always}
 use Rattle.bib_scan.proofs.MendRows.{mend_value, one_part}
-use Rattle.bib_scan.proofs.FailsAtLaws.{StopsAt, stuck_by, viable_by, hopeless_by}
+use Rattle.bib_scan.proofs.FailsAtLaws.{StopsAt, stuck_by, viable_by, failing_by}
 use Rattle.bib_scan.proofs.TellLaws.{DigitToo, Past, Stopped, TakesDigit, TellsAt}
 use Rattle.bib_scan.proofs.TellRows.{tell_value, digits_value, keeps_value, close_ends}
 use Rattle.bib_scan.proofs.WidenTrees.{widen_value}
@@ -188,8 +188,8 @@ module _ (limit : ℕ) (some : 0 < limit) where
   viable_value = viable_by (IsValueWithin limit) (read_whole_value limit) (no_value_fault limit) stops_by
 
   -- a text that is refused as a value goes wrong where reading stops
-  pub hopeless_value : (t : Text) (h : Halt) → read_whole_value limit t ≡ Err h → FailsAt (IsValueWithin limit) t (length t - length h.rest)
-  hopeless_value = hopeless_by (IsValueWithin limit) (read_whole_value limit) (no_value_fault limit) stops_by
+  pub failing_value : (t : Text) (h : Halt) → read_whole_value limit t ≡ Err h → FailsAt (IsValueWithin limit) t (length t - length h.rest)
+  failing_value = failing_by (IsValueWithin limit) (read_whole_value limit) (no_value_fault limit) stops_by
 
   -- ---- what other bytes tell
 

@@ -1,14 +1,14 @@
 use Rattle.bib_spec.specs.Bytes.{name_limit}
 use Rattle.bib_spec.specs.Reading.{HasReading, IsValueWithin}
 use Rattle.bib_scan.proofs.PlaceLaws.{one_place}
-use Rattle.bib_scan.proofs.PlaceOfFault.{file_or_hopeless, value_or_hopeless}
+use Rattle.bib_scan.proofs.PlaceOfFault.{file_or_failing, value_or_failing}
 use Rattle.bib_scan.proofs.laws.one_place.Goals as goal
 
 pub returns-clause-file : goal.returns-clause-file
-returns-clause-file c = file_or_hopeless
+returns-clause-file c = file_or_failing
 
 pub returns-clause-value : goal.returns-clause-value
-returns-clause-value c = value_or_hopeless
+returns-clause-value c = value_or_failing
 
 pub returns-clause-one_in_file : goal.returns-clause-one_in_file
 returns-clause-one_in_file c = one_place HasReading

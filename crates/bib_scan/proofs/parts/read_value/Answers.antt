@@ -5,7 +5,7 @@ use Rattle.bib_scan.specs.Code.{halt_of}
 use Rattle.bib_scan.specs.ValueParts.{IsValueFault, no_value, no_memory}
 use Rattle.bib_scan.proofs.TakenApart.{value_found}
 use Rattle.bib_scan.proofs.PartsFaults.{refused_whole}
-use Rattle.bib_scan.proofs.WholeValueLaws.{stops_by, hopeless_value, value_fault}
+use Rattle.bib_scan.proofs.WholeValueLaws.{stops_by, failing_value, value_fault}
 use Rattle.bib_scan.proofs.parts.read_value.Goals as goal
 
 pub overflow_sub-result : goal.overflow_sub-result
@@ -25,4 +25,4 @@ returns-in-Err-Fault-clause-fault c =
     let h = halt_of c.in-Err-Fault.stop in
     let refused = refused_whole name_limit t h (rw c.in-Err-Fault.field-0-is at c.in-Err-Fault.ensures) in
     let place = length t - length h.rest in
-    subst (λ (n : ℕ). IsValueFault t n place) (sym c.number.ensures) (no_value h.fault place (hopeless_value name_limit (omega arith) t h refused) (value_fault t h refused))
+    subst (λ (n : ℕ). IsValueFault t n place) (sym c.number.ensures) (no_value h.fault place (failing_value name_limit (omega arith) t h refused) (value_fault t h refused))
