@@ -1,6 +1,7 @@
 -- ---- the readers, step by step
 pub mod BalanceLaws
 pub mod BraceLemmas
+pub mod FirstPlaces
 pub mod ScanInvariant
 pub mod ValueLemmas
 pub mod RowsLemmas

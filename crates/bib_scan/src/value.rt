@@ -10,9 +10,9 @@ ghost use Rattle.bib_scan.specs.PartView.{part_view};
 
 use crate::class::is_name_byte;
 use crate::fault::{Fault, Stop};
+use crate::near::{first_of_three, first_of_two};
 use crate::run::{behind, digits_len, name_len, past_space};
 use crate::text::NAME_LIMIT;
-use memchr::{memchr2, memchr3};
 
 /// A part of a value, with its content.
 #[derive(Clone, Copy, Debug, PartialEq, Eq)]
@@ -30,7 +30,7 @@ fn split_braced(text: &[u8]) -> Result<(&[u8], &[u8]), Stop<'_>>
 {
     let mut depth = 0usize;
     let mut at = 0;
-    while let Some(found) = memchr2(b'{', b'}', behind(text, at)) {
+    while let Some(found) = first_of_two(b'{', b'}', behind(text, at)) {
         let place = at + found;
         if text[place] == b'{' {
             depth += 1;
@@ -54,7 +54,7 @@ fn split_quoted(text: &[u8]) -> Result<(&[u8], &[u8]), Stop<'_>>
 {
     let mut depth = 0usize;
     let mut at = 0;
-    while let Some(found) = memchr3(b'{', b'}', b'"', behind(text, at)) {
+    while let Some(found) = first_of_three(b'{', b'}', b'"', behind(text, at)) {
         let place = at + found;
         match text[place] {
             b'{' => depth += 1,

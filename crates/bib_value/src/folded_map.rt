@@ -33,6 +33,13 @@ impl<V> Model for FoldedMap<V> {
     ghost invariant = { λ m. NamesAreShort m.entries.entries };
 }
 
+/// The name, folded, in memory of its own.
+fn folded_text(alloc: Global, name: &[u8]) -> Result<Vec<u8>, AllocError>
+    ensures { IfOk result (λ text. text.items ≡ folded name.now) }
+{
+    name.to_ascii_lowercase(alloc)
+}
+
 impl<V> FoldedMap<V> {
     /// The map without names. It takes no memory.
     pub fn new(alloc: Global) -> Self
@@ -70,7 +77,7 @@ impl<V> FoldedMap<V> {
         ensures ok { OnOk result (IsWith self.old name.now value self.new) }
         ensures err { OnErr result (self.new ≡ self.old) }
     {
-        let folded = Vec::from_slice(self.alloc, FoldedName::of(name).as_slice())?;
+        let folded = folded_text(self.alloc, name)?;
         Ok(self.entries.insert(folded, value)?)
     }
 

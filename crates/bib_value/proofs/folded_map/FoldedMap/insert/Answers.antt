@@ -6,7 +6,7 @@ use Rattle.bib_value.proofs.Entries.{value_at-by_name, value_at-insert, names_st
 use Rattle.bib_value.proofs.folded_map.FoldedMap.insert.Goals as goal
 
 key : (g : _) (c : goal.In_ok-insert g) → c.in_ok-folded.folded.items ≡ folded c.args.name.now
-key g c = c.in_ok-folded.ensures.items ∙ c.as_slice.ensures ∙ c.of.ensures
+key g c = c.in_ok-folded.ensures
 
 pub invariant_of-self-2 : goal.invariant_of-self-2
 invariant_of-self-2 g c =
