@@ -10,7 +10,7 @@ ghost use Rattle.bib_scan.specs.PartView.{part_view};
 
 use crate::class::is_name_byte;
 use crate::fault::{Fault, Stop};
-use crate::run::{behind, digits_len, name_len, past_space};
+use crate::spans::{behind, digits_len, name_len, past_space};
 use crate::text::NAME_LIMIT;
 use memchr::{memchr2, memchr3};
 
