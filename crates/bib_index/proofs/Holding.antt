@@ -5,12 +5,12 @@ use Rattle.std.specs.List.{slice_get}
 use Rattle.std.specs.Str.{bytes_eq}
 use Rattle.std.proofs.lemmas.Bool.{cases_Bool, cond-true, cond-false, ne_eqb, eq-eqb, cases_eq, false_from_ne_true}
 use Rattle.std.proofs.lemmas.Bool.Decides.{eqb_tells}
-use Rattle.std.proofs.lemmas.Slice.Eq.{bytes_eq-Decides}
 use Rattle.std.proofs.lemmas.List.{take_at, drop_at}
 use Rattle.std.proofs.lemmas.List.Elements.{filter-append}
 use Rattle.std.proofs.lemmas.List.Sums.{length-filter}
 use Rattle.std.proofs.lemmas.Option.{none-some, same_Some}
 use Rattle.bib_spec.specs.Text.{Text, folded}
+use Rattle.bib_spec.proofs.Names.{eq-true, true-eq}
 use Rattle.bib_order.specs.Orders.{Lacks, IsDistinct}
 use Rattle.bib_order.specs.Holders.{holders, before}
 use Rattle.bib_order.proofs.Counting.{lacks_at}
@@ -112,14 +112,8 @@ fewer a b id lacks same (x ∷ ids) = fewer_of a b id x ids lacks same (fewer a 
 
 -- ---- texts
 
-same_text : (a b : Text) → bytes_eq a b ≡ true → a ≡ b
-same_text a b h = (bytes_eq-Decides a b).0 h
-
 pub other_text : (a b : Text) → a ≢ b → bytes_eq a b ≡ false
-other_text a b apart = false_from_ne_true (bytes_eq a b) (λ h. apart (same_text a b h))
-
-is_itself : (a : Text) → bytes_eq a a ≡ true
-is_itself a = (bytes_eq-Decides a a).1 refl
+other_text a b apart = false_from_ne_true (bytes_eq a b) (λ h. apart (eq-true a b h))
 
 -- the ids of a text are these
 has_here : (old new : Text → List ℕ) (text x : Text) (ids : List ℕ) → Has old text ids new → bytes_eq x text ≡ true → new x ≡ ids
@@ -150,7 +144,7 @@ has_last old mid new text a b first last x = last x ∙ ap (cond (bytes_eq x tex
 -- it has those that it had
 pub has_same : (index : Text → List ℕ) (text : Text) (ids : List ℕ) → index text ≡ ids → Has index text ids index
 has_same index text ids is x = ⊎_elim
-    (λ (h : bytes_eq x text ≡ true). ap index (same_text x text h) ∙ is ∙ sym (cond-true (bytes_eq x text) ids (index x) h))
+    (λ (h : bytes_eq x text ≡ true). ap index (eq-true x text h) ∙ is ∙ sym (cond-true (bytes_eq x text) ids (index x) h))
     (λ (h : bytes_eq x text ≡ false). sym (cond-false (bytes_eq x text) ids (index x) h))
     (cases_Bool (bytes_eq x text))
 
@@ -180,7 +174,7 @@ gets texts order id t = all_same (also id test) (has_text after (folded t)) same
 
     same : (y : ℕ) → also id test y ≡ has_text after (folded t) y
     same y = ⊎_elim
-        (λ (e : y ≡ id). ap (also id test) e ∙ also_itself id test ∙ sym (is_itself (folded t)) ∙ sym (at_itself texts id (Some t) (folded t)) ∙ ap (has_text after (folded t)) (sym e))
+        (λ (e : y ≡ id). ap (also id test) e ∙ also_itself id test ∙ sym (true-eq (folded t) (folded t) refl) ∙ sym (at_itself texts id (Some t) (folded t)) ∙ ap (has_text after (folded t)) (sym e))
         (λ (e : y ≢ id). also_other id test y e ∙ sym (agrees texts id (Some t) (folded t) y e))
         (cases_eq y id)
 
@@ -208,7 +202,7 @@ added texts order old new t id none is told x = ⊎_elim
     (λ (h : bytes_eq x (folded t) ≡ true).
     has_here old new (folded t) x (holders (also id (has_text texts (folded t))) order) told h
     ∙ gets texts order id t
-    ∙ ap (λ (y : Text). holders (has_text (with_text texts id (Some t)) y) order) (sym (same_text x (folded t) h)))
+    ∙ ap (λ (y : Text). holders (has_text (with_text texts id (Some t)) y) order) (sym (eq-true x (folded t) h)))
     (λ (h : bytes_eq x (folded t) ≡ false).
     has_there old new (folded t) x (holders (also id (has_text texts (folded t))) order) told h
     ∙ is x
@@ -221,7 +215,7 @@ pub removed : (texts : ℕ → Option Text) (order : List ℕ) (old new : Text �
 removed texts order old new t id some is told x = ⊎_elim
     (λ (h : bytes_eq x (folded t) ≡ true).
     has_here old new (folded t) x (without id (old (folded t))) told h
-    ∙ ap (λ (y : Text). without id (old y)) (sym (same_text x (folded t) h))
+    ∙ ap (λ (y : Text). without id (old y)) (sym (eq-true x (folded t) h))
     ∙ ap (without id) (is x)
     ∙ loses texts order id None x refl)
     (λ (h : bytes_eq x (folded t) ≡ false).
@@ -240,7 +234,7 @@ pub rekeyed : (texts : ℕ → Option Text) (order : List ℕ) (old mid new : Te
     → Has old (folded s) (holders (also id (has_text texts (folded s))) order) mid → Has mid (folded t) (without id (mid (folded t))) new → IsIndexOf (with_text texts id (Some s)) order new
 rekeyed texts order old mid new t s id some apart is told then x = ⊎_elim
     (λ (h : bytes_eq x (folded t) ≡ true).
-    let here = same_text x (folded t) h in
+    let here = eq-true x (folded t) h in
     let other : bytes_eq x (folded s) ≡ false = other_text x (folded s) (λ e. apart (sym here ∙ e)) in
     has_here mid new (folded t) x (without id (mid (folded t))) then h
     ∙ ap (λ (y : Text). without id (mid y)) (sym here)
@@ -252,7 +246,7 @@ rekeyed texts order old mid new t s id some apart is told then x = ⊎_elim
     (λ (e : bytes_eq x (folded s) ≡ true).
     has_here old mid (folded s) x (holders (also id (has_text texts (folded s))) order) told e
     ∙ gets texts order id s
-    ∙ ap (λ (y : Text). holders (has_text (with_text texts id (Some s)) y) order) (sym (same_text x (folded s) e)))
+    ∙ ap (λ (y : Text). holders (has_text (with_text texts id (Some s)) y) order) (sym (eq-true x (folded s) e)))
     (λ (e : bytes_eq x (folded s) ≡ false).
     has_there old mid (folded s) x (holders (also id (has_text texts (folded s))) order) told e
     ∙ is x

@@ -12,7 +12,7 @@ ghost use Rattle.bib_scan.specs.DelimiterView.{delimiter_view};
 use crate::fault::{Fault, Stop};
 use crate::opening::Delimiter;
 use crate::row::{past_row, split_assignment};
-use crate::run::{behind, past_space, split_type_name};
+use crate::spans::{behind, past_space, split_type_name};
 use crate::text::{NAME_LIMIT, same_folded};
 use crate::value::split_value;
 

@@ -9,7 +9,7 @@ ghost use Rattle.bib_scan.specs.FieldsLeft.{read_field, read_row_field, read_pre
 use crate::body::past_comma;
 use crate::fault::Stop;
 use crate::row::split_assignment;
-use crate::run::past_space;
+use crate::spans::past_space;
 use crate::value::split_value;
 use crate::view::Kind;
 use std::marker::Model;

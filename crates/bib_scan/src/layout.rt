@@ -2,7 +2,7 @@
 
 ghost use Rattle.std.specs.Prelude.{◌≡◌};
 
-use crate::run::behind;
+use crate::spans::behind;
 use crate::view::ItemView;
 use std::marker::Model;
 

@@ -8,7 +8,7 @@ ghost use Rattle.bib_spec.specs.Tree.{close_byte, goes_on_key};
 ghost use Rattle.bib_scan.specs.DelimiterView.{delimiter_view};
 
 use crate::class::{is_space, is_type_byte};
-use crate::run::{behind, past_space, split_type_name};
+use crate::spans::{behind, past_space, split_type_name};
 use crate::text::{is_name, same_folded};
 use memchr::memchr;
 

@@ -10,7 +10,7 @@ ghost use Rattle.bib_scan.specs.ValueParts.{part_kind, kind_begun, parts_of, IsP
 ghost use Rattle.bib_scan.specs.PartsLeft.{part_span, read_link, read_all_parts};
 
 use crate::fault::{Fault, ReadFault, Refusal, Stop};
-use crate::run::{behind, past_space};
+use crate::spans::{behind, past_space};
 use crate::value::{Part, past_hash, split_part};
 use memchr::memchr;
 use std::alloc::Global;

@@ -11,7 +11,7 @@ use crate::body::past_command;
 use crate::fault::{ReadFault, Refusal};
 use crate::layout::{Layout, Span};
 use crate::opening::next_command;
-use crate::run::behind;
+use crate::spans::behind;
 use std::alloc::Global;
 
 /// The longest file that is read, in bytes. (dialect)

@@ -7,7 +7,7 @@ ghost use Rattle.bib_scan.specs.Code.{Gives};
 ghost use Rattle.bib_scan.specs.AssignedView.{assigned_view};
 
 use crate::fault::Stop;
-use crate::run::past_space;
+use crate::spans::past_space;
 use crate::value::{past_equals, split_name, split_value};
 
 /// A name and a value's bytes, and how long the text is from the value on.

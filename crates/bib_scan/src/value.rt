@@ -11,7 +11,7 @@ ghost use Rattle.bib_scan.specs.PartView.{part_view};
 use crate::class::is_name_byte;
 use crate::fault::{Fault, Stop};
 use crate::near::{first_of_three, first_of_two};
-use crate::run::{behind, digits_len, name_len, past_space};
+use crate::spans::{behind, digits_len, name_len, past_space};
 use crate::text::NAME_LIMIT;
 
 /// A part of a value, with its content.

@@ -9,7 +9,7 @@ ghost use Rattle.bib_spec.specs.Tree.{Tree, IsTree, tree_bytes};
 use crate::body::key_len;
 use crate::fields::Fields;
 use crate::opening::Delimiter;
-use crate::run::{past_space, split_type_name};
+use crate::spans::{past_space, split_type_name};
 use crate::text::same_folded;
 use std::marker::Model;
 

@@ -1,5 +1,5 @@
 -- InlineMacro: the definition goes, each use after it says its text itself, and every text stays.
-use Rattle.std.proofs.Common.{◌≡◌, ℕ, zero, suc, true, false, cond, List, [], ◌∷◌, ◌++◌, Option, Some, None, unwrap_or, length, ⊎_elim, refl, sym, ◌∙◌, ap, count_by, arith}
+use Rattle.std.proofs.Common.{◌≡◌, ℕ, zero, suc, true, false, List, [], ◌∷◌, ◌++◌, Option, Some, None, unwrap_or, length, ⊎_elim, refl, sym, ◌∙◌, ap, count_by, arith}
 use Rattle.std.specs.Str.{bytes_eq}
 use Rattle.std.proofs.lemmas.Bool.{cases_Bool, cond-true, cond-false, false_from_ne_true, false≢true, both_ways, or_parts, or_from, or_cases}
 use Rattle.bib_spec.specs.Text.{Text, folded, same}
@@ -9,11 +9,11 @@ use Rattle.bib_spec.specs.Texts.{Macros, updated, part_text, raw_text, macros_in
 use Rattle.bib_spec.specs.Records.{entry_in, preamble_in}
 use Rattle.edit_spec.specs.Edits.{changed, leaving, tree_with, items_with, defines, from_first, use_inlined, uses_inlined, without_first}
 use Rattle.edit_spec.specs.Laws.{is_behind}
-use Rattle.bib_spec.proofs.Names.{same-is, same-true, same_of, same_comm, true-eq}
+use Rattle.bib_spec.proofs.Names.{same-is, same-true, same_of, true-eq}
 use Rattle.edit_spec.proofs.InUse.{InTree_undefined}
 use Rattle.bib_spec.proofs.Counts.{count-yes, count-no}
 use Rattle.edit_spec.proofs.Seen.{undefined}
-use Rattle.edit_spec.proofs.Simulation.{InTree, InItems, entry_same, preamble_same, gathered_same, at_same}
+use Rattle.edit_spec.proofs.Simulation.{InTree, InItems, AgreeOn, names_stay, name_stays, entry_same, preamble_same, gathered_same, at_same}
 
 module _ (name held : Text) where
   abbrev pub IsOther : Text → Type 0
@@ -24,7 +24,7 @@ module _ (name held : Text) where
 
   -- the old table gives the held text to the name, and the new one gives to every other name what the old one gives
   abbrev pub Agree : Macros → Macros → Type 0
-  Agree m n = (m (folded name) ≡ Some held) × ((x : Text) → same x name ≡ false → n (folded x) ≡ m (folded x))
+  Agree m n = (m (folded name) ≡ Some held) × AgreeOn IsOther (λ x. x) m n
 
   abbrev new_tree : Tree → Tree
   new_tree tree = tree_with leaving (use_inlined name held) tree
@@ -44,8 +44,8 @@ module _ (name held : Text) where
 
   pub stays : (m n : Macros) → Agree m n → (defined : Text) → IsOther defined → (o : Option Text) → Agree (updated m defined o) (updated n defined o)
   stays m n agree defined h o = (
-    cond-false (bytes_eq (folded name) (folded defined)) o (m (folded name)) (sym (same-is name defined) ∙ same_comm name defined ∙ h) ∙ agree.0,
-    (λ x p. ap (λ v. cond (bytes_eq (folded x) (folded defined)) o v) (agree.1 x p)),
+    name_stays m name defined (Some held) o h agree.0,
+    names_stay IsOther (λ x. x) m n defined o (λ _ _. refl) agree.1,
   )
 
   -- after the definition, and with it left out

@@ -9,8 +9,8 @@ use Rattle.bib_spec.specs.Texts.{Macros, updated, part_text, macros_after, macro
 use Rattle.bib_spec.specs.Records.{entry_in, preamble_in}
 use Rattle.edit_spec.specs.Edits.{changed, leaving, tree_with, uses, holds, any_part, from_first, part_introduced, definition_of, introduced}
 use Rattle.edit_spec.specs.Laws.{is_reached}
-use Rattle.bib_spec.proofs.Names.{same-is, same_comm, true-eq, eq-true}
-use Rattle.edit_spec.proofs.Simulation.{InTree, InItems, entry_same, preamble_same, gathered_same, at_same}
+use Rattle.bib_spec.proofs.Names.{same-is, true-eq, eq-true}
+use Rattle.edit_spec.proofs.Simulation.{InTree, InItems, AgreeOn, names_stay, name_stays, entry_same, preamble_same, gathered_same, at_same}
 
 module _ (name held : Text) where
   abbrev pub IsOther : Text → Type 0
@@ -21,7 +21,7 @@ module _ (name held : Text) where
 
   -- the new table gives the held text to the name, and to every other name what the old one gives
   abbrev pub Agree : Macros → Macros → Type 0
-  Agree m n = (n (folded name) ≡ Some held) × ((x : Text) → same x name ≡ false → n (folded x) ≡ m (folded x))
+  Agree m n = (n (folded name) ≡ Some held) × AgreeOn IsOther (λ x. x) m n
 
   -- a text in braces or quotes says the same as the name where it is the text
   said_alike : (n : Macros) → n (folded name) ≡ Some held → (part : Part) (text : Text) → part_text n part ≡ text →
@@ -39,8 +39,8 @@ module _ (name held : Text) where
 
   pub stays : (m n : Macros) → Agree m n → (defined : Text) → IsOther defined → (o : Option Text) → Agree (updated m defined o) (updated n defined o)
   stays m n agree defined h o = (
-    cond-false (bytes_eq (folded name) (folded defined)) o (n (folded name)) (sym (same-is name defined) ∙ same_comm name defined ∙ h) ∙ agree.0,
-    (λ x p. ap (λ v. cond (bytes_eq (folded x) (folded defined)) o v) (agree.1 x p)),
+    name_stays n name defined (Some held) o h agree.0,
+    names_stay IsOther (λ x. x) m n defined o (λ _ _. refl) agree.1,
   )
 
   -- after the new definition

@@ -83,8 +83,9 @@ module _ (from to : Text) (entries : List EntryTexts) (can : CanRenameKey from t
       let at = cond_some (the_one.0 == n) to key (sym (ap (λ o. key_for o to n) the_one.1) ∙ e) in
       (eqb-true the_one.0 n at.0, at.1)
 
-  stays : (n : ℕ) → n ≢ the_one.0 → key_for (first_named from (keys_of entries)) to n ≡ None
-  stays n ne = ap (λ o. key_for o to n) the_one.1 ∙ cond-false (the_one.0 == n) (Some to) None (ne_eqb the_one.0 n (λ e. ne (sym e)))
+  -- every other entry keeps its key
+  others_keep : (n : ℕ) → n ≢ the_one.0 → key_for (first_named from (keys_of entries)) to n ≡ None
+  others_keep n ne = ap (λ o. key_for o to n) the_one.1 ∙ cond-false (the_one.0 == n) (Some to) None (ne_eqb the_one.0 n (λ e. ne (sym e)))
 
   apart : (n m : ℕ) (key other : Text) → key_for (first_named from (keys_of entries)) to n ≡ Some key → m ≢ n →
       slice_get (keys_with (key_for (first_named from (keys_of entries)) to) 0 (keys_of entries)) m ≡ Some other → same other key ≡ false
@@ -92,7 +93,7 @@ module _ (from to : Text) (entries : List EntryTexts) (can : CanRenameKey from t
       let at = gets n key e in
       let ne' : m ≢ the_one.0 = λ is. ne (is ∙ at.0) in
       let was = key_before (key_for (first_named from (keys_of entries)) to) (keys_of entries) m other s in
-      let is : other ≡ was.0 = was.2 ∙ ap (λ o. unwrap_or o was.0) (stays m ne') in
+      let is : other ≡ was.0 = was.2 ∙ ap (λ o. unwrap_or o was.0) (others_keep m ne') in
       let both = none_at (λ key. same to key && not (is_named from key)) (keys_of entries) can.unused m was.0 was.1 in
       ap₂ same is (sym at.1) ∙ same_comm was.0 to ∙ ⊎_elim
       (λ differs. differs)

@@ -10,7 +10,7 @@ use Rattle.bib_spec.specs.Records.{entry_in, preamble_in}
 use Rattle.edit_spec.specs.Edits.{changed, tree_with, items_with, defines, from_first, name_renamed, use_renamed}
 use Rattle.edit_spec.specs.Laws.{is_behind}
 use Rattle.bib_spec.proofs.Names.{same-is, same-true, true-same}
-use Rattle.edit_spec.proofs.Simulation.{InTree, InItems, define_same, entry_same, preamble_same, gathered_same, at_same}
+use Rattle.edit_spec.proofs.Simulation.{InTree, InItems, AgreeOn, names_stay, define_same, entry_same, preamble_same, gathered_same, at_same}
 
 module _ (from to : Text) where
   abbrev pub renamed : Text → Text
@@ -28,7 +28,7 @@ module _ (from to : Text) where
 
   -- the new table gives to each name, renamed, what the old one gives to it
   abbrev pub Agree : Macros → Macros → Type 0
-  Agree m n = (x : Text) → IsFree x → n (folded (renamed x)) ≡ m (folded x)
+  Agree m n = AgreeOn IsFree renamed m n
 
   pub renamed-from : (x : Text) → same x from ≡ true → renamed x ≡ to
   renamed-from x h = ap (λ o. unwrap_or o x) (cond-true (same x from) (Some to) None h)
@@ -67,7 +67,7 @@ module _ (from to : Text) where
   gives m n agree (Digits text) h = refl
 
   pub stays : (m n : Macros) → Agree m n → (name : Text) → IsFree name → (o : Option Text) → Agree (updated m name o) (updated n (renamed name) o)
-  stays m n agree name h o x p = ap₂ (λ b v. cond b o v) (eq-renamed x name p h) (agree x p)
+  stays m n agree name h o = names_stay IsFree renamed m n name o (λ x p. eq-renamed x name p h) agree
 
   -- at the definition itself, where both tables are one
   pub begins : (m : Macros) (name : Text) → same name from ≡ true → (o : Option Text) → Agree (updated m name o) (updated m (renamed name) o)

@@ -1,11 +1,14 @@
 -- Two tables of macros that give the same to each part, as an edit writes it, give the same texts all along the items.
-use Rattle.std.proofs.Common.{◌≡◌, ℕ, zero, suc, List, [], ◌∷◌, ◌++◌, Option, Some, None, refl, sym, ap, ap₂, subst, map}
+use Rattle.std.proofs.Common.{◌≡◌, ℕ, zero, suc, false, cond, List, [], ◌∷◌, ◌++◌, Option, Some, None, refl, sym, ◌∙◌, ap, ap₂, subst, map}
 use Rattle.std.specs.List.{AllByRecursion}
-use Rattle.bib_spec.specs.Text.{Text}
+use Rattle.std.specs.Str.{bytes_eq}
+use Rattle.std.proofs.lemmas.Bool.{cond-false}
+use Rattle.bib_spec.specs.Text.{Text, folded, same}
 use Rattle.bib_spec.specs.Tree.{Part, Link, Value, Row, Definition, Tree, CommentTree, DefinitionTree, PreambleTree, EntryTree}
 use Rattle.bib_spec.specs.Reading.{Item}
 use Rattle.bib_spec.specs.Texts.{Macros, updated, parts_of, part_text, raw_text, values_of, macros_in, macros_after, macros_at, gathered}
 use Rattle.bib_spec.specs.Records.{Field, EntryTexts, field_of, entry_in, preamble_in}
+use Rattle.bib_spec.proofs.Names.{same-is, same_comm}
 use Rattle.edit_spec.specs.Edits.{changed, link_with, value_with, row_with, tree_with, items_with}
 use Rattle.std.specs.List.{flat_map}
 
@@ -27,6 +30,21 @@ InTree P Q (EntryTree e) = Rows P e.rows
 
 abbrev pub InItems : (Part → Type 0) → (Text → Type 0) → List Item → Type 0
 InItems P Q items = AllByRecursion (λ item. InTree P Q item.tree) items
+
+-- the new table gives to each of some names, as it is written anew, what the old one gives to it
+abbrev pub AgreeOn : (Text → Type 0) → (Text → Text) → Macros → Macros → Type 0
+AgreeOn P new m n = (x : Text) → P x → n (folded (new x)) ≡ m (folded x)
+
+-- that stays so where both tables set one name
+pub names_stay : (P : Text → Type 0) (new : Text → Text) (m n : Macros) (defined : Text) (o : Option Text) →
+    ((x : Text) → P x → bytes_eq (folded (new x)) (folded (new defined)) ≡ bytes_eq (folded x) (folded defined)) →
+    AgreeOn P new m n → AgreeOn P new (updated m defined o) (updated n (new defined) o)
+names_stay P new m n defined o apart agree x p = ap₂ (λ b v. cond b o v) (apart x p) (agree x p)
+
+-- what a name stands for stays where another name is set
+pub name_stays : (m : Macros) (name defined : Text) (given o : Option Text) → same defined name ≡ false → m (folded name) ≡ given → updated m defined o (folded name) ≡ given
+name_stays m name defined given o other is =
+    cond-false (bytes_eq (folded name) (folded defined)) o (m (folded name)) (sym (same-is name defined) ∙ same_comm name defined ∙ other) ∙ is
 
 module _ (g : Text → Option Text) (f : Part → Option Part) (P : Part → Type 0) (Q : Text → Type 0) (Agree : Macros → Macros → Type 0)
     (gives : (m n : Macros) → Agree m n → (part : Part) → P part → part_text n (changed f part) ≡ part_text m part)
