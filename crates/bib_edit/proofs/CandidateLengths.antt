@@ -5,27 +5,7 @@ use Rattle.std.proofs.lemmas.List.{length-reverse}
 use Rattle.bib_spec.specs.Bytes.{name_limit}
 use Rattle.bib_spec.specs.Text.{Text}
 use Rattle.bib_spec.specs.MadeKeys.{letters, candidate, base_limit}
-use Rattle.bib_spec.proofs.FreeKeys.{AreLower, lower_letters, written, written-letters}
-
-abbrev doubled : ℕ → ℕ
-doubled zero = 1
-doubled (suc n) = 2 * doubled n
-
-doubled-some : (n : ℕ) → 1 ≤ doubled n
-doubled-some zero = omega arith
-doubled-some (suc n) = let le = doubled-some n in omega (arith, le)
-
-doubled-grows : (k n : ℕ) → k ≤ n → doubled k ≤ doubled n
-doubled-grows zero n le = doubled-some n
-doubled-grows (suc k) zero le = absurd (omega (arith, le))
-doubled-grows (suc k) (suc n) le = let less = doubled-grows k n (omega (arith, le)) in omega (arith, less)
-
-doubled-written : (cs : Text) → AreLower cs → doubled (length cs) ≤ suc (written cs)
-doubled-written [] h = let le : 1 ≤ 1 = omega arith in le
-doubled-written (c ∷ cs) h = more c (doubled (length cs)) (written cs) h.0.0 (doubled-written cs h.1)
-  where
-    more : (c d w : ℕ) → 97 ≤ c → d ≤ suc w → 2 * d ≤ suc ((c - 96) + 26 * w)
-    more c d w low le = omega (arith, low, le)
+use Rattle.bib_spec.proofs.FreeKeys.{lower_letters, written-letters, doubled, doubled-grows, doubled-written}
 
 few_letters : (n : ℕ) → n < 2 ^ 64 → length (letters n) ≤ 65
 few_letters n small = ⊎_elim

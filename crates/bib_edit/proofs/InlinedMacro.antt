@@ -22,7 +22,8 @@ use Rattle.bib_edit.specs.PlacedParts.{items_placed, tokens_of, replaced_by, cov
 use Rattle.bib_edit.specs.Removal.{JoinsCleanly, body_at, removal_of}
 use Rattle.bib_edit.specs.Limits.{olds_len, news_len}
 use Rattle.bib_edit.proofs.PieceLists.{lengths-edited}
-use Rattle.bib_edit.proofs.MacroPieces.{inlined-pieces, olds-tokens, news-tokens, olds-edited}
+use Rattle.bib_edit.proofs.MacroPieces.{inlined-pieces, olds-tokens, news-tokens}
+use Rattle.bib_edit.proofs.PieceLengths.{olds-edited}
 use Rattle.bib_edit.proofs.InlinedTexts.{long-inlined}
 use Rattle.bib_edit.proofs.FoundItems.{first-at}
 use Rattle.bib_edit.proofs.OpenFiles.{none-long}

@@ -24,7 +24,8 @@ use Rattle.bib_edit.specs.PlacedParts.{items_placed, tokens_of, replaced_by, cov
 use Rattle.bib_edit.specs.Limits.{olds_len, news_len}
 use Rattle.bib_edit.proofs.PieceLists.{lengths-edited}
 use Rattle.bib_edit.proofs.FirstFound.{first-any}
-use Rattle.bib_edit.proofs.MacroPieces.{introduced-pieces, olds-tokens, news-tokens, olds-edited}
+use Rattle.bib_edit.proofs.MacroPieces.{introduced-pieces, olds-tokens, news-tokens}
+use Rattle.bib_edit.proofs.PieceLengths.{olds-edited}
 use Rattle.bib_edit.proofs.MacroTexts.{long-introduced}
 use Rattle.bib_edit.proofs.OpenFiles.{none-long}
 use Rattle.bib_edit.proofs.LongTexts.{any_long, too_long-any}

@@ -122,15 +122,6 @@ pub news-tokens : (new : Text) (tokens : List (ℕ × Text)) → news_len (map (
 news-tokens new [] = omega arith
 news-tokens new (t ∷ tokens) = let rest = news-tokens new tokens in omega (arith, rest)
 
-olds_within : (at : ℕ) (cs : List Chunk) → olds_len (pieces_from at cs) ≤ length (old_of cs)
-olds_within at [] = omega arith
-olds_within at (Kept t ∷ cs) = let rest = olds_within (at + length t) cs in omega (arith, rest, length-append t (old_of cs))
-olds_within at (Replaced old new ∷ cs) = let rest = olds_within (at + length old) cs in omega (arith, rest, length-append old (old_of cs))
-
--- what goes stands in the file
-pub olds-edited : (base : Record → Text) (db : Reading) (e : Edit) → olds_len (pieces_of base db e) ≤ length (bytes_of db)
-olds-edited base db e = let within = olds_within 0 (chunks base db e) in let whole = ap (length {A = ℕ}) (chunks-are-files base db e).0 in omega (arith, within, whole)
-
 -- ---- a macro inlined
 
 -- the definition goes, and its text in braces stands for each use after it

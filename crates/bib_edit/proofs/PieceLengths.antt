@@ -10,7 +10,7 @@ use Rattle.edit_spec.specs.Edits.{Edit}
 use Rattle.edit_spec.specs.EditChunks.{chunks, pieces_of}
 use Rattle.edit_spec.proofs.EditFiles.{chunks-are-files}
 use Rattle.bib_edit.specs.Limits.{olds_len, news_len}
-use Rattle.bib_edit.proofs.Walks.{next-of}
+use Rattle.bib_edit.proofs.Walks.{next-read}
 
 olds-within : (at : ℕ) (chunks : List Chunk) → olds_len (pieces_from at chunks) ≤ length (old_of chunks)
 olds-within at [] = omega arith
@@ -18,22 +18,17 @@ olds-within at (Kept t ∷ chunks) = let rest = olds-within (at + length t) chun
 olds-within at (Replaced old new ∷ chunks) = let rest = olds-within (at + length old) chunks in let long = length-append old (old_of chunks) in omega (arith, rest, long)
 
 -- what goes is part of the file
-pub olds-edit : (base : Record → Text) (db : Reading) (e : Edit) → olds_len (pieces_of base db e) ≤ length (bytes_of db)
-olds-edit base db e = subst (λ (t : Text). olds_len (pieces_of base db e) ≤ length t) (chunks-are-files base db e).0 (olds-within 0 (chunks base db e))
+pub olds-edited : (base : Record → Text) (db : Reading) (e : Edit) → olds_len (pieces_of base db e) ≤ length (bytes_of db)
+olds-edited base db e = subst (λ (t : Text). olds_len (pieces_of base db e) ≤ length t) (chunks-are-files base db e).0 (olds-within 0 (chunks base db e))
 
 -- ---- one piece after another
 
 module _ (ps : List Piece) (i : ℕ) (p : Piece) (lt : i < length ps) (is : p ≡ get_or ps i p) where
-  next-is : drop i ps ≡ p ∷ drop (i + 1) ps
-  next-is =
-      let next = next-of ps i lt in
-      next.2 ∙ ap (λ q. q ∷ drop (i + 1) ps) (same_Some next.0 p (sym next.1 ∙ slice_get_read ps (length ps) i p refl lt is))
-
   pub olds-next : olds_len (drop i ps) ≡ length p.old + olds_len (drop (i + 1) ps)
-  olds-next = ap olds_len next-is
+  olds-next = ap olds_len (next-read ps i p lt is)
 
   pub news-next : news_len (drop i ps) ≡ length p.new + news_len (drop (i + 1) ps)
-  news-next = ap news_len next-is
+  news-next = ap news_len (next-read ps i p lt is)
 
 pub olds-past : (ps : List Piece) (i : ℕ) → length ps ≤ i → olds_len (drop i ps) ≡ 0
 olds-past ps i le = ap olds_len (drop_of_length-le ps le)

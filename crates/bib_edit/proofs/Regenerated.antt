@@ -20,7 +20,7 @@ use Rattle.bib_edit.specs.Limits.{olds_len, news_len}
 use Rattle.bib_edit.specs.NewKeys.{key_of, rekeying}
 use Rattle.bib_edit.specs.declared.new_keys.NewKeys.{NewKeys}
 use Rattle.bib_edit.proofs.PieceLists.{lengths-edited}
-use Rattle.bib_edit.proofs.PieceLengths.{olds-edit}
+use Rattle.bib_edit.proofs.PieceLengths.{olds-edited}
 use Rattle.bib_edit.proofs.Ranks.{IsClear, clear_none, clear_more, first_refusal, all_clear}
 use Rattle.bib_edit.proofs.RekeyedTexts.{too_long-rekeyed}
 use Rattle.bib_edit.proofs.MadeKeyLists.{short-at}
@@ -51,7 +51,7 @@ module _ (file : Text) (db : Reading) (reads : Reads file db) (new : NewKeys) (f
 
   pub olds-short : length file ≤ file_limit → olds_len (rekeying new db) ≤ file_limit
   olds-short short =
-      let within = olds-edit made_base db making in
+      let within = olds-edited made_base db making in
       let bytes = ap length reads.bytes in
       subst (λ (ps : List Piece). olds_len ps ≤ file_limit) (sym pieces-are) (omega (arith, within, bytes, short))
 

@@ -29,7 +29,7 @@ use Rattle.bib_edit.specs.declared.fault.EditFault.{EditFault}
 use Rattle.bib_edit.specs.declared.fault.EditFault.TheVariants.{BadKey, BadName, BadValue, BadPosition, NotFound, Ambiguous, KeyInUse, NameInUse, Referred, WouldMerge, FileTooLong, TextTooLong, Memory}
 use Rattle.bib_edit.proofs.AskedEdits.{of-rename_key}
 use Rattle.bib_edit.proofs.PieceLists.{lengths-edited}
-use Rattle.bib_edit.proofs.PieceLengths.{olds-edit}
+use Rattle.bib_edit.proofs.PieceLengths.{olds-edited}
 use Rattle.bib_edit.proofs.Ranks.{IsClear, clear_none, clear_more, first_refusal, all_clear}
 use Rattle.bib_edit.proofs.RekeyedTexts.{AreShort, too_long-rekeyed}
 
@@ -140,7 +140,7 @@ module _ (file from to : Text) where
 
         pub olds-short : (db : Reading) → Opens file db → olds_len (rekeying new db) ≤ file_limit
         olds-short db opens =
-            let within = olds-edit made_base db (renaming db from to) in
+            let within = olds-edited made_base db (renaming db from to) in
             let bytes = ap length opens.reads.bytes in
             let short = opens.short in
             subst (λ (ps : List Piece). olds_len ps ≤ file_limit) (sym (pieces-are db opens.reads)) (omega (arith, within, bytes, short))

@@ -23,7 +23,8 @@ use Rattle.bib_edit.specs.Definitions.{IsDefinedAt, IsDefinitionAt, IsDefinition
 use Rattle.bib_edit.specs.PlacedParts.{items_placed, tokens_of, replaced_by, covered}
 use Rattle.bib_edit.specs.Limits.{olds_len, news_len}
 use Rattle.bib_edit.proofs.PieceLists.{lengths-edited}
-use Rattle.bib_edit.proofs.MacroPieces.{renamed-pieces, olds-tokens, news-tokens, olds-edited}
+use Rattle.bib_edit.proofs.MacroPieces.{renamed-pieces, olds-tokens, news-tokens}
+use Rattle.bib_edit.proofs.PieceLengths.{olds-edited}
 use Rattle.bib_edit.proofs.MacroTexts.{long-renamed}
 use Rattle.bib_edit.proofs.OpenFiles.{none-long}
 use Rattle.bib_edit.proofs.LongTexts.{any_long, too_long-any}
