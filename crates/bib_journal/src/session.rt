@@ -3,6 +3,7 @@
 ghost use Rattle.std.specs.Prelude.{◌≡◌, ◌+◌, ◌<◌, ◌++◌, [], length, reverse, slice_get, Some, option_map, IfOk, IfErr, OnOk, OnErr};
 ghost use Rattle.bib_spec.specs.Texts.{IsOpenable};
 ghost use Rattle.edit_spec.specs.Steps.{IsSound, AreSteps};
+ghost use Rattle.journal_format.specs.Contents.{digest_of};
 ghost use Rattle.journal_format.specs.Faults.{IsJournalOf};
 ghost use Rattle.bib_journal.specs.Loading.{Loads, Saves, FitFile, contents_of};
 ghost use Rattle.bib_journal.specs.Session.{started, MakesEdit, Opens, RefusesStart, RefusesLoad, RefusesOpen, RefusesEdit, RefusesUndo, RefusesRedo, TakesBack, MakesAgain};
@@ -14,7 +15,9 @@ use crate::stepping::{go_back, go_on, push_within_capacity};
 use bib_edit::{Edit, plan};
 use bib_scan::{Seq, Text};
 use bib_store::{Database, ItemList, Piece};
-use journal_format::{CHANGE_LIMIT, Journal, STEP_TEXTS_LIMIT, step_text_len, step_texts_len};
+use journal_format::{
+    CHANGE_LIMIT, Journal, STEP_TEXTS_LIMIT, digest, step_text_len, step_texts_len,
+};
 use std::alloc::Global;
 use std::marker::Model;
 
@@ -58,6 +61,22 @@ fn with_steps<L: ItemList>(alloc: Global, database: Database<L>, said: Journal) 
         undone,
         past_len,
     }
+}
+
+/// A session of the open file, which has this digest, with the steps that its journal says.
+fn loaded<L: ItemList>(
+    alloc: Global,
+    database: Database<L>,
+    digest: &[u8],
+    journal: &[u8],
+) -> Result<Session<L>, SessionFault>
+    requires { digest.now ≡ digest_of database }
+    ensures loaded { IfOk result (λ session. Loads database journal.now session) }
+    ensures refused { IfErr result (λ fault. RefusesLoad fault database journal.now) }
+{
+    let mut database = database;
+    let said = said_of(alloc, &mut database, digest, journal)?;
+    Ok(with_steps(alloc, database, said))
 }
 
 impl<L: ItemList> Session<L> {
@@ -120,12 +139,31 @@ impl<L: ItemList> Session<L> {
         ensures loaded { IfOk result (λ session. Loads bytes.now journal.now session) }
         ensures refused { IfErr result (λ fault. RefusesLoad fault bytes.now journal.now) }
     {
-        let mut database = match Database::open_bytes(alloc, bytes, empty) {
-            Ok(database) => database,
-            Err(fault) => return Err(unopened(fault)),
-        };
-        let said = said_of(alloc, &mut database, bytes, journal)?;
-        Ok(with_steps(alloc, database, said))
+        match Database::open_bytes(alloc, bytes, empty) {
+            Ok(database) => {
+                let digest = digest(alloc, bytes)?;
+                loaded(alloc, database, digest.as_slice(), journal)
+            }
+            Err(fault) => Err(unopened(fault)),
+        }
+    }
+
+    /// Opens the file with its journal, as `load` does. The list may keep the file's memory in place of copies of its items.
+    fn load_file(
+        alloc: Global,
+        file: Vec<u8>,
+        journal: &[u8],
+        empty: L,
+    ) -> Result<Session<L>, SessionFault>
+        requires { L.items empty ≡ [] }
+        ensures loaded { IfOk result (λ session. Loads file.items journal.now session) }
+        ensures refused { IfErr result (λ fault. RefusesLoad fault file.items journal.now) }
+    {
+        let digest = digest(alloc, file.as_slice())?;
+        match Database::open_file(alloc, file, empty) {
+            Ok(database) => loaded(alloc, database, digest.as_slice(), journal),
+            Err(fault) => Err(unopened(fault)),
+        }
     }
 
     /// Opens the file that these bytes are with its journal, as `load` does, or without one, as `start` does.
@@ -145,8 +183,7 @@ impl<L: ItemList> Session<L> {
         }
     }
 
-    /// Opens the file with its journal, as `open` does. Where it has none, the list may keep the
-    /// file's memory in place of copies of its items.
+    /// Opens the file with its journal, as `open` does. The list may keep the file's memory in place of copies of its items.
     pub fn open_file(
         alloc: Global,
         file: Vec<u8>,
@@ -158,7 +195,7 @@ impl<L: ItemList> Session<L> {
         ensures refused { IfErr result (λ fault. RefusesOpen fault file.items (option_map (λ text. text.now) journal.entry)) }
     {
         match journal {
-            Some(journal) => Session::load(alloc, file.as_slice(), journal, empty),
+            Some(journal) => Session::load_file(alloc, file, journal, empty),
             None => Session::start_file(alloc, file, empty),
         }
     }
