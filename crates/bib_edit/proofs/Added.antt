@@ -9,7 +9,7 @@ use Rattle.bib_spec.specs.Reading.{Reading, Reads, bytes_of, item_bytes}
 use Rattle.bib_spec.specs.Texts.{months, macros_at, raw_text, too_long_at}
 use Rattle.bib_spec.specs.Records.{entries_of, keys_of, is_named}
 use Rattle.edit_spec.specs.Edits as edits
-use Rattle.edit_spec.specs.Edits.{Edit, EditFault, BadKey, BadName, BadValue, BadPosition, NotFound, Ambiguous, KeyInUse, NameInUse, Referred, WouldMerge, FileTooLong, TextTooLong, rank, Refuses, has_same, field_names, field_values, new_row, new_rows, line_end, entry_of, item_of, edited, IsAccepted, IsFirstRefusal}
+use Rattle.edit_spec.specs.Edits.{Edit, EditFault, BadKey, BadName, BadValue, BadPosition, NotFound, Ambiguous, KeyInUse, NameInUse, Referred, WouldMerge, FileTooLong, TextTooLong, rank, Refuses, has_same, field_names, field_values, entry_of, item_of, edited, IsAccepted, IsFirstRefusal}
 use Rattle.edit_spec.specs.EditChunks.{pieces_of}
 use Rattle.edit_spec.proofs.RenameKey.{new_key_parts}
 use Rattle.bib_edit.specs.Asking.{made_base, SpellsEntry}

@@ -1,5 +1,5 @@
 -- A candidate of a base is no longer than a key may be.
-use Rattle.std.proofs.Common.{ℕ, zero, suc, ◌+◌, ◌-◌, ◌*◌, ◌^◌, ◌≤◌, ◌<◌, nat_lt, [], ◌∷◌, length, reverse, ⊎_elim, arith, length-append, ltb-true}
+use Rattle.std.proofs.Common.{ℕ, ◌^◌, ◌≤◌, ◌<◌, nat_lt, length, reverse, ⊎_elim, arith, length-append, ltb-true}
 use Rattle.std.proofs.lemmas.Bool.{cases_Bool, ltb-false}
 use Rattle.std.proofs.lemmas.List.{length-reverse}
 use Rattle.bib_spec.specs.Bytes.{name_limit}

@@ -1,18 +1,17 @@
 -- The pieces of edits of macros are tokens with the new bytes, and maybe a removal or an insertion.
-use Rattle.std.proofs.Common.{◌≡◌, ℕ, ◌+◌, ◌*◌, ◌≤◌, Bool, true, false, List, [], ◌∷◌, ◌++◌, Option, Some, None, option_map, if◌then◌else◌, codes, length, map, drop, count_by, refl, sym, ◌∙◌, ap, ap₂, arith, append_assoc, append-nil, length-append}
+use Rattle.std.proofs.Common.{◌≡◌, ℕ, ◌+◌, ◌*◌, Bool, true, false, List, [], ◌∷◌, ◌++◌, Option, Some, None, option_map, if◌then◌else◌, codes, length, map, drop, count_by, refl, sym, ◌∙◌, ap, ap₂, arith, append_assoc, append-nil, length-append}
 use Rattle.std.specs.List.{AllByRecursion}
 use Rattle.std.proofs.lemmas.Bool.{cond-true, cond-false, false_from_ne_true}
 use Rattle.std.proofs.lemmas.Option.{same_Some}
 use Rattle.bib_spec.specs.Bytes.{equals_sign}
 use Rattle.bib_spec.specs.Text.{Text, same}
 use Rattle.bib_spec.specs.Tree.{Part, Braced, Quoted, Digits, Macro, Definition, Tree, CommentTree, DefinitionTree, PreambleTree, EntryTree, part_bytes, opening_bytes, close_byte, tree_bytes}
-use Rattle.bib_spec.specs.Reading.{Item, Reading, item_bytes, bytes_of}
+use Rattle.bib_spec.specs.Reading.{Item, Reading, item_bytes}
 use Rattle.bib_spec.specs.Records.{Record}
-use Rattle.bib_spec.specs.Pieces.{Piece, Chunk, Kept, Replaced, old_of, pieces_from}
-use Rattle.edit_spec.specs.Edits.{Edit, RenameMacro, InlineMacro, IntroduceMacro, leaving, defines, uses, holds, any_part, name_renamed, use_renamed, use_inlined, part_introduced, text_of_macro, definition_of, in_line, definitions}
-use Rattle.edit_spec.specs.EditChunks.{token, value_chunks, tree_chunks, item_chunks, items_chunks, chunks, pieces_of, inserted}
+use Rattle.bib_spec.specs.Pieces.{Piece, Chunk, Kept, Replaced, pieces_from}
+use Rattle.edit_spec.specs.Edits.{RenameMacro, InlineMacro, IntroduceMacro, leaving, defines, uses, holds, any_part, name_renamed, use_renamed, use_inlined, part_introduced, text_of_macro, definition_of, in_line, definitions}
+use Rattle.edit_spec.specs.EditChunks.{token, value_chunks, tree_chunks, item_chunks, items_chunks, pieces_of, inserted}
 use Rattle.bib_spec.proofs.Counts.{count-yes, count-no}
-use Rattle.edit_spec.proofs.EditFiles.{chunks-are-files}
 use Rattle.bib_scan.specs.Layout.{start_of}
 use Rattle.std.specs.Option.{option_map_or}
 use Rattle.bib_scan.proofs.ReadingLaws.{start_more}

@@ -9,7 +9,7 @@ use Rattle.bib_spec.specs.Reading.{Reading, Reads, bytes_of, item_bytes}
 use Rattle.bib_spec.specs.Texts.{months, too_long_at}
 use Rattle.bib_spec.specs.Records.{entries_of, keys_of}
 use Rattle.edit_spec.specs.Edits as edits
-use Rattle.edit_spec.specs.Edits.{Edit, EditFault, BadKey, BadName, BadValue, BadPosition, NotFound, Ambiguous, KeyInUse, NameInUse, Referred, WouldMerge, FileTooLong, TextTooLong, rank, Refuses, has_same, holders, field_names, item_of, edited, IsAccepted, IsFirstRefusal}
+use Rattle.edit_spec.specs.Edits.{Edit, EditFault, BadKey, BadName, BadValue, BadPosition, NotFound, Ambiguous, KeyInUse, NameInUse, Referred, WouldMerge, FileTooLong, TextTooLong, rank, Refuses, has_same, field_names, item_of, edited, IsAccepted, IsFirstRefusal}
 use Rattle.edit_spec.specs.EditChunks.{pieces_of}
 use Rattle.bib_store.specs.Meaning.{OfReading}
 use Rattle.bib_store.proofs.ChosenFields.{any_mapped}

@@ -22,7 +22,7 @@ pub fn answer_log(
 ) -> Result<Answer, AllocError>
     ensures { IfOk result (IsLogAnswer file.items (option_map (λ text. text.now) journal.entry)) }
 {
-    match Session::open(alloc, file.as_slice(), journal, Paged::new(alloc)) {
+    match Session::open_file(alloc, file, journal, Paged::new(alloc)) {
         Ok(session) => Ok(done(alloc, log_text(alloc, &session)?)),
         Err(fault) => unopened(alloc, fault),
     }

@@ -47,7 +47,7 @@ fn answer_turn(
 ) -> Result<Answer, AllocError>
     ensures { IfOk result (IsTurnAnswer word.now request.now n file.items (option_map (λ text. text.now) journal.entry)) }
 {
-    match Session::open(alloc, file.as_slice(), journal, Paged::new(alloc)) {
+    match Session::open_file(alloc, file, journal, Paged::new(alloc)) {
         Ok(mut session) => turn(alloc, &mut session, word, request, n),
         Err(fault) => unopened(alloc, fault),
     }
