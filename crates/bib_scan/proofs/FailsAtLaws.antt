@@ -63,7 +63,7 @@ module _ {A : Type 0} (IsSuch : Text → Type 0) (read : Text → Result A Halt)
       let at = stops t h is in
       subst (IsViable IsSuch) (sym (at.split ∙ ap (λ (u : Text). at.front ++ u) none ∙ append-nil at.front)) at.viable
 
-  -- the place of a fault is the failing one
+  -- a text fails where its reader stopped
   pub failing_by : (t : Text) (h : Halt) → read t ≡ Err h → FailsAt IsSuch t (length t - length h.rest)
   failing_by t h is =
       let at = stops t h is in
