@@ -2,6 +2,6 @@ pub mod Filled
 pub mod ItemsIn
 pub mod PageSizes
 pub mod Walks
-pub mod PageNumbers
+pub mod PageStarts
 pub mod Gathered
 pub mod WholePages

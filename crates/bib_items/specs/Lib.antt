@@ -3,3 +3,4 @@ pub mod Items
 pub mod SharedTexts
 pub mod Spans
 pub mod Pages
+pub mod Starts

@@ -4,7 +4,6 @@
 
 mod fault;
 mod filling;
-mod firsts;
 mod flat;
 mod list;
 mod page;
@@ -13,6 +12,7 @@ mod places;
 mod seams;
 mod shared_text;
 mod span;
+mod starts;
 
 pub use fault::StoreFault;
 pub use flat::Flat;

@@ -4,9 +4,11 @@ ghost use Rattle.std.specs.Prelude.{◌≡◌, ◌+◌, ◌≤◌, ◌<◌, ◌+
 ghost use Rattle.bib_pages.specs.Pages.{joined, page_at, parted_at};
 ghost use Rattle.bib_items.specs.Items.{without_range};
 ghost use Rattle.bib_items.specs.Pages.{ArePages, IsPaged, IsSeam};
+ghost use Rattle.bib_items.specs.Starts.{AreStarts};
 
 use crate::page::Page;
 use crate::places::{locate, part, take_away};
+use crate::starts::PageStart;
 use std::alloc::{AllocError, Global};
 
 /// How many pages have the items before number `n`. A page that has one of them and others becomes two.
@@ -20,7 +22,7 @@ fn seam(alloc: Global, pages: &mut Vec<Page>, count: usize, n: usize) -> Result<
     if n == count {
         return Ok(pages.len());
     }
-    let (p, k) = locate(pages, n);
+    let (p, k) = locate(pages, &[], n);
     if k == 0 {
         return Ok(p);
     }
@@ -94,37 +96,53 @@ fn whole_pages(pages: &[Page], p: usize, most: usize) -> (usize, usize)
 
 /// Takes away the pages that begin with item `n` and have no more than `most` items together; where there are none, item
 /// `n` alone. It says how many items went, and asks for no memory.
-fn take_some(pages: &mut Vec<Page>, n: usize, most: usize) -> usize
+fn take_some(
+    pages: &mut Vec<Page>,
+    starts: &mut Vec<PageStart>,
+    n: usize,
+    most: usize,
+) -> usize
     requires some { 0 < most }
     requires within { n + most ≤ length (joined pages.old.items) }
     requires pages { ArePages pages.old.items }
+    requires starts { AreStarts pages.old.items starts.old.items }
     ensures some { 0 < result }
     ensures most { result ≤ most }
     ensures list { joined pages.new.items ≡ without_range n (n + result) (joined pages.old.items) }
     ensures pages { ArePages pages.new.items }
+    ensures starts { AreStarts pages.new.items starts.new.items }
 {
-    let (p, k) = locate(pages, n);
+    let (p, k) = locate(pages, starts, n);
     if k == 0 {
         let (q, items) = whole_pages(pages, p, most);
         if items > 0 {
+            starts.truncate(p);
             take_pages(pages, p, q);
             return items;
         }
     }
-    take_away(pages, n);
+    take_away(pages, starts, n);
     1
 }
 
-/// Takes the items away from one number up to another. It takes a few steps for each page, and asks for no memory.
-pub(crate) fn take_range(pages: &mut Vec<Page>, from: usize, to: usize)
+/// Takes the items away from one number up to another. It takes a few steps for each page that goes, and asks for no memory.
+/// It is known then where the pages before them begin.
+pub(crate) fn take_range(
+    pages: &mut Vec<Page>,
+    starts: &mut Vec<PageStart>,
+    from: usize,
+    to: usize,
+)
     requires ordered { from ≤ to }
     requires within { to ≤ length (joined pages.old.items) }
     requires pages { ArePages pages.old.items }
+    requires starts { AreStarts pages.old.items starts.old.items }
     ensures list { joined pages.new.items ≡ without_range from to (joined pages.old.items) }
     ensures pages { ArePages pages.new.items }
+    ensures starts { AreStarts pages.new.items starts.new.items }
 {
     let mut left = to - from;
     'out: while left > 0 {
-        left -= take_some(pages, from, left);
+        left -= take_some(pages, starts, from, left);
     }
 }

@@ -1,5 +1,6 @@
 use Rattle.bib_pages.specs.Pages.{joined}
 use Rattle.bib_items.specs.Pages.{ArePages}
+use Rattle.bib_items.specs.Starts.{AreStarts}
 use Rattle.bib_items.proofs.WholePages.{IsCutTo}
 use Rattle.bib_items.proofs.seams.take_range.Given as goal
 
@@ -7,4 +8,4 @@ abbrev pub decreases-out : goal.decreases-out
 decreases-out l = l.left
 
 abbrev pub invariant-out : goal.invariant-out
-invariant-out l = IsCutTo (joined l.initial.pages.items) (joined l.pages.items) l.from l.to l.left × ArePages l.pages.items
+invariant-out l = IsCutTo (joined l.initial.pages.items) (joined l.pages.items) l.from l.to l.left × (ArePages l.pages.items × AreStarts l.pages.items l.starts.items)
