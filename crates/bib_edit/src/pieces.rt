@@ -20,7 +20,7 @@ pub(crate) fn one_piece(alloc: Global, piece: Piece) -> Result<Seq<Piece>, EditF
     ensures pieces { IfOk result (λ pieces. pieces ≡ piece ∷ []) }
     ensures only { IfErr result (λ fault. fault ≡ Memory) }
 {
-    let mut pieces = Vec::new(alloc);
+    let mut pieces = Vec::with_capacity(alloc, 1)?;
     pieces.push(piece)?;
     Ok(Seq::from_vec(pieces))
 }

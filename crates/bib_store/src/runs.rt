@@ -43,6 +43,10 @@ pub(crate) fn run_starts<L: ItemList>(
     if pieces.len() > PIECES_LIMIT {
         return Err(StoreFault::BadSplice);
     }
+    // one piece makes one run
+    if pieces.len() < 2 && !is_one_definition(items, touched(front, items, file_len, pieces)) {
+        return Err(StoreFault::BadSplice);
+    }
     let mut starts = Vec::new(alloc);
     let mut end = 0;
     'pass: for k in 0..pieces.len() {

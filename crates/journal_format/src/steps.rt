@@ -33,13 +33,16 @@ fn split_number(text: &[u8]) -> Result<(u64, &[u8]), usize>
     }
 }
 
+/// For so many pieces room is made at once: most steps have one or two.
+const ROOM: u64 = 4;
+
 /// The first step, and what stands after it; or why reading stops.
 fn split_step(alloc: Global, text: &[u8]) -> Result<(Seq<Piece>, &[u8]), Stop>
     ensures read { IfOk result (λ x. BeginsWithStep text.now x.0 x.1.now) }
     ensures wrong { IfErr result (StopsWhere (IsWrongStep text.now)) }
 {
     let (count, after) = split_number(text)?;
-    let mut pieces = Vec::new(alloc);
+    let mut pieces = Vec::with_capacity(alloc, count.min(ROOM) as usize)?;
     let mut from: u64 = 0;
     let mut rest = after;
     'piece: for _n in 0..count {

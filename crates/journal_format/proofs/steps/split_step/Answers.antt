@@ -9,7 +9,7 @@ use Rattle.journal_format.proofs.steps.split_step.Goals as goal
 pub piece-init : goal.piece-init
 piece-init c =
     subst (λ (pieces : List Piece). ArePiecesRead c.in_ok-count.count 0 c.in_ok-count.after.now pieces 0 c.in_ok-count.after.now)
-    (sym c.new-pieces.ensures.items) (no_pieces_read c.in_ok-count.count c.in_ok-count.after.now)
+    (sym c.in_ok-pieces.ensures.items) (no_pieces_read c.in_ok-count.count c.in_ok-count.after.now)
 
 pub piece-preserved : goal.piece-preserved
 piece-preserved c =
