@@ -49,8 +49,9 @@ pub(crate) fn near_byte(starts: &[PageStart], place: usize) -> (usize, PageStart
     (0, PageStart { item: 0, byte: 0 })
 }
 
-/// Takes down where the pages begin, from the last that is known on, as far as there is memory for it.
-pub(crate) fn take_down(pages: &[Page], starts: &mut Vec<PageStart>)
+/// Takes down where the pages begin, from the last that is known on, up to the first that begins after this place, as far as
+/// there is memory for it.
+pub(crate) fn take_down(pages: &[Page], starts: &mut Vec<PageStart>, place: usize)
     requires { AreStarts pages.now starts.old.items }
     ensures { AreStarts pages.now starts.new.items }
 {
@@ -59,7 +60,7 @@ pub(crate) fn take_down(pages: &[Page], starts: &mut Vec<PageStart>)
         None => PageStart { item: 0, byte: 0 },
     };
     'pass: for p in starts.len()..pages.len() {
-        if starts.push(start).is_err() {
+        if starts.push(start).is_err() || place < start.byte {
             return;
         }
         let page = &pages[p];

@@ -15,7 +15,7 @@ fn try_on<L: ItemList>(db: &mut Database<L>, step: &[Piece]) -> Result<bool, All
     ensures yes { IfOk result (λ yes. IsTrue yes ↔ IsAllowed step.now db.old) }
     ensures on { IfOk result (λ yes. IsTrue yes → db.new ≡ applied step.now db.old) }
 {
-    match db.splice(step) {
+    match db.splice_in_turn(step) {
         Ok(()) => Ok(true),
         Err(StoreFault::BadSplice) => Ok(false),
         Err(_) => Err(AllocError),
@@ -126,5 +126,7 @@ pub(crate) fn belong<L: ItemList>(
     if !lead_to(alloc, db, past)? {
         return Ok(false);
     }
-    lead_on(alloc, db, future)
+    let leads = lead_on(alloc, db, future)?;
+    db.settle();
+    Ok(leads)
 }

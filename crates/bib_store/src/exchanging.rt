@@ -71,6 +71,7 @@ fn exchange_all<L: ItemList>(
     let old_count = items.count();
     items.insert_all(window.from, change.text.as_slice(), &change.layout)?;
     let count = items.count() - old_count;
+    prepare_all(items, window, count);
     match renew(alloc, front_len, &*items, tables, change, count) {
         Ok(()) => {
             items.remove_range(window.from + count, window.to + count);
@@ -80,6 +81,18 @@ fn exchange_all<L: ItemList>(
             items.remove_range(window.from, window.from + count);
             Err(fault)
         }
+    }
+}
+
+/// Lets all items be looked up where the tables are to be made again, since they can't follow. No item changes.
+fn prepare_all<L: ItemList>(items: &mut L, window: Window, count: usize)
+    requires ordered { window.from ≤ window.to }
+    requires within { window.to + count ≤ length (L.items items.old) }
+    ensures { L.items items.new ≡ L.items items.old }
+{
+    let lead = lead_of(&*items, window, count);
+    if !can_follow(&*items, window, count, lead) {
+        items.prepare(usize::MAX);
     }
 }
 

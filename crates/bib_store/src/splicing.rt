@@ -33,10 +33,43 @@ impl<L: ItemList> Database<L> {
         ensures only { IfErr result (λ fault. (fault ≡ BadSplice) ⊎ (fault ≡ Memory)) }
         ensures err { OnErr result (self.new ≡ self.old) }
     {
+        let spliced = self.splice_in_turn(pieces);
+        self.settle();
+        spliced
+    }
+
+    /// Replaces pieces as `splice` does, where others follow at once. The items after those that are read are looked up in a
+    /// step for each page more, up to the next call of `splice` or `settle`.
+    pub fn splice_in_turn(&mut self, pieces: &[Piece]) -> Result<(), StoreFault>
+        ensures fit { OnOk result (Fit pieces.now self.old) }
+        ensures spliced { OnOk result (self.new ≡ applied pieces.now self.old) }
+        ensures file { OnOk result (IsOpenable self.new) }
+        ensures refused { IfErr result (λ fault. fault ≡ BadSplice → Fit pieces.now self.old → IsOpenable (applied pieces.now self.old) → ⊥) }
+        ensures only { IfErr result (λ fault. (fault ≡ BadSplice) ⊎ (fault ≡ Memory)) }
+        ensures err { OnErr result (self.new ≡ self.old) }
+    {
+        self.prepare(pieces);
         match self.splice_runs(pieces) {
             Ok(()) => Ok(()),
             Err(StoreFault::Memory) => Err(StoreFault::Memory),
             Err(_) => self.splice_window(pieces),
+        }
+    }
+
+    /// Lets items be looked up without a step for each page. The file stays as it is.
+    pub fn settle(&mut self)
+        ensures { self.new ≡ self.old }
+    {
+        self.items.prepare(usize::MAX);
+    }
+
+    /// Lets the items be looked up that pieces touch. The file stays as it is.
+    fn prepare(&mut self, pieces: &[Piece])
+        ensures { self.new ≡ self.old }
+    {
+        if let Some(last) = pieces.last() {
+            self.items
+                .prepare((last.place as usize).saturating_add(last.old.as_slice().len()));
         }
     }
 

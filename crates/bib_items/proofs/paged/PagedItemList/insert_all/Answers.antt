@@ -27,13 +27,11 @@ returns-in-Err-clause-err c =
     let low : c.fill.k < length c.args.layout.now.items = omega (arith, c.fill-test.true, c.len-k-end.ensures.count) in
     let long = begun_len old now c.args.at c.fill.k c.args.text.now c.args.layout.now c.requires.at_within c.requires.layout (omega (arith, low)) c.fill.invariant in
     let at : c.count-in-fill.result - (c.count.result - c.args.at) ≡ c.args.at + c.fill.k = omega (arith, c.count.ensures, c.count-in-fill.ensures, long, c.requires.at_within) in
-    ap joined c.settle-in-Err.ensures
-    ∙ c.take_all_out.ensures
+    c.take_all_out.ensures
     ∙ ap (λ (l : List Item). without_range c.args.at (c.count-in-fill.result - (c.count.result - c.args.at)) l) c.in-Err.ensures.err
     ∙ ap (λ (m : ℕ). without_range c.args.at m now) at
     ∙ begun_back old now c.args.at c.fill.k c.args.text.now c.args.layout.now c.requires.at_within c.requires.layout (omega (arith, low)) c.fill.invariant
 
 pub returns-clause-ok : goal.returns-clause-ok
 returns-clause-ok c = λ db reads.
-    ap joined c.settle-2.ensures
-    ∙ begun_all (joined c.args.self.now) (joined c.fill.self) c.args.at c.fill.k c.args.text.now c.args.layout.now c.requires.layout (omega (arith, c.fill-test.false, c.len-k-end.ensures.count)) c.fill.invariant db reads
+    begun_all (joined c.args.self.now) (joined c.fill.self) c.args.at c.fill.k c.args.text.now c.args.layout.now c.requires.layout (omega (arith, c.fill-test.false, c.len-k-end.ensures.count)) c.fill.invariant db reads
