@@ -11,7 +11,7 @@ ghost use Rattle.bib_journal.specs.Session.{started, MakesEdit, Opens, RefusesSt
 use crate::fault::{SessionFault, refused, unopened};
 use crate::loading::said_of;
 use crate::saving::{Saved, journal_of};
-use crate::stepping::{go_back, go_on, push_within_capacity};
+use crate::stepping::{forget, go_back, go_on, push_within_capacity};
 use bib_edit::{Edit, plan};
 use bib_scan::{Seq, Text};
 use bib_store::{Database, ItemList, Piece};
@@ -221,7 +221,7 @@ impl<L: ItemList> Session<L> {
         go_on(&mut self.database, pieces.as_slice())?;
         push_within_capacity(&mut self.past, pieces);
         self.past_len = len;
-        self.undone.clear();
+        forget(&mut self.undone);
         Ok(())
     }
 

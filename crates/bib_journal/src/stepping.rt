@@ -4,6 +4,7 @@ ghost use Rattle.std.specs.Prelude.{◌≡◌, ◌+◌, ◌<◌, ◌≤◌, ◌�
 ghost use Rattle.bib_spec.specs.Pieces.{applied};
 ghost use Rattle.edit_spec.specs.Steps.{IsAllowed, Leads, before};
 
+use bib_scan::Seq;
 use bib_store::{Database, ItemList, Piece, StoreFault, reverse};
 use std::alloc::{AllocError, Global};
 
@@ -18,6 +19,13 @@ pub(crate) fn push_within_capacity<T: Drop>(items: &mut Vec<T>, item: T)
         Ok(()) => {}
         Err(_) => unreachable!(),
     }
+}
+
+/// Forgets steps. It asks for no memory.
+pub(crate) fn forget(steps: &mut Vec<Seq<Piece>>)
+    ensures { steps.new.items ≡ [] }
+{
+    steps.clear();
 }
 
 /// Makes a step that leads to a file.

@@ -12,18 +12,18 @@ go_on-requires g c =
     subst (λ (s : Step). IsAllowed s c.self.inside.database) (sym c.as_slice-2.ensures)
     (planned_leads _ c.args.edit.now c.in-Ok.pieces c.self.invariant.sound.present c.in-Ok.ensures.allowed c.in-Ok.ensures.pieces)
 
-text_is : (g : Over) (c : goal.After-clear g) → c.step_text_len.result ≡ min (step_text_len c.in-Ok.pieces) (2 ^ 64 - 1)
+text_is : (g : Over) (c : goal.After-forget g) → c.step_text_len.result ≡ min (step_text_len c.in-Ok.pieces) (2 ^ 64 - 1)
 text_is g c = cc (c.step_text_len.ensures)
 
-moves : (g : Over) (c : goal.After-clear g)
+moves : (g : Over) (c : goal.After-forget g)
     → Moves (MakesEdit c.args.edit.now) (kept c.self.inside.past.items c.self.inside.database (reverse c.self.inside.undone.items))
-    (kept c.push_within_capacity.new.items.items c.go_on.new.db (reverse c.clear.new.self.items))
+    (kept c.push_within_capacity.new.items.items c.go_on.new.db (reverse c.forget.new.steps.items))
 moves g c =
     let room : IsFull (kept c.self.inside.past.items c.self.inside.database (reverse c.self.inside.undone.items)) c.in-Ok.pieces → ⊥ =
     has_room (kept c.self.inside.past.items c.self.inside.database (reverse c.self.inside.undone.items)) c.in-Ok.pieces c.self.inside.past_len c.step_text_len.result c.saturating_add-len.result c.self.invariant.counted (text_is g c) c.saturating_add-len.ensures (search rules) (search rules) in
     let made : c.go_on.new.db ≡ applied c.in-Ok.pieces c.self.inside.database = cc (c.in_ok-go_on.ensures.ok, c.as_slice-2.ensures) in
     let pushed : c.push_within_capacity.new.items.items ≡ c.self.inside.past.items ++ c.in-Ok.pieces ∷ [] = cc (c.in_ok-reserve.ensures.items) in
-    made_edit _ _ _ _ c.args.edit.now c.in-Ok.pieces _ _ c.self.invariant.sound c.in-Ok.ensures.allowed c.in-Ok.ensures.pieces room made pushed c.clear.ensures.items
+    made_edit _ _ _ _ c.args.edit.now c.in-Ok.pieces _ _ c.self.invariant.sound c.in-Ok.ensures.allowed c.in-Ok.ensures.pieces room made pushed c.forget.ensures
 
 pub invariant_of-self-2 : goal.invariant_of-self-2
 invariant_of-self-2 g c = record {
