@@ -96,12 +96,7 @@ fn whole_pages(pages: &[Page], p: usize, most: usize) -> (usize, usize)
 
 /// Takes away the pages that begin with item `n` and have no more than `most` items together; where there are none, item
 /// `n` alone. It says how many items went, and asks for no memory.
-fn take_some(
-    pages: &mut Vec<Page>,
-    starts: &mut Vec<PageStart>,
-    n: usize,
-    most: usize,
-) -> usize
+fn take_some(pages: &mut Vec<Page>, starts: &mut Vec<PageStart>, n: usize, most: usize) -> usize
     requires some { 0 < most }
     requires within { n + most ≤ length (joined pages.old.items) }
     requires pages { ArePages pages.old.items }
@@ -127,12 +122,7 @@ fn take_some(
 
 /// Takes the items away from one number up to another. It takes a few steps for each page that goes, and asks for no memory.
 /// It is known then where the pages before them begin.
-pub(crate) fn take_range(
-    pages: &mut Vec<Page>,
-    starts: &mut Vec<PageStart>,
-    from: usize,
-    to: usize,
-)
+pub(crate) fn take_range(pages: &mut Vec<Page>, starts: &mut Vec<PageStart>, from: usize, to: usize)
     requires ordered { from ≤ to }
     requires within { to ≤ length (joined pages.old.items) }
     requires pages { ArePages pages.old.items }

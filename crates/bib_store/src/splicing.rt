@@ -68,8 +68,7 @@ impl<L: ItemList> Database<L> {
         ensures { self.new ≡ self.old }
     {
         if let Some(last) = pieces.last() {
-            self.items
-                .prepare((last.place as usize).saturating_add(last.old.as_slice().len()));
+            self.items.prepare((last.place as usize).saturating_add(last.old.as_slice().len()));
         }
     }
 

@@ -28,5 +28,5 @@ returns-in-Err-clause-err g c =
       c.remove_range-in-Err.ensures ∙ ap (without_range _ _) c.prepare_all.ensures ∙ taken-new _ _ _ _ _ _ put,
       c.in-Err.ensures.err (g.L.ItemList.items c.args.items.now) c.requires.layout.0 c.requires.layout.1
           (subst (λ (l : List Item). ArePut c.args.change.now (g.L.ItemList.items c.args.items.now) l (c.count.result - c.count-old_count.result)) (sym c.prepare_all.ensures)
-    (are_put c.args.change.now (g.L.ItemList.items c.args.items.now) _ _ _ _ c.requires.window c.as_slice.ensures c.in_ok-insert_all.ensures.ok c.count-old_count.ensures c.count.ensures)),
+          (are_put c.args.change.now (g.L.ItemList.items c.args.items.now) _ _ _ _ c.requires.window c.as_slice.ensures c.in_ok-insert_all.ensures.ok c.count-old_count.ensures c.count.ensures)),
     )
