@@ -191,6 +191,9 @@ fn is_repeated(db: &Database<Paged>, number: usize, key: &[u8]) -> bool
     requires { OfReading db.now (λ r. IsKeyOf r number key.now) }
     ensures { OfReading db.now (λ r. result ≡ is_repeated (entries_of r) number) }
 {
+    if db.are_keys_apart() {
+        return false;
+    }
     match db.find(key) {
         Ok(first) => first < number,
         Err(_) => false,

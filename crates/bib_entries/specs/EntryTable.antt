@@ -1,5 +1,5 @@
 -- What a table says of the entries of a file.
-use Rattle.std.specs.Prelude.{ℕ, ◌≡◌, ◌≢◌, Bool, false, nat_le, List, [], ◌∷◌, length, map, filter, Option, None, Some, slice_index_or, if◌then◌else◌}
+use Rattle.std.specs.Prelude.{ℕ, ◌≡◌, ◌≢◌, ◌≤◌, Bool, false, nat_le, List, [], ◌∷◌, length, map, filter, Option, None, Some, slice_index_or, count_by, if◌then◌else◌}
 use Rattle.std.specs.List.{enumerate_from}
 use Rattle.std.specs.Option.{option_map_or}
 use Rattle.bib_spec.specs.Bytes.{name_limit}
@@ -56,6 +56,10 @@ referrers key crossrefs = map (λ p. p.0) (filter (λ p. refers key p.1) (enumer
 -- what it says of entries, it says still
 abbrev pub SaysTheSame : Kept → Kept → Type 0
 SaysTheSame old new = (keys : List Text) (crossrefs : List (Option Text)) → IsTableOf keys crossrefs old → IsTableOf keys crossrefs new
+
+-- no two of the keys are one, folded; empty keys are none
+abbrev pub AreApart : List Text → Type 0
+AreApart keys = (text : Text) → count_by (is_named text) keys ≤ 1
 
 -- ---- one id
 

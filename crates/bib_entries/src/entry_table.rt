@@ -104,12 +104,12 @@ impl Model for EntryTable {
 }
 
 impl EntryTable {
-    ghost use Rattle.std.specs.Prelude.{◌≡◌, ◌≤◌, ℕ, List, [], Option, None, length, insert, remove, slice_get, count_by, OnOk, OnErr};
+    ghost use Rattle.std.specs.Prelude.{◌≡◌, ◌≤◌, ℕ, List, [], Option, None, length, insert, remove, slice_get, count_by, IsTrue, OnOk, OnErr};
     ghost use Rattle.std.specs.Option.{option_copied, option_flatten};
     ghost use Rattle.bib_spec.specs.Bytes.{name_limit};
     ghost use Rattle.bib_spec.specs.Text.{Text as Bytes};
     ghost use Rattle.bib_spec.specs.Records.{is_named, first_named};
-    ghost use Rattle.bib_entries.specs.EntryTable.{IsTableOf, SaysTheSame, name_of, named_by, referrers, IsIndexWith, StaysIndex, GivesCrossref, HaveTheSame};
+    ghost use Rattle.bib_entries.specs.EntryTable.{IsTableOf, SaysTheSame, AreApart, name_of, named_by, referrers, IsIndexWith, StaysIndex, GivesCrossref, HaveTheSame};
     ghost use Rattle.bib_index.specs.KeyIndex.{IsIndexOf, ids_in};
 
     /// The table of no entries. It asks for no memory.
@@ -148,6 +148,13 @@ impl EntryTable {
         ensures { (keys : List Bytes) (crossrefs : List (Option Bytes)) → IsTableOf keys crossrefs self.now → result ≡ count_by (is_named key.now) keys }
     {
         self.keys.count(key)
+    }
+
+    /// Whether it is known that no two entries have one key, folded. Where two had one once, it is not known any more.
+    pub fn are_apart(&self) -> bool
+        ensures { IsTrue result → (keys : List Bytes) (crossrefs : List (Option Bytes)) → IsTableOf keys crossrefs self.now → AreApart keys }
+    {
+        self.keys.are_apart()
     }
 
     /// The crossref text of entry `n`, if there is such an entry and it has one.

@@ -2,6 +2,7 @@
 use Rattle.std.proofs.Common.{◌≡◌, ◌≢◌, ℕ, ◌≤◌, Bool, true, false, not, cond, zero, suc, List, [], ◌∷◌, ◌++◌, Option, None, Some, length, take, drop, filter, insert, sym, subst, ⊎_elim, ◌∙◌, ap, ap₂, refl, arith, length-append}
 use Rattle.std.specs.Prelude.{◌==◌}
 use Rattle.std.specs.List.{slice_get}
+use Rattle.std.specs.Option.{IfSome, IfNone}
 use Rattle.std.specs.Str.{bytes_eq}
 use Rattle.std.proofs.lemmas.Bool.{cases_Bool, cond-true, cond-false, ne_eqb, eq-eqb, cases_eq, false_from_ne_true}
 use Rattle.std.proofs.lemmas.Bool.Decides.{eqb_tells}
@@ -16,7 +17,7 @@ use Rattle.bib_order.specs.Holders.{holders, before}
 use Rattle.bib_order.proofs.Counting.{lacks_at}
 use Rattle.bib_order.proofs.Following.{holders-split, follow_order}
 use Rattle.bib_value.specs.FoldedMap.{value_at, IsWith}
-use Rattle.bib_index.specs.KeyIndex.{is_text, has_text, with_text, also, IsIndexOf, without, members, ids_in, Has, TextsFollow}
+use Rattle.bib_index.specs.KeyIndex.{is_text, has_text, with_text, also, IsIndexOf, without, members, ids_in, Has, HaveOneAtMost, TextsFollow}
 
 -- ---- one id among others
 
@@ -265,3 +266,34 @@ texts_follow = record {
 pub no_holders : (order : List ℕ) → holders (λ _. false) order ≡ []
 no_holders [] = refl
 no_holders (id ∷ order) = no_holders order
+
+-- ---- no text has two ids
+
+-- nor has one where a text gets one list with one id at most
+pub one_with : (old new : List (Text × List ℕ)) (name : Text) (ids : List ℕ) → HaveOneAtMost old → length ids ≤ 1 → IsWith old name ids new → HaveOneAtMost new
+one_with old new name ids one short put x = ⊎_elim
+    (λ (h : bytes_eq x (folded name) ≡ true). subst (λ (o : Option (List ℕ)). length (members o) ≤ 1) (sym (put x ∙ cond-true (bytes_eq x (folded name)) (Some ids) (value_at old x) h)) short)
+    (λ (h : bytes_eq x (folded name) ≡ false). subst (λ (o : Option (List ℕ)). length (members o) ≤ 1) (sym (put x ∙ cond-false (bytes_eq x (folded name)) (Some ids) (value_at old x) h)) (one x))
+    (cases_Bool (bytes_eq x (folded name)))
+
+-- or where it keeps what it had
+pub one_replaced : {R : Type 0} (old new : List (Text × List ℕ)) (name : Text) (ids : List ℕ) (result : Option R) → HaveOneAtMost old → length ids ≤ 1 → IfSome result (λ r. IsWith old name ids new) → IfNone result (new ≡ old) → HaveOneAtMost new
+one_replaced old new name ids (Some r) one short some none = one_with old new name ids one short some
+one_replaced old new name ids None one short some none = subst HaveOneAtMost (sym none) one
+
+-- fewer ids are no more
+pub fewer_ids : (id : ℕ) (ids : List ℕ) → length (without id ids) ≤ length ids
+fewer_ids id [] = omega arith
+fewer_ids id (x ∷ ids) = inside (fewer_ids id ids) (not (x == id))
+  where
+    inside : length (without id ids) ≤ length ids → (c : Bool) → length (cond c (x ∷ without id ids) (without id ids)) ≤ length (x ∷ ids)
+    inside rest true = omega (arith, rest)
+    inside rest false = omega (arith, rest)
+
+-- a text loses one
+pub one_lost : {R : Type 0} (lists mid new : List (Text × List ℕ)) (name : Text) (held nothing ids : List ℕ) (id : ℕ) (result : Option R) → HaveOneAtMost lists → Some held ≡ value_at lists (folded name)
+    → nothing ≡ [] → IsWith lists name nothing mid → ids ≡ without id held → IfSome result (λ r. IsWith mid name ids new) → IfNone result (new ≡ mid) → HaveOneAtMost new
+one_lost lists mid new name held nothing ids id result one some bare empty are put none =
+    let short : length held ≤ 1 = subst (λ (o : Option (List ℕ)). length (members o) ≤ 1) (sym some) (one (folded name)) in
+    let left : length ids ≤ length held = subst (λ (l : List ℕ). length l ≤ length held) (sym are) (fewer_ids id held) in
+    one_replaced mid new name ids result (one_with lists mid name nothing one (subst (λ (l : List ℕ). length l ≤ 1) (sym bare) (omega arith)) empty) (omega (arith, short, left)) put none

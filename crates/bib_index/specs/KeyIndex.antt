@@ -42,6 +42,10 @@ members (Some ids) = ids
 abbrev pub ids_in : List (Text × List ℕ) → Text → List ℕ
 ids_in lists x = members (value_at lists x)
 
+-- no text has two ids
+abbrev pub HaveOneAtMost : List (Text × List ℕ) → Type 0
+HaveOneAtMost lists = (x : Text) → length (ids_in lists x) ≤ 1
+
 -- each text has the ids that it had
 abbrev pub IsKept : (Text → List ℕ) → (Text → List ℕ) → Type 0
 IsKept old new = (x : Text) → new x ≡ old x

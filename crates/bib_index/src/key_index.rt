@@ -1,11 +1,11 @@
 //! Ids by their texts, without regard to ASCII case.
 
-ghost use Rattle.std.specs.Prelude.{◌≡◌, ◌≢◌, ◌≤◌, ℕ, Bool, false, List, [], ◌∷◌, None, Some, Option, length, insert, slice_get, IsSome, OnOk, OnErr};
+ghost use Rattle.std.specs.Prelude.{◌≡◌, ◌≢◌, ◌≤◌, ℕ, Bool, false, List, [], ◌∷◌, None, Some, Option, length, insert, slice_get, IsSome, IsTrue, OnOk, OnErr};
 ghost use Rattle.bib_spec.specs.Bytes.{name_limit};
 ghost use Rattle.bib_spec.specs.Text.{Text, folded};
 ghost use Rattle.bib_value.specs.FoldedMap.{value_at};
 ghost use Rattle.bib_order.specs.Holders.{holders};
-ghost use Rattle.bib_index.specs.KeyIndex.{ids_in, also, with_text, without, IsIndexOf, Has, IsKept, TextsFollow};
+ghost use Rattle.bib_index.specs.KeyIndex.{ids_in, also, with_text, without, IsIndexOf, Has, IsKept, HaveOneAtMost, TextsFollow};
 
 use crate::holders::Holders;
 use bib_order::Order;
@@ -19,6 +19,8 @@ use std::marker::Model;
 pub struct KeyIndex {
     alloc: Global,
     lists: FoldedMap<Holders>,
+    // whether a text has, or had, two ids
+    shared: bool,
 }
 
 impl Model for KeyIndex {
@@ -27,7 +29,12 @@ impl Model for KeyIndex {
 
     ghost Value = { List (Text × List ℕ) };
 
+    ghost use Rattle.std.specs.Prelude.{IsFalse};
+    ghost use Rattle.bib_index.specs.KeyIndex.{HaveOneAtMost};
+
     ghost view = { λ index. index.lists };
+
+    ghost invariant = { λ index. IsFalse index.shared → HaveOneAtMost index.lists };
 }
 
 /// An index stays right while ids without a text come and go. It does nothing.
@@ -44,7 +51,15 @@ impl KeyIndex {
         KeyIndex {
             alloc,
             lists: FoldedMap::new(alloc),
+            shared: false,
         }
+    }
+
+    /// Whether it is known that no text has two ids. Where a text had two once, that is not known any more.
+    pub fn are_apart(&self) -> bool
+        ensures { IsTrue result → HaveOneAtMost self.now }
+    {
+        !self.shared
     }
 
     /// The ids that have the text, in order.
@@ -144,6 +159,7 @@ impl KeyIndex {
     {
         let mut held = held;
         let put = held.insert(k, id);
+        self.shared = true;
         self.lists.replace(text, held);
         put
     }

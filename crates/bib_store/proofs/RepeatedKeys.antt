@@ -1,11 +1,16 @@
 -- Which earlier entry has a key.
-use Rattle.std.proofs.Common.{◌≡◌, ℕ, zero, suc, Bool, true, false, cond, ◌||◌, nat_lt, List, [], ◌∷◌, Option, Some, None, option_map, take, slice_get, ⊎_elim, refl, sym, ◌∙◌, ap, arith}
+use Rattle.std.proofs.Common.{◌≡◌, ◌≤◌, ℕ, zero, suc, Bool, true, false, cond, ◌||◌, nat_lt, List, [], ◌∷◌, Option, Some, None, option_map, take, slice_get, count_by, ⊎_elim, refl, sym, ◌∙◌, ap, arith}
 use Rattle.std.specs.List.{list_any}
 use Rattle.std.specs.Option.{option_map_or}
-use Rattle.std.proofs.lemmas.Bool.{cases_lt, lt-ltb, le-ltb}
+use Rattle.std.proofs.lemmas.Bool.{cases_Bool, cases_lt, lt-ltb, le-ltb, both_ways}
 use Rattle.std.proofs.lemmas.List.{take-map}
-use Rattle.bib_spec.specs.Text.{Text}
+use Rattle.std.proofs.lemmas.Option.{none-some, same_Some}
+use Rattle.bib_spec.specs.Text.{Text, folded}
 use Rattle.bib_spec.specs.Records.{EntryTexts, keys_of, is_named, first_named, is_repeated}
+use Rattle.bib_spec.proofs.Names.{true-eq}
+use Rattle.bib_spec.proofs.Counts.{count-yes, count-no}
+use Rattle.bib_entries.specs.EntryTable.{AreApart}
+use Rattle.bib_entries.proofs.Tables.{map-at}
 
 -- one of the first n keys is named where the first that is named is one of them
 pub named_before : (text : Text) (keys : List Text) (n : ℕ) → list_any (is_named text) (take n keys) ≡ option_map_or (λ m. nat_lt m n) (first_named text keys) false
@@ -31,3 +36,49 @@ pub repeated-first : (entries : List EntryTexts) (n : ℕ) (entry : EntryTexts) 
 repeated-first entries n entry at =
     ap (λ o. option_map_or (λ (entry : EntryTexts). list_any (is_named entry.key) (keys_of (take n entries))) o false) at
     ∙ ap (list_any (is_named entry.key)) (sym (take-map (λ (entry : EntryTexts). entry.key) n entries)) ∙ named_before entry.key (keys_of entries) n
+
+-- ---- keys of which no two are one
+
+-- a key that names another names itself
+named_itself : (key other : Text) → is_named key other ≡ true → is_named key key ≡ true
+named_itself [] [] named = named
+named_itself [] (b ∷ bs) named = absurd (both_ways false refl named)
+named_itself (c ∷ cs) other named = true-eq (folded (c ∷ cs)) (folded (c ∷ cs)) refl
+
+-- one that names one of many names itself
+named_in_itself : (key : Text) (keys : List Text) → list_any (is_named key) keys ≡ true → is_named key key ≡ true
+named_in_itself key [] some = absurd (both_ways false refl some)
+named_in_itself key (other ∷ keys) some = ⊎_elim
+    (named_itself key other)
+    (λ none. named_in_itself key keys (sym (ap (λ b. b || list_any (is_named key) keys) none) ∙ some))
+    (cases_Bool (is_named key other))
+
+-- what passes is counted
+counted_once : (test : Text → Bool) (keys : List Text) (n : ℕ) (key : Text) → slice_get keys n ≡ Some key → test key ≡ true → 1 ≤ count_by test keys
+counted_once test [] n key at passes = absurd (none-some key at)
+counted_once test (k ∷ keys) zero key at passes = omega (arith, count-yes test k keys (ap test (same_Some k key at) ∙ passes))
+counted_once test (k ∷ keys) (suc n) key at passes = ⊎_elim
+    (λ yes. omega (arith, count-yes test k keys yes))
+    (λ none. omega (arith, count-no test k keys none, counted_once test keys n key at passes))
+    (cases_Bool (test k))
+
+-- and twice, where one before it passes too
+counted_twice : (test : Text → Bool) (keys : List Text) (n : ℕ) (key : Text) → slice_get keys n ≡ Some key → test key ≡ true → list_any test (take n keys) ≡ true → 2 ≤ count_by test keys
+counted_twice test [] n key at passes some = absurd (none-some key at)
+counted_twice test (k ∷ keys) zero key at passes some = absurd (both_ways false refl some)
+counted_twice test (k ∷ keys) (suc n) key at passes some = ⊎_elim
+    (λ yes. omega (arith, count-yes test k keys yes, counted_once test keys n key at passes))
+    (λ none. omega (arith, count-no test k keys none, counted_twice test keys n key at passes (sym (ap (λ b. b || list_any test (take n keys)) none) ∙ some)))
+    (cases_Bool (test k))
+
+-- the key of an entry is no earlier one's where no two keys are one
+pub apart-unrepeated : (entries : List EntryTexts) (n : ℕ) (entry : EntryTexts) → slice_get entries n ≡ Some entry → AreApart (keys_of entries) → is_repeated entries n ≡ false
+apart-unrepeated entries n entry at apart = ⊎_elim
+    (λ some.
+    let earlier : list_any (is_named entry.key) (take n (keys_of entries)) ≡ true =
+        ap (list_any (is_named entry.key)) (take-map (λ (entry : EntryTexts). entry.key) n entries)
+        ∙ sym (ap (λ o. option_map_or (λ (entry : EntryTexts). list_any (is_named entry.key) (keys_of (take n entries))) o false) at) ∙ some in
+    let itself = map-at (λ (entry : EntryTexts). entry.key) entries n entry at in
+    absurd (omega (arith, apart entry.key, counted_twice (is_named entry.key) (keys_of entries) n entry.key itself (named_in_itself entry.key (take n (keys_of entries)) earlier) earlier)))
+    (λ none. none)
+    (cases_Bool (is_repeated entries n))

@@ -34,7 +34,7 @@ impl<L: ItemList> Model for Database<L> {
 }
 
 impl<L: ItemList> Database<L> {
-    ghost use Rattle.std.specs.Prelude.{◌≡◌, ◌≤◌, [], Some, None, length, slice_get, option_and_then, count_by, IfOk, IfErr, IfSome, OnOk};
+    ghost use Rattle.std.specs.Prelude.{◌≡◌, ◌≤◌, [], Some, None, length, slice_get, option_and_then, count_by, IsTrue, IfOk, IfErr, IfSome, OnOk};
     ghost use Rattle.std.specs.Option.{option_copied};
     ghost use Rattle.bib_spec.specs.Bytes.{name_limit};
     ghost use Rattle.bib_spec.specs.Texts.{IsOpenable};
@@ -43,7 +43,7 @@ impl<L: ItemList> Database<L> {
     ghost use Rattle.bib_spec.specs.Records.{entries_of, preambles_of, keys_of, entry_named, is_named, is_repeated, crossref_text, target};
     ghost use Rattle.bib_scan.specs.View.{view_of};
     ghost use Rattle.bib_scan.specs.Layout.{start_of};
-    ghost use Rattle.bib_entries.specs.EntryTable.{referrers};
+    ghost use Rattle.bib_entries.specs.EntryTable.{referrers, AreApart};
     ghost use Rattle.bib_store.specs.Tables.{crossrefs_of};
     ghost use Rattle.bib_spec.specs.Text.{Text as Bytes};
     ghost use Rattle.bib_store.specs.Stored.{IsTaken};
@@ -192,6 +192,14 @@ impl<L: ItemList> Database<L> {
         ensures { OfReading self.now (λ db. result ≡ count_by (is_named key.now) (keys_of (entries_of db))) }
     {
         self.tables.named.holders(key)
+    }
+
+    /// Whether it is known that no two entries have one key, folded. It takes a step. Where two had one once, it is not
+    /// known any more.
+    pub fn are_keys_apart(&self) -> bool
+        ensures { IsTrue result → OfReading self.now (λ db. AreApart (keys_of (entries_of db))) }
+    {
+        self.tables.named.are_apart()
     }
 
     /// Whether an earlier entry has the key of entry `n`, folded.

@@ -1,4 +1,4 @@
-use Rattle.std.proofs.Common.{◌≡◌, ◌-◌, ◌∙◌, List, ap, subst, sym}
+use Rattle.std.proofs.Common.{◌-◌, ◌∙◌, List, ap, subst, sym}
 use Rattle.bib_items.specs.declared.list.Item.{Item}
 use Rattle.bib_items.specs.Items.{without_range}
 use Rattle.bib_store.specs.Windows.{ArePut}
