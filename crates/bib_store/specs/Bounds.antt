@@ -1,11 +1,15 @@
 -- What holds of each item whatever macros stand for, and how long the items are at most.
-use Rattle.std.specs.Prelude.{ℕ, ◌≡◌, ◌≤◌, Bool, true, false, List, length, map}
+use Rattle.std.specs.Prelude.{ℕ, ◌≡◌, ◌≤◌, Bool, true, false, List, [], ◌∷◌, Option, length, map}
 use Rattle.std.specs.List.{AllByRecursion}
-use Rattle.bib_spec.specs.Tree.{Part, Braced, Quoted, Digits, Macro, Tree, tree_bytes}
+use Rattle.bib_spec.specs.Bytes.{name_limit}
+use Rattle.bib_spec.specs.Text.{Text}
+use Rattle.bib_spec.specs.Tree.{Part, Braced, Quoted, Digits, Macro, Tree, IsTree, tree_bytes}
 use Rattle.bib_spec.specs.Reading as reading
 use Rattle.bib_spec.specs.Texts.{Macros}
 use Rattle.bib_spec.specs.Records.{entry_in, crossref_text}
+use Rattle.bib_scan.specs.View.{View, view_of}
 use Rattle.bib_definitions.specs.Definitions.{defined_by}
+use Rattle.bib_store.specs.Meaning.{is_entry_tree}
 use Rattle.bib_store.specs.declared.bounds.Bounds.{Bounds}
 
 -- the part is no name of a macro
@@ -22,6 +26,10 @@ AreLiteral parts = AllByRecursion (λ p. is_literal p ≡ true) parts
 pub record IsSettled (tree : Tree) : Type 0 where
   pub crossref : (a b : Macros) → map crossref_text (entry_in a tree) ≡ map crossref_text (entry_in b tree)
   pub text : (a b : Macros) → defined_by a tree ≡ defined_by b tree
+
+-- an entry whose crossref says this, whatever macros stand for then, is settled
+abbrev pub IsSettledEntry : View → Option Text → Type 0
+IsSettledEntry entry said = (m : Macros) (i : reading.Item) → IsTree name_limit i.tree → is_entry_tree i.tree ≡ true → entry ≡ view_of i → map crossref_text (entry_in m i.tree) ≡ said ∷ [] → IsSettled i.tree
 
 -- the body is no longer than the longest, and where the bounds say so of all items, this one is settled
 pub record IsBounded (bounds : Bounds) (tree : Tree) : Type 0 where

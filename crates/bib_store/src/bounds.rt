@@ -13,7 +13,7 @@ ghost use Rattle.bib_scan.specs.View.{view_of};
 ghost use Rattle.bib_value.specs.Raw.{OfValue};
 ghost use Rattle.bib_store.specs.Meaning.{is_entry_tree};
 ghost use Rattle.bib_store.specs.ItemTexts.{crossref_in, OfRows};
-ghost use Rattle.bib_store.specs.Bounds.{is_literal, AreLiteral, IsSettled, Admits};
+ghost use Rattle.bib_store.specs.Bounds.{is_literal, AreLiteral, IsSettledEntry, Admits};
 
 use bib_scan::{Fields, ItemView, Part, Parts, Text, only_part, read_value, same_folded};
 use std::alloc::Global;
@@ -91,7 +91,7 @@ fn are_settled(alloc: Global, fields: Fields<'_>) -> bool
 
 /// Whether the crossref of an entry, which says this where the entry stands, says it whatever macros stand for.
 pub(crate) fn is_settled_entry(alloc: Global, entry: &ItemView<'_>, crossref: &Option<Text>) -> bool
-    ensures { result ≡ true → (m : Macros) (i : Item) → IsTree name_limit i.tree → is_entry_tree i.tree ≡ true → entry.now ≡ view_of i → map crossref_text (entry_in m i.tree) ≡ crossref.now ∷ [] → IsSettled i.tree }
+    ensures { result ≡ true → IsSettledEntry entry.now crossref.now }
 {
     match crossref {
         None => true,

@@ -1,8 +1,9 @@
 //! What the crossref of an entry says.
 
-ghost use Rattle.std.specs.Prelude.{◌≡◌, ◌<◌, ◌≤◌, ℕ, [], ◌∷◌, true, Some, None, length, map, IfOk, IfErr, OnOk};
+ghost use Rattle.std.specs.Prelude.{◌≡◌, ◌<◌, ◌≤◌, ℕ, [], ◌∷◌, true, Option, Some, None, length, map, IfOk, IfErr, OnOk};
 ghost use Rattle.std.specs.Option.{option_or};
-ghost use Rattle.bib_spec.specs.Texts.{raw_text, raw_limit, field_text};
+ghost use Rattle.bib_spec.specs.Text.{Text as Bytes};
+ghost use Rattle.bib_spec.specs.Texts.{Macros, raw_text, raw_limit, field_text};
 ghost use Rattle.bib_spec.specs.Bytes.{name_limit};
 ghost use Rattle.bib_spec.specs.Tree.{IsTree};
 ghost use Rattle.bib_spec.specs.Reading.{Item};
@@ -10,17 +11,26 @@ ghost use Rattle.bib_spec.specs.Records.{entry_in, crossref_text};
 ghost use Rattle.bib_scan.specs.View.{view_of};
 ghost use Rattle.bib_value.specs.Raw.{OfValue};
 ghost use Rattle.bib_store.specs.Meaning.{is_entry_tree};
+ghost use Rattle.bib_store.specs.Bounds.{IsSettledEntry};
 ghost use Rattle.bib_store.specs.ItemTexts.{said_by, crossref_in, row_texts, first_too_long, placed_texts, OfRows};
 ghost use Rattle.bib_value.specs.declared.fault.ValueFault.TheVariants.{TextTooLong};
 ghost use Rattle.bib_store.specs.declared.item_fault.ItemFault.TheVariants.{TooLong as ItemTooLong, Memory as ItemMemory};
 ghost use Rattle.bib_definitions.specs.Definitions.{AreAtMost};
 
+use crate::bounds::{is_settled_entry, is_settled_value};
 use crate::glancing::{are_short, lacks_crossref};
 use crate::item_fault::ItemFault;
 use crate::measuring::{measure, value_field_text};
 use bib_scan::{FieldView, Fields, ItemView, Text, same_folded};
 use bib_value::{MacroTable, ValueFault};
 use std::alloc::Global;
+
+/// What the crossref of an entry says where the entry stands, and whether it says that whatever macros stand for.
+#[derive(Drop)]
+pub(crate) struct Said {
+    pub text: Option<Text>,
+    pub settled: bool,
+}
 
 /// What the crossref says with one more field, whose text is measured: the first such field counts.
 fn with_value<M: MacroTable>(
@@ -109,17 +119,25 @@ fn first_crossref<M: MacroTable>(
     alloc: Global,
     fields: Fields<'_>,
     macros: &M,
-) -> Result<Option<Text>, ItemFault>
-    ensures text { IfOk result (λ text. OfRows fields.entry (λ before rows. text ≡ crossref_in (M.macros macros.now) rows)) }
+) -> Result<Said, ItemFault>
+    ensures text { IfOk result (λ said. OfRows fields.entry (λ before rows. said.text ≡ crossref_in (M.macros macros.now) rows)) }
+    ensures settled { IfOk result (λ said. said.settled ≡ true → (text : Option Bytes) × OfRows fields.entry (λ before rows. (m : Macros) → text ≡ crossref_in m rows)) }
     ensures only { IfErr result (λ fault. fault ≡ ItemMemory) }
 {
     let mut fields = fields;
     'rows: while let Some(field) = fields.next() {
         if same_folded(field.name, b"crossref") {
-            return Ok(Some(unmeasured_text(alloc, field.value, macros)?));
+            let text = unmeasured_text(alloc, field.value, macros)?;
+            return Ok(Said {
+                text: Some(text),
+                settled: is_settled_value(alloc, field.value),
+            });
         }
     }
-    Ok(None)
+    Ok(Said {
+        text: None,
+        settled: true,
+    })
 }
 
 /// What the crossref of an entry says, none of whose texts is too long.
@@ -127,13 +145,17 @@ fn short_crossref<M: MacroTable>(
     alloc: Global,
     entry: &ItemView<'_>,
     macros: &M,
-) -> Result<Option<Text>, ItemFault>
-    ensures text { IfOk result (λ text. (i : Item) → IsTree name_limit i.tree → is_entry_tree i.tree ≡ true → entry.now ≡ view_of i → map crossref_text (entry_in (M.macros macros.now) i.tree) ≡ text ∷ []) }
+) -> Result<Said, ItemFault>
+    ensures text { IfOk result (λ said. (i : Item) → IsTree name_limit i.tree → is_entry_tree i.tree ≡ true → entry.now ≡ view_of i → map crossref_text (entry_in (M.macros macros.now) i.tree) ≡ said.text ∷ []) }
+    ensures settled { IfOk result (λ said. said.settled ≡ true → IsSettledEntry entry.now said.text) }
     ensures only { IfErr result (λ fault. fault ≡ ItemMemory) }
 {
     // most entries have none, and need not be read
     if lacks_crossref(entry.body()) {
-        return Ok(None);
+        return Ok(Said {
+            text: None,
+            settled: true,
+        });
     }
     first_crossref(alloc, entry.fields(), macros)
 }
@@ -145,14 +167,17 @@ pub(crate) fn crossref_within<M: MacroTable>(
     entry: &ItemView<'_>,
     macros: &M,
     longest: usize,
-) -> Result<Option<Text>, ItemFault>
+) -> Result<Said, ItemFault>
     requires { AreAtMost longest (M.macros macros.now) }
-    ensures text { IfOk result (λ text. (i : Item) → IsTree name_limit i.tree → is_entry_tree i.tree ≡ true → entry.now ≡ view_of i → map crossref_text (entry_in (M.macros macros.now) i.tree) ≡ text ∷ []) }
+    ensures text { IfOk result (λ said. (i : Item) → IsTree name_limit i.tree → is_entry_tree i.tree ≡ true → entry.now ≡ view_of i → map crossref_text (entry_in (M.macros macros.now) i.tree) ≡ said.text ∷ []) }
+    ensures settled { IfOk result (λ said. said.settled ≡ true → IsSettledEntry entry.now said.text) }
     ensures short { OnOk result ((i : Item) → IsTree name_limit i.tree → is_entry_tree i.tree ≡ true → entry.now ≡ view_of i → first_too_long (placed_texts (M.macros macros.now) i.tree) ≡ None) }
     ensures too_long { IfErr result (λ fault. (n : ℕ) → fault ≡ ItemTooLong n → (i : Item) → IsTree name_limit i.tree → is_entry_tree i.tree ≡ true → entry.now ≡ view_of i → first_too_long (placed_texts (M.macros macros.now) i.tree) ≡ Some n) }
 {
     if are_short(entry.body().len(), longest) {
         return short_crossref(alloc, entry, macros);
     }
-    entry_crossref(alloc, entry, macros)
+    let text = entry_crossref(alloc, entry, macros)?;
+    let settled = is_settled_entry(alloc, entry, &text);
+    Ok(Said { text, settled })
 }

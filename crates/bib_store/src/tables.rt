@@ -11,8 +11,8 @@ ghost use Rattle.bib_spec.specs.Text.{Text as Bytes};
 ghost use Rattle.bib_entries.specs.Numbers.{PartAt, HaveNext};
 ghost use Rattle.bib_entries.specs.EntryTable.{IsTableOf};
 
-use crate::bounds::{Bounds, is_settled_entry, is_settled_value};
-use crate::crossrefs::crossref_within;
+use crate::bounds::{Bounds, is_settled_value};
+use crate::crossrefs::{Said, crossref_within};
 use crate::item_fault::ItemFault;
 use crate::measuring::{measure, value_text};
 use bib_definitions::Definitions;
@@ -161,9 +161,9 @@ impl Tables {
         ensures err { OnErr result (SayTheSame self.old self.new) }
     {
         let longest = self.definitions.longest();
-        let crossref = crossref_within(alloc, view, &self.definitions.at(n), longest)?;
-        let settled = is_settled_entry(alloc, view, &crossref);
-        insert_named(&mut self.entries, &mut self.named, n, view.key(), crossref)?;
+        let Said { text, settled } =
+            crossref_within(alloc, view, &self.definitions.at(n), longest)?;
+        insert_named(&mut self.entries, &mut self.named, n, view.key(), text)?;
         self.preambles.make_way(n);
         self.definitions.make_way(n);
         self.bounds.admit(view.body().len(), settled);

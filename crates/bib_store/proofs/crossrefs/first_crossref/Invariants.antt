@@ -1,4 +1,5 @@
 use Rattle.std.proofs.Common.{length}
+use Rattle.bib_spec.specs.Texts.{Macros}
 use Rattle.bib_store.proofs.FirstCrossrefs.{AreAhead}
 use Rattle.bib_store.proofs.crossrefs.first_crossref.Given as goal
 
@@ -6,4 +7,4 @@ abbrev pub decreases-rows : goal.decreases-rows
 decreases-rows g l = length l.fields
 
 abbrev pub invariant-rows : goal.invariant-rows
-invariant-rows g l = AreAhead l.fn.fields (g.M.MacroTable.macros l.macros) l.fields
+invariant-rows g l = (m : Macros) → AreAhead l.fn.fields m l.fields

@@ -10,11 +10,11 @@ use Rattle.bib_store.specs.declared.tables.Tables.{Tables}
 use Rattle.bib_store.proofs.TableSteps.{entry_insertion, entry_over, named_kept}
 use Rattle.bib_store.proofs.tables.Tables.insert_entry.Goals as goal
 
-pub returns-in_err-crossref-clause-too_long : goal.returns-in_err-crossref-clause-too_long
-returns-in_err-crossref-clause-too_long c =
+pub returns-in_err-text-clause-too_long : goal.returns-in_err-text-clause-too_long
+returns-in_err-text-clause-too_long c =
     let p = err_from_is_err_and c.from_residual.result c.from_residual.ensures.1 in
     rw (p.1, p.2) (λ place is.
-    let over = c.in_err-crossref.ensures.too_long place is in
+    let over = c.in_err-text.ensures.too_long place is in
     entry_over c.args.self.now c.args.self.now c.args.n c.args.view.now (macros_seen c.at.result) place c.at.ensures over)
 
 pub returns-in_err-insert_named-clause-err : goal.returns-in_err-insert_named-clause-err
@@ -39,14 +39,14 @@ returns-clause-step c =
       definitions = c.make_way-2.new.self;
       bounds = c.admit.new.self;
     } in
-    entry_insertion c.args.self.now new c.args.n c.args.view.now (macros_seen c.at.result) c.in_ok-crossref.crossref c.at.ensures
+    entry_insertion c.args.self.now new c.args.n c.args.view.now (macros_seen c.at.result) c.in_ok-text.field-0.text c.at.ensures
     c.in_ok-insert_named.ensures.entries c.make_way.ensures.moved
-    (λ front rest keys crossrefs parts low t. subst (λ (key : Text). IsTableOf (insert keys (length front) key) (insert crossrefs (length front) c.in_ok-crossref.crossref) c.insert_named.new.named) c.key.ensures
+    (λ front rest keys crossrefs parts low t. subst (λ (key : Text). IsTableOf (insert keys (length front) key) (insert crossrefs (length front) c.in_ok-text.field-0.text) c.insert_named.new.named) c.key.ensures
     (c.in_ok-insert_named.ensures.named front rest keys crossrefs parts low t))
     c.make_way-2.ensures.come
-    c.in_ok-crossref.ensures.text
-    c.in_ok-crossref.ensures.short
-    c.is_settled_entry-settled.result c.is_settled_entry-settled.ensures (subst (λ (b : Text). Admits (length b) c.is_settled_entry-settled.result c.args.self.now.bounds c.admit.new.self) c.body.ensures c.admit.ensures)
+    c.in_ok-text.ensures.text
+    c.in_ok-text.ensures.short
+    c.in_ok-text.field-0.settled c.in_ok-text.ensures.settled (subst (λ (b : Text). Admits (length b) c.in_ok-text.field-0.settled c.args.self.now.bounds c.admit.new.self) c.body.ensures c.admit.ensures)
 
 pub crossref_within-requires : goal.crossref_within-requires
 crossref_within-requires c = subst (AreAtMost c.longest-longest.result) (sym c.at.ensures) (c.longest-longest.ensures c.args.n)
