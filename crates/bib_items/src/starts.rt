@@ -5,6 +5,7 @@ ghost use Rattle.bib_items.specs.declared.list.Item.{Item};
 ghost use Rattle.bib_items.specs.Starts.{AreStarts, BeginsWith};
 
 use crate::page::Page;
+use crate::places::PAGE_LIMIT;
 
 /// Where a page begins: how many items the pages before it have, and how many bytes.
 #[derive(Clone, Copy)]
@@ -13,15 +14,25 @@ pub(crate) struct PageStart {
     pub byte: usize,
 }
 
+/// The last page that begins no later than item `n`, as far as they are kept: at once where the pages before it are full.
+/// Only time rests on it.
+fn last_begun(starts: &[PageStart], n: usize) -> usize {
+    let full = n / PAGE_LIMIT;
+    if full < starts.len() && starts[full].item == n - n % PAGE_LIMIT {
+        return full;
+    }
+    starts
+        .partition_point(|start| start.item <= n)
+        .saturating_sub(1)
+}
+
 /// A page that begins no later than item `n`, and where. It is the last such page as far as they are kept, which only time
 /// rests on.
 pub(crate) fn near_item(starts: &[PageStart], n: usize) -> (usize, PageStart)
     ensures begins { (pages : List (List Item)) → AreStarts pages starts.now → BeginsWith pages result.0 result.1 }
     ensures before { result.1.item ≤ n }
 {
-    let p = starts
-        .partition_point(|start| start.item <= n)
-        .saturating_sub(1);
+    let p = last_begun(starts, n);
     if p < starts.len() {
         let start = starts[p];
         if start.item <= n {
