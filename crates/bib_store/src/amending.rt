@@ -21,7 +21,7 @@ ghost use Rattle.bib_items.specs.declared.fault.StoreFault.TheVariants.{Memory, 
 
 use crate::bounds::is_settled_entry;
 use crate::change::Change;
-use crate::crossrefs::entry_crossref;
+use crate::crossrefs::crossref_within;
 use crate::item_fault::ItemFault;
 use crate::tables::Tables;
 use bib_definitions::Definitions;
@@ -69,8 +69,9 @@ fn coming_crossref(
     ensures only { IfErr result (λ fault. (fault ≡ BadSplice) ⊎ (fault ≡ Memory)) }
 {
     let item = change.layout.item(change.text.as_slice(), 0);
-    match entry_crossref(alloc, &item, &definitions.at(change.window.from)) {
-        Ok(crossref) => Ok(crossref),
+    let longest = definitions.longest();
+    match crossref_within(alloc, &item, &definitions.at(change.window.from), longest) {
+        Ok(said) => Ok(said.text),
         Err(ItemFault::TooLong(_)) => Err(StoreFault::BadSplice),
         Err(ItemFault::Memory) => Err(StoreFault::Memory),
     }

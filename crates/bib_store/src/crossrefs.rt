@@ -87,7 +87,7 @@ pub(crate) fn crossref_of<M: MacroTable>(
 }
 
 /// What the crossref of an entry says. Each field's text is measured.
-pub(crate) fn entry_crossref<M: MacroTable>(
+fn entry_crossref<M: MacroTable>(
     alloc: Global,
     entry: &ItemView<'_>,
     macros: &M,

@@ -3,6 +3,7 @@ use Rattle.bib_spec.specs.Text.{Text}
 use Rattle.bib_spec.specs.Reading.{Reads}
 use Rattle.bib_spec.specs.Texts.{Macros}
 use Rattle.bib_spec.specs.Records.{entry_in, crossref_text}
+use Rattle.bib_definitions.specs.Definitions.{AreAtMost}
 use Rattle.bib_store.specs.ItemTexts.{first_too_long, placed_texts}
 use Rattle.bib_store.proofs.AmendedFiles.{coming_tree}
 use Rattle.bib_store.proofs.amending.coming_crossref.Goals as goal
@@ -26,3 +27,6 @@ returns-in-Err-TooLong-clause-too_long c = λ _ inner i reads at entry.
       ap (λ (m : Macros). first_too_long (placed_texts m i.tree)) (sym c.at.ensures)
           ∙ c.in-Err-TooLong.ensures.too_long c.in-Err-TooLong.field-0-0 c.in-Err-TooLong.field-0-is i (coming_tree c.args.change.now inner i reads at) entry (c.item-item.ensures inner i lent at),
     )
+
+pub crossref_within-requires : goal.crossref_within-requires
+crossref_within-requires c = subst (AreAtMost c.longest-longest.result) (sym c.at.ensures) (c.longest-longest.ensures c.args.change.now.window.from)
