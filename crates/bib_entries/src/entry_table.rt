@@ -124,6 +124,13 @@ impl EntryTable {
         }
     }
 
+    /// Makes room for the keys of so many entries more, as far as there is memory for it. The table says what it said.
+    pub fn prepare(&mut self, additional: usize)
+        ensures { SaysTheSame self.old self.new }
+    {
+        let _ = self.keys.reserve(additional);
+    }
+
     /// How many entries there are.
     pub fn count(&self) -> usize
         ensures { (keys : List Bytes) (crossrefs : List (Option Bytes)) → IsTableOf keys crossrefs self.now → result ≡ length keys }

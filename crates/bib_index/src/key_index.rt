@@ -55,6 +55,13 @@ impl KeyIndex {
         }
     }
 
+    /// Makes room for so many texts more. The index stays as it is.
+    pub fn reserve(&mut self, additional: usize) -> Result<(), AllocError>
+        ensures { self.new ≡ self.old }
+    {
+        self.lists.reserve(additional)
+    }
+
     /// Whether it is known that no text has two ids. Where a text had two once, that is not known any more.
     pub fn are_apart(&self) -> bool
         ensures { IsTrue result → HaveOneAtMost self.now }

@@ -67,9 +67,10 @@ impl Tables {
         ensures fault { IfErr result (λ fault. ((fault.kind ≡ 10) × (fault.place ≡ 0))
             ⊎ ((fault.kind ≡ 8) × ((db : Reading) → HasItems front_len (without_range from to (L.items items.now)) db → too_long_at db ≡ Some fault.place))) }
     {
-        let mut tables = Tables::new(alloc);
+        let count = items.count() - (to - from);
+        let mut tables = Tables::with_room(alloc, count);
         let mut start = front_len;
-        'walk: for n in 0..items.count() - (to - from) {
+        'walk: for n in 0..count {
             let k = kept_number(n, from, to);
             let (body, trail) = items.texts(k);
             if let Err(fault) = tables.add(alloc, n, body) {
@@ -81,15 +82,17 @@ impl Tables {
         Ok(tables)
     }
 
-    /// The tables of no items. They take no memory.
-    fn new(alloc: Global) -> Self
+    /// The tables of no items, with room for the keys of so many, as far as there is memory for it.
+    fn with_room(alloc: Global, count: usize) -> Self
         ensures { AreTablesOf [] result }
     {
+        let mut named = EntryTable::new(alloc);
+        named.prepare(count);
         Tables {
             file_len: 0,
             entries: Numbers::new(alloc),
             preambles: Numbers::new(alloc),
-            named: EntryTable::new(alloc),
+            named,
             definitions: Definitions::new(alloc),
             bounds: Bounds {
                 settled: true,

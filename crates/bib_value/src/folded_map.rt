@@ -56,6 +56,13 @@ impl<V> FoldedMap<V> {
         self.alloc
     }
 
+    /// Makes room for so many names more. The map stays as it is.
+    pub fn reserve(&mut self, additional: usize) -> Result<(), AllocError>
+        ensures { self.new ≡ self.old }
+    {
+        self.entries.reserve(additional)
+    }
+
     /// The value of a name, if it has one.
     pub fn get(&self, name: &[u8]) -> Option<&V>
         ensures { option_copied result ≡ value_at self.now (folded name.now) }

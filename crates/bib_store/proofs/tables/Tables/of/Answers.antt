@@ -3,7 +3,7 @@ use Rattle.bib_store.proofs.WalkedFiles.{walk_start, walk_more, walk_over, walk_
 use Rattle.bib_store.proofs.tables.Tables.of.Goals as goal
 
 pub walk-init : goal.walk-init
-walk-init g c = walk_start c.args.front_len _ c.new-tables.result c.new-tables.ensures
+walk-init g c = walk_start c.args.front_len _ c.with_room-tables.result c.with_room-tables.ensures
 
 pub texts-requires : goal.texts-requires
 texts-requires g c =
