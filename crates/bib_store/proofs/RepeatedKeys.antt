@@ -76,8 +76,8 @@ pub apart-unrepeated : (entries : List EntryTexts) (n : ℕ) (entry : EntryTexts
 apart-unrepeated entries n entry at apart = ⊎_elim
     (λ some.
     let earlier : list_any (is_named entry.key) (take n (keys_of entries)) ≡ true =
-        ap (list_any (is_named entry.key)) (take-map (λ (entry : EntryTexts). entry.key) n entries)
-        ∙ sym (ap (λ o. option_map_or (λ (entry : EntryTexts). list_any (is_named entry.key) (keys_of (take n entries))) o false) at) ∙ some in
+    ap (list_any (is_named entry.key)) (take-map (λ (entry : EntryTexts). entry.key) n entries)
+    ∙ sym (ap (λ o. option_map_or (λ (entry : EntryTexts). list_any (is_named entry.key) (keys_of (take n entries))) o false) at) ∙ some in
     let itself = map-at (λ (entry : EntryTexts). entry.key) entries n entry at in
     absurd (omega (arith, apart entry.key, counted_twice (is_named entry.key) (keys_of entries) n entry.key itself (named_in_itself entry.key (take n (keys_of entries)) earlier) earlier)))
     (λ none. none)

@@ -164,8 +164,12 @@ impl Tables {
         ensures err { OnErr result (SayTheSame self.old self.new) }
     {
         let longest = self.definitions.longest();
-        let Said { text, settled } =
-            crossref_within(alloc, view, &self.definitions.at(n), longest)?;
+        let Said { text, settled } = crossref_within(
+            alloc,
+            view,
+            &self.definitions.at(n),
+            longest,
+        )?;
         insert_named(&mut self.entries, &mut self.named, n, view.key(), text)?;
         self.preambles.make_way(n);
         self.definitions.make_way(n);
