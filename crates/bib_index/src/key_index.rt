@@ -24,13 +24,11 @@ pub struct KeyIndex {
 }
 
 impl Model for KeyIndex {
-    ghost use Rattle.std.specs.Prelude.{List, ℕ};
+    ghost use Rattle.std.specs.Prelude.{List, ℕ, IsFalse};
     ghost use Rattle.bib_spec.specs.Text.{Text};
+    ghost use Rattle.bib_index.specs.KeyIndex.{HaveOneAtMost};
 
     ghost Value = { List (Text × List ℕ) };
-
-    ghost use Rattle.std.specs.Prelude.{IsFalse};
-    ghost use Rattle.bib_index.specs.KeyIndex.{HaveOneAtMost};
 
     ghost view = { λ index. index.lists };
 

@@ -1,17 +1,11 @@
 //! What holds of all items whatever macros stand for.
 
-ghost use Rattle.std.specs.Prelude.{◌≡◌, ◌∷◌, [], true, Option, map};
-ghost use Rattle.bib_spec.specs.Bytes.{name_limit};
+ghost use Rattle.std.specs.Prelude.{◌≡◌, true, Option};
 ghost use Rattle.bib_spec.specs.Text.{Text as Bytes};
-ghost use Rattle.bib_spec.specs.Tree.{IsTree};
-ghost use Rattle.bib_spec.specs.Reading.{Item};
 ghost use Rattle.bib_spec.specs.Texts.{Macros, parts_of, raw_text};
-ghost use Rattle.bib_spec.specs.Records.{entry_in, crossref_text};
 ghost use Rattle.bib_scan.specs.PartView.{part_view};
 ghost use Rattle.bib_scan.specs.ValueParts.{IsPartsOf};
-ghost use Rattle.bib_scan.specs.View.{view_of};
 ghost use Rattle.bib_value.specs.Raw.{OfValue};
-ghost use Rattle.bib_store.specs.Meaning.{is_entry_tree};
 ghost use Rattle.bib_store.specs.ItemTexts.{crossref_in, OfRows};
 ghost use Rattle.bib_store.specs.Bounds.{is_literal, AreLiteral, IsSettledEntry, Admits};
 
