@@ -3,7 +3,6 @@
 ghost use Rattle.std.specs.Prelude.{◌≡◌, ◌<◌, ◌+◌, ◌^◌, ◌⊎◌, ℕ, List, [], ◌∷◌, true, None, Option, Some, length, map, set, slice_get, IsTrue, IfSome, IfOk, IfErr, OnOk, OnErr};
 ghost use Rattle.std.specs.Option.{option_flatten};
 ghost use Rattle.bib_spec.specs.Text.{Text as Bytes};
-ghost use Rattle.bib_spec.specs.Tree.{Tree};
 ghost use Rattle.bib_spec.specs.Reading.{Reading, Reads, Item};
 ghost use Rattle.bib_spec.specs.Texts.{too_long_at};
 ghost use Rattle.bib_spec.specs.Records.{entry_in, crossref_text};
@@ -11,7 +10,11 @@ ghost use Rattle.bib_scan.specs.Layout.{IsLayoutOf};
 ghost use Rattle.bib_scan.specs.View.{view_of};
 ghost use Rattle.bib_entries.specs.EntryTable.{IsTableOf};
 ghost use Rattle.bib_items.specs.Items.{item as stored_item};
-ghost use Rattle.bib_store.specs.Amending.{HaveOneKey, IsAmendment, OfComing};
+ghost use Rattle.bib_spec.specs.Bytes.{name_limit};
+ghost use Rattle.bib_spec.specs.Tree.{IsTree};
+ghost use Rattle.bib_store.specs.Amending.{HaveOneKey, IsAmendment};
+ghost use Rattle.bib_store.specs.Bounds.{IsSettledEntry};
+ghost use Rattle.bib_store.specs.Meaning.{is_entry_tree};
 ghost use Rattle.bib_store.specs.Beside.{AreTables};
 ghost use Rattle.bib_definitions.specs.Definitions.{texts_at};
 ghost use Rattle.bib_store.specs.ItemTexts.{first_too_long, placed_texts};
@@ -19,9 +22,8 @@ ghost use Rattle.bib_store.specs.Stored.{SayTheSameOf};
 ghost use Rattle.bib_store.specs.Windows.{IsWindow, OfJoined, exchanged};
 ghost use Rattle.bib_items.specs.declared.fault.StoreFault.TheVariants.{Memory, BadSplice};
 
-use crate::bounds::is_settled_entry;
 use crate::change::Change;
-use crate::crossrefs::crossref_within;
+use crate::crossrefs::{Said, crossref_within};
 use crate::item_fault::ItemFault;
 use crate::tables::Tables;
 use bib_definitions::Definitions;
@@ -55,23 +57,21 @@ pub(crate) fn amended<L: ItemList>(items: &L, entries: &Numbers, change: &Change
     entries.position(window.from)
 }
 
-/// What the crossref of the entry that comes says.
+/// What the crossref of the entry says that comes in the place of item `n`.
 fn coming_crossref(
     alloc: Global,
-    change: &Change,
+    item: &ItemView<'_>,
+    n: usize,
     definitions: &Definitions,
-) -> Result<Option<Text>, StoreFault>
-    requires layout { IsLayoutOf change.now.text change.now.layout }
-    requires one { length change.now.layout.items ≡ 1 }
-    ensures text { IfOk result (λ text. OfComing change.now (λ tree. map crossref_text (entry_in (texts_at definitions.now change.now.window.from) tree) ≡ text ∷ [])) }
-    ensures short { OnOk result (OfComing change.now (λ tree. first_too_long (placed_texts (texts_at definitions.now change.now.window.from) tree) ≡ None)) }
-    ensures too_long { IfErr result (λ fault. fault ≡ BadSplice → OfComing change.now (λ tree. (place : ℕ) × (first_too_long (placed_texts (texts_at definitions.now change.now.window.from) tree) ≡ Some place))) }
+) -> Result<Said, StoreFault>
+    ensures text { IfOk result (λ said. (i : Item) → IsTree name_limit i.tree → is_entry_tree i.tree ≡ true → item.now ≡ view_of i → map crossref_text (entry_in (texts_at definitions.now n) i.tree) ≡ said.text ∷ []) }
+    ensures settled { IfOk result (λ said. said.settled ≡ true → IsSettledEntry item.now said.text) }
+    ensures short { OnOk result ((i : Item) → IsTree name_limit i.tree → is_entry_tree i.tree ≡ true → item.now ≡ view_of i → first_too_long (placed_texts (texts_at definitions.now n) i.tree) ≡ None) }
+    ensures too_long { IfErr result (λ fault. fault ≡ BadSplice → (i : Item) → IsTree name_limit i.tree → is_entry_tree i.tree ≡ true → item.now ≡ view_of i → (place : ℕ) × (first_too_long (placed_texts (texts_at definitions.now n) i.tree) ≡ Some place)) }
     ensures only { IfErr result (λ fault. (fault ≡ BadSplice) ⊎ (fault ≡ Memory)) }
 {
-    let item = change.layout.item(change.text.as_slice(), 0);
-    let longest = definitions.longest();
-    match crossref_within(alloc, &item, &definitions.at(change.window.from), longest) {
-        Ok(said) => Ok(said.text),
+    match crossref_within(alloc, item, &definitions.at(n), definitions.longest()) {
+        Ok(said) => Ok(said),
         Err(ItemFault::TooLong(_)) => Err(StoreFault::BadSplice),
         Err(ItemFault::Memory) => Err(StoreFault::Memory),
     }
@@ -168,19 +168,12 @@ pub(crate) fn amend<L: ItemList>(
     ensures items_err { OnErr result (L.items items.new ≡ L.items items.old) }
     ensures tables_err { OnErr result (SayTheSameOf (L.items items.old) tables.old tables.new) }
 {
-    let crossref = coming_crossref(alloc, change, &tables.definitions)?;
+    let n = change.window.from;
     let item = change.layout.item(change.text.as_slice(), 0);
-    let settled = is_settled_entry(alloc, &item, &crossref);
+    let Said { text, settled } = coming_crossref(alloc, &item, n, &tables.definitions)?;
     // so many entries fit
     let _ = tables.entries.count();
-    put_entry(
-        items,
-        &mut tables.named,
-        change.window.from,
-        &item,
-        m,
-        crossref,
-    )?;
+    put_entry(items, &mut tables.named, n, &item, m, text)?;
     tables.bounds.admit(item.body().len(), settled);
     tables.file_len = change.file_len;
     Ok(())

@@ -1,32 +1,24 @@
 use Rattle.std.proofs.Common.{map, sym, subst, ◌∙◌, ap}
-use Rattle.bib_spec.specs.Text.{Text}
-use Rattle.bib_spec.specs.Reading.{Reads}
 use Rattle.bib_spec.specs.Texts.{Macros}
 use Rattle.bib_spec.specs.Records.{entry_in, crossref_text}
 use Rattle.bib_definitions.specs.Definitions.{AreAtMost}
 use Rattle.bib_store.specs.ItemTexts.{first_too_long, placed_texts}
-use Rattle.bib_store.proofs.AmendedFiles.{coming_tree}
 use Rattle.bib_store.proofs.amending.coming_crossref.Goals as goal
 
 pub returns-in-Ok-clause-text : goal.returns-in-Ok-clause-text
-returns-in-Ok-clause-text c = λ inner i reads at entry.
-    let lent = subst (λ (t : Text). Reads t inner) (sym c.as_slice.ensures) reads in
-    ap (λ (m : Macros). map crossref_text (entry_in m i.tree)) (sym c.at.ensures)
-    ∙ c.in-Ok.ensures.text i (coming_tree c.args.change.now inner i reads at) entry (c.item-item.ensures inner i lent at)
+returns-in-Ok-clause-text c = λ i tree entry seen.
+    ap (λ (m : Macros). map crossref_text (entry_in m i.tree)) (sym c.at.ensures) ∙ c.in-Ok.ensures.text i tree entry seen
 
 pub returns-in-Ok-clause-short : goal.returns-in-Ok-clause-short
-returns-in-Ok-clause-short c = λ inner i reads at entry.
-    let lent = subst (λ (t : Text). Reads t inner) (sym c.as_slice.ensures) reads in
-    ap (λ (m : Macros). first_too_long (placed_texts m i.tree)) (sym c.at.ensures)
-    ∙ c.in-Ok.ensures.short i (coming_tree c.args.change.now inner i reads at) entry (c.item-item.ensures inner i lent at)
+returns-in-Ok-clause-short c = λ i tree entry seen.
+    ap (λ (m : Macros). first_too_long (placed_texts m i.tree)) (sym c.at.ensures) ∙ c.in-Ok.ensures.short i tree entry seen
 
 pub returns-in-Err-TooLong-clause-too_long : goal.returns-in-Err-TooLong-clause-too_long
-returns-in-Err-TooLong-clause-too_long c = λ _ inner i reads at entry.
-    let lent = subst (λ (t : Text). Reads t inner) (sym c.as_slice.ensures) reads in (
+returns-in-Err-TooLong-clause-too_long c = λ _ i tree entry seen. (
       c.in-Err-TooLong.field-0-0,
       ap (λ (m : Macros). first_too_long (placed_texts m i.tree)) (sym c.at.ensures)
-          ∙ c.in-Err-TooLong.ensures.too_long c.in-Err-TooLong.field-0-0 c.in-Err-TooLong.field-0-is i (coming_tree c.args.change.now inner i reads at) entry (c.item-item.ensures inner i lent at),
+          ∙ c.in-Err-TooLong.ensures.too_long c.in-Err-TooLong.field-0-0 c.in-Err-TooLong.field-0-is i tree entry seen,
     )
 
 pub crossref_within-requires : goal.crossref_within-requires
-crossref_within-requires c = subst (AreAtMost c.longest-longest.result) (sym c.at.ensures) (c.longest-longest.ensures c.args.change.now.window.from)
+crossref_within-requires c = subst (AreAtMost c.longest.result) (sym c.at.ensures) (c.longest.ensures c.args.n)
