@@ -13,7 +13,7 @@ ghost use Rattle.bib_items.specs.declared.fault.StoreFault.TheVariants.{Memory, 
 
 use crate::applying::apply;
 use crate::fitting::fits;
-use crate::touching::{touched, without_first};
+use crate::touching::without_first;
 use crate::window::{Window, text_of};
 use bib_data::Piece;
 use bib_items::{ItemList, StoreFault};
@@ -92,22 +92,24 @@ pub(crate) fn change_of<L: ItemList>(
     }
 }
 
-/// What replaces what the pieces touch, unless they don't serve there. What the first of them touches by its end alone is
-/// left as it is, where the rest is read by itself.
+/// What replaces the window, which holds what the pieces touch, unless they don't serve there. What the first of them
+/// touches by its end alone is left as it is, where the rest is read by itself.
 pub(crate) fn change_near<L: ItemList>(
     alloc: Global,
     front: &[u8],
     items: &L,
     file_len: usize,
+    window: Window,
     pieces: &[Piece],
 ) -> Result<Option<Change>, StoreFault>
+    requires window { IsWindow (L.items items.now) window }
+    requires place { window.place ≡ length (bytes_before window front.now (L.items items.now)) }
     requires len { file_len ≡ length (file_of front.now (L.items items.now)) }
     requires short { file_len ≤ file_limit }
     ensures change { IfOk result (λ change. IfSome change (IsChange pieces.now front.now (L.items items.now))) }
     ensures lie { IfOk result (λ change. IfSome change (LieIn pieces.now front.now (L.items items.now))) }
     ensures only { IfErr result (λ fault. fault ≡ Memory) }
 {
-    let window = touched(front, items, file_len, pieces);
     let shorter = without_first(front, items, file_len, window);
     if begin_from(pieces, shorter.place) {
         let change = change_of(alloc, front, items, file_len, shorter, pieces)?;
@@ -126,21 +128,24 @@ fn begin_from(pieces: &[Piece], place: usize) -> bool {
     }
 }
 
-/// What replaces what the pieces touch, or where they don't serve there the whole file.
+/// What replaces the window, which holds what the pieces touch, or where they don't serve there the whole file.
 pub(crate) fn find_change<L: ItemList>(
     alloc: Global,
     front: &[u8],
     items: &L,
     file_len: usize,
+    window: Window,
     pieces: &[Piece],
 ) -> Result<Change, StoreFault>
+    requires window { IsWindow (L.items items.now) window }
+    requires place { window.place ≡ length (bytes_before window front.now (L.items items.now)) }
     requires len { file_len ≡ length (file_of front.now (L.items items.now)) }
     requires short { file_len ≤ file_limit }
     ensures change { IfOk result (IsChange pieces.now front.now (L.items items.now)) }
     ensures refused { IfErr result (λ fault. fault ≡ BadSplice → Serve pieces.now (file_of front.now (L.items items.now)) → ⊥) }
     ensures only { IfErr result (λ fault. (fault ≡ BadSplice) ⊎ (fault ≡ Memory)) }
 {
-    if let Some(change) = change_near(alloc, front, items, file_len, pieces)? {
+    if let Some(change) = change_near(alloc, front, items, file_len, window, pieces)? {
         return Ok(change);
     }
     let whole = Window {

@@ -71,8 +71,7 @@ fn exchange_all<L: ItemList>(
     let old_count = items.count();
     items.insert_all(window.from, change.text.as_slice(), &change.layout)?;
     let count = items.count() - old_count;
-    prepare_all(items, window, count);
-    match renew(alloc, front_len, &*items, tables, change, count) {
+    match renew(alloc, front_len, items, tables, change, count) {
         Ok(()) => {
             items.remove_range(window.from + count, window.to + count);
             Ok(())
@@ -84,42 +83,33 @@ fn exchange_all<L: ItemList>(
     }
 }
 
-/// Lets all items be looked up where the tables are to be made again, since they can't follow. No item changes.
-fn prepare_all<L: ItemList>(items: &mut L, window: Window, count: usize)
-    requires ordered { window.from ≤ window.to }
-    requires within { window.to + count ≤ length (L.items items.old) }
-    ensures { L.items items.new ≡ L.items items.old }
-{
-    let lead = lead_of(&*items, window, count);
-    if !can_follow(&*items, window, count, lead) {
-        items.prepare(usize::MAX);
-    }
-}
-
 /// Lets the tables say what holds once the items of a change, of this count, have replaced those of its window, which
 /// stand after them still. Where few come and go, and none defines a macro, the tables follow them; else they are made
-/// again. An item that only gets another trail neither comes nor goes. Where it is refused, the tables say what they said.
+/// again, once all items can be looked up. An item that only gets another trail neither comes nor goes. Where it is
+/// refused, the tables say what they said. No item changes.
 fn renew<L: ItemList>(
     alloc: Global,
     front_len: usize,
-    items: &L,
+    items: &mut L,
     tables: &mut Tables,
     change: &Change,
     count: usize,
 ) -> Result<(), StoreFault>
     requires ordered { change.now.window.from ≤ change.now.window.to }
-    requires within { change.now.window.to + count ≤ length (L.items items.now) }
-    ensures tables { OnOk result ((old : List Item) → ArePut change.now old (L.items items.now) count → OfJoined change.now front_len old tables.old (λ db. AreTables db tables.new × (too_long_at db ≡ None))) }
+    requires within { change.now.window.to + count ≤ length (L.items items.old) }
+    ensures items { L.items items.new ≡ L.items items.old }
+    ensures tables { OnOk result ((old : List Item) → ArePut change.now old (L.items items.old) count → OfJoined change.now front_len old tables.old (λ db. AreTables db tables.new × (too_long_at db ≡ None))) }
     ensures len { OnOk result (tables.new.file_len ≡ change.now.file_len) }
-    ensures refused { IfErr result (λ fault. fault ≡ BadSplice → (old : List Item) → ArePut change.now old (L.items items.now) count → OfJoined change.now front_len old tables.old (λ db. too_long_at db ≡ None → ⊥)) }
+    ensures refused { IfErr result (λ fault. fault ≡ BadSplice → (old : List Item) → ArePut change.now old (L.items items.old) count → OfJoined change.now front_len old tables.old (λ db. too_long_at db ≡ None → ⊥)) }
     ensures only { IfErr result (λ fault. (fault ≡ BadSplice) ⊎ (fault ≡ Memory)) }
-    ensures err { OnErr result ((old : List Item) → (inner : Reading) → Reads change.now.text inner → ArePut change.now old (L.items items.now) count → SayTheSameOf old tables.old tables.new) }
+    ensures err { OnErr result ((old : List Item) → (inner : Reading) → Reads change.now.text inner → ArePut change.now old (L.items items.old) count → SayTheSameOf old tables.old tables.new) }
 {
-    let lead = lead_of(items, change.window, count);
-    if can_follow(items, change.window, count, lead) {
-        return follow(alloc, items, tables, change, count, lead);
+    let lead = lead_of(&*items, change.window, count);
+    if can_follow(&*items, change.window, count, lead) {
+        return follow(alloc, &*items, tables, change, count, lead);
     }
-    *tables = remake(alloc, front_len, items, change, count)?;
+    items.prepare(usize::MAX);
+    *tables = remake(alloc, front_len, &*items, change, count)?;
     Ok(())
 }
 

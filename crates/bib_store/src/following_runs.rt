@@ -18,6 +18,7 @@ use crate::exchanging::{can_follow, lead_of};
 use crate::following::{forget, learn};
 use crate::redefining::{Former, give_back, redefine};
 use crate::tables::Tables;
+use crate::touching::touched;
 use bib_data::Piece;
 use bib_items::{ItemList, StoreFault};
 use bib_scan::{FILE_LIMIT, ItemView};
@@ -36,7 +37,8 @@ fn run_change<L: ItemList>(
     requires measured { IsMeasured front.now (L.items items.now) tables.now }
     ensures { IfOk result (IsRunChange run.now front.now (L.items items.now) n) }
 {
-    let Some(change) = change_near(alloc, front, items, tables.file_len, run)? else {
+    let window = touched(front, items, tables.file_len, run);
+    let Some(change) = change_near(alloc, front, items, tables.file_len, window, run)? else {
         return Err(StoreFault::BadSplice);
     };
     if change.window.with_front || change.window.to > n {

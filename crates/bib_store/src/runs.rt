@@ -27,6 +27,18 @@ fn is_one_definition<L: ItemList>(items: &L, window: Window) -> bool
     window.to - window.from == 1 && is_definition(&ItemView::of(items.body(window.from), b""))
 }
 
+/// Whether the byte at this place of the file belongs to a definition. Only time rests on it.
+fn is_defined_at<L: ItemList>(front: &[u8], items: &L, file_len: usize, place: usize) -> bool
+    requires len { file_len ≡ length (file_of front.now (L.items items.now)) }
+    requires short { file_len ≤ file_limit }
+{
+    if place < front.len() || file_len <= place {
+        return false;
+    }
+    let n = items.item_at(place - front.len());
+    is_definition(&ItemView::of(items.body(n), b""))
+}
+
 /// The numbers of the pieces with which the runs begin. The pieces of a run touch items that stand side by side; an item
 /// that none touches stands between two runs. Refused where they aren't read apart: there is one run, which is
 /// no definition alone, there are more than 64, or one of them touches the front. Only time rests on where they begin.
@@ -44,8 +56,10 @@ pub(crate) fn run_starts<L: ItemList>(
         return Err(StoreFault::BadSplice);
     }
     // one piece makes one run
-    if pieces.len() < 2 && !is_one_definition(items, touched(front, items, file_len, pieces)) {
-        return Err(StoreFault::BadSplice);
+    if let [piece] = pieces {
+        if !is_defined_at(front, items, file_len, piece.place as usize) {
+            return Err(StoreFault::BadSplice);
+        }
     }
     let mut starts = Vec::new(alloc);
     let mut end = 0;

@@ -5,6 +5,7 @@ use crate::database::Database;
 use crate::exchanging::exchange;
 use crate::following_runs::replace_runs;
 use crate::runs::run_starts;
+use crate::touching::touched;
 use bib_data::Piece;
 use bib_items::{ItemList, StoreFault};
 
@@ -106,11 +107,18 @@ impl<L: ItemList> Database<L> {
         ensures only { IfErr result (λ fault. (fault ≡ BadSplice) ⊎ (fault ≡ Memory)) }
         ensures err { OnErr result (self.new ≡ self.old) }
     {
+        let window = touched(
+            self.front.as_slice(),
+            &self.items,
+            self.tables.file_len,
+            pieces,
+        );
         let change = find_change(
             self.alloc,
             self.front.as_slice(),
             &self.items,
             self.tables.file_len,
+            window,
             pieces,
         )?;
         let front = new_front(self.alloc, &change)?;

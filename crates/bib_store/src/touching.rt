@@ -1,6 +1,6 @@
 //! Which items pieces touch.
 
-ghost use Rattle.std.specs.Prelude.{◌≡◌, ◌+◌, ◌≤◌, length};
+ghost use Rattle.std.specs.Prelude.{◌≡◌, ◌+◌, ◌≤◌, ◌<◌, length, IsTrue};
 ghost use Rattle.std.specs.List.{flat_map};
 ghost use Rattle.bib_spec.specs.Bytes.{file_limit};
 ghost use Rattle.bib_items.specs.Items.{kept_bytes};
@@ -39,6 +39,18 @@ fn begun_before<L: ItemList>(front_len: usize, file_len: usize, items: &L, place
     items.count().min(holder(front_len, file_len, items, place).saturating_add(1))
 }
 
+/// Whether item `n`, which begins at `start`, has all bytes from there up to this end.
+fn ends_within<L: ItemList>(items: &L, n: usize, start: usize, end: usize) -> bool
+    requires { n ≤ length (L.items items.now) }
+    ensures { IsTrue result → n < length (L.items items.now) }
+{
+    if n >= items.count() {
+        return false;
+    }
+    let (body, trail) = items.texts(n);
+    end <= start.saturating_add(body.len()).saturating_add(trail.len())
+}
+
 /// The items from the first that the first piece touches to the last that the last one touches. A piece touches what
 /// holds the byte before it, or a byte that it replaces: the front, the body of an item or its trail. Where pieces fit
 /// no file, it is some window.
@@ -63,21 +75,26 @@ pub(crate) fn touched<L: ItemList>(
     };
     let place = first.place as usize;
     let end = (last.place as usize).saturating_add(last.old.as_slice().len());
-    let to = begun_before(front.len(), file_len, items, end);
     if place <= front.len() {
         return Window {
             from: 0,
-            to,
+            to: begun_before(front.len(), file_len, items, end),
             with_front: true,
             place: 0,
         };
     }
     let from = holder(front.len(), file_len, items, place);
+    let start = front.len() + items.start(from);
+    let to = if ends_within(items, from, start, end) {
+        from.saturating_add(1)
+    } else {
+        begun_before(front.len(), file_len, items, end)
+    };
     Window {
         from,
         to: from.max(to),
         with_front: false,
-        place: front.len() + items.start(from),
+        place: start,
     }
 }
 

@@ -1,6 +1,7 @@
-use Rattle.std.proofs.Common.{List, sym, subst}
+use Rattle.std.proofs.Common.{List, ◌+◌, sym, subst}
 use Rattle.std.proofs.lemmas.Result.{err_from_is_err_and, on_ok_weaker}
 use Rattle.bib_items.specs.declared.list.Item.{Item}
+use Rattle.bib_items.specs.Items.{without_range}
 use Rattle.bib_store.specs.Beside.{HasItems}
 use Rattle.bib_store.specs.Windows.{joined}
 use Rattle.bib_spec.proofs.Results.{err_from}
@@ -17,8 +18,10 @@ pub returns-in_err-tables-clause-refused : goal.returns-in_err-tables-clause-ref
 returns-in_err-tables-clause-refused g c =
     let p = err_from_is_err_and c.from_residual.result c.from_residual.ensures.1 in
     rw (p.1, p.2) (λ bad old put front db inner k reads has.
-    c.in_err-tables.ensures.refused bad (joined c.args.change.now.window db inner) (subst (λ (l : List Item). HasItems c.args.front_len l (joined c.args.change.now.window db inner)) (sym (put_without c.args.change.now old (g.L.ItemList.items c.args.items.now) c.args.count put inner reads)) has))
+    c.in_err-tables.ensures.refused bad (joined c.args.change.now.window db inner) (subst (λ (l : List Item). HasItems c.args.front_len (without_range (c.args.change.now.window.from + c.args.count) (c.args.change.now.window.to + c.args.count) l) (joined c.args.change.now.window db inner)) (sym c.prepare.ensures)
+    (subst (λ (l : List Item). HasItems c.args.front_len l (joined c.args.change.now.window db inner)) (sym (put_without c.args.change.now old (g.L.ItemList.items c.args.items.now) c.args.count put inner reads)) has)))
 
 pub returns-clause-tables : goal.returns-clause-tables
 returns-clause-tables g c = λ old put front db inner k reads has.
-    c.in_ok-tables.ensures.tables (joined c.args.change.now.window db inner) (subst (λ (l : List Item). HasItems c.args.front_len l (joined c.args.change.now.window db inner)) (sym (put_without c.args.change.now old (g.L.ItemList.items c.args.items.now) c.args.count put inner reads)) has)
+    c.in_ok-tables.ensures.tables (joined c.args.change.now.window db inner) (subst (λ (l : List Item). HasItems c.args.front_len (without_range (c.args.change.now.window.from + c.args.count) (c.args.change.now.window.to + c.args.count) l) (joined c.args.change.now.window db inner)) (sym c.prepare.ensures)
+    (subst (λ (l : List Item). HasItems c.args.front_len l (joined c.args.change.now.window db inner)) (sym (put_without c.args.change.now old (g.L.ItemList.items c.args.items.now) c.args.count put inner reads)) has))
