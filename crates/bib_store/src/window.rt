@@ -39,8 +39,9 @@ pub(crate) fn text_of<L: ItemList>(
     let mut text = Vec::new(alloc);
     text.extend_from_slice(front_of(front, window))?;
     'join: for n in window.from..window.to {
-        text.extend_from_slice(items.body(n))?;
-        text.extend_from_slice(items.trail(n))?;
+        let (body, trail) = items.texts(n);
+        text.extend_from_slice(body)?;
+        text.extend_from_slice(trail)?;
     }
     Ok(text)
 }

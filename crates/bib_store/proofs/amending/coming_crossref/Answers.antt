@@ -15,10 +15,10 @@ returns-in-Ok-clause-short c = λ i tree entry seen.
 
 pub returns-in-Err-TooLong-clause-too_long : goal.returns-in-Err-TooLong-clause-too_long
 returns-in-Err-TooLong-clause-too_long c = λ _ i tree entry seen. (
-      c.in-Err-TooLong.field-0-0,
-      ap (λ (m : Macros). first_too_long (placed_texts m i.tree)) (sym c.at.ensures)
-          ∙ c.in-Err-TooLong.ensures.too_long c.in-Err-TooLong.field-0-0 c.in-Err-TooLong.field-0-is i tree entry seen,
-    )
+  c.in-Err-TooLong.field-0-0,
+  ap (λ (m : Macros). first_too_long (placed_texts m i.tree)) (sym c.at.ensures)
+      ∙ c.in-Err-TooLong.ensures.too_long c.in-Err-TooLong.field-0-0 c.in-Err-TooLong.field-0-is i tree entry seen,
+)
 
 pub crossref_within-requires : goal.crossref_within-requires
 crossref_within-requires c = subst (AreAtMost c.longest.result) (sym c.at.ensures) (c.longest.ensures c.args.n)
