@@ -7,6 +7,15 @@ ghost use Rattle.bib_store.specs.Shifting.{all_moved_back, FitBehind};
 use bib_data::Piece;
 use std::alloc::{AllocError, Global};
 
+/// How many bytes there are at most with the pieces' new bytes among these. Only time and memory rest on it.
+fn most_len(len: usize, pieces: &[Piece]) -> usize {
+    let mut most = len;
+    for piece in pieces {
+        most = most.saturating_add(piece.new.as_slice().len());
+    }
+    most
+}
+
 /// The bytes, which begin at `at`, with each piece's new bytes for its old.
 pub fn apply(
     alloc: Global,
@@ -17,7 +26,7 @@ pub fn apply(
     requires { FitBehind at pieces.now bytes.now }
     ensures { IfOk result (λ text. text.items ≡ applied (all_moved_back at pieces.now) bytes.now) }
 {
-    let mut out = Vec::new(alloc);
+    let mut out = Vec::with_capacity(alloc, most_len(bytes.len(), pieces))?;
     let mut end: usize = 0;
     for piece in pieces {
         let place = piece.place as usize - at;

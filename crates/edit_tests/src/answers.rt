@@ -393,14 +393,23 @@ fn change<L: ItemList>(
     Ok(())
 }
 
+/// Whether the open file answers as the example says, once it is changed.
+fn answers<L: ItemList>(
+    alloc: Global,
+    db: &mut Database<L>,
+    asked: &Asked,
+) -> Result<bool, Stop> {
+    change(alloc, db, asked.changes)?;
+    let said = answer_of(alloc, db, &asked.question)?;
+    Ok(is_said(&said, &asked.answer))
+}
+
 /// Whether the example comes out as it says where its file is kept in this list.
 fn holds_in<L: ItemList>(alloc: Global, asked: &Asked, items: L) -> Result<bool, Stop>
     requires { L.items items ≡ [] }
 {
     let mut db = Database::open_bytes(alloc, asked.file, items)?;
-    change(alloc, &mut db, asked.changes)?;
-    let said = answer_of(alloc, &db, &asked.question)?;
-    Ok(is_said(&said, &asked.answer))
+    answers(alloc, &mut db, asked)
 }
 
 fn holds(alloc: Global, asked: &Asked) -> Result<bool, Stop> {

@@ -62,9 +62,13 @@ const EDITS: &[Planned] = &[
     },
 ];
 
+fn plan_of(alloc: Global, db: &Database<Flat>, edit: &Edit) -> Result<Seq<Piece>, Stop> {
+    Ok(plan(alloc, db, edit)?)
+}
+
 fn pieces_of(alloc: Global, file: &[u8], edit: &Edit) -> Result<Seq<Piece>, Stop> {
     let db = Database::open_bytes(alloc, file, Flat::new(alloc))?;
-    Ok(plan(alloc, &db, edit)?)
+    plan_of(alloc, &db, edit)
 }
 
 fn are_pieces(pieces: &[Piece], changes: &[Change]) -> bool {

@@ -58,17 +58,18 @@ fn is_only<L: ItemList>(db: &Database<L>, name: &[u8], other: &[u8]) -> Result<b
     Ok(is_a && db.macro_text(n, other)?.is_none())
 }
 
-/// Whether the macro is renamed unless it is refused, and then back, where its file is kept in this list.
-fn holds_in<L: ItemList>(alloc: Global, renaming: &Renaming, items: L) -> Result<bool, Stop>
-    requires { L.items items ≡ [] }
-{
-    let mut db = Database::open_bytes(alloc, renaming.file, items)?;
+/// Whether the macro is renamed unless it is refused, and then back.
+fn goes_there_and_back<L: ItemList>(
+    alloc: Global,
+    db: &mut Database<L>,
+    renaming: &Renaming,
+) -> Result<bool, Stop> {
     let is_refused = db
         .splice(pieces_of(alloc, renaming.changes)?.as_slice())
         .is_err();
-    let is_renamed = is_refused || is_only(&db, b"q", b"p")?;
+    let is_renamed = is_refused || is_only(db, b"q", b"p")?;
     db.splice(pieces_of(alloc, renaming.back)?.as_slice())?;
-    let is_back = is_only(&db, b"p", b"q")?;
+    let is_back = is_only(db, b"p", b"q")?;
     let file = db.bytes()?;
     Ok(
         is_refused == renaming.is_refused
@@ -76,6 +77,14 @@ fn holds_in<L: ItemList>(alloc: Global, renaming: &Renaming, items: L) -> Result
             && is_back
             && file.as_slice() == renaming.file,
     )
+}
+
+/// Whether it does where its file is kept in this list.
+fn holds_in<L: ItemList>(alloc: Global, renaming: &Renaming, items: L) -> Result<bool, Stop>
+    requires { L.items items ≡ [] }
+{
+    let mut db = Database::open_bytes(alloc, renaming.file, items)?;
+    goes_there_and_back(alloc, &mut db, renaming)
 }
 
 fn holds(alloc: Global, renaming: &Renaming) -> Result<bool, Stop> {

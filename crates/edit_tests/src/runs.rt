@@ -178,6 +178,14 @@ fn journal_of(alloc: Global, rest: &[u8]) -> Result<Vec<u8>, AllocError> {
     Ok(journal)
 }
 
+fn left_and_saved<L: ItemList>(
+    session: &mut Session<L>,
+    asked: &Asked,
+) -> Result<(Left, Saved), SessionFault> {
+    let left = left_after(session, asked)?;
+    Ok((left, session.saved()?))
+}
+
 fn ran_in<L: ItemList>(
     alloc: Global,
     file: &[u8],
@@ -188,8 +196,7 @@ fn ran_in<L: ItemList>(
     requires { L.items items ≡ [] }
 {
     let mut session = Session::open(alloc, file, journal, items)?;
-    let left = left_after(&mut session, asked)?;
-    Ok((left, session.saved()?))
+    left_and_saved(&mut session, asked)
 }
 
 fn is_saved_alike(one: &Saved, other: &Saved) -> bool {

@@ -175,13 +175,18 @@ pub fn pieces_of(alloc: Global, changes: &[Change]) -> Result<Seq<Piece>, AllocE
     Ok(Seq::from_vec(pieces))
 }
 
-/// The number of the refusal of these pieces, or 0, and the file afterwards.
-fn spliced<L: ItemList>(db: &mut Database<L>, pieces: &[Piece]) -> Result<(u16, Text), Stop> {
+/// Whether these pieces leave what the example says.
+fn comes_out<L: ItemList>(
+    db: &mut Database<L>,
+    splice: &Splice,
+    pieces: &[Piece],
+) -> Result<bool, Stop> {
     let refusal = match db.splice(pieces) {
         Ok(()) => 0,
         Err(fault) => fault.number(),
     };
-    Ok((refusal, db.bytes()?))
+    let file = db.bytes()?;
+    Ok(refusal == splice.refusal && file.as_slice() == splice.left)
 }
 
 /// Whether the example comes out as it says where its file is kept in this list.
@@ -190,8 +195,7 @@ fn holds_in<L: ItemList>(alloc: Global, splice: &Splice, items: L) -> Result<boo
 {
     let pieces = pieces_of(alloc, splice.changes)?;
     let mut db = Database::open_bytes(alloc, splice.file, items)?;
-    let (refusal, file) = spliced(&mut db, pieces.as_slice())?;
-    Ok(refusal == splice.refusal && file.as_slice() == splice.left)
+    comes_out(&mut db, splice, pieces.as_slice())
 }
 
 fn holds(alloc: Global, splice: &Splice) -> Result<bool, Stop> {

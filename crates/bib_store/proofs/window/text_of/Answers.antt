@@ -21,7 +21,7 @@ join-preserved g c =
     let within : w.to ≤ length items = c.requires.within in
     let here : c.join.n < length items = omega arith in
     c.in_ok-extend_from_slice-3.ensures.items
-    ∙ ap₂ ◌++◌ (c.in_ok-extend_from_slice-2.ensures.items ∙ ap₂ ◌++◌ c.join.invariant c.texts.ensures.body) c.texts.ensures.trail
+    ∙ ap₂ ◌++◌ (c.in_ok-extend_from_slice-2.ensures.items ∙ ap₂ ◌++◌ (c.in_ok-reserve.ensures.items ∙ c.join.invariant) c.texts.ensures.body) c.texts.ensures.trail
     ∙ joined-more items w.from c.join.n front from here
 
 pub returns : goal.returns
