@@ -1,5 +1,7 @@
 //! Runs of commands over readers and writers in memory, and over some that fail.
 
+ghost use Rattle.bib_words.specs.Command.{IsCommand};
+
 use crate::fakes::{Endless, Full, Giver, Taker, breaks_at, interruptions};
 use bib_run::{Outcome, Tap, run};
 use bib_scan::{FILE_LIMIT, Seq, Text};
@@ -18,76 +20,160 @@ const READ_FAULT: &[u8] = b"bibkeep: read fault\n";
 
 const WRITE_FAULT: &[u8] = b"bibkeep: write fault\n";
 
-/// A run that ended: how, and with what taps.
+/// An output that keeps what it takes.
+trait Keeper: Write + Drop {
+    fn into_taken(self) -> Vec<u8>;
+}
+
+impl Keeper for Vec<u8> {
+    fn into_taken(self) -> Vec<u8> {
+        self
+    }
+}
+
+impl Keeper for Taker {
+    fn into_taken(self) -> Vec<u8> {
+        self.taken
+    }
+}
+
+impl Keeper for Full {
+    fn into_taken(self) -> Vec<u8> {
+        self.taken
+    }
+}
+
+/// What a run left.
 #[derive(Drop)]
-struct Ran<F, W> {
-    outcome: Outcome,
-    file: Tap<F>,
-    out: Tap<W>,
+struct Ran {
+    status: u8,
+    message: Text,
+    /// Whether nothing is to be stored, and journal and input are as they were.
+    is_quiet: bool,
+    file_failed: bool,
+    out_failed: bool,
+    written: Vec<u8>,
 }
 
-impl<F: Drop, W: Drop> Ran<F, W> {
-    fn status(&self) -> u8 {
-        self.outcome.status
+/// What a run is to leave.
+#[derive(Clone, Copy)]
+struct Left<'a> {
+    status: u8,
+    message: &'a [u8],
+    written: &'a [u8],
+}
+
+impl Ran {
+    /// Whether the run left this, and nothing failed.
+    fn is(&self, left: Left<'_>) -> bool {
+        self.has(left) && !self.file_failed && !self.out_failed
     }
 
-    fn says(&self, message: &[u8]) -> bool {
-        self.outcome.message.as_slice() == message
+    /// Whether the file failed alone, before anything was written.
+    fn is_unread(&self) -> bool {
+        let left = Left {
+            status: 3,
+            message: READ_FAULT,
+            written: b"",
+        };
+        self.has(left) && self.file_failed && !self.out_failed
     }
 
-    fn stores_nothing(&self) -> bool {
-        self.outcome.file.is_none() && self.outcome.journal.is_none()
+    /// Whether the output failed alone, once it had taken this.
+    fn is_cut(&self, written: &[u8]) -> bool {
+        let left = Left {
+            status: 3,
+            message: WRITE_FAULT,
+            written,
+        };
+        self.has(left) && self.out_failed && !self.file_failed
+    }
+
+    fn has(&self, left: Left<'_>) -> bool {
+        self.is_quiet
+            && self.status == left.status
+            && self.message.as_slice() == left.message
+            && self.written.as_slice() == left.written
     }
 }
 
-/// `cat` over this file and output, beside a journal and an input that it leaves alone.
-fn cat<F: Read, W: Write>(alloc: Global, file: F, out: W) -> Result<Ran<F, W>, Fail>
-where
-    F: Drop,
-    W: Drop,
-{
-    let command = Command {
+/// All is well, and this is written.
+fn gives(written: &[u8]) -> Left<'_> {
+    Left {
+        status: 0,
+        message: b"",
+        written,
+    }
+}
+
+/// The file is refused, and nothing is written.
+fn refuses(message: &[u8]) -> Left<'_> {
+    Left {
+        status: 1,
+        message,
+        written: b"",
+    }
+}
+
+fn cat_command(alloc: Global) -> Result<Command, AllocError> {
+    Ok(Command {
         name: Text::from_vec(Vec::from_slice(alloc, b"cat")?),
         words: Seq::from_vec(Vec::new(alloc)),
         n: 0,
-    };
-    if !command.is_known() {
-        return Err("cat is known".into());
-    }
+    })
+}
+
+/// What this command leaves of this file and output, beside a journal and an input that it leaves alone.
+fn left_by<F: Read + Drop, W: Keeper>(alloc: Global, command: &Command, file: F, out: W) -> Ran
+    requires { IsCommand command.now }
+{
     let mut file = Tap::new(file);
     let mut out = Tap::new(out);
     let mut input = Tap::new(INPUT);
     let mut journal = Tap::new(JOURNAL);
     let outcome = run(
         alloc,
-        &command,
+        command,
         &mut file,
         Some(&mut journal),
         &mut input,
         &mut out,
     );
-    if input.into_inner() != INPUT || journal.into_inner() != JOURNAL {
-        return Err("cat leaves journal and input alone".into());
+    let stores_nothing = outcome.file.is_none() && outcome.journal.is_none();
+    Ran {
+        status: outcome.status,
+        message: outcome.message,
+        is_quiet: stores_nothing && input.into_inner() == INPUT && journal.into_inner() == JOURNAL,
+        file_failed: file.failed(),
+        out_failed: out.failed(),
+        written: out.into_inner().into_taken(),
     }
-    Ok(Ran { outcome, file, out })
+}
+
+/// What `cat` leaves of this file and output.
+fn cat<F: Read + Drop, W: Keeper>(alloc: Global, file: F, out: W) -> Result<Ran, Fail> {
+    let command = cat_command(alloc)?;
+    if !command.is_known() {
+        return Err("cat is known".into());
+    }
+    Ok(left_by(alloc, &command, file, out))
+}
+
+/// Whether `cat` leaves this of these bytes.
+fn leaves(alloc: Global, file: &[u8], left: Left<'_>) -> Result<bool, Fail> {
+    Ok(cat(alloc, file, Vec::new(alloc))?.is(left))
 }
 
 #[test]
 fn cat_gives_a_file_back(rt: HostRuntime) -> Result<(), Fail> {
-    let alloc = rt.alloc();
     for file in [FILE, b"", b"no item", b"@comment{ @misc{a}}"] {
-        let ran = cat(alloc, file, Vec::new(alloc))?;
-        assert_eq!(rt; ran.status(), 0);
-        assert!(rt; ran.says(b"") && ran.stores_nothing());
-        assert!(rt; !ran.file.failed() && !ran.out.failed());
-        assert_eq!(rt; ran.out.into_inner().as_slice(), file);
+        assert!(rt; leaves(rt.alloc(), file, gives(file))?);
     }
     Ok(())
 }
 
 #[test]
 fn cat_says_why_a_file_is_refused_and_where(rt: HostRuntime) -> Result<(), Fail> {
-    let alloc = rt.alloc();
     let rows: [(&[u8], &[u8]); 8] = [
         (b"@misc{a, t = {x}", b"bibkeep: 1 Unended at 16\n"),
         (b"@misc(a)", b"bibkeep: 1 Unended at 8\n"),
@@ -105,125 +191,114 @@ fn cat_says_why_a_file_is_refused_and_where(rt: HostRuntime) -> Result<(), Fail>
         ),
     ];
     for (file, message) in rows {
-        let ran = cat(alloc, file, Vec::new(alloc))?;
-        assert_eq!(rt; ran.status(), 1);
-        assert_eq!(rt; ran.outcome.message.as_slice(), message);
-        assert!(rt; ran.stores_nothing());
-        assert!(rt; ran.out.into_inner().is_empty());
+        assert!(rt; leaves(rt.alloc(), file, refuses(message))?, "{message:?}");
     }
     Ok(())
+}
+
+fn long_key(alloc: Global) -> Result<Vec<u8>, AllocError> {
+    let mut file = Vec::from_slice(alloc, b"@misc{")?;
+    file.extend_from_slice([b'k'; 256].as_slice())?;
+    file.push(b'}')?;
+    Ok(file)
 }
 
 #[test]
 fn a_long_key_is_refused_at_its_256th_byte(rt: HostRuntime) -> Result<(), Fail> {
-    let alloc = rt.alloc();
-    let mut file = Vec::from_slice(alloc, b"@misc{")?;
-    file.extend_from_slice([b'k'; 256].as_slice())?;
-    file.push(b'}')?;
-    let ran = cat(alloc, file.as_slice(), Vec::new(alloc))?;
-    assert_eq!(rt; ran.status(), 1);
-    assert!(rt; ran.says(b"bibkeep: 7 KeyTooLong at 261\n"));
+    let file = long_key(rt.alloc())?;
+    let left = refuses(b"bibkeep: 7 KeyTooLong at 261\n");
+    assert!(rt; leaves(rt.alloc(), file.as_slice(), left)?);
     Ok(())
 }
 
 #[test]
-fn a_file_may_be_as_long_as_the_limit_and_no_longer(rt: HostRuntime) -> Result<(), Fail> {
-    let alloc = rt.alloc();
-    let rows: [(usize, u8, &[u8], usize); 2] = [
-        (FILE_LIMIT, 0, b"", FILE_LIMIT),
-        (
-            FILE_LIMIT + 1,
-            1,
-            b"bibkeep: 9 FileTooLong at 16777216\n",
-            0,
-        ),
-    ];
-    for (len, status, message, written) in rows {
-        let file = vec![in alloc; b'x'; len]?;
-        let ran = cat(alloc, file.as_slice(), Vec::new(alloc))?;
-        assert_eq!(rt; ran.status(), status);
-        assert!(rt; ran.says(message));
-        assert_eq!(rt; ran.out.into_inner().len(), written);
-    }
+fn a_file_may_be_as_long_as_the_limit(rt: HostRuntime) -> Result<(), Fail> {
+    let file = vec![in rt.alloc(); b'x'; FILE_LIMIT]?;
+    assert!(rt; leaves(rt.alloc(), file.as_slice(), gives(file.as_slice()))?);
+    Ok(())
+}
+
+const TOO_LONG: &[u8] = b"bibkeep: 9 FileTooLong at 16777216\n";
+
+#[test]
+fn a_file_may_be_no_longer_than_the_limit(rt: HostRuntime) -> Result<(), Fail> {
+    let file = vec![in rt.alloc(); b'x'; FILE_LIMIT + 1]?;
+    assert!(rt; leaves(rt.alloc(), file.as_slice(), refuses(TOO_LONG))?);
     Ok(())
 }
 
 #[test]
 fn a_file_without_end_is_too_long(rt: HostRuntime) -> Result<(), Fail> {
-    let alloc = rt.alloc();
-    let ran = cat(alloc, Endless(b'x'), Vec::new(alloc))?;
-    assert_eq!(rt; ran.status(), 1);
-    assert!(rt; ran.says(b"bibkeep: 9 FileTooLong at 16777216\n"));
-    assert!(rt; !ran.file.failed());
-    assert!(rt; ran.out.into_inner().is_empty());
+    let ran = cat(rt.alloc(), Endless(b'x'), Vec::new(rt.alloc()))?;
+    assert!(rt; ran.is(refuses(TOO_LONG)));
     Ok(())
 }
 
 #[test]
 fn a_hundred_interruptions_of_the_file_are_borne(rt: HostRuntime) -> Result<(), Fail> {
-    let alloc = rt.alloc();
-    for (count, status) in [(1, 0), (100, 0), (101, 3)] {
+    for (count, is_borne) in [(1, true), (100, true), (101, false)] {
         let file = Giver::new(FILE, 3, interruptions(count, 6));
-        let ran = cat(alloc, file, Vec::new(alloc))?;
-        assert_eq!(rt; ran.status(), status, "after {count}");
-        assert_eq!(rt; ran.file.failed(), status == 3);
-        let written = ran.out.into_inner();
-        assert_eq!(rt; written.as_slice(), if status == 3 { b"" } else { FILE });
+        let ran = cat(rt.alloc(), file, Vec::new(rt.alloc()))?;
+        assert!(rt;
+            if is_borne {
+                ran.is(gives(FILE))
+            } else {
+                ran.is_unread()
+            },
+            "after {count}"
+        );
     }
     Ok(())
 }
 
 #[test]
 fn a_hundred_interruptions_of_the_output_are_borne(rt: HostRuntime) -> Result<(), Fail> {
-    let alloc = rt.alloc();
-    for (count, status) in [(1, 0), (100, 0), (101, 3)] {
-        let out = Taker::new(alloc, 5, interruptions(count, 4));
-        let ran = cat(alloc, FILE, out)?;
-        assert_eq!(rt; ran.status(), status, "after {count}");
-        assert_eq!(rt; ran.out.failed(), status == 3);
-        let taken = ran.out.into_inner().taken;
-        assert_eq!(rt; taken.as_slice(), if status == 3 { b"mail" } else { FILE });
+    for (count, is_borne) in [(1, true), (100, true), (101, false)] {
+        let out = Taker::new(rt.alloc(), 5, interruptions(count, 4));
+        let ran = cat(rt.alloc(), FILE, out)?;
+        assert!(rt;
+            if is_borne {
+                ran.is(gives(FILE))
+            } else {
+                ran.is_cut(b"mail")
+            },
+            "after {count}"
+        );
     }
     Ok(())
 }
 
 #[test]
 fn a_read_that_fails_is_no_end_of_the_file(rt: HostRuntime) -> Result<(), Fail> {
-    let alloc = rt.alloc();
     for place in 0..=FILE.len() {
         let file = Giver::new(FILE, 1, breaks_at(place));
-        let ran = cat(alloc, file, Vec::new(alloc))?;
-        assert_eq!(rt; ran.status(), 3, "at {place}");
-        assert!(rt; ran.says(READ_FAULT) && ran.stores_nothing());
-        assert!(rt; ran.file.failed() && !ran.out.failed());
-        assert!(rt; ran.out.into_inner().is_empty());
+        let ran = cat(rt.alloc(), file, Vec::new(rt.alloc()))?;
+        assert!(rt; ran.is_unread(), "at {place}");
     }
     Ok(())
 }
 
 #[test]
 fn a_writer_that_fails_keeps_what_it_took(rt: HostRuntime) -> Result<(), Fail> {
-    let alloc = rt.alloc();
-    let ran = cat(alloc, FILE, Taker::new(alloc, 100, breaks_at(3)))?;
-    assert_eq!(rt; ran.status(), 3);
-    assert!(rt; ran.says(WRITE_FAULT) && ran.stores_nothing());
-    assert!(rt; ran.out.failed() && !ran.file.failed());
-    assert_eq!(rt; ran.out.into_inner().taken.as_slice(), b"mai".as_slice());
+    let out = Taker::new(rt.alloc(), 100, breaks_at(3));
+    let ran = cat(rt.alloc(), FILE, out)?;
+    assert!(rt; ran.is_cut(b"mai"));
     Ok(())
 }
 
 #[test]
 fn a_writer_that_takes_no_byte_has_failed(rt: HostRuntime) -> Result<(), Fail> {
-    let alloc = rt.alloc();
     for room in 0..FILE.len() {
-        let ran = cat(alloc, FILE, Full::new(alloc, room))?;
-        assert_eq!(rt; ran.status(), 3, "with room for {room}");
-        assert!(rt; ran.says(WRITE_FAULT) && ran.out.failed());
-        assert_eq!(rt; ran.out.into_inner().taken.as_slice(), &FILE[..room]);
+        let ran = cat(rt.alloc(), FILE, Full::new(rt.alloc(), room))?;
+        assert!(rt; ran.is_cut(&FILE[..room]), "with room for {room}");
     }
-    let ran = cat(alloc, b"".as_slice(), Full::new(alloc, 0))?;
-    assert_eq!(rt; ran.status(), 0);
-    assert!(rt; !ran.out.failed());
+    Ok(())
+}
+
+#[test]
+fn nothing_is_written_of_an_empty_file(rt: HostRuntime) -> Result<(), Fail> {
+    let ran = cat(rt.alloc(), b"".as_slice(), Full::new(rt.alloc(), 0))?;
+    assert!(rt; ran.is(gives(b"")));
     Ok(())
 }
 
