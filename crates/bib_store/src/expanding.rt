@@ -6,13 +6,15 @@ use crate::gathering::{Gathered, lower};
 use crate::record::Expanded;
 use bib_data::Record;
 use bib_items::{ItemList, StoreFault};
-use bib_scan::{Seq, Text};
+use bib_scan::{ItemView, Seq, Text};
 use std::alloc::Global;
 
 impl<L: ItemList> Database<L> {
-    ghost use Rattle.std.specs.Prelude.{◌≡◌, ◌++◌, List, Some, map, option_map, IfOk, IfErr, IfSome, OnOk};
+    ghost use Rattle.std.specs.Prelude.{◌≡◌, ◌++◌, List, Some, map, option_map, slice_get, IfOk, IfErr, IfSome, OnOk};
+    ghost use Rattle.bib_spec.specs.Reading.{Item};
+    ghost use Rattle.bib_scan.specs.View.{view_of};
     ghost use Rattle.bib_spec.specs.Records.{RecordField, entries_of, parent, default_depth, expanded, missing, fields_at};
-    ghost use Rattle.bib_store.specs.Meaning.{OfReading, IsEntryNumber};
+    ghost use Rattle.bib_store.specs.Meaning.{OfReading, IsEntryNumber, entry_items};
     ghost use Rattle.bib_store.specs.Gathering.{AreTaken};
     ghost use Rattle.bib_store.specs.Choosing.{chosen, with_chosen};
     ghost use Rattle.bib_items.specs.declared.fault.StoreFault.TheVariants.{Memory};
@@ -59,10 +61,10 @@ impl<L: ItemList> Database<L> {
         let entry = self.entry(n);
         let kind_name = lower(alloc, entry.type_name())?;
         let key = Seq::from_vec(Vec::from_slice(alloc, entry.key())?);
-        let mut fields = Vec::new(alloc);
-        self.choose(n, names, &mut fields)?;
+        let mut fields = Vec::with_capacity(alloc, names.len())?;
+        self.choose(n, &entry, names, &mut fields)?;
         if let Some(parent) = self.parent(n) {
-            self.choose(parent, names, &mut fields)?;
+            self.choose(parent, &self.entry(parent), names, &mut fields)?;
         }
         Ok(Record {
             kind_name,
@@ -99,14 +101,16 @@ impl<L: ItemList> Database<L> {
         Ok(())
     }
 
-    /// Adds the own fields of entry `n` that are missing and have one of these names.
+    /// Adds the own fields of entry `n`, which this is, that are missing and have one of these names.
     fn choose(
         &self,
         n: usize,
+        entry: &ItemView<'_>,
         names: &[&[u8]],
         fields: &mut Vec<(Text, Text)>,
     ) -> Result<(), StoreFault>
-        requires { IsEntryNumber self.now n }
+        requires number { IsEntryNumber self.now n }
+        requires entry { OfReading self.now (λ db. (i : Item) → slice_get (entry_items db.items) n ≡ Some i → entry.now ≡ view_of i) }
         ensures chosen { OnOk result (OfReading self.now (λ db. (all : List RecordField) → fields.old.items ≡ chosen (map (λ name. name.now) names.now) all
             → fields.new.items ≡ chosen (map (λ name. name.now) names.now) (all ++ missing all (fields_at (entries_of db) n)))) }
         ensures only { IfErr result (λ fault. fault ≡ Memory) }
@@ -116,7 +120,7 @@ impl<L: ItemList> Database<L> {
             self.allocator(),
             names,
             fields,
-            self.entry(n).fields(),
+            entry.fields(),
             &self.macros_at(self.entry_item(n)),
         )?;
         Ok(())

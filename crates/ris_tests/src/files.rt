@@ -90,26 +90,48 @@ fn one_record(
     Ok(Seq::from_vec(records))
 }
 
+/// What is written of one record with one line, if it is well-formed.
+fn written(
+    alloc: Global,
+    kind_name: &[u8],
+    tag: [u8; 2],
+    value: &[u8],
+) -> Result<Option<Text>, RisFault> {
+    let records = one_record(alloc, kind_name, tag, value)?;
+    if are_well_formed(records.as_slice()) {
+        Ok(Some(write_ris(alloc, records.as_slice())?))
+    } else {
+        Ok(None)
+    }
+}
+
+fn is_written(alloc: Global, expected: &[u8]) -> Result<bool, RisFault> {
+    match written(alloc, b"GEN", *b"TI", b"")? {
+        Some(text) => Ok(text.as_slice() == expected),
+        None => Ok(false),
+    }
+}
+
 #[test]
 fn what_is_written_is_read_back(rt: HostRuntime) -> Result<(), Fail> {
-    let alloc = rt.alloc();
-    let records = one_record(alloc, b"GEN", *b"TI", b"")?;
-    assert!(rt; are_well_formed(records.as_slice()));
-    let text = write_ris(alloc, records.as_slice())?;
     let expected: &[u8] = b"TY  - GEN\nTI  - \nER  - \n";
-    assert!(rt; text.as_slice() == expected);
-    assert!(rt; is_again(alloc, expected, expected)?);
+    assert!(rt; is_written(rt.alloc(), expected)?);
+    assert!(rt; is_again(rt.alloc(), expected, expected)?);
     Ok(())
 }
 
 #[test]
 fn a_record_that_is_read_otherwise_is_not_well_formed(rt: HostRuntime) -> Result<(), Fail> {
-    let alloc = rt.alloc();
-    assert!(rt; !are_well_formed(one_record(alloc, b"", *b"TI", b"a")?.as_slice()));
-    assert!(rt; !are_well_formed(one_record(alloc, b"GEN", *b"XX", b"a")?.as_slice()));
-    assert!(rt; !are_well_formed(one_record(alloc, b"GEN", *b"ER", b"a")?.as_slice()));
-    assert!(rt; !are_well_formed(one_record(alloc, b"GEN", *b"TI", b" a")?.as_slice()));
-    assert!(rt; !are_well_formed(one_record(alloc, b"GEN", *b"TI", b"a\rb")?.as_slice()));
-    assert!(rt; !are_well_formed(one_record(alloc, b"GEN", *b"TI", b"a\nER  - ")?.as_slice()));
+    let rows: [(&[u8], [u8; 2], &[u8]); 6] = [
+        (b"", *b"TI", b"a"),
+        (b"GEN", *b"XX", b"a"),
+        (b"GEN", *b"ER", b"a"),
+        (b"GEN", *b"TI", b" a"),
+        (b"GEN", *b"TI", b"a\rb"),
+        (b"GEN", *b"TI", b"a\nER  - "),
+    ];
+    for (kind_name, tag, value) in rows {
+        assert!(rt; written(rt.alloc(), kind_name, tag, value)?.is_none());
+    }
     Ok(())
 }

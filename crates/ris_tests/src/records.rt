@@ -75,28 +75,70 @@ const KING: [(&[u8], &[u8]); 6] = [
     (b"pages", b"10--20"),
 ];
 
+const KING_LINES: [([u8; 2], &[u8]); 8] = [
+    (*b"AU", b"King, Martin Luther, Jr"),
+    (*b"AU", b"de la Fontaine, Jean"),
+    (*b"TI", b"On Things"),
+    (*b"JF", b"J"),
+    (*b"PY", b"1984/05//"),
+    (*b"SP", b"10"),
+    (*b"EP", b"20"),
+    (*b"ID", b"k1"),
+];
+
+/// Whether a record is written as these lines, and the fields of these names alone are not.
+fn is_written(
+    alloc: Global,
+    record: &Record,
+    kind: &[u8],
+    lines: &[([u8; 2], &[u8])],
+    names: &[&[u8]],
+) -> Result<bool, MappingFault> {
+    let (written, dropped) = to_ris(alloc, record)?;
+    let dropped = dropped.as_slice();
+    let are_named = dropped.len() == names.len()
+        && dropped
+            .iter()
+            .zip(names)
+            .all(|(name, other)| name.as_slice() == *other);
+    Ok(are_named && is_ris(&written, kind, lines))
+}
+
+/// Whether a RIS record is read as one of this type, with this key and these fields.
+fn is_read(
+    alloc: Global,
+    record: &RisRecord,
+    kind: &[u8],
+    key: &[u8],
+    fields: &[(&[u8], &[u8])],
+) -> Result<bool, MappingFault> {
+    let back = from_ris(alloc, record)?;
+    Ok(
+        back.kind_name.as_slice() == kind
+            && back.key.as_slice() == key
+            && are_fields(back.fields.as_slice(), fields),
+    )
+}
+
+/// Whether what is written of the record is read as it was.
+fn comes_back(alloc: Global, record: &Record) -> Result<bool, MappingFault> {
+    let (written, _dropped) = to_ris(alloc, record)?;
+    is_read(alloc, &written, b"article", b"k1", &KING)
+}
+
+/// Whether the record of the profile is written as its lines say, and comes back.
+fn is_kept(alloc: Global, record: &Record) -> Result<bool, MappingFault> {
+    Ok(
+        in_profile(alloc, record)?
+            && is_written(alloc, record, b"JOUR", &KING_LINES, &[])?
+            && comes_back(alloc, record)?,
+    )
+}
+
 #[test]
 fn an_article_is_written_and_read_back(rt: HostRuntime) -> Result<(), Fail> {
-    let alloc = rt.alloc();
-    let record = entry(alloc, b"article", &KING)?;
-    let (written, dropped) = to_ris(alloc, &record)?;
-    let lines: [([u8; 2], &[u8]); 8] = [
-        (*b"AU", b"King, Martin Luther, Jr"),
-        (*b"AU", b"de la Fontaine, Jean"),
-        (*b"TI", b"On Things"),
-        (*b"JF", b"J"),
-        (*b"PY", b"1984/05//"),
-        (*b"SP", b"10"),
-        (*b"EP", b"20"),
-        (*b"ID", b"k1"),
-    ];
-    assert!(rt; is_ris(&written, b"JOUR", &lines));
-    assert!(rt; dropped.as_slice().is_empty());
-    assert!(rt; in_profile(alloc, &record)?);
-    let back = from_ris(alloc, &written)?;
-    assert!(rt; back.kind_name.as_slice() == b"article".as_slice());
-    assert!(rt; back.key.as_slice() == b"k1".as_slice());
-    assert!(rt; are_fields(back.fields.as_slice(), &KING));
+    let record = entry(rt.alloc(), b"article", &KING)?;
+    assert!(rt; is_kept(rt.alloc(), &record)?);
     Ok(())
 }
 
@@ -142,20 +184,15 @@ fn what_cannot_be_written_is_named(rt: HostRuntime) -> Result<(), Fail> {
         (b"title", b"T"),
         (b"keywords", b"a,b; c , ,"),
     ];
-    let (written, dropped) = to_ris(alloc, &entry(alloc, b"foo", &fields)?)?;
     let lines: [([u8; 2], &[u8]); 4] = [
         (*b"TI", b"T"),
         (*b"KW", b"a"),
         (*b"KW", b"b; c"),
         (*b"ID", b"k1"),
     ];
-    assert!(rt; is_ris(&written, b"GEN", &lines));
-    let names = dropped.as_slice();
-    assert!(rt; names.len() == 4);
-    assert!(rt; names[0].as_slice() == b"author".as_slice());
-    assert!(rt; names[1].as_slice() == b"foo".as_slice());
-    assert!(rt; names[2].as_slice() == b"year".as_slice());
-    assert!(rt; names[3].as_slice() == b"month".as_slice());
+    let names: [&[u8]; 4] = [b"author", b"foo", b"year", b"month"];
+    let record = entry(alloc, b"foo", &fields)?;
+    assert!(rt; is_written(alloc, &record, b"GEN", &lines, &names)?);
     Ok(())
 }
 
@@ -175,7 +212,6 @@ fn lines_of_others_are_read(rt: HostRuntime) -> Result<(), Fail> {
         (*b"KW", b"a, b"),
         (*b"KW", b"c"),
     ];
-    let back = from_ris(alloc, &ris(alloc, b"JOUR", &lines)?)?;
     let fields: [(&[u8], &[u8]); 8] = [
         (
             b"author",
@@ -189,7 +225,7 @@ fn lines_of_others_are_read(rt: HostRuntime) -> Result<(), Fail> {
         (b"abstract", b"About"),
         (b"keywords", b"a, b, c"),
     ];
-    assert!(rt; are_fields(back.fields.as_slice(), &fields));
-    assert!(rt; back.key.as_slice().is_empty());
+    let record = ris(alloc, b"JOUR", &lines)?;
+    assert!(rt; is_read(alloc, &record, b"article", b"", &fields)?);
     Ok(())
 }

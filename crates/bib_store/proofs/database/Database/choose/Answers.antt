@@ -12,7 +12,7 @@ use Rattle.bib_store.proofs.database.Database.choose.Goals as goal
 
 pub macros_at-requires : goal.macros_at-requires
 macros_at-requires g c = λ db reads.
-    let within = entry_within db c.args.n c.entry_item.result (c.requires db reads) (c.entry_item.ensures db reads) in
+    let within = entry_within db c.args.n c.entry_item.result (c.requires.number db reads) (c.entry_item.ensures db reads) in
     omega (arith, within)
 
 pub choose_all-requires : goal.choose_all-requires
@@ -20,21 +20,21 @@ choose_all-requires g c =
     let db = c.opens.ensures.0 in
     let reads = c.opens.ensures.1.reads in
     let n = c.args.n in
-    let at = entry_at db n (c.requires db reads) in
+    let at = entry_at db n (c.requires.number db reads) in
     let it : IsEntryAt db n at.0 = at.1 in
     let seen = seen_at db n c.entry_item.result at.0 it c.macros_at.result (c.entry_item.ensures db reads) (c.macros_at.ensures db reads) in
     subst (λ (macros : Macros). AllByRecursion (IsReadable macros) c.fields.result) (sym seen)
-    (subst (λ (fields : List Field). AllByRecursion (IsReadable (macros_at months db.items it.number)) fields) (sym (c.fields.ensures.fields ∙ ap (λ (v : View). v.fields) (c.entry.ensures db reads at.0 it.listed)))
+    (subst (λ (fields : List Field). AllByRecursion (IsReadable (macros_at months db.items it.number)) fields) (sym (c.fields.ensures.fields ∙ ap (λ (v : View). v.fields) (c.requires.entry db reads at.0 it.listed)))
     (fields_readable c.args.self.now db n at.0 reads c.opens.ensures.1.texts it))
 
 pub returns-clause-chosen : goal.returns-clause-chosen
 returns-clause-chosen g c = λ db reads all from.
     let n = c.args.n in
-    let at = entry_at db n (c.requires db reads) in
+    let at = entry_at db n (c.requires.number db reads) in
     let it : IsEntryAt db n at.0 = at.1 in
     let seen = seen_at db n c.entry_item.result at.0 it c.macros_at.result (c.entry_item.ensures db reads) (c.macros_at.ensures db reads) in
     let zip : AllZip IsFieldOf c.fields.result it.entry.rows =
-    subst (λ (fields : List Field). AllZip IsFieldOf fields it.entry.rows) (sym (c.fields.ensures.fields ∙ ap (λ (v : View). v.fields) (c.entry.ensures db reads at.0 it.listed))) (fields_zip c.args.self.now db n at.0 reads it) in
+    subst (λ (fields : List Field). AllZip IsFieldOf fields it.entry.rows) (sym (c.fields.ensures.fields ∙ ap (λ (v : View). v.fields) (c.requires.entry db reads at.0 it.listed))) (fields_zip c.args.self.now db n at.0 reads it) in
     c.in_ok-choose_all.ensures.chosen it.entry.rows zip all from
     ∙ ap (chosen (map (λ (n : Bor (List ℕ)). n.now) c.args.names.now))
     (gathered_of db n at.0 it all (with_fields all (map (field_of (macros_seen c.macros_at.result)) it.entry.rows)) c.macros_at.result seen refl)

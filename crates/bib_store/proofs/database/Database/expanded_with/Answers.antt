@@ -21,7 +21,7 @@ returns-clause-rec g c = λ db reads.
     let kind = c.in_ok-kind_name.ensures ∙ ap folded c.type_name.ensures in
     let key = c.from_vec-key.ensures ∙ c.in_ok-from_slice.ensures.items ∙ c.key.ensures in
     let own : c.choose.new.fields.items ≡ chosen names (fields_at entries n) =
-    c.in_ok-choose.ensures.chosen db reads [] c.new-fields.ensures.items ∙ ap (chosen names) (missing_all (fields_at entries n)) in
+    c.in_ok-choose.ensures.chosen db reads [] c.in_ok-fields.ensures.items ∙ ap (chosen names) (missing_all (fields_at entries n)) in
     elim c.match-parent.branch [
       | in-Some+in_ok-choose-2 w ↦
           let p = w.in-Some.parent in
