@@ -1,6 +1,8 @@
 //! `edit`: what a script makes of a file.
 
-ghost use Rattle.std.specs.Prelude.{◌≡◌, IfOk, option_map};
+ghost use Rattle.std.specs.Prelude.{◌≡◌, Option, IfOk, option_map};
+ghost use Rattle.bib_spec.specs.Text.{Text as FileText};
+ghost use Rattle.bib_journal.specs.Session.{Opens};
 ghost use Rattle.bib_script.specs.Script.{said_of};
 ghost use Rattle.bib_run.specs.EditAnswer.{script_line, refused_line, bad_line, stop_line, applied_line, edited_answer, HasEdited, IsEditAnswer};
 
@@ -24,14 +26,24 @@ pub fn answer_edit(
 ) -> Result<Answer, AllocError>
     ensures { IfOk result (IsEditAnswer file.items (option_map (λ text. text.now) journal.entry) input.now) }
 {
-    let mut session = match Session::open_file(alloc, file, journal, Paged::new(alloc)) {
-        Ok(session) => session,
-        Err(fault) => return unopened(alloc, fault),
-    };
+    match Session::open_file(alloc, file, journal, Paged::new(alloc)) {
+        Ok(mut session) => answer_script(alloc, &mut session, input),
+        Err(fault) => unopened(alloc, fault),
+    }
+}
+
+/// What the script makes of the session of a file, unless it is too long.
+fn answer_script(
+    alloc: Global,
+    session: &mut Session<Paged>,
+    input: &[u8],
+) -> Result<Answer, AllocError>
+    ensures { IfOk result (λ answer. (file : FileText) (journal : Option FileText) → Opens file journal session.old → IsEditAnswer file journal input.now answer) }
+{
     if input.len() > FILE_LIMIT {
         return too_long(alloc);
     }
-    edit(alloc, &mut session, input)
+    edit(alloc, session, input)
 }
 
 /// What the script makes of a session.

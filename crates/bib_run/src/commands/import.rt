@@ -1,8 +1,9 @@
 //! `import`: what a RIS text adds to a file.
 
-ghost use Rattle.std.specs.Prelude.{◌≡◌, ◌≢◌, [], IfOk, IfErr, OnOk, option_map};
+ghost use Rattle.std.specs.Prelude.{◌≡◌, ◌≢◌, [], Option, IfOk, IfErr, OnOk, option_map};
+ghost use Rattle.bib_spec.specs.Text.{Text as FileText};
 ghost use Rattle.bib_data.specs.declared.edit.Edit.TheVariants.{AddMany};
-ghost use Rattle.bib_journal.specs.Session.{MakesEdit, RefusesEdit};
+ghost use Rattle.bib_journal.specs.Session.{MakesEdit, Opens, RefusesEdit};
 ghost use Rattle.bib_journal.specs.declared.fault.SessionFault.TheVariants.{Memory};
 ghost use Rattle.bib_ris.specs.declared.fault.ImportFault.TheVariants.{Memory as ImportMemory};
 ghost use Rattle.bib_answers.specs.Outcome.{answer_of};
@@ -31,14 +32,24 @@ pub fn answer_import(
 ) -> Result<Answer, AllocError>
     ensures { IfOk result (IsImportAnswer file.items (option_map (λ text. text.now) journal.entry) input.now) }
 {
-    let mut session = match Session::open_file(alloc, file, journal, Paged::new(alloc)) {
-        Ok(session) => session,
-        Err(fault) => return unopened(alloc, fault),
-    };
+    match Session::open_file(alloc, file, journal, Paged::new(alloc)) {
+        Ok(mut session) => answer_records(alloc, &mut session, input),
+        Err(fault) => unopened(alloc, fault),
+    }
+}
+
+/// What the records of the input add to the session of a file, unless the input is too long.
+fn answer_records(
+    alloc: Global,
+    session: &mut Session<Paged>,
+    input: &[u8],
+) -> Result<Answer, AllocError>
+    ensures { IfOk result (λ answer. (file : FileText) (journal : Option FileText) → Opens file journal session.old → IsImportAnswer file journal input.now answer) }
+{
     if input.len() > FILE_LIMIT {
         return too_long(alloc);
     }
-    import_into(alloc, &mut session, input)
+    import_into(alloc, session, input)
 }
 
 /// What the records of a text add to a session.

@@ -1,19 +1,5 @@
-use Rattle.std.proofs.Common.{◌≤◌, ◌<◌, length, rules}
 use Rattle.std.proofs.lemmas.Result.{IfOk-weaker}
-use Rattle.bib_spec.specs.Bytes.{file_limit}
-use Rattle.bib_run.specs.Inputs.{answered, too_long}
 use Rattle.bib_run.proofs.commands.import.answer_import.Goals as goal
 
-pub returns-then-input-gt-FILE_LIMIT : goal.returns-then-input-gt-FILE_LIMIT
-returns-then-input-gt-FILE_LIMIT c =
-    let long : file_limit < length c.args.input.now = search rules in
-    IfOk-weaker c.too_long.result _ _
-    (λ answer h. too_long c.in-Ok.session c.in-Ok.ensures.opened long h)
-    c.too_long.ensures
-
-pub returns : goal.returns
-returns c =
-    let short : length c.args.input.now ≤ file_limit = search rules in
-    IfOk-weaker c.import_into.result _ _
-    (λ answer h. answered c.in-Ok.session c.in-Ok.ensures.opened short h)
-    c.import_into.ensures
+pub returns-in-Ok : goal.returns-in-Ok
+returns-in-Ok c = IfOk-weaker c.answer_records.result _ _ (λ answer h. h _ _ c.in-Ok.ensures.opened) c.answer_records.ensures
