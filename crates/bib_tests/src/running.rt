@@ -3,7 +3,7 @@
 ghost use Rattle.bib_words.specs.Command.{IsCommand};
 
 use crate::fakes::{Endless, Full, Giver, Taker, breaks_at, interruptions};
-use bib_run::{Outcome, Tap, run};
+use bib_run::{Tap, run};
 use bib_scan::{FILE_LIMIT, Seq, Text};
 use bib_words::Command;
 use std::alloc::{AllocError, Global};
