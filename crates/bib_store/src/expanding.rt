@@ -9,6 +9,9 @@ use bib_items::{ItemList, StoreFault};
 use bib_scan::{ItemView, Seq, Text};
 use std::alloc::Global;
 
+/// Most entries have fewer fields. Only time rests on it.
+const FEW: usize = 8;
+
 impl<L: ItemList> Database<L> {
     ghost use Rattle.std.specs.Prelude.{◌≡◌, ◌++◌, List, Some, map, option_map, slice_get, IfOk, IfErr, IfSome, OnOk};
     ghost use Rattle.bib_spec.specs.Reading.{Item};
@@ -61,7 +64,7 @@ impl<L: ItemList> Database<L> {
         let entry = self.entry(n);
         let kind_name = lower(alloc, entry.type_name())?;
         let key = Seq::from_vec(Vec::from_slice(alloc, entry.key())?);
-        let mut fields = Vec::with_capacity(alloc, names.len())?;
+        let mut fields = Vec::with_capacity(alloc, names.len().min(FEW))?;
         self.choose(n, &entry, names, &mut fields)?;
         if let Some(parent) = self.parent(n) {
             self.choose(parent, &self.entry(parent), names, &mut fields)?;

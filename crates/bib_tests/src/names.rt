@@ -149,9 +149,15 @@ fn by(alloc: Global, author: &[u8], year: &[u8]) -> Result<Record, NameFault> {
     given(alloc, &[(b"author", author), (b"year", year)])
 }
 
-fn has_base(alloc: Global, author: &[u8], year: &[u8], expected: &[u8]) -> Result<bool, NameFault> {
-    let base = label_base(alloc, &by(alloc, author, year)?)?;
+/// Whether this is the base of the record's label.
+fn is_base(alloc: Global, rec: &Record, expected: &[u8]) -> Result<bool, NameFault> {
+    let base = label_base(alloc, rec)?;
     Ok(base.as_slice() == expected)
+}
+
+fn has_base(alloc: Global, author: &[u8], year: &[u8], expected: &[u8]) -> Result<bool, NameFault> {
+    let rec = by(alloc, author, year)?;
+    is_base(alloc, &rec, expected)
 }
 
 #[test]
@@ -179,15 +185,18 @@ fn labels_take_letters_from_names(rt: HostRuntime) -> Result<(), Fail> {
 }
 
 #[test]
-fn labels_take_letters_from_editors_and_keys(rt: HostRuntime) -> Result<(), Fail> {
-    let alloc = rt.alloc();
-    let edited = given(alloc, &[(b"author", b"{"), (b"editor", b"Leslie Lamport")])?;
-    assert_eq!(rt; label_base(alloc, &edited)?.as_slice(), b"Lam".as_slice());
-    let keyed = given(alloc, &[(b"key", b"{\\'E}{A}bc"), (b"year", b"c. 7")])?;
-    assert_eq!(rt;
-        label_base(alloc, &keyed)?.as_slice(),
-        b"{\\'E}Ab7".as_slice()
-    );
+fn labels_take_letters_from_editors(rt: HostRuntime) -> Result<(), Fail> {
+    let fields: [(&[u8], &[u8]); 2] = [(b"author", b"{"), (b"editor", b"Leslie Lamport")];
+    let edited = given(rt.alloc(), &fields)?;
+    assert!(rt; is_base(rt.alloc(), &edited, b"Lam")?);
+    Ok(())
+}
+
+#[test]
+fn labels_take_letters_from_keys(rt: HostRuntime) -> Result<(), Fail> {
+    let fields: [(&[u8], &[u8]); 2] = [(b"key", b"{\\'E}{A}bc"), (b"year", b"c. 7")];
+    let keyed = given(rt.alloc(), &fields)?;
+    assert!(rt; is_base(rt.alloc(), &keyed, b"{\\'E}Ab7")?);
     Ok(())
 }
 
@@ -199,23 +208,44 @@ fn a_made_key_has_letters_and_digits(rt: HostRuntime) -> Result<(), Fail> {
     Ok(())
 }
 
-#[test]
-fn equal_bases_get_letters(rt: HostRuntime) -> Result<(), Fail> {
-    let alloc = rt.alloc();
+/// Many records with one base, and one with another.
+fn with_equal_bases(alloc: Global) -> Result<Vec<Record>, NameFault> {
     let mut records = Vec::new(alloc);
     for _ in 0..28_usize {
         records.push(by(alloc, b"Donald E. Knuth", b"1984")?)?;
     }
     records.push(by(alloc, b"Leslie Lamport", b"1986")?)?;
-    let made = labels(alloc, records.as_slice())?;
+    Ok(records)
+}
+
+/// Whether the records have this many labels, and these at these places.
+fn have_labels(
+    alloc: Global,
+    records: &[Record],
+    expected: &[(usize, &[u8])],
+) -> Result<bool, NameFault> {
+    let made = labels(alloc, records)?;
     let made = made.as_slice();
-    assert_eq!(rt; made.len(), 29);
-    assert_eq!(rt; made[0].as_slice(), b"Knu84a".as_slice());
-    assert_eq!(rt; made[1].as_slice(), b"Knu84b".as_slice());
-    assert_eq!(rt; made[25].as_slice(), b"Knu84z".as_slice());
-    assert_eq!(rt; made[26].as_slice(), b"Knu84aa".as_slice());
-    assert_eq!(rt; made[27].as_slice(), b"Knu84ab".as_slice());
-    assert_eq!(rt; made[28].as_slice(), b"Lam86".as_slice());
+    Ok(
+        made.len() == records.len()
+            && expected.iter().all(|(n, label)| made
+                .get(*n)
+                .is_some_and(|text| text.as_slice() == *label)),
+    )
+}
+
+#[test]
+fn equal_bases_get_letters(rt: HostRuntime) -> Result<(), Fail> {
+    let records = with_equal_bases(rt.alloc())?;
+    let expected: [(usize, &[u8]); 6] = [
+        (0, b"Knu84a"),
+        (1, b"Knu84b"),
+        (25, b"Knu84z"),
+        (26, b"Knu84aa"),
+        (27, b"Knu84ab"),
+        (28, b"Lam86"),
+    ];
+    assert!(rt; have_labels(rt.alloc(), records.as_slice(), &expected)?);
     Ok(())
 }
 

@@ -1,158 +1,218 @@
 //! Items seen as views, their fields, and values taken apart.
 
 use bib_scan::{
-    FieldView, ItemView, Kind, Part, is_balanced, is_clean_trail, is_key, is_name, is_type, read,
-    read_value, same_folded,
+    FieldView, ItemView, Kind, Part, ReadFault, is_balanced, is_clean_trail, is_key, is_name,
+    is_type, read, read_value, same_folded,
 };
 use std::alloc::Global;
 use std::test::Fail;
 
+/// What is to be seen of an item.
+#[derive(Clone, Copy)]
+struct Seen<'a> {
+    kind: Kind,
+    body: &'a [u8],
+    trail: &'a [u8],
+    type_name: &'a [u8],
+    key: &'a [u8],
+    key_at: usize,
+    fields: &'a [FieldView<'a>],
+}
+
+fn has_fields(item: &ItemView<'_>, fields: &[FieldView<'_>]) -> bool {
+    let mut rest = item.fields();
+    for field in fields {
+        if rest.next() != Some(*field) {
+            return false;
+        }
+    }
+    rest.next().is_none()
+}
+
+fn is_seen(item: &ItemView<'_>, seen: &Seen<'_>) -> bool {
+    item.kind() == seen.kind
+        && item.body() == seen.body
+        && item.trail() == seen.trail
+        && item.type_name() == seen.type_name
+        && item.key() == seen.key
+        && item.key_at() == seen.key_at
+        && has_fields(item, seen.fields)
+}
+
+/// Whether the file has this front, and then these items.
+fn are_seen(
+    alloc: Global,
+    bytes: &[u8],
+    front: &[u8],
+    items: &[Seen<'_>],
+) -> Result<bool, ReadFault> {
+    let layout = read(alloc, bytes)?;
+    Ok(
+        layout.front(bytes) == front
+            && layout.len() == items.len()
+            && items.iter().enumerate().all(|(n, seen)| n < layout.len()
+                && is_seen(&layout.item(bytes, n), seen)),
+    )
+}
+
+const LONE: Seen<'_> = Seen {
+    kind: Kind::Entry,
+    body: b"@Misc{a,}",
+    trail: b"\n",
+    type_name: b"Misc",
+    key: b"a",
+    key_at: 6,
+    fields: &[],
+};
+
 #[test]
 fn an_entry_has_its_key_and_its_trail(rt: HostRuntime) -> Result<(), Fail> {
     let bytes = b"mail joe@x.org\n@Misc{a,}\n";
-    let layout = read(rt.alloc(), bytes)?;
-    assert_eq!(rt; layout.len(), 1);
-    let item = layout.item(bytes, 0);
-    assert_eq!(rt; item.kind(), Kind::Entry);
-    assert_eq!(rt; item.body(), b"@Misc{a,}".as_slice());
-    assert_eq!(rt; item.type_name(), b"Misc".as_slice());
-    assert_eq!(rt; item.key(), b"a".as_slice());
-    assert_eq!(rt; item.key_at(), 6);
-    assert_eq!(rt; item.trail(), b"\n".as_slice());
-    assert_eq!(rt; item.fields().count(), 0);
-    let moved = item.with_trail(b" ");
-    assert_eq!(rt; moved.trail(), b" ".as_slice());
-    assert_eq!(rt; moved.key(), b"a".as_slice());
+    assert!(rt; are_seen(rt.alloc(), bytes, b"mail joe@x.org\n", &[LONE])?);
     Ok(())
+}
+
+#[test]
+fn an_item_is_seen_with_another_trail(rt: HostRuntime) {
+    let moved = ItemView::of(LONE.body, LONE.trail).with_trail(b" ");
+    assert!(rt;
+        is_seen(
+            &moved,
+            &Seen {
+                trail: b" ",
+                ..LONE
+            }
+        )
+    );
 }
 
 #[test]
 fn a_comment_leaves_its_text_to_its_trail(rt: HostRuntime) -> Result<(), Fail> {
-    let bytes = b"@comment{ @misc{a}}";
-    let layout = read(rt.alloc(), bytes)?;
-    assert_eq!(rt; layout.len(), 2);
-    let comment = layout.item(bytes, 0);
-    assert_eq!(rt; comment.kind(), Kind::Comment);
-    assert_eq!(rt; comment.body(), b"@comment".as_slice());
-    assert_eq!(rt; comment.trail(), b"{ ".as_slice());
-    assert_eq!(rt; comment.key(), b"".as_slice());
-    assert_eq!(rt; comment.fields().count(), 0);
-    let entry = layout.item(bytes, 1);
-    assert_eq!(rt; entry.kind(), Kind::Entry);
-    assert_eq!(rt; entry.key(), b"a".as_slice());
-    assert_eq!(rt; entry.trail(), b"}".as_slice());
+    let comment = Seen {
+        kind: Kind::Comment,
+        body: b"@comment",
+        trail: b"{ ",
+        type_name: b"comment",
+        key: b"",
+        key_at: 0,
+        fields: &[],
+    };
+    let entry = Seen {
+        body: b"@misc{a}",
+        trail: b"}",
+        type_name: b"misc",
+        ..LONE
+    };
+    let items = [comment, entry];
+    assert!(rt; are_seen(rt.alloc(), b"@comment{ @misc{a}}", b"", &items)?);
     Ok(())
 }
 
-#[test]
-fn fields_stand_at_their_places(rt: HostRuntime) {
-    let definition = ItemView::of(b"@string{p = {A} # 1}", b"\n");
-    assert_eq!(rt; definition.kind(), Kind::Macro);
-    assert_eq!(rt; definition.type_name(), b"string".as_slice());
-    assert_eq!(rt; definition.key(), b"".as_slice());
-    assert_eq!(rt; definition.key_at(), 0);
-    let mut fields = definition.fields();
-    assert_eq!(rt;
-        fields.next(),
-        Some(FieldView {
-            name: b"p",
-            value: b"{A} # 1",
-            start: 8,
-            name_at: 8,
-            value_at: 12,
-        })
-    );
-    assert_eq!(rt; fields.next(), None);
+const DEFINITION: Seen<'_> = Seen {
+    kind: Kind::Macro,
+    body: b"@string{p = {A} # 1}",
+    trail: b"\n",
+    type_name: b"string",
+    key: b"",
+    key_at: 0,
+    fields: &[FieldView {
+        name: b"p",
+        value: b"{A} # 1",
+        start: 8,
+        name_at: 8,
+        value_at: 12,
+    }],
+};
 
-    let preamble = ItemView::of(b"@preamble( \"x\" )", b"");
-    assert_eq!(rt; preamble.kind(), Kind::Preamble);
-    let mut fields = preamble.fields();
-    assert_eq!(rt;
-        fields.next(),
-        Some(FieldView {
-            name: b"",
-            value: b"\"x\"",
-            start: 11,
-            name_at: 11,
-            value_at: 11,
-        })
-    );
-    assert_eq!(rt; fields.next(), None);
+const PREAMBLE: Seen<'_> = Seen {
+    kind: Kind::Preamble,
+    body: b"@preamble( \"x\" )",
+    trail: b"",
+    type_name: b"preamble",
+    key: b"",
+    key_at: 0,
+    fields: &[FieldView {
+        name: b"",
+        value: b"\"x\"",
+        start: 11,
+        name_at: 11,
+        value_at: 11,
+    }],
+};
 
-    let entry = ItemView::of(b"@Book (k9 , a = 1 # p,\n b={c} , )", b"tail");
-    assert_eq!(rt; entry.kind(), Kind::Entry);
-    assert_eq!(rt; entry.type_name(), b"Book".as_slice());
-    assert_eq!(rt; entry.key(), b"k9".as_slice());
-    assert_eq!(rt; entry.key_at(), 7);
-    let mut fields = entry.fields();
-    assert_eq!(rt;
-        fields.next(),
-        Some(FieldView {
+const BOOK: Seen<'_> = Seen {
+    kind: Kind::Entry,
+    body: b"@Book (k9 , a = 1 # p,\n b={c} , )",
+    trail: b"tail",
+    type_name: b"Book",
+    key: b"k9",
+    key_at: 7,
+    fields: &[
+        FieldView {
             name: b"a",
             value: b"1 # p",
             start: 10,
             name_at: 12,
             value_at: 16,
-        })
-    );
-    assert_eq!(rt;
-        fields.next(),
-        Some(FieldView {
+        },
+        FieldView {
             name: b"b",
             value: b"{c}",
             start: 21,
             name_at: 24,
             value_at: 26,
-        })
-    );
-    assert_eq!(rt; fields.next(), None);
+        },
+    ],
+};
+
+const EMPTY_KEY: Seen<'_> = Seen {
+    kind: Kind::Entry,
+    body: b"@misc{ ,t=1}",
+    trail: b"",
+    type_name: b"misc",
+    key: b"",
+    key_at: 7,
+    fields: &[FieldView {
+        name: b"t",
+        value: b"1",
+        start: 7,
+        name_at: 8,
+        value_at: 10,
+    }],
+};
+
+#[test]
+fn fields_stand_at_their_places(rt: HostRuntime) {
+    for seen in [DEFINITION, PREAMBLE, BOOK, EMPTY_KEY] {
+        assert!(rt; is_seen(&ItemView::of(seen.body, seen.trail), &seen));
+    }
 }
 
 #[test]
 fn a_file_of_every_kind_is_seen_item_by_item(rt: HostRuntime) -> Result<(), Fail> {
     let bytes = b"x @string{p = {A} # 1}\n@preamble( \"x\" )@Book (k9 , a = 1 # p,\n b={c} , )tail";
-    let layout = read(rt.alloc(), bytes)?;
-    assert_eq!(rt; layout.front(bytes), b"x ".as_slice());
-    assert_eq!(rt; layout.len(), 3);
-    let definition = layout.item(bytes, 0);
-    assert_eq!(rt; definition.kind(), Kind::Macro);
-    assert_eq!(rt; definition.trail(), b"\n".as_slice());
-    assert_eq!(rt; definition.fields().count(), 1);
-    let preamble = layout.item(bytes, 1);
-    assert_eq!(rt; preamble.kind(), Kind::Preamble);
-    assert_eq!(rt; preamble.trail(), b"".as_slice());
-    assert_eq!(rt; preamble.fields().count(), 1);
-    let entry = layout.item(bytes, 2);
-    assert_eq!(rt; entry.key(), b"k9".as_slice());
-    assert_eq!(rt; entry.trail(), b"tail".as_slice());
-    assert_eq!(rt; entry.fields().count(), 2);
+    let items = [DEFINITION, PREAMBLE, BOOK];
+    assert!(rt; are_seen(rt.alloc(), bytes, b"x ", &items)?);
     Ok(())
 }
 
-#[test]
-fn white_space_beside_an_empty_key_stands_before_it(rt: HostRuntime) {
-    let entry = ItemView::of(b"@misc{ ,t=1}", b"");
-    assert_eq!(rt; entry.key(), b"".as_slice());
-    assert_eq!(rt; entry.key_at(), 7);
-    assert_eq!(rt; entry.fields().count(), 1);
+/// Whether the value has these parts at these places.
+fn has_parts(alloc: Global, bytes: &[u8], all: &[(usize, Part<'_>)]) -> Result<bool, ReadFault> {
+    let parts = read_value(alloc, bytes)?;
+    Ok(
+        parts.len() == all.len()
+            && all.iter().enumerate().all(|(n, (place, part))| {
+                n < parts.len() && parts.place(n) == *place && parts.part(bytes, n) == *part
+            }),
+    )
 }
 
 #[test]
 fn a_value_is_taken_apart(rt: HostRuntime) -> Result<(), Fail> {
-    let bytes = b"\"a\" # b";
-    let parts = read_value(rt.alloc(), bytes)?;
-    assert_eq!(rt; parts.len(), 2);
-    assert_eq!(rt; parts.place(0), 0);
-    assert_eq!(rt; parts.part(bytes, 0), Part::Quoted(b"a"));
-    assert_eq!(rt; parts.place(1), 6);
-    assert_eq!(rt; parts.part(bytes, 1), Part::Macro(b"b"));
-
-    let bytes = b"{x{y}} # 12";
-    let parts = read_value(rt.alloc(), bytes)?;
-    assert_eq!(rt; parts.len(), 2);
-    assert_eq!(rt; parts.part(bytes, 0), Part::Braced(b"x{y}"));
-    assert_eq!(rt; parts.place(1), 9);
-    assert_eq!(rt; parts.part(bytes, 1), Part::Digits(b"12"));
+    let parts = [(0, Part::Quoted(b"a")), (6, Part::Macro(b"b"))];
+    assert!(rt; has_parts(rt.alloc(), b"\"a\" # b", &parts)?);
+    let parts = [(0, Part::Braced(b"x{y}")), (9, Part::Digits(b"12"))];
+    assert!(rt; has_parts(rt.alloc(), b"{x{y}} # 12", &parts)?);
     Ok(())
 }
 
@@ -189,19 +249,32 @@ fn a_text_that_is_no_value_is_refused_at_its_place(rt: HostRuntime) {
 
 #[test]
 fn plain_tests(rt: HostRuntime) {
-    assert_eq!(rt; is_key(b"knuth:84"), true);
-    assert_eq!(rt; is_key(b"a{b"), false);
-    assert_eq!(rt; is_name(b"note+an"), true);
-    assert_eq!(rt; is_name(b"1st"), false);
-    assert_eq!(rt; is_type(b"Article"), true);
-    assert_eq!(rt; is_type(b"String"), false);
-    assert_eq!(rt; is_type(b"a@b"), false);
-    assert_eq!(rt; is_balanced(b"{a}{\\{}}"), true);
-    assert_eq!(rt; is_balanced(b"}{"), false);
-    assert_eq!(rt; same_folded(b"Title", b"TITLE"), true);
-    assert_eq!(rt; same_folded(b"Title", b"Titles"), false);
-    assert_eq!(rt; is_clean_trail(true, b"{ "), true);
-    assert_eq!(rt; is_clean_trail(true, b"s"), false);
-    assert_eq!(rt; is_clean_trail(false, b"s"), true);
-    assert_eq!(rt; is_clean_trail(false, b" @x{"), false);
+    let rows = [
+        ("a key", is_key(b"knuth:84"), true),
+        ("a key with a brace", is_key(b"a{b"), false),
+        ("a name", is_name(b"note+an"), true),
+        ("a name that begins with a digit", is_name(b"1st"), false),
+        ("a type", is_type(b"Article"), true),
+        ("the type of a definition", is_type(b"String"), false),
+        ("a type with an at-sign", is_type(b"a@b"), false),
+        ("braces that balance", is_balanced(b"{a}{\\{}}"), true),
+        ("braces in the wrong order", is_balanced(b"}{"), false),
+        (
+            "letters of either case",
+            same_folded(b"Title", b"TITLE"),
+            true,
+        ),
+        ("one letter more", same_folded(b"Title", b"Titles"), false),
+        ("a comment's trail", is_clean_trail(true, b"{ "), true),
+        (
+            "a letter behind a comment",
+            is_clean_trail(true, b"s"),
+            false,
+        ),
+        ("a letter behind an item", is_clean_trail(false, b"s"), true),
+        ("an item in a trail", is_clean_trail(false, b" @x{"), false),
+    ];
+    for (name, is_so, expected) in rows {
+        assert_eq!(rt; is_so, expected, "{name}");
+    }
 }
