@@ -394,11 +394,7 @@ fn change<L: ItemList>(
 }
 
 /// Whether the open file answers as the example says, once it is changed.
-fn answers<L: ItemList>(
-    alloc: Global,
-    db: &mut Database<L>,
-    asked: &Asked,
-) -> Result<bool, Stop> {
+fn answers<L: ItemList>(alloc: Global, db: &mut Database<L>, asked: &Asked) -> Result<bool, Stop> {
     change(alloc, db, asked.changes)?;
     let said = answer_of(alloc, db, &asked.question)?;
     Ok(is_said(&said, &asked.answer))
