@@ -1,7 +1,5 @@
-use Rattle.std.proofs.Common.{◌-◌, ◌∙◌, List, ap, subst, sym}
-use Rattle.bib_items.specs.declared.list.Item.{Item}
+use Rattle.std.proofs.Common.{◌∙◌, ap}
 use Rattle.bib_items.specs.Items.{without_range}
-use Rattle.bib_store.specs.Windows.{ArePut}
 use Rattle.bib_store.proofs.Exchanges.{put_of, are_put, without-old, taken-new}
 use Rattle.bib_store.proofs.exchanging.exchange_all.Goals as goal
 
