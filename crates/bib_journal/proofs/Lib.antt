@@ -8,6 +8,7 @@ pub mod ReplayLemmas
 pub mod LoadLemmas
 -- ---- laws of a session
 pub mod SeveralRuns
+pub mod TakenBack
 pub mod MadeFiles
 pub mod KeptRecords
 pub mod OtherEntries

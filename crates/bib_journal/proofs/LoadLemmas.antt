@@ -1,5 +1,5 @@
 -- Contents, held against a file.
-use Rattle.std.proofs.Common.{◌≡◌, ℕ, List, reverse, refl, sym, subst, ◌∙◌, ap, sum_by, min, ◌^◌, ◌-◌, arith}
+use Rattle.std.proofs.Common.{◌≡◌, ℕ, List, Option, Some, None, reverse, refl, sym, subst, ◌∙◌, ap, sum_by, min, ◌^◌, ◌-◌, arith}
 use Rattle.std.proofs.lemmas.List.{reverse-reverse}
 use Rattle.bib_spec.specs.Text.{Text}
 use Rattle.bib_spec.specs.Texts.{IsOpenable}
@@ -9,7 +9,9 @@ use Rattle.journal_format.specs.Faults.{IsJournalOf, Refuses}
 use Rattle.journal_format.specs.declared.fault.JournalFault.{JournalFault}
 use Rattle.journal_format.specs.declared.fault.JournalFault.TheVariants as journal_fault
 use Rattle.bib_journal.specs.Faults.{unread}
-use Rattle.bib_journal.specs.Session.{RefusesLoad}
+use Rattle.bib_journal.specs.Session.{RefusesLoad, RefusesOpen}
+use Rattle.bib_journal.specs.declared.fault.SessionFault.{SessionFault}
+use Rattle.bib_journal.specs.declared.fault.SessionFault.TheVariants.{Memory}
 use Rattle.bib_journal.specs.Kept.{kept, IsKept}
 use Rattle.bib_journal.specs.Loading.{FitFile, Loads, SaysOf, IsMismatch}
 
@@ -44,3 +46,11 @@ says_loads file text c says =
       journal = subst (λ (x : Contents). IsJournalOf x text) (sym same) says.journal;
       fit = subst (λ (x : Contents). FitFile x file) (sym same) says.fit;
     }
+
+-- want of memory refuses any opening
+memory_refuses_any : (file : Text) (journal : Option Text) → RefusesOpen Memory file journal
+memory_refuses_any file None = tt
+memory_refuses_any file (Some text) = tt
+
+pub memory_refuses : (fault : SessionFault) (file : Text) (journal : Option Text) → fault ≡ Memory → RefusesOpen fault file journal
+memory_refuses fault file journal is = subst (λ (f : SessionFault). RefusesOpen f file journal) (sym is) (memory_refuses_any file journal)

@@ -6,7 +6,7 @@ use Rattle.bib_data.specs.declared.request.Request.{Request}
 use Rattle.bib_journal.specs.declared.fault.SessionFault.{SessionFault}
 use Rattle.bib_journal.specs.Session.{Does, DoesAll, Refuses, StopsAt, Performs}
 
-does_last : (requests : List Request) (request : Request) (old mid new : KeptSteps) → DoesAll requests old mid → Does request mid new → DoesAll (requests ++ request ∷ []) old new
+pub does_last : (requests : List Request) (request : Request) (old mid new : KeptSteps) → DoesAll requests old mid → Does request mid new → DoesAll (requests ++ request ∷ []) old new
 does_last [] request old mid new all does = (new, subst (λ (k : KeptSteps). Does request k new) all does, refl)
 does_last (first ∷ requests) request old mid new all does = (all.0, all.1, does_last requests request all.0 mid new all.2 does)
 

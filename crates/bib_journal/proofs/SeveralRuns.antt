@@ -69,7 +69,7 @@ does_keeps_sound (request.Edit edit) old new w does = edit_is_sound edit old new
 does_keeps_sound request.Undo old new w does = (going-back-undoes does.step old new w does.carried).0
 does_keeps_sound request.Redo old new w does = (going-on-redoes does.step old new w does.carried).0
 
-all_keep_sound : (requests : List Request) (old new : KeptSteps) → IsSound old → DoesAll requests old new → IsSound new
+pub all_keep_sound : (requests : List Request) (old new : KeptSteps) → IsSound old → DoesAll requests old new → IsSound new
 all_keep_sound [] old new w did = subst IsSound (sym did) w
 all_keep_sound (request ∷ requests) old new w did = all_keep_sound requests did.0 new (does_keeps_sound request old did.0 w did.1) did.2
 

@@ -3,6 +3,7 @@
 //! history, and that a refusal changes nothing.
 #![tactic(auto)]
 
+mod changing;
 mod fault;
 mod laws;
 mod loading;
@@ -15,6 +16,7 @@ mod session;
 mod stepping;
 
 pub use bib_data::Request;
+pub use changing::{Changes, Turned, read_changes, redo_changes, undo_changes};
 pub use fault::SessionFault;
 pub use journal_format::{CHANGE_LIMIT, STEP_TEXTS_LIMIT};
 pub use laws::{a_journal_keeps_one_history, several_runs_are_one_session};

@@ -26,22 +26,35 @@ fn said_in(alloc: Global, journal: &[u8]) -> Result<Journal, SessionFault>
     }
 }
 
-/// Whether what the journal says fits the open file, which has this digest. It then ends where it began.
+/// What the journal says, if it is of a file with this digest.
+pub(crate) fn said_with(
+    alloc: Global,
+    digest: &[u8],
+    journal: &[u8],
+) -> Result<Journal, SessionFault>
+    ensures said { IfOk result (λ said. IsJournalOf said journal.now) }
+    ensures digest { IfOk result (λ said. said.digest ≡ digest.now) }
+    ensures refused { IfErr result (λ fault. (file : FileText) → IsOpenable file → digest.now ≡ digest_of file → RefusesLoad fault file journal.now) }
+{
+    let said = said_in(alloc, journal)?;
+    if said.digest.as_slice() != digest {
+        return Err(SessionFault::JournalMismatch);
+    }
+    Ok(said)
+}
+
+/// Whether the steps that the journal says belong to the open file, which has its digest. It then ends where it began.
 fn fits<L: ItemList>(
     alloc: Global,
     db: &mut Database<L>,
-    digest: &[u8],
     said: &Journal,
 ) -> Result<bool, AllocError>
-    requires digest { digest.now ≡ digest_of db.old }
+    requires digest { said.now.digest ≡ digest_of db.old }
     requires steps { AreSteps said.now.past said.now.future }
     ensures yes { IfOk result (λ yes. IsTrue yes ↔ FitFile said.now db.old) }
     ensures same { IfOk result (λ yes. IsTrue yes → db.new ≡ db.old) }
 {
     db.opens();
-    if said.digest.as_slice() != digest {
-        return Ok(false);
-    }
     belong(alloc, db, said.past.as_slice(), said.future.as_slice())
 }
 
@@ -58,8 +71,8 @@ pub(crate) fn said_of<L: ItemList>(
     ensures refused { IfErr result (λ fault. RefusesLoad fault db.old journal.now) }
 {
     db.opens();
-    let said = said_in(alloc, journal)?;
-    if !fits(alloc, db, digest, &said)? {
+    let said = said_with(alloc, digest, journal)?;
+    if !fits(alloc, db, &said)? {
         return Err(SessionFault::JournalMismatch);
     }
     Ok(said)

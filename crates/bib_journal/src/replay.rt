@@ -1,12 +1,12 @@
 //! Steps of a journal, gone over one by one.
 
-ghost use Rattle.std.specs.Prelude.{◌≡◌, ◌↔◌, IsTrue, IfOk, OnOk};
+ghost use Rattle.std.specs.Prelude.{◌≡◌, ◌-◌, ◌≤◌, ◌↔◌, None, drop, length, IsTrue, IfOk, IfSome, OnOk};
 ghost use Rattle.std.specs.List.{AllByRecursion};
 ghost use Rattle.bib_spec.specs.Pieces.{applied};
 ghost use Rattle.edit_spec.specs.Steps.{IsAllowed, Leads, LeadTo, LeadOn, BelongTo, before, first_of};
 ghost use Rattle.bib_journal.specs.Loading.{IsTurnable, last_of};
 
-use bib_scan::Seq;
+use bib_scan::{Seq, Text};
 use bib_store::{Database, ItemList, Piece, StoreFault, reverse};
 use std::alloc::{AllocError, Global};
 
@@ -129,4 +129,76 @@ pub(crate) fn belong<L: ItemList>(
     let leads = lead_on(alloc, db, future)?;
     db.settle();
     Ok(leads)
+}
+
+/// Whether steps belong to the file. It ends where the past begins, and takes time as a splice for each past step and two for
+/// each future one.
+pub(crate) fn belong_once<L: ItemList>(
+    alloc: Global,
+    db: &mut Database<L>,
+    past: &[Seq<Piece>],
+    future: &[Seq<Piece>],
+) -> Result<bool, AllocError>
+    requires past { AllByRecursion IsTurnable past.now }
+    requires future { AllByRecursion IsTurnable future.now }
+    ensures { IfOk result (λ yes. IsTrue yes ↔ BelongTo past.now future.now db.old) }
+{
+    if !lead_on(alloc, db, future)? {
+        return Ok(false);
+    }
+    go_back_over(alloc, db, past)
+}
+
+/// The open file's bytes.
+fn bytes_of<L: ItemList>(db: &Database<L>) -> Result<Text, AllocError>
+    ensures { IfOk result (λ bytes. bytes ≡ db.now) }
+{
+    match db.bytes() {
+        Ok(bytes) => Ok(bytes),
+        Err(_) => Err(AllocError),
+    }
+}
+
+/// The file before the last `n` of the steps, if all of them lead to this file. It ends where they begin.
+fn back_to<L: ItemList>(
+    alloc: Global,
+    db: &mut Database<L>,
+    steps: &[Seq<Piece>],
+    n: usize,
+) -> Result<Option<Text>, AllocError>
+    requires turnable { AllByRecursion IsTurnable steps.now }
+    requires within { n ≤ length steps.now }
+    ensures file { IfOk result (λ file. IfSome file (λ file. LeadTo steps.now db.old × (file ≡ first_of (drop (length steps.now - n) steps.now) db.old))) }
+    ensures none { IfOk result (λ file. file ≡ None → LeadTo steps.now db.old → ⊥) }
+{
+    let (first, last) = steps.split_at(steps.len() - n);
+    if !go_back_over(alloc, db, last)? {
+        return Ok(None);
+    }
+    let file = bytes_of(&*db)?;
+    if !go_back_over(alloc, db, first)? {
+        return Ok(None);
+    }
+    Ok(Some(file))
+}
+
+/// The file before the last `n` past steps, if the steps belong to this file. It ends where the past begins, and takes time
+/// as `belong_once` does, and in the file's length.
+pub(crate) fn file_before<L: ItemList>(
+    alloc: Global,
+    db: &mut Database<L>,
+    past: &[Seq<Piece>],
+    future: &[Seq<Piece>],
+    n: usize,
+) -> Result<Option<Text>, AllocError>
+    requires past { AllByRecursion IsTurnable past.now }
+    requires future { AllByRecursion IsTurnable future.now }
+    requires within { n ≤ length past.now }
+    ensures file { IfOk result (λ file. IfSome file (λ file. BelongTo past.now future.now db.old × (file ≡ first_of (drop (length past.now - n) past.now) db.old))) }
+    ensures none { IfOk result (λ file. file ≡ None → BelongTo past.now future.now db.old → ⊥) }
+{
+    if !lead_on(alloc, db, future)? {
+        return Ok(None);
+    }
+    back_to(alloc, db, past, n)
 }

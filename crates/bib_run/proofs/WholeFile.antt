@@ -119,7 +119,7 @@ AnswersInput-long answers bytes journal input answer long (inputs.unopened w) = 
 
 IsTurnAnswer-long : (word : Text) (request : Request) (n : ℕ) (bytes : Text) (journal : Option Text) (answer : Answer) → file_limit < length bytes
     → IsTurnAnswer word request n (take (file_limit + 1) bytes) journal answer → IsTurnAnswer word request n bytes journal answer
-IsTurnAnswer-long word request n bytes journal answer long (turning.turned kept opens has) = absurd (not_opened bytes journal kept long opens)
+IsTurnAnswer-long word request n bytes journal answer long (turning.turned turned turns is) = absurd (not_opened bytes journal turns.opened long turns.opens)
 IsTurnAnswer-long word request n bytes journal answer long (turning.unopened w) = turning.unopened (IsUnopenedAnswer-long bytes journal answer long w)
 
 IsLogAnswer-long : (bytes : Text) (journal : Option Text) (answer : Answer) → file_limit < length bytes

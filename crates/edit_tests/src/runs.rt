@@ -4,7 +4,10 @@ ghost use Rattle.std.specs.Prelude.{◌≡◌, []};
 
 use crate::rows::{Step, Stop, is_left, told};
 use crate::turns::{Asked, Left, Turn, asked_of, is_same, left_after};
-use bib_journal::{Saved, Session, SessionFault};
+use bib_data::Request;
+use bib_journal::{
+    Saved, Session, SessionFault, Turned, read_changes, redo_changes, repeat, undo_changes,
+};
 use bib_store::{Flat, ItemList, Paged};
 use std::alloc::{AllocError, Global};
 use std::test::Fail;
@@ -37,6 +40,60 @@ struct Loaded {
     journal: &'static [u8],
     fault: (u16, Option<usize>),
 }
+
+/// The rest of the journal of the file `abc`, where that was put in, an entry was removed after it, and another one was added
+/// and taken back.
+const TURNED: &[u8] = b"2 1\n1\n0 0 3\nabc\n1\n3 8 0\n@misc{k}\n1\n3 0 5\n@a{b}\n";
+
+/// How many changes are to be turned, how many are, why no more, and the file then.
+struct Turns {
+    n: usize,
+    done: usize,
+    fault: Option<SessionFault>,
+    file: &'static [u8],
+}
+
+const UNDONE: &[Turns] = &[
+    Turns {
+        n: 0,
+        done: 0,
+        fault: None,
+        file: b"abc",
+    },
+    Turns {
+        n: 1,
+        done: 1,
+        fault: None,
+        file: b"abc@misc{k}",
+    },
+    Turns {
+        n: 2,
+        done: 2,
+        fault: None,
+        file: b"@misc{k}",
+    },
+    Turns {
+        n: 3,
+        done: 2,
+        fault: Some(SessionFault::NothingToUndo),
+        file: b"@misc{k}",
+    },
+];
+
+const REDONE: &[Turns] = &[
+    Turns {
+        n: 1,
+        done: 1,
+        fault: None,
+        file: b"abc@a{b}",
+    },
+    Turns {
+        n: 2,
+        done: 1,
+        fault: Some(SessionFault::NothingToRedo),
+        file: b"abc@a{b}",
+    },
+];
 
 const FOLLOWING_RUNS: &[Runs] = &[
     Runs {
@@ -263,6 +320,84 @@ fn loaded_holds(alloc: Global, loaded: &Loaded) -> Result<bool, Stop> {
         Ok(_) => Ok(loaded.fault == (0, None)),
         Err(fault) => Ok(loaded.fault == (fault.number(), fault.place())),
     }
+}
+
+/// What a session leaves that stays open, of the file `abc`.
+fn left_of<L: ItemList>(
+    alloc: Global,
+    journal: &[u8],
+    items: L,
+    request: &Request,
+    n: usize,
+) -> Result<Saved, SessionFault>
+    requires { L.items items ≡ [] }
+{
+    let mut session = Session::open(alloc, b"abc", Some(journal), items)?;
+    turned_and_saved(&mut session, request, n)
+}
+
+fn turned_and_saved<L: ItemList>(
+    session: &mut Session<L>,
+    request: &Request,
+    n: usize,
+) -> Result<Saved, SessionFault> {
+    repeat(session, request, n);
+    session.saved()
+}
+
+/// What is left of the file `abc` where no session stays open.
+fn turned_of(
+    alloc: Global,
+    journal: &[u8],
+    request: &Request,
+    n: usize,
+) -> Result<Turned, SessionFault> {
+    let file = Vec::from_slice(alloc, b"abc")?;
+    match request {
+        Request::Redo => redo_changes(alloc, file, Some(journal), n, Paged::new(alloc)),
+        _ => undo_changes(alloc, file, Some(journal), n, Paged::new(alloc)),
+    }
+}
+
+/// Whether so many changes are turned as the examples say, and what is left is what a session leaves that stays open.
+fn turns_hold(alloc: Global, request: &Request, turns: &[Turns]) -> Result<bool, Stop> {
+    let journal = journal_of(alloc, TURNED)?;
+    for it in turns {
+        let turned = turned_of(alloc, journal.as_slice(), request, it.n)?;
+        let saved = left_of(alloc, journal.as_slice(), Flat::new(alloc), request, it.n)?;
+        let is_so = turned.performed.done == it.done
+            && turned.performed.fault == it.fault
+            && turned.saved.file.as_slice() == it.file;
+        if !is_so || !is_saved_alike(&turned.saved, &saved) {
+            return Ok(false);
+        }
+    }
+    Ok(true)
+}
+
+/// How many changes of the file `abc` can be undone and redone.
+fn counted(alloc: Global, journal: Option<&[u8]>) -> Result<(usize, usize), SessionFault> {
+    let file = Vec::from_slice(alloc, b"abc")?;
+    let changes = read_changes(alloc, file, journal, Paged::new(alloc))?;
+    Ok((
+        changes.past.as_slice().len(),
+        changes.future.as_slice().len(),
+    ))
+}
+
+#[test]
+fn changes_are_turned_without_an_open_session(rt: HostRuntime) -> Result<(), Fail> {
+    told("undo", turns_hold(rt.alloc(), &Request::Undo, UNDONE))?;
+    told("redo", turns_hold(rt.alloc(), &Request::Redo, REDONE))?;
+    Ok(())
+}
+
+#[test]
+fn changes_are_listed_without_an_open_session(rt: HostRuntime) -> Result<(), Fail> {
+    let journal = journal_of(rt.alloc(), TURNED)?;
+    assert!(counted(rt.alloc(), Some(journal.as_slice()))? == (2, 1));
+    assert!(counted(rt.alloc(), None)? == (0, 0));
+    Ok(())
 }
 
 #[test]

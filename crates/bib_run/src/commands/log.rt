@@ -1,15 +1,17 @@
 //! `log`: the changes that can be undone and redone. `forget`: a new journal.
 
-ghost use Rattle.std.specs.Prelude.{◌≡◌, ◌+◌, ◌≤◌, ◌++◌, ◌-◌, ◌^◌, min, length, IfOk, OnOk, option_map};
-ghost use Rattle.std.specs.List.{flat_map, between};
-ghost use Rattle.edit_spec.specs.Steps.{IsStep};
+ghost use Rattle.std.specs.Prelude.{◌≡◌, ◌++◌, ◌-◌, ◌^◌, min, IfOk, OnOk, option_map};
+ghost use Rattle.std.specs.List.{AllByRecursion, flat_map};
+ghost use Rattle.bib_spec.specs.Text.{Text as FileText};
+ghost use Rattle.edit_spec.specs.Steps.{IsStep, AreSteps};
+ghost use Rattle.bib_journal.specs.Kept.{kept};
 ghost use Rattle.bib_journal.specs.Session.{started};
 ghost use Rattle.bib_run.specs.Log.{old_len, new_len, step_line, log_text, IsLogAnswer, IsForgetAnswer};
 
 use crate::sessions::unopened;
 use bib_answers::{Answer, Outcome, done};
-use bib_journal::Session;
-use bib_scan::Text;
+use bib_journal::{Changes, Session, read_changes};
+use bib_scan::{Seq, Text};
 use bib_store::{Paged, Piece};
 use bib_words::status;
 use std::alloc::{AllocError, Global};
@@ -22,28 +24,20 @@ pub fn answer_log(
 ) -> Result<Answer, AllocError>
     ensures { IfOk result (IsLogAnswer file.items (option_map (λ text. text.now) journal.entry)) }
 {
-    match Session::open_file(alloc, file, journal, Paged::new(alloc)) {
-        Ok(session) => Ok(done(alloc, log_text(alloc, &session)?)),
+    match read_changes(alloc, file, journal, Paged::new(alloc)) {
+        Ok(changes) => Ok(done(alloc, log_text(alloc, &changes)?)),
         Err(fault) => unopened(alloc, fault),
     }
 }
 
 /// A line for each past step from the oldest, and then for each future step from the next.
-fn log_text(alloc: Global, session: &Session<Paged>) -> Result<Text, AllocError>
-    ensures { IfOk result (λ text. text ≡ log_text session.now) }
+fn log_text(alloc: Global, changes: &Changes) -> Result<Text, AllocError>
+    requires { AreSteps changes.now.past changes.now.future }
+    ensures { IfOk result (λ text. (file : FileText) → text ≡ log_text (kept changes.now.past file changes.now.future)) }
 {
-    session.is_sound();
-    let undos = session.undo_count();
     let mut out = Vec::new(alloc);
-    add_steps(alloc, &mut out, session, "done", 0, undos)?;
-    add_steps(
-        alloc,
-        &mut out,
-        session,
-        "undone",
-        undos,
-        undos + session.redo_count(),
-    )?;
+    add_steps(alloc, &mut out, changes.past.as_slice(), "done")?;
+    add_steps(alloc, &mut out, changes.future.as_slice(), "undone")?;
     Ok(Text::from_vec(out))
 }
 
@@ -51,18 +45,14 @@ fn log_text(alloc: Global, session: &Session<Paged>) -> Result<Text, AllocError>
 fn add_steps(
     alloc: Global,
     out: &mut Vec<u8>,
-    session: &Session<Paged>,
+    steps: &[Seq<Piece>],
     word: &str,
-    from: usize,
-    to: usize,
 ) -> Result<(), AllocError>
-    requires order { from ≤ to }
-    requires within { to ≤ length session.now.past + length session.now.future }
-    ensures { OnOk result (out.new.items ≡ out.old.items ++ flat_map (step_line word.now) (between from to (session.now.past ++ session.now.future))) }
+    requires { AllByRecursion IsStep steps.now }
+    ensures { OnOk result (out.new.items ≡ out.old.items ++ flat_map (step_line word.now) steps.now) }
 {
-    session.is_sound();
-    'step: for n in from..to {
-        let line = step_line(alloc, word, session.step(n))?;
+    'step: for step in steps {
+        let line = step_line(alloc, word, step.as_slice())?;
         out.extend_from_slice(line.as_slice())?;
     }
     Ok(())

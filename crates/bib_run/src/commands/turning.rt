@@ -3,11 +3,11 @@
 ghost use Rattle.std.specs.Prelude.{◌≡◌, IfOk, option_map, codes};
 ghost use Rattle.bib_data.specs.declared.request.Request.TheVariants.{Undo, Redo};
 ghost use Rattle.bib_run.specs.Sessions.{fault_line};
-ghost use Rattle.bib_run.specs.Turns.{turned_line, HasTurned, IsTurnAnswer};
+ghost use Rattle.bib_run.specs.Turns.{turned_line, turned_answer, IsTurnAnswer};
 
 use crate::sessions::{fault_line, outcome_left, unopened};
 use bib_answers::Answer;
-use bib_journal::{Request, Session, SessionFault, repeat};
+use bib_journal::{SessionFault, Turned, redo_changes, undo_changes};
 use bib_scan::Text;
 use bib_store::Paged;
 use std::alloc::{AllocError, Global};
@@ -21,7 +21,10 @@ pub fn answer_undo(
 ) -> Result<Answer, AllocError>
     ensures { IfOk result (IsTurnAnswer (codes "undone") Undo n file.items (option_map (λ text. text.now) journal.entry)) }
 {
-    answer_turn(alloc, file, journal, "undone", &Request::Undo, n)
+    match undo_changes(alloc, file, journal, n, Paged::new(alloc)) {
+        Ok(turned) => turned_answer(alloc, "undone", turned),
+        Err(fault) => unopened(alloc, fault),
+    }
 }
 
 /// Makes so many changes again, or as many as were taken back.
@@ -33,46 +36,20 @@ pub fn answer_redo(
 ) -> Result<Answer, AllocError>
     ensures { IfOk result (IsTurnAnswer (codes "redone") Redo n file.items (option_map (λ text. text.now) journal.entry)) }
 {
-    answer_turn(alloc, file, journal, "redone", &Request::Redo, n)
-}
-
-/// Does the request so many times, up to the first refusal.
-fn answer_turn(
-    alloc: Global,
-    file: Vec<u8>,
-    journal: Option<&[u8]>,
-    word: &str,
-    request: &Request,
-    n: usize,
-) -> Result<Answer, AllocError>
-    ensures { IfOk result (IsTurnAnswer word.now request.now n file.items (option_map (λ text. text.now) journal.entry)) }
-{
-    match Session::open_file(alloc, file, journal, Paged::new(alloc)) {
-        Ok(mut session) => turn(alloc, &mut session, word, request, n),
+    match redo_changes(alloc, file, journal, n, Paged::new(alloc)) {
+        Ok(turned) => turned_answer(alloc, "redone", turned),
         Err(fault) => unopened(alloc, fault),
     }
 }
 
-/// The same, of a session.
-fn turn(
-    alloc: Global,
-    session: &mut Session<Paged>,
-    word: &str,
-    request: &Request,
-    n: usize,
-) -> Result<Answer, AllocError>
-    ensures { IfOk result (HasTurned word.now request.now n session.old) }
+/// How many changes were taken back or made again, and what is left.
+fn turned_answer(alloc: Global, word: &str, turned: Turned) -> Result<Answer, AllocError>
+    ensures { IfOk result (λ answer. answer ≡ turned_answer word.now turned) }
 {
-    let performed = repeat(session, request, n);
-    if performed.fault == Some(SessionFault::Memory) {
-        return Err(AllocError);
-    }
-    let Ok(saved) = session.saved() else {
-        return Err(AllocError);
-    };
-    let output = turned_line(alloc, word, performed.done)?;
-    let message = message_of(alloc, performed.fault)?;
-    let outcome = outcome_left(alloc, performed.done, message, saved);
+    let done = turned.performed.done;
+    let output = turned_line(alloc, word, done)?;
+    let message = message_of(alloc, turned.performed.fault)?;
+    let outcome = outcome_left(alloc, done, message, turned.saved);
     Ok(Answer { output, outcome })
 }
 

@@ -7,10 +7,10 @@ use Rattle.bib_journal.proofs.loading.fits.Goals as goal
 
 pub belong-requires-clause-past : goal.belong-requires-clause-past
 belong-requires-clause-past g c =
-    let is : c.as_slice-2.result.now ≡ c.args.said.now.past = cc (c.as_slice-2.ensures, c.said.view_is) in
+    let is : c.as_slice.result.now ≡ c.args.said.now.past = cc (c.as_slice.ensures, c.said.view_is) in
     subst (λ (steps : List Step). AllByRecursion IsTurnable steps) (sym is) (turnable_past _ _ c.requires.steps)
 
 pub belong-requires-clause-future : goal.belong-requires-clause-future
 belong-requires-clause-future g c =
-    let is : c.as_slice-3.result.now ≡ c.args.said.now.future = cc (c.as_slice-3.ensures, c.said.view_is) in
+    let is : c.as_slice-2.result.now ≡ c.args.said.now.future = cc (c.as_slice-2.ensures, c.said.view_is) in
     subst (λ (steps : List Step). AllByRecursion IsTurnable steps) (sym is) (turnable_future _ _ c.requires.steps)

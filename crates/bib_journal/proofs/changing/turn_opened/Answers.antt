@@ -1,0 +1,12 @@
+use Rattle.std.proofs.lemmas.Result.{IfOk-weaker, IfErr-weaker}
+use Rattle.bib_journal.proofs.LoadLemmas.{memory_refuses}
+use Rattle.bib_journal.proofs.changing.turn_opened.Goals as goal
+
+pub returns-in-Ok-clause-refused : goal.returns-in-Ok-clause-refused
+returns-in-Ok-clause-refused g c = IfErr-weaker c.turn.result _ _ (λ fault is. memory_refuses fault _ _ is) c.turn.ensures.only
+
+pub returns-in-Ok-clause-turned : goal.returns-in-Ok-clause-turned
+returns-in-Ok-clause-turned g c =
+    IfOk-weaker c.turn.result _ _
+    (λ turned has. record { opened = c.in-Ok.session; opens = c.in-Ok.ensures.opened; has_turned = has })
+    c.turn.ensures.turned

@@ -1,0 +1,278 @@
+//! The changes of a file and its journal, listed, taken back or made again, where no session stays open.
+
+ghost use Rattle.std.specs.Prelude.{◌≡◌, ◌-◌, ◌<◌, ◌≤◌, ◌↔◌, [], Some, None, drop, length, option_map, IsTrue, IfOk, IfErr, IfSome};
+ghost use Rattle.edit_spec.specs.Steps.{AreSteps, first_of};
+ghost use Rattle.journal_format.specs.Contents.{digest_of};
+ghost use Rattle.bib_data.specs.declared.request.Request.TheVariants.{Undo, Redo};
+ghost use Rattle.bib_journal.specs.Kept.{kept};
+ghost use Rattle.bib_journal.specs.Loading.{FitFile, Loads};
+ghost use Rattle.bib_journal.specs.Session.{Opens, RefusesStart, RefusesLoad, RefusesOpen};
+ghost use Rattle.bib_journal.specs.Turns.{Turns, HasTurned};
+ghost use Rattle.bib_journal.specs.declared.fault.SessionFault.TheVariants.{NothingToUndo, Memory};
+
+use crate::fault::{SessionFault, unopened};
+use crate::loading::said_with;
+use crate::performing::{Performed, repeat};
+use crate::replay::{belong_once, file_before};
+use crate::saving::{Saved, saved_back};
+use crate::session::Session;
+use bib_data::Request;
+use bib_scan::{Seq, Text};
+use bib_store::{Database, ItemList, Piece};
+use journal_format::{Journal, digest};
+use std::alloc::{AllocError, Global};
+
+/// The changes that a journal keeps: those that can be undone, from the oldest, and those that can be redone, from the next.
+#[derive(Debug, Drop)]
+pub struct Changes {
+    pub past: Seq<Seq<Piece>>,
+    pub future: Seq<Seq<Piece>>,
+}
+
+/// How many changes were taken back or made again, why the next one was not, and what is left of the file and its journal.
+#[derive(Debug, Drop)]
+pub struct Turned {
+    pub performed: Performed,
+    pub saved: Saved,
+}
+
+// ---- listing
+
+/// The changes of a file with its journal. The list that is handed in holds no item. It refuses as `Session::open` does.
+/// It takes time as opening the file and reading both texts, and a splice for each past step and two for each future one,
+/// since no session is left that stands at the file.
+pub fn read_changes<L: ItemList>(
+    alloc: Global,
+    file: Vec<u8>,
+    journal: Option<&[u8]>,
+    empty: L,
+) -> Result<Changes, SessionFault>
+    requires { L.items empty ≡ [] }
+    ensures opened { IfOk result (λ changes. Opens file.items (option_map (λ text. text.now) journal.entry) (kept changes.past file.items changes.future)) }
+    ensures refused { IfErr result (λ fault. RefusesOpen fault file.items (option_map (λ text. text.now) journal.entry)) }
+{
+    match journal {
+        Some(journal) => changes_in(alloc, file, journal, empty),
+        None => no_changes(alloc, file, empty),
+    }
+}
+
+/// The changes of a file without a journal.
+fn no_changes<L: ItemList>(alloc: Global, file: Vec<u8>, empty: L) -> Result<Changes, SessionFault>
+    requires { L.items empty ≡ [] }
+    ensures opened { IfOk result (λ changes. Opens file.items None (kept changes.past file.items changes.future)) }
+    ensures refused { IfErr result (λ fault. RefusesStart fault file.items) }
+{
+    match Database::open_file(alloc, file, empty) {
+        Ok(_) => Ok(Changes {
+            past: Seq::from_vec(Vec::new(alloc)),
+            future: Seq::from_vec(Vec::new(alloc)),
+        }),
+        Err(fault) => Err(unopened(fault)),
+    }
+}
+
+/// The changes that the journal says.
+fn changes_in<L: ItemList>(
+    alloc: Global,
+    file: Vec<u8>,
+    journal: &[u8],
+    empty: L,
+) -> Result<Changes, SessionFault>
+    requires { L.items empty ≡ [] }
+    ensures loaded { IfOk result (λ changes. Loads file.items journal.now (kept changes.past file.items changes.future)) }
+    ensures refused { IfErr result (λ fault. RefusesLoad fault file.items journal.now) }
+{
+    let digest = digest(alloc, file.as_slice())?;
+    match Database::open_file(alloc, file, empty) {
+        Ok(mut db) => changes_of(alloc, &mut db, digest.as_slice(), journal),
+        Err(fault) => Err(unopened(fault)),
+    }
+}
+
+/// The changes that the journal says of the open file, which has this digest.
+fn changes_of<L: ItemList>(
+    alloc: Global,
+    db: &mut Database<L>,
+    digest: &[u8],
+    journal: &[u8],
+) -> Result<Changes, SessionFault>
+    requires { digest.now ≡ digest_of db.old }
+    ensures loaded { IfOk result (λ changes. Loads db.old journal.now (kept changes.past db.old changes.future)) }
+    ensures refused { IfErr result (λ fault. RefusesLoad fault db.old journal.now) }
+{
+    db.opens();
+    let said = said_with(alloc, digest, journal)?;
+    if !fit_once(alloc, db, &said)? {
+        return Err(SessionFault::JournalMismatch);
+    }
+    Ok(Changes {
+        past: said.past,
+        future: said.future,
+    })
+}
+
+/// Whether the steps that the journal says belong to the open file, which has its digest. It ends where the past begins.
+fn fit_once<L: ItemList>(
+    alloc: Global,
+    db: &mut Database<L>,
+    said: &Journal,
+) -> Result<bool, AllocError>
+    requires digest { said.now.digest ≡ digest_of db.old }
+    requires steps { AreSteps said.now.past said.now.future }
+    ensures { IfOk result (λ yes. IsTrue yes ↔ FitFile said.now db.old) }
+{
+    db.opens();
+    belong_once(alloc, db, said.past.as_slice(), said.future.as_slice())
+}
+
+// ---- turning
+
+/// Takes so many changes of a file with its journal back, or as many as there are. It does what `Session::open`, `repeat`
+/// and `Session::saved` do, and refuses as the first of them. It takes time as `read_changes` does, and in the length of the
+/// file and the journal that are left.
+pub fn undo_changes<L: ItemList>(
+    alloc: Global,
+    file: Vec<u8>,
+    journal: Option<&[u8]>,
+    n: usize,
+    empty: L,
+) -> Result<Turned, SessionFault>
+    requires { L.items empty ≡ [] }
+    ensures turned { IfOk result (Turns Undo n file.items (option_map (λ text. text.now) journal.entry)) }
+    ensures refused { IfErr result (λ fault. RefusesOpen fault file.items (option_map (λ text. text.now) journal.entry)) }
+{
+    match journal {
+        Some(journal) => undo_in(alloc, file, journal, n, empty),
+        None => turn_opened(alloc, file, None, &Request::Undo, n, empty),
+    }
+}
+
+/// Makes so many changes of a file with its journal again, or as many as were taken back: what `Session::open`, `repeat` and
+/// `Session::saved` do. It refuses as the first of them.
+pub fn redo_changes<L: ItemList>(
+    alloc: Global,
+    file: Vec<u8>,
+    journal: Option<&[u8]>,
+    n: usize,
+    empty: L,
+) -> Result<Turned, SessionFault>
+    requires { L.items empty ≡ [] }
+    ensures turned { IfOk result (Turns Redo n file.items (option_map (λ text. text.now) journal.entry)) }
+    ensures refused { IfErr result (λ fault. RefusesOpen fault file.items (option_map (λ text. text.now) journal.entry)) }
+{
+    turn_opened(alloc, file, journal, &Request::Redo, n, empty)
+}
+
+/// Opens a session, does the request so many times, up to the first refusal, and saves it.
+fn turn_opened<L: ItemList>(
+    alloc: Global,
+    file: Vec<u8>,
+    journal: Option<&[u8]>,
+    request: &Request,
+    n: usize,
+    empty: L,
+) -> Result<Turned, SessionFault>
+    requires { L.items empty ≡ [] }
+    ensures turned { IfOk result (Turns request.now n file.items (option_map (λ text. text.now) journal.entry)) }
+    ensures refused { IfErr result (λ fault. RefusesOpen fault file.items (option_map (λ text. text.now) journal.entry)) }
+{
+    match Session::open_file(alloc, file, journal, empty) {
+        Ok(mut session) => turn(&mut session, request, n),
+        Err(fault) => Err(fault),
+    }
+}
+
+/// Does the request so many times, up to the first refusal, and saves the session.
+fn turn<L: ItemList>(
+    session: &mut Session<L>,
+    request: &Request,
+    n: usize,
+) -> Result<Turned, SessionFault>
+    ensures turned { IfOk result (HasTurned request.now n session.old) }
+    ensures only { IfErr result (λ fault. fault ≡ Memory) }
+{
+    let performed = repeat(session, request, n);
+    if performed.fault == Some(SessionFault::Memory) {
+        return Err(SessionFault::Memory);
+    }
+    let saved = session.saved()?;
+    Ok(Turned { performed, saved })
+}
+
+/// Takes so many changes back that the journal says, or as many as there are.
+fn undo_in<L: ItemList>(
+    alloc: Global,
+    file: Vec<u8>,
+    journal: &[u8],
+    n: usize,
+    empty: L,
+) -> Result<Turned, SessionFault>
+    requires { L.items empty ≡ [] }
+    ensures turned { IfOk result (Turns Undo n file.items (Some journal.now)) }
+    ensures refused { IfErr result (λ fault. RefusesLoad fault file.items journal.now) }
+{
+    let digest = digest(alloc, file.as_slice())?;
+    match Database::open_file(alloc, file, empty) {
+        Ok(mut db) => undo_of(alloc, &mut db, digest.as_slice(), journal, n),
+        Err(fault) => Err(unopened(fault)),
+    }
+}
+
+/// The same, of the open file, which has this digest.
+fn undo_of<L: ItemList>(
+    alloc: Global,
+    db: &mut Database<L>,
+    digest: &[u8],
+    journal: &[u8],
+    n: usize,
+) -> Result<Turned, SessionFault>
+    requires { digest.now ≡ digest_of db.old }
+    ensures turned { IfOk result (Turns Undo n db.old (Some journal.now)) }
+    ensures refused { IfErr result (λ fault. RefusesLoad fault db.old journal.now) }
+{
+    db.opens();
+    let said = said_with(alloc, digest, journal)?;
+    let done = n.min(said.past.as_slice().len());
+    match file_back(alloc, db, &said, done)? {
+        Some(file) => Ok(Turned {
+            performed: undone(done, n),
+            saved: saved_back(alloc, said, done, file)?,
+        }),
+        None => Err(SessionFault::JournalMismatch),
+    }
+}
+
+/// So many changes were taken back of as many as were to be.
+fn undone(done: usize, n: usize) -> Performed
+    ensures done { result.done ≡ done }
+    ensures all { n ≤ done → result.fault ≡ None }
+    ensures stopped { done < n → result.fault ≡ Some NothingToUndo }
+{
+    Performed {
+        done,
+        fault: if done < n {
+            Some(SessionFault::NothingToUndo)
+        } else {
+            None
+        },
+    }
+}
+
+/// The file before the last `n` past steps that the journal says, if they belong to the open file, which has its digest. It
+/// ends where the past begins.
+fn file_back<L: ItemList>(
+    alloc: Global,
+    db: &mut Database<L>,
+    said: &Journal,
+    n: usize,
+) -> Result<Option<Text>, AllocError>
+    requires digest { said.now.digest ≡ digest_of db.old }
+    requires steps { AreSteps said.now.past said.now.future }
+    requires within { n ≤ length said.now.past }
+    ensures file { IfOk result (λ file. IfSome file (λ file. FitFile said.now db.old × (file ≡ first_of (drop (length said.now.past - n) said.now.past) db.old))) }
+    ensures none { IfOk result (λ file. file ≡ None → FitFile said.now db.old → ⊥) }
+{
+    db.opens();
+    file_before(alloc, db, said.past.as_slice(), said.future.as_slice(), n)
+}
