@@ -175,6 +175,8 @@ fn back_to<L: ItemList>(
     if !go_back_over(alloc, db, last)? {
         return Ok(None);
     }
+    // all items are looked up
+    db.settle();
     let file = bytes_of(&*db)?;
     if !go_back_over(alloc, db, first)? {
         return Ok(None);

@@ -385,6 +385,12 @@ fn counted(alloc: Global, journal: Option<&[u8]>) -> Result<(usize, usize), Sess
     ))
 }
 
+fn lists_hold(alloc: Global) -> Result<bool, Stop> {
+    let journal = journal_of(alloc, TURNED)?;
+    let listed = counted(alloc, Some(journal.as_slice()))?;
+    Ok(listed == (2, 1) && counted(alloc, None)? == (0, 0))
+}
+
 #[test]
 fn changes_are_turned_without_an_open_session(rt: HostRuntime) -> Result<(), Fail> {
     told("undo", turns_hold(rt.alloc(), &Request::Undo, UNDONE))?;
@@ -394,9 +400,7 @@ fn changes_are_turned_without_an_open_session(rt: HostRuntime) -> Result<(), Fai
 
 #[test]
 fn changes_are_listed_without_an_open_session(rt: HostRuntime) -> Result<(), Fail> {
-    let journal = journal_of(rt.alloc(), TURNED)?;
-    assert!(counted(rt.alloc(), Some(journal.as_slice()))? == (2, 1));
-    assert!(counted(rt.alloc(), None)? == (0, 0));
+    told("listed", lists_hold(rt.alloc()))?;
     Ok(())
 }
 

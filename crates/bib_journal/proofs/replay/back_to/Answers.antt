@@ -17,9 +17,9 @@ returns-then-not-branch-2-clause-none g c = λ _ w.
     let first : LeadTo (take (length c.args.steps.now - c.args.n) c.args.steps.now) (first_of (drop (length c.args.steps.now - c.args.n) c.args.steps.now) c.args.db.now) =
     (parts_lead _ c.args.steps.now c.args.db.now w).1 in
     let front : c.split_at.result.0.now ≡ take (length c.args.steps.now - c.args.n) c.args.steps.now = c.split_at.ensures.front in
-    let here : c.go_back_over.new.db ≡ first_of (drop (length c.args.steps.now - c.args.n) c.args.steps.now) c.args.db.now =
-    c.in_ok-go_back_over.ensures.back c.if-not-branch.false ∙ ap (λ (ss : List Step). first_of ss c.args.db.now) c.split_at.ensures.back in
-    let there : LeadTo c.split_at.result.0.now c.go_back_over.new.db =
+    let here : c.settle.new.self ≡ first_of (drop (length c.args.steps.now - c.args.n) c.args.steps.now) c.args.db.now =
+    c.settle.ensures ∙ c.in_ok-go_back_over.ensures.back c.if-not-branch.false ∙ ap (λ (ss : List Step). first_of ss c.args.db.now) c.split_at.ensures.back in
+    let there : LeadTo c.split_at.result.0.now c.settle.new.self =
     subst (λ (f : Text). LeadTo c.split_at.result.0.now f) (sym here) (subst (λ (ss : List Step). LeadTo ss (first_of (drop (length c.args.steps.now - c.args.n) c.args.steps.now) c.args.db.now)) (sym front) first) in
     let yes : c.in_ok-go_back_over-2.field-0 ≡ true = c.in_ok-go_back_over-2.ensures.yes.1 there in
     absurd (cc)
@@ -28,11 +28,11 @@ pub returns-clause-file : goal.returns-clause-file
 returns-clause-file g c =
     let back : c.split_at.result.1.now ≡ drop (length c.args.steps.now - c.args.n) c.args.steps.now = c.split_at.ensures.back in
     let front : c.split_at.result.0.now ≡ take (length c.args.steps.now - c.args.n) c.args.steps.now = c.split_at.ensures.front in
-    let here : c.go_back_over.new.db ≡ first_of (drop (length c.args.steps.now - c.args.n) c.args.steps.now) c.args.db.now =
-    c.in_ok-go_back_over.ensures.back c.if-not-branch.false ∙ ap (λ (ss : List Step). first_of ss c.args.db.now) back in
+    let here : c.settle.new.self ≡ first_of (drop (length c.args.steps.now - c.args.n) c.args.steps.now) c.args.db.now =
+    c.settle.ensures ∙ c.in_ok-go_back_over.ensures.back c.if-not-branch.false ∙ ap (λ (ss : List Step). first_of ss c.args.db.now) back in
     let last : LeadTo (drop (length c.args.steps.now - c.args.n) c.args.steps.now) c.args.db.now =
     subst (λ (ss : List Step). LeadTo ss c.args.db.now) back (c.in_ok-go_back_over.ensures.yes.0 c.if-not-branch.false) in
-    let first : LeadTo c.split_at.result.0.now c.go_back_over.new.db = c.in_ok-go_back_over-2.ensures.yes.0 c.if-not-branch-2.false in (
+    let first : LeadTo c.split_at.result.0.now c.settle.new.self = c.in_ok-go_back_over-2.ensures.yes.0 c.if-not-branch-2.false in (
       both_lead (length c.args.steps.now - c.args.n) c.args.steps.now c.args.db.now last
           (subst (λ (ss : List Step). LeadTo ss (first_of (drop (length c.args.steps.now - c.args.n) c.args.steps.now) c.args.db.now)) front
           (subst (λ (f : Text). LeadTo c.split_at.result.0.now f) here first)),
