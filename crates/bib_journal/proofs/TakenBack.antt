@@ -1,5 +1,5 @@
 -- Changes that are taken back at once.
-use Rattle.std.proofs.Common.{◌≡◌, ℕ, ◌+◌, ◌-◌, ◌≤◌, ◌<◌, List, [], ◌∷◌, ◌++◌, length, take, drop, min, replicate, suc, ◌≢◌, ⊎_elim, Option, Some, None, refl, sym, ◌∙◌, ap, subst, arith, inl, inr}
+use Rattle.std.proofs.Common.{◌≡◌, ℕ, ◌+◌, ◌-◌, ◌≤◌, ◌<◌, List, [], ◌∷◌, ◌++◌, length, take, drop, min, replicate, suc, ◌≢◌, ⊎_elim, Option, Some, None, refl, sym, ◌∙◌, ap, subst, arith}
 use Rattle.std.proofs.lemmas.List.{append-nil, append_assoc, take-append-drop, length-drop, length-replicate, take-replicate, replicate-append-replicate, drop_all}
 use Rattle.std.proofs.Math.Nat.{eq-or-lt_of_le}
 use Rattle.bib_spec.specs.Text.{Text}
@@ -16,7 +16,7 @@ use Rattle.bib_journal.specs.declared.changing.Turned.{Turned}
 use Rattle.bib_journal.specs.Kept.{kept}
 use Rattle.bib_journal.specs.Loading.{SaysOf}
 use Rattle.bib_journal.specs.Session.{DoesAll, StopsAt, Performs}
-use Rattle.bib_journal.specs.Turns.{Turns, HasTurned, taken_back}
+use Rattle.bib_journal.specs.Turns.{Turns, taken_back}
 use Rattle.bib_journal.proofs.LoadLemmas.{says_loads}
 use Rattle.bib_journal.proofs.OneMoreRequest.{does_last, repeats_up_to}
 use Rattle.bib_journal.proofs.SeveralRuns.{all_keep_sound}
