@@ -67,12 +67,11 @@ impl Gathered {
         ensures added { OnOk result (OfValue value.now (λ v. self.new.fields.items ≡ with_field self.old.fields.items (record { name = name.now; raw = raw_text (macros_seen macros.now) v }))) }
         ensures only { IfErr result (λ fault. fault ≡ Memory) }
     {
-        if self.names.get(name).is_some() {
+        if self.names.insert(name, ())?.is_some() {
             return Ok(());
         }
         let text = short_field_text(self.alloc, value, macros)?;
         let field = (lower(self.alloc, name)?, text);
-        self.names.insert(name, ())?;
         self.fields.push(field)?;
         Ok(())
     }

@@ -1,6 +1,5 @@
 -- A map by folded names, as the list of the names with their values.
-use Rattle.std.specs.Prelude.{◌≡◌, ◌<◌, ℕ, List, [], ◌∷◌, length, map, Option, Some, None, if◌then◌else◌, bytes_eq}
-use Rattle.std.specs.declared.vec.Vec.{Vec}
+use Rattle.std.specs.Prelude.{◌≡◌, ◌<◌, List, [], ◌∷◌, length, Option, Some, None, if◌then◌else◌, bytes_eq}
 use Rattle.bib_spec.specs.Bytes.{name_limit}
 use Rattle.bib_spec.specs.Text.{Text, folded}
 
@@ -17,10 +16,6 @@ IsWith old name v new = (x : Text) → value_at new x ≡ (if bytes_eq x (folded
 abbrev pub IsWithout : {V : Type 0} → List (Text × V) → Text → List (Text × V) → Type 0
 IsWithout old name new = (x : Text) → value_at new x ≡ (if bytes_eq x (folded name) then None else value_at old x)
 
--- the names that the code keeps, as texts
-abbrev pub by_name : {V Z : Type 0} → List (Vec ℕ Z × V) → List (Text × V)
-by_name es = map (λ e. (e.0.items, e.1)) es
-
 -- no name that is longer than a name may be has a value
-abbrev pub NamesAreShort : {V Z : Type 0} → List (Vec ℕ Z × V) → Type 0
-NamesAreShort es = (name : Text) → name_limit < length name → value_at (by_name es) name ≡ None
+abbrev pub NamesAreShort : {V : Type 0} → List (Text × V) → Type 0
+NamesAreShort es = (name : Text) → name_limit < length name → value_at es name ≡ None

@@ -7,6 +7,7 @@ ghost use Rattle.bib_spec.specs.Text.{Text, folded};
 ghost use Rattle.bib_value.specs.FoldedMap.{value_at, IsWith, IsWithout};
 
 use crate::folding::FoldedName;
+use crate::kept_name::KeptName;
 use bib_scan::NAME_LIMIT;
 use indexmap::IndexMap;
 use std::alloc::{AllocError, AllocFailed, Global};
@@ -18,26 +19,19 @@ use std::mem;
 #[derive(Drop)]
 pub struct FoldedMap<V> {
     alloc: Global,
-    entries: IndexMap<Vec<u8>, V>,
+    entries: IndexMap<KeptName, V>,
 }
 
 impl<V> Model for FoldedMap<V> {
     ghost use Rattle.std.specs.Prelude.{List};
     ghost use Rattle.bib_spec.specs.Text.{Text};
-    ghost use Rattle.bib_value.specs.FoldedMap.{by_name, NamesAreShort};
+    ghost use Rattle.bib_value.specs.FoldedMap.{NamesAreShort};
 
     ghost Value = { List (Text × V) };
 
-    ghost view = { λ m. by_name m.entries.entries };
+    ghost view = { λ m. m.entries.entries };
 
     ghost invariant = { λ m. NamesAreShort m.entries.entries };
-}
-
-/// The name, folded, in memory of its own.
-fn folded_text(alloc: Global, name: &[u8]) -> Result<Vec<u8>, AllocError>
-    ensures { IfOk result (λ text. text.items ≡ folded name.now) }
-{
-    name.to_ascii_lowercase(alloc)
 }
 
 impl<V> FoldedMap<V> {
@@ -71,7 +65,7 @@ impl<V> FoldedMap<V> {
         if name.len() > NAME_LIMIT {
             return None;
         }
-        entries.get(FoldedName::of(name).as_slice())
+        entries.get(&FoldedName::of(name))
     }
 
     /// Gives the name this value, in the place of the one that it has, which is returned. Where memory is refused, nothing
@@ -84,8 +78,8 @@ impl<V> FoldedMap<V> {
         ensures ok { OnOk result (IsWith self.old name.now value self.new) }
         ensures err { OnErr result (self.new ≡ self.old) }
     {
-        let folded = folded_text(self.alloc, name)?;
-        Ok(self.entries.insert(folded, value)?)
+        let kept = KeptName::of(self.alloc, name)?;
+        Ok(self.entries.insert(kept, value)?)
     }
 
     /// Gives the name this value in the place of the one that it has, which is returned. A name without a value is left
@@ -101,7 +95,7 @@ impl<V> FoldedMap<V> {
         if name.len() > NAME_LIMIT {
             return None;
         }
-        let kept = self.entries.get_mut(FoldedName::of(name).as_slice())?;
+        let kept = self.entries.get_mut(&FoldedName::of(name))?;
         Some(mem::replace(kept, value))
     }
 
@@ -114,6 +108,6 @@ impl<V> FoldedMap<V> {
         if name.len() > NAME_LIMIT {
             return None;
         }
-        self.entries.swap_remove(FoldedName::of(name).as_slice())
+        self.entries.swap_remove(&FoldedName::of(name))
     }
 }

@@ -1,10 +1,11 @@
 //! Names without regard to ASCII case.
 
-ghost use Rattle.std.specs.Prelude.{◌≡◌, ◌≤◌, length};
+ghost use Rattle.std.specs.Prelude.{◌≡◌, ◌≤◌, ◌∷◌, length};
 ghost use Rattle.bib_spec.specs.Bytes.{name_limit};
 ghost use Rattle.bib_spec.specs.Text.{folded};
 
 use bib_scan::NAME_LIMIT;
+use std::hash::{Hash, Hasher};
 use std::marker::Model;
 
 /// A name of at most 255 bytes, in lower case. It takes no memory.
@@ -43,5 +44,39 @@ impl FoldedName {
         ensures { result.now ≡ self.now }
     {
         self.bytes.split_at(self.len).0
+    }
+}
+
+impl PartialEq for FoldedName {
+    ghost use Rattle.std.specs.Cmp.{partial_equiv_from_equiv};
+    ghost use Rattle.std.specs.Cmp.Lexicographic.{nat_list_eq_equiv};
+    ghost use Rattle.std.specs.Str.{bytes_eq};
+
+    ghost eq = { bytes_eq };
+
+    ghost laws = { partial_equiv_from_equiv nat_list_eq_equiv };
+
+    fn eq(&self, other: &FoldedName) -> bool {
+        self.as_slice() == other.as_slice()
+    }
+}
+
+impl Eq for FoldedName {
+    ghost use Rattle.std.specs.Cmp.Lexicographic.{nat_list_eq_equiv};
+
+    ghost laws = { nat_list_eq_equiv };
+}
+
+impl Hash for FoldedName {
+    ghost use Rattle.std.proofs.Common.{ap, []};
+    ghost use Rattle.std.specs.Cmp.Lexicographic.{bytes_decides};
+
+    // all bytes by one write, which takes eight of them at once
+    ghost hash_input = { λ n. n ∷ [] };
+
+    ghost respects_eq = { λ x y h. ap (λ t. t ∷ []) ((bytes_decides x y).0 h) };
+
+    fn hash<H: Hasher>(&self, state: &mut H) {
+        state.write(self.as_slice());
     }
 }

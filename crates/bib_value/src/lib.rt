@@ -5,6 +5,7 @@
 mod fault;
 mod folded_map;
 mod folding;
+mod kept_name;
 mod months;
 mod raw;
 mod spacing;

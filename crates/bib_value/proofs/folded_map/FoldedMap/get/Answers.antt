@@ -1,7 +1,7 @@
 use Rattle.std.proofs.Common.{◌∙◌, ap, sym}
 use Rattle.bib_spec.specs.Text.{folded}
 use Rattle.bib_value.specs.FoldedMap.{value_at}
-use Rattle.bib_value.proofs.Entries.{value_at-by_name, folded_long}
+use Rattle.bib_value.proofs.Entries.{value_at-get, folded_long}
 use Rattle.bib_value.proofs.folded_map.FoldedMap.get.Goals as goal
 
 pub returns-then-name-gt-NAME_LIMIT : goal.returns-then-name-gt-NAME_LIMIT
@@ -12,6 +12,6 @@ returns-then-name-gt-NAME_LIMIT g c =
 pub returns : goal.returns
 returns g c =
     c.get.ensures.value
-    ∙ value_at-by_name c.self.inside.entries c.as_slice.result.now
-    ∙ ap (value_at _) (c.as_slice.ensures ∙ c.of.ensures)
+    ∙ value_at-get c.self.inside.entries c.of.result
+    ∙ ap (value_at _) (c.of.ensures)
     ∙ ap (λ l. value_at l (folded c.args.name.now)) c.self.view_is
