@@ -10,7 +10,7 @@ use Rattle.bib_spec.specs.Texts.{months}
 use Rattle.bib_value.specs.FoldedMap.{value_at, IsWith}
 use Rattle.bib_value.specs.Macros.{or_else}
 use Rattle.bib_spec.proofs.Names.{eq-true}
-use Rattle.bib_definitions.specs.declared.by_name.Definition.{Definition}
+use Rattle.bib_definitions.specs.declared.held.Definition.{Definition}
 use Rattle.bib_definitions.specs.ByName.{Defined, definitions_of, text_after, texts_after, EndsBy}
 
 -- where no name is defined, names stand for months alone

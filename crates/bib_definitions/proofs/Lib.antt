@@ -1,6 +1,6 @@
 pub mod MacrosAfter
-pub mod NumberedLists
 pub mod DefinedNames
+pub mod HeldLists
 pub mod OrderedNames
 pub mod DefinitionTables
 pub mod LongestTexts

@@ -8,7 +8,7 @@ use Rattle.std.proofs.lemmas.Option.{none-some, same_Some}
 use Rattle.bib_spec.specs.Text.{Text, folded}
 use Rattle.bib_spec.specs.Texts.{months, month_names}
 use Rattle.bib_value.specs.FoldedMap.{IsWith}
-use Rattle.bib_definitions.specs.declared.by_name.Definition.{Definition}
+use Rattle.bib_definitions.specs.declared.held.Definition.{Definition}
 use Rattle.bib_definitions.specs.ByName.{Defined, definitions_of, texts_after}
 use Rattle.bib_definitions.specs.Definitions.{AreAtMost, AreWithin}
 use Rattle.bib_definitions.proofs.DefinedNames.{at_same, at_before, at_other}

@@ -11,7 +11,7 @@ use Rattle.bib_spec.specs.Texts.{Macros, months}
 use Rattle.bib_spec.proofs.Names.{eq-true, true-eq}
 use Rattle.bib_value.specs.FoldedMap.{IsWith}
 use Rattle.bib_value.specs.Macros.{or_else}
-use Rattle.bib_definitions.specs.declared.by_name.Definition.{Definition}
+use Rattle.bib_definitions.specs.declared.held.Definition.{Definition}
 use Rattle.bib_definitions.specs.ByName.{Defined, Named, AreAllOf, definitions_of, named_among, text_after, texts_after, EndsBy}
 use Rattle.bib_definitions.proofs.DefinedNames.{of_same, of_other}
 

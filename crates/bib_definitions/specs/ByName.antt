@@ -1,13 +1,14 @@
 -- The definitions of each name, as the code keeps them.
-use Rattle.std.specs.Prelude.{◌≡◌, ◌<◌, ◌+◌, ℕ, nat_lt, bytes_eq, List, [], ◌∷◌, length, map, Option, Some, None, unwrap_or, slice_index_or, if◌then◌else◌}
+use Rattle.std.specs.Prelude.{◌≡◌, ◌<◌, ◌+◌, ℕ, nat_lt, bytes_eq, List, [], ◌∷◌, map, Option, Some, None, unwrap_or, if◌then◌else◌}
 use Rattle.std.specs.List.{All}
 use Rattle.std.specs.List.Sorted.{IsNonDecreasingBy}
-use Rattle.std.specs.declared.vec.Vec.{Vec}
 use Rattle.bib_spec.specs.Text.{Text, folded}
 use Rattle.bib_spec.specs.Texts.{Macros, months}
 use Rattle.bib_value.specs.FoldedMap.{value_at}
 use Rattle.bib_value.specs.Macros.{or_else}
-use Rattle.bib_definitions.specs.declared.by_name.Definition.{Definition}
+use Rattle.bib_definitions.specs.declared.held.Definition.{Definition}
+use Rattle.bib_definitions.specs.declared.held.Held.{Held}
+use Rattle.bib_definitions.specs.Held.{definitions_held}
 
 -- the defined names, folded, each with its definitions in file order
 abbrev pub Defined : Type 0
@@ -47,21 +48,16 @@ pub record AreAllOf (named : Named) (all : List (Text × Text)) : Type 0 where
   pub listed : (name : Text) → definitions_of named.defined name ≡ named_among name 0 all
   pub ordered : map folded named.order ≡ map (λ d. d.0) all
 
--- ---- names with numbers, and a list of definitions for each number
+-- ---- how they are kept
 
 -- definitions stand in file order
 abbrev pub Ascends : List Definition → Type 0
 Ascends ds = IsNonDecreasingBy (λ d. d.rank) ds
 
-abbrev pub lists_of : {Z : Type 0} → List (Vec Definition Z) → List (List Definition)
-lists_of lists = map (λ list. list.items) lists
+-- those of each name do
+abbrev pub AreInOrder : Defined → Type 0
+AreInOrder defined = (name : Text) → Ascends (definitions_of defined name)
 
--- each name with the list that has its number
-abbrev pub named_lists : List (Text × ℕ) → List (List Definition) → Defined
-named_lists numbers lists = map (λ e. (e.0, slice_index_or lists e.1 [])) numbers
-
--- each name has a list of its own, and in each list the definitions stand in file order
-pub record AreNumbered (numbers : List (Text × ℕ)) (lists : List (List Definition)) : Type 0 where
-  pub within : (name : Text) (number : ℕ) → value_at numbers name ≡ Some number → number < length lists
-  pub apart : (a b : Text) (number : ℕ) → value_at numbers a ≡ Some number → value_at numbers b ≡ Some number → a ≡ b
-  pub ascend : (number : ℕ) → Ascends (slice_index_or lists number [])
+-- each name with the definitions that are held for it
+abbrev pub each_held : List (Text × Held) → Defined
+each_held lists = map (λ e. (e.0, definitions_held e.1)) lists

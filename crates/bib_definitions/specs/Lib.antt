@@ -1,3 +1,4 @@
+pub mod Held
 pub mod ByName
 pub mod Definitions
 pub mod MacrosSeen

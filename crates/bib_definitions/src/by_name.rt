@@ -1,45 +1,38 @@
 //! The definitions of each name.
 
-ghost use Rattle.std.specs.Prelude.{◌≡◌, ◌++◌, ◌∷◌, [], ◌<◌, length, slice_index_or, slice_set, OnOk, OnErr};
+ghost use Rattle.std.specs.Prelude.{◌≡◌, ◌++◌, ◌∷◌, [], ◌<◌, ◌≤◌, length, IfSome, IsSome, OnOk, OnErr};
 ghost use Rattle.std.specs.Option.{option_copied};
+ghost use Rattle.bib_spec.specs.Bytes.{name_limit};
 ghost use Rattle.bib_spec.specs.Text.{folded};
-ghost use Rattle.bib_definitions.specs.ByName.{text_after, lists_of, Ascends};
+ghost use Rattle.bib_value.specs.FoldedMap.{value_at, IsWith};
+ghost use Rattle.bib_definitions.specs.Held.{Fits};
+ghost use Rattle.bib_definitions.specs.ByName.{text_after, definitions_of, each_held, Ascends};
 
-use bib_scan::Text;
+use crate::held::{Definition, Held};
 use bib_value::{FoldedMap, month};
 use std::alloc::{AllocError, Global};
 use std::marker::Model;
 
-/// What a name stands for after the definition before which so many others stand.
-#[derive(Drop)]
-pub(crate) struct Definition {
-    pub rank: usize,
-    pub text: Text,
-}
-
 /// All definitions of a file. A contract sees the defined names, folded, each with its definitions in file order.
 #[derive(Drop)]
 pub(crate) struct ByName {
-    numbers: FoldedMap<usize>,
-    lists: Vec<Vec<Definition>>,
+    lists: FoldedMap<Held>,
 }
 
 impl Model for ByName {
-    ghost use Rattle.bib_definitions.specs.ByName.{Defined, named_lists, lists_of, AreNumbered};
+    ghost use Rattle.bib_definitions.specs.ByName.{Defined, each_held, AreInOrder};
 
     ghost Value = { Defined };
 
-    ghost view = { λ d. named_lists d.numbers (lists_of d.lists.items) };
+    ghost view = { λ d. each_held d.lists };
 
-    ghost invariant = { λ d. AreNumbered d.numbers (lists_of d.lists.items) };
+    ghost invariant = { λ d. AreInOrder (each_held d.lists) };
 }
 
 impl ByName {
-    ghost use Rattle.std.specs.Prelude.{◌+◌, ◌≤◌, ℕ, None};
-    ghost use Rattle.bib_spec.specs.Bytes.{name_limit};
+    ghost use Rattle.std.specs.Prelude.{ℕ};
     ghost use Rattle.bib_spec.specs.Texts.{months};
-    ghost use Rattle.bib_value.specs.FoldedMap.{value_at, IsWith};
-    ghost use Rattle.bib_definitions.specs.ByName.{definitions_of, texts_after, EndsBy};
+    ghost use Rattle.bib_definitions.specs.ByName.{texts_after, EndsBy};
 
     /// No definitions: names stand for months alone. It takes no memory.
     pub(crate) fn new(alloc: Global) -> Self
@@ -47,8 +40,7 @@ impl ByName {
         ensures ends { EndsBy 0 result }
     {
         ByName {
-            numbers: FoldedMap::new(alloc),
-            lists: Vec::new(alloc),
+            lists: FoldedMap::new(alloc),
         }
     }
 
@@ -59,29 +51,7 @@ impl ByName {
         ensures ok { OnOk result (IsWith self.old name.now (definitions_of self.old (folded name.now) ++ definition ∷ []) self.new) }
         ensures err { OnErr result (self.new ≡ self.old) }
     {
-        match self.numbers.get(name) {
-            Some(number) => {
-                let number = *number;
-                put_last(&mut self.lists, number, definition)
-            }
-            None => self.put_first(name, definition),
-        }
-    }
-
-    /// Puts in the first definition of a name.
-    fn put_first(&mut self, name: &[u8], definition: Definition) -> Result<(), AllocError>
-        requires short { length name.now ≤ name_limit }
-        requires first { value_at self.old (folded name.now) ≡ None }
-        ensures ok { OnOk result (IsWith self.old name.now (definition ∷ []) self.new) }
-        ensures err { OnErr result (self.new ≡ self.old) }
-    {
-        // most names have one definition
-        let mut list = Vec::with_capacity(self.numbers.allocator(), 1)?;
-        list.push(definition)?;
-        self.lists.reserve(1)?;
-        self.numbers.insert(name, self.lists.len())?;
-        self.lists.push(list)?;
-        Ok(())
+        put(&mut self.lists, name, definition)
     }
 
     /// The definitions of a name.
@@ -89,8 +59,8 @@ impl ByName {
         ensures is { result.now ≡ definitions_of self.now (folded name.now) }
         ensures ascend { Ascends result.now }
     {
-        match self.numbers.get(name) {
-            Some(number) => self.lists[*number].as_slice(),
+        match self.lists.get(name) {
+            Some(held) => held.as_slice(),
             None => &[],
         }
     }
@@ -107,18 +77,34 @@ impl ByName {
     }
 }
 
-/// Puts a definition after those of the list with this number.
-fn put_last(
-    lists: &mut Vec<Vec<Definition>>,
-    number: usize,
-    definition: Definition,
-) -> Result<(), AllocError>
-    requires { number < length lists.old.items }
-    ensures ok { OnOk result (lists_of lists.new.items ≡ slice_set (lists_of lists.old.items) number (slice_index_or (lists_of lists.old.items) number [] ++ definition ∷ [])) }
-    ensures err { OnErr result (lists_of lists.new.items ≡ lists_of lists.old.items) }
+/// Puts a definition after those that its name has. Where memory is refused, nothing changes.
+fn put(lists: &mut FoldedMap<Held>, name: &[u8], definition: Definition) -> Result<(), AllocError>
+    requires { length name.now ≤ name_limit }
+    ensures ok { OnOk result (IsWith (each_held lists.old) name.now (definitions_of (each_held lists.old) (folded name.now) ++ definition ∷ []) (each_held lists.new)) }
+    ensures err { OnErr result (lists.new ≡ lists.old) }
 {
-    lists[number].push(definition)?;
+    match lists.get(name) {
+        Some(held) => {
+            let room = held.room(lists.allocator())?;
+            put_last(lists, name, room, definition);
+        }
+        None => {
+            lists.insert(name, Held::One(definition))?;
+        }
+    }
     Ok(())
+}
+
+/// Puts a definition after those of its name, moved to this memory where they have no room. It asks for no more.
+fn put_last(lists: &mut FoldedMap<Held>, name: &[u8], room: Vec<Definition>, definition: Definition)
+    requires some { IsSome (value_at lists.old (folded name.now)) }
+    requires fits { IfSome (value_at lists.old (folded name.now)) (λ held. Fits held room) }
+    ensures { IsWith (each_held lists.old) name.now (definitions_of (each_held lists.old) (folded name.now) ++ definition ∷ []) (each_held lists.new) }
+{
+    let Some(held) = lists.replace(name, Held::Nothing) else {
+        unreachable!();
+    };
+    lists.replace(name, held.with_last(room, definition));
 }
 
 /// The text of the last of these definitions that is one of the first so many of all.

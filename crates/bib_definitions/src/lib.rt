@@ -5,6 +5,7 @@
 
 mod by_name;
 mod definitions;
+mod held;
 mod macros_at;
 mod names;
 

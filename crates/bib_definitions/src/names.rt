@@ -5,7 +5,8 @@ ghost use Rattle.std.specs.Option.{option_copied};
 ghost use Rattle.bib_spec.specs.Bytes.{name_limit};
 ghost use Rattle.bib_spec.specs.Text.{Text as Bytes, folded};
 
-use crate::by_name::{ByName, Definition};
+use crate::by_name::ByName;
+use crate::held::Definition;
 use bib_scan::{NAME_LIMIT, Seq, Text};
 use std::alloc::{AllocError, Global};
 use std::marker::Model;

@@ -1,8 +1,17 @@
-use Rattle.bib_definitions.proofs.NumberedLists.{lists-kept, lists-more, on_err}
+use Rattle.std.proofs.Common.{◌∷◌, ◌++◌, List, [], sym, ap, ◌∙◌, subst}
+use Rattle.bib_spec.specs.Text.{folded}
+use Rattle.bib_value.specs.FoldedMap.{IsWith}
+use Rattle.bib_definitions.specs.declared.held.Definition.{Definition}
+use Rattle.bib_definitions.specs.declared.held.Held.TheVariants.{Nothing}
+use Rattle.bib_definitions.specs.ByName.{each_held}
+use Rattle.bib_definitions.proofs.HeldLists.{of-each, with-each, with-twice}
 use Rattle.bib_definitions.proofs.by_name.put_last.Goals as goal
 
-pub returns-in_err-push-clause-err : goal.returns-in_err-push-clause-err
-returns-in_err-push-clause-err c = on_err c.from_residual.result _ (lists-kept c.args.lists.now.items c.args.number c.index_mut.result.now c.push.new.self c.index_mut.ensures.value c.in_err-push.ensures.items)
-
-pub returns-clause-ok : goal.returns-clause-ok
-returns-clause-ok c = lists-more c.args.lists.now.items c.args.number c.index_mut.result.now c.push.new.self c.index_mut.ensures.value c.args.definition c.requires c.in_ok-push.ensures.items
+pub returns : goal.returns
+returns c =
+    let old = c.args.lists.now in
+    let new = c.replace-2.new.self in
+    let name = c.args.name.now in
+    subst (λ (ds : List Definition). IsWith (each_held old) name ds (each_held new))
+    (c.with_last.ensures ∙ ap (λ ds. ds ++ c.args.definition ∷ []) (sym (of-each old (folded name) c.in-Some.held (sym c.replace.ensures.value ∙ c.in-Some.is))))
+    (with-each old new name c.with_last.result (with-twice old c.replace.new.self new name Nothing c.with_last.result c.replace-2.result c.in-Some.ensures.some c.replace-2.ensures.value c.replace-2.ensures.some))

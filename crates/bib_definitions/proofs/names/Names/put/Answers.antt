@@ -1,6 +1,6 @@
 use Rattle.std.proofs.Common.{◌≡◌, ◌∙◌, ◌+◌, ℕ, [], ◌∷◌, ◌++◌, length, refl, sym, ap, subst, arith, rules, length-append}
 use Rattle.bib_spec.specs.Text.{Text}
-use Rattle.bib_definitions.specs.declared.by_name.Definition.{Definition}
+use Rattle.bib_definitions.specs.declared.held.Definition.{Definition}
 use Rattle.bib_definitions.specs.ByName.{Named, AreAllOf, EndsBy}
 use Rattle.bib_definitions.proofs.DefinedNames.{ends-defined}
 use Rattle.bib_definitions.proofs.LongestTexts.{within_more}

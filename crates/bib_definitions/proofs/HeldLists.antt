@@ -1,0 +1,54 @@
+-- The definitions that are held for each name.
+use Rattle.std.proofs.Common.{◌≡◌, Bool, true, false, cond, List, [], ◌∷◌, Option, Some, None, unwrap_or, option_map, refl, sym, ◌∙◌, ap, subst, arith}
+use Rattle.std.specs.Option.{IfSome}
+use Rattle.std.specs.Str.{bytes_eq}
+use Rattle.std.proofs.lemmas.Bool.{cond-true, cond-false}
+use Rattle.std.proofs.lemmas.Option.{none-some}
+use Rattle.bib_spec.specs.Text.{Text, folded}
+use Rattle.bib_spec.proofs.Names.{true-eq}
+use Rattle.bib_value.specs.FoldedMap.{value_at, IsWith}
+use Rattle.bib_definitions.specs.declared.held.Definition.{Definition}
+use Rattle.bib_definitions.specs.declared.held.Held.{Held}
+use Rattle.bib_definitions.specs.Held.{definitions_held}
+use Rattle.bib_definitions.specs.ByName.{Defined, definitions_of, each_held, Ascends, AreInOrder}
+
+-- a choice of values, and of what they are seen as
+along : {X Y : Type 0} (f : X → Y) (c : Bool) (x : X) (o : Option X) → cond c (Some (f x)) (option_map f o) ≡ option_map f (cond c (Some x) o)
+along f true x o = refl
+along f false x o = refl
+
+-- what a name has
+value_at-each : (lists : List (Text × Held)) (x : Text) → value_at (each_held lists) x ≡ option_map definitions_held (value_at lists x)
+value_at-each [] x = refl
+value_at-each (e ∷ es) x = ap (cond (bytes_eq x e.0) (Some (definitions_held e.1))) (value_at-each es x) ∙ along definitions_held (bytes_eq x e.0) e.1 (value_at es x)
+
+pub of-each : (lists : List (Text × Held)) (x : Text) (held : Held) → value_at lists x ≡ Some held → definitions_of (each_held lists) x ≡ definitions_held held
+of-each lists x held is = ap (λ o. unwrap_or o []) (value_at-each lists x ∙ ap (option_map definitions_held) is)
+
+pub none-each : (lists : List (Text × Held)) (x : Text) → value_at lists x ≡ None → value_at (each_held lists) x ≡ None
+none-each lists x none = value_at-each lists x ∙ ap (option_map definitions_held) none
+
+pub with-each : (old new : List (Text × Held)) (name : Text) (held : Held) → IsWith old name held new → IsWith (each_held old) name (definitions_held held) (each_held new)
+with-each old new name held put x =
+    value_at-each new x ∙ ap (option_map definitions_held) (put x) ∙ sym (along definitions_held (bytes_eq x (folded name)) held (value_at old x))
+    ∙ ap (cond (bytes_eq x (folded name)) (Some (definitions_held held))) (sym (value_at-each old x))
+
+-- what holds of a value holds where there is one
+has_some : {V : Type 0} (r : Option V) (v : V) (P : Type 0) → r ≡ Some v → IfSome r (λ o. P) → P
+has_some (Some w) v P is holds = holds
+has_some None v P is holds = absurd (none-some v is)
+
+-- a name that was given one value, and then another
+pub with-twice : {V : Type 0} (old mid new : List (Text × V)) (name : Text) (u v : V) (r : Option V) → IsWith old name u mid → r ≡ value_at mid (folded name) → IfSome r (λ o. IsWith mid name v new) → IsWith old name v new
+with-twice old mid new name u v r first is last x = next x ∙ over (bytes_eq x (folded name)) refl
+  where
+    next : IsWith mid name v new
+    next = has_some r u (IsWith mid name v new) (is ∙ first (folded name) ∙ cond-true (bytes_eq (folded name) (folded name)) (Some u) (value_at old (folded name)) (true-eq (folded name) (folded name) refl)) last
+
+    over : (c : Bool) → bytes_eq x (folded name) ≡ c → cond c (Some v) (value_at mid x) ≡ cond c (Some v) (value_at old x)
+    over true t = refl
+    over false t = first x ∙ cond-false (bytes_eq x (folded name)) (Some u) (value_at old x) t
+
+-- where no name is defined, there are none out of order
+pub none_in_order : (defined : Defined) → ((name : Text) → value_at defined name ≡ None) → AreInOrder defined
+none_in_order defined none name = subst Ascends (sym (ap (λ (o : Option (List Definition)). unwrap_or o []) (none name))) (λ i j e le lt. absurd (omega (arith, lt)))
