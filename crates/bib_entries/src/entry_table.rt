@@ -124,10 +124,11 @@ impl EntryTable {
         }
     }
 
-    /// Makes room for the keys of so many entries more, as far as there is memory for it. The table says what it said.
+    /// Makes room for so many entries more, as far as there is memory for it. The table says what it said.
     pub fn prepare(&mut self, additional: usize)
         ensures { SaysTheSame self.old self.new }
     {
+        self.order.prepare(additional);
         let _ = self.keys.reserve(additional);
     }
 

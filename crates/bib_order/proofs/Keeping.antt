@@ -6,5 +6,5 @@ use Rattle.bib_order.specs.Ids.{ids_of, AreKept}
 use Rattle.bib_order.proofs.Ascending.{ascend_distinct}
 
 pub kept_distinct : (ids : Ids) → AreKept ids → IsDistinct (ids_of ids)
-kept_distinct (Listed ids) up = ascend_distinct ids.items up
+kept_distinct (Listed ids) up = ascend_distinct ids up
 kept_distinct (Paged ids) distinct = distinct

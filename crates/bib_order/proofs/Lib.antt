@@ -3,4 +3,5 @@ pub mod KeptOrder
 pub mod Following
 pub mod Counting
 pub mod Ascending
+pub mod Counted
 pub mod Keeping

@@ -1,3 +1,4 @@
 pub mod Orders
+pub mod Counted
 pub mod Ids
 pub mod Holders

@@ -1,21 +1,141 @@
 //! Ids that ascend.
 
-ghost use Rattle.std.specs.Prelude.{◌≡◌, ◌<◌, length, insert, slice_get, Some, IfOk, OnErr};
+ghost use Rattle.std.specs.Prelude.{◌≡◌, ◌<◌, ◌≤◌, ◌++◌, [], length, insert, slice_get, Some, IfOk, OnErr, vec_capacity};
 ghost use Rattle.std.specs.List.{AllByRecursion};
 ghost use Rattle.std.specs.Option.{IfSome, IfNone};
 ghost use Rattle.bib_order.specs.Orders.{Lacks, Ascend};
+ghost use Rattle.bib_order.specs.Counted.{counted};
 
-use std::alloc::AllocError;
+use std::alloc::{AllocError, Global};
+use std::marker::Model;
 
-/// Where the id stands among these: at once where each is its own number, else by a search.
-pub(crate) fn position_among(ids: &[usize], id: usize) -> Option<usize>
+/// Ids that ascend. As long as each is its own number, they are not written down, and take no memory but room for a list:
+/// it is needed once one goes from their midst.
+#[derive(Drop)]
+pub(crate) struct Listed {
+    // how many ids are not written down
+    count: usize,
+    // those that are, after the others
+    list: Vec<usize>,
+}
+
+impl Model for Listed {
+    ghost use Rattle.std.specs.Prelude.{◌++◌, List, ℕ};
+    ghost use Rattle.bib_order.specs.Counted.{counted, HasRoom};
+
+    ghost Value = { List ℕ };
+
+    ghost view = { λ l. counted l.count ++ l.list.items };
+
+    ghost invariant = { λ l. HasRoom l.count l.list };
+}
+
+impl Listed {
+    ghost use Rattle.std.specs.Prelude.{remove, slice_index};
+
+    /// No ids. It asks for no memory.
+    pub(crate) fn new(alloc: Global) -> Self
+        ensures { result ≡ [] }
+    {
+        Listed {
+            count: 0,
+            list: Vec::new(alloc),
+        }
+    }
+
+    /// How many ids there are.
+    #[tactic(auto, using(crate::proofs::Counted::length_all))]
+    pub(crate) fn len(&self) -> usize
+        ensures { result ≡ length self.now }
+    {
+        self.count + self.list.len()
+    }
+
+    /// Id `n`, counted from 0.
+    pub(crate) fn id_at(&self, n: usize) -> usize
+        requires { n < length self.now }
+        ensures { result ≡ slice_index self.now n }
+    {
+        if n < self.count {
+            n
+        } else {
+            self.list[n - self.count]
+        }
+    }
+
+    /// Where the id stands: at once where it is its own number, else by a search.
+    pub(crate) fn position_of(&self, id: usize) -> Option<usize>
+        requires { Ascend self.now }
+        ensures found { IfSome result (λ n. slice_get self.now n ≡ Some id) }
+        ensures none { IfNone result (Lacks self.now id) }
+    {
+        if id < self.count {
+            return Some(id);
+        }
+        let n = position_among(&self.list, id)?;
+        Some(self.count + n)
+    }
+
+    /// Makes room for so many ids more. No id changes.
+    pub(crate) fn reserve(&mut self, additional: usize) -> Result<(), AllocError>
+        ensures { self.new ≡ self.old }
+    {
+        self.list.reserve(self.count.saturating_add(additional))
+    }
+
+    /// Puts an id after all of these that is larger than they are.
+    pub(crate) fn push(&mut self) -> Result<usize, AllocError>
+        requires { Ascend self.old }
+        ensures ok { IfOk result (λ id. (self.new ≡ insert self.old (length self.old) id) × Lacks self.old id) }
+        ensures up { Ascend self.new }
+        ensures err { OnErr result (self.new ≡ self.old) }
+    {
+        if !self.list.is_empty() {
+            return add_next(&mut self.list);
+        }
+        let id = self.count;
+        let Some(count) = id.checked_add(1) else {
+            return Err(AllocError);
+        };
+        self.list.reserve(count)?;
+        self.count = count;
+        Ok(id)
+    }
+
+    /// Takes id `n` away. It asks for no memory.
+    pub(crate) fn remove(&mut self, n: usize)
+        requires within { n < length self.old }
+        requires up { Ascend self.old }
+        ensures list { self.new ≡ remove self.old n }
+        ensures up { Ascend self.new }
+    {
+        if self.count > 0 && n == self.count - 1 {
+            self.count = n;
+            return;
+        }
+        write_down(&mut self.list, self.count);
+        self.count = 0;
+        self.list.remove(n);
+    }
+}
+
+/// Writes so many ids down, each of which is its own number, where none is.
+fn write_down(list: &mut Vec<usize>, count: usize)
+    requires none { 0 < count → list.old.items ≡ [] }
+    requires room { 0 < count → count ≤ vec_capacity list.old }
+    ensures { list.new.items ≡ counted count ++ list.old.items }
+{
+    'fill: for id in 0..count {
+        list.push_reserved(id);
+    }
+}
+
+/// Where the id stands among these.
+fn position_among(ids: &[usize], id: usize) -> Option<usize>
     requires { Ascend ids.now }
     ensures found { IfSome result (λ n. slice_get ids.now n ≡ Some id) }
     ensures none { IfNone result (Lacks ids.now id) }
 {
-    if id < ids.len() && ids[id] == id {
-        return Some(id);
-    }
     ids.binary_search(&id).ok()
 }
 
@@ -33,7 +153,7 @@ fn next_id(ids: &[usize]) -> Option<usize>
 
 /// Puts an id after all of these that is larger than they are.
 #[tactic(auto, using(crate::proofs::Ascending::ascend_more, crate::proofs::Ascending::below_lacks))]
-pub(crate) fn add_next(ids: &mut Vec<usize>) -> Result<usize, AllocError>
+fn add_next(ids: &mut Vec<usize>) -> Result<usize, AllocError>
     requires { Ascend ids.old.items }
     ensures ok { IfOk result (λ id. (ids.new.items ≡ insert ids.old.items (length ids.old.items) id) × Lacks ids.old.items id) }
     ensures up { Ascend ids.new.items }

@@ -5,7 +5,7 @@ ghost use Rattle.std.specs.Option.{IfSome, IfNone};
 ghost use Rattle.bib_order.specs.Holders.{holders, before, FollowOrder};
 ghost use Rattle.bib_order.specs.Orders.{Lacks, IsDistinct, is_among, KeepsOrder};
 
-use crate::listed::{add_next, position_among};
+use crate::listed::Listed;
 use crate::paged::Paged;
 use std::alloc::{AllocError, Global};
 use std::marker::Model;
@@ -14,14 +14,14 @@ use std::marker::Model;
 #[derive(Drop)]
 enum Ids {
     // they ascend: each new one came after all others
-    Listed(Vec<usize>),
+    Listed(Listed),
     Paged(Paged),
 }
 
 /// Distinct ids in an order: one for each member of a list that is kept elsewhere. An id stays with its member while
 /// others come and go, and is free again once it is taken away. As long as each new id came after all others and none but
-/// the last was taken away, an id is its number, and both are found at once. From then on the ids stand in pages, and a
-/// call takes a step for each page and some for the ids of one.
+/// the last was taken away, an id is its number: both are found at once, and ids take room for a list that is not written
+/// to. From then on the ids stand in pages, and a call takes a step for each page and some for the ids of one.
 #[derive(Drop)]
 pub struct Order {
     alloc: Global,
@@ -56,7 +56,16 @@ impl Order {
     {
         Order {
             alloc,
-            ids: Ids::Listed(Vec::new(alloc)),
+            ids: Ids::Listed(Listed::new(alloc)),
+        }
+    }
+
+    /// Makes room for so many ids more, as far as there is memory for it. The order stays as it is.
+    pub fn prepare(&mut self, additional: usize)
+        ensures { self.new ≡ self.old }
+    {
+        if let Ids::Listed(ids) = &mut self.ids {
+            let _ = ids.reserve(additional);
         }
     }
 
@@ -77,7 +86,7 @@ impl Order {
         ensures { result ≡ slice_index self.now n }
     {
         match &self.ids {
-            Ids::Listed(ids) => ids[n],
+            Ids::Listed(ids) => ids.id_at(n),
             Ids::Paged(paged) => paged.id_at(n),
         }
     }
@@ -88,7 +97,7 @@ impl Order {
         ensures none { IfNone result (Lacks self.now id) }
     {
         match &self.ids {
-            Ids::Listed(ids) => position_among(ids, id),
+            Ids::Listed(ids) => ids.position_of(id),
             Ids::Paged(paged) => paged.position_of(id),
         }
     }
@@ -124,7 +133,7 @@ impl Order {
         ensures err { OnErr result (self.new ≡ self.old) }
     {
         match &mut self.ids {
-            Ids::Listed(ids) if n == ids.len() => add_next(ids),
+            Ids::Listed(ids) if n == ids.len() => ids.push(),
             Ids::Listed(ids) => {
                 let mut paged = Paged::of(self.alloc, ids)?;
                 let id = paged.insert(n)?;
@@ -163,9 +172,7 @@ impl Order {
         ensures { self.new ≡ remove self.old n }
     {
         match &mut self.ids {
-            Ids::Listed(ids) => {
-                ids.remove(n);
-            }
+            Ids::Listed(ids) => ids.remove(n),
             Ids::Paged(paged) => paged.remove(n),
         }
     }

@@ -4,6 +4,7 @@ ghost use Rattle.std.specs.Prelude.{◌≡◌, ◌≤◌, ◌<◌, [], length, i
 ghost use Rattle.std.specs.Option.{IfSome, IfNone};
 ghost use Rattle.bib_order.specs.Orders.{Lacks, IsDistinct, Ascend, IsTold};
 
+use crate::listed::Listed;
 use crate::sheet::Sheet;
 use crate::sheets::{id_of, put, seek, take_away};
 use std::alloc::{AllocError, Global};
@@ -61,13 +62,13 @@ impl Paged {
     }
 
     /// These ids in pages.
-    pub(crate) fn of(alloc: Global, ids: &[usize]) -> Result<Self, AllocError>
+    pub(crate) fn of(alloc: Global, ids: &Listed) -> Result<Self, AllocError>
         requires { Ascend ids.now }
         ensures { IfOk result (λ paged. paged ≡ ids.now) }
     {
         let mut paged = Paged::new(alloc);
         'fill: for k in 0..ids.len() {
-            paged.take_in(k, ids[k])?;
+            paged.take_in(k, ids.id_at(k))?;
         }
         Ok(paged)
     }

@@ -1,8 +1,7 @@
 use Rattle.std.proofs.Common.{◌<◌, ℕ, length, subst, sym, ap, arith}
-use Rattle.bib_order.specs.Orders.{IsDistinct, Ascend}
+use Rattle.bib_order.specs.Orders.{IsDistinct}
 use Rattle.bib_order.specs.Ids.{ids_of, AreKept}
 use Rattle.bib_order.specs.contracts.order.Order.{the_invariant}
-use Rattle.bib_order.proofs.Ascending.{ascend_less}
 use Rattle.bib_order.proofs.Ordering.{distinct_remove}
 use Rattle.bib_order.proofs.order.Order.take_out.Goals.{in-Listed, in-Paged}
 use Rattle.bib_order.proofs.order.Order.take_out.Goals as goal
@@ -12,8 +11,7 @@ invariant_of-self c =
     let within : c.args.n < length (ids_of c.self.inside.ids) = omega (arith, c.requires, ap (length {A = ℕ}) c.self.view_is) in
     elim c.match-self.branch [
       | in-Listed w ↦
-          subst the_invariant (sym w.self-inside-is) (subst Ascend (sym w.remove.ensures.items)
-          (ascend_less w.in-Listed.ids.items c.args.n (subst (λ ids. c.args.n < length (ids_of ids)) w.in-Listed.is within) (subst AreKept w.in-Listed.is c.self.invariant)))
+          subst the_invariant (sym w.self-inside-is) w.remove.ensures.up
       | in-Paged w ↦
           subst the_invariant (sym w.self-inside-is) (subst IsDistinct (sym w.remove-in-Paged.ensures)
           (distinct_remove w.in-Paged.paged c.args.n (subst AreKept w.in-Paged.is c.self.invariant) (subst (λ ids. c.args.n < length (ids_of ids)) w.in-Paged.is within)))
