@@ -1,6 +1,6 @@
 //! `check`: what is in a file, and what is wrong with it.
 
-ghost use Rattle.std.specs.Prelude.{◌≡◌, ◌++◌, ◌+◌, ◌<◌, ◌^◌, if◌then◌else◌, IfOk};
+ghost use Rattle.std.specs.Prelude.{◌≡◌, ◌++◌, ◌+◌, ◌<◌, ◌^◌, [], if◌then◌else◌, IfOk};
 ghost use Rattle.bib_spec.specs.Tree.{is_comment};
 ghost use Rattle.bib_store.specs.Meaning.{OfReading};
 ghost use Rattle.bib_answers.specs.Opened.{AnswersFile};
@@ -15,6 +15,9 @@ use crate::seen_names::SeenNames;
 use bib_scan::{Kind, Text};
 use bib_store::{Database, Paged};
 use std::alloc::{AllocError, Global};
+
+/// How many bytes are set aside for a report on an entry. Most keys fit in.
+const REPORT_LEN: usize = 32;
 
 /// What is in the file, and what is wrong with it.
 pub fn answer_check(alloc: Global, file: Vec<u8>) -> Result<Answer, AllocError>
@@ -84,7 +87,7 @@ fn look_through(alloc: Global, db: &Database<Paged>) -> Result<Found, AllocError
     ensures definitions { IfOk result (λ found. OfReading db.now (λ r. found.definitions ≡ count_items is_definition_tree r)) }
     ensures comments { IfOk result (λ found. OfReading db.now (λ r. found.comments ≡ count_items is_comment r)) }
 {
-    let mut reports = Vec::new(alloc);
+    let mut reports = room_for_reports(alloc, db);
     let mut names = SeenNames::new(alloc);
     let mut entries: usize = 0;
     let mut definitions: usize = 0;
@@ -102,6 +105,18 @@ fn look_through(alloc: Global, db: &Database<Paged>) -> Result<Found, AllocError
         definitions,
         comments,
     })
+}
+
+/// No reports. Where a key is repeated there is room for a report on each entry, as far as there is memory for it: reports
+/// that outgrow their memory are copied, and stand there twice.
+fn room_for_reports(alloc: Global, db: &Database<Paged>) -> Vec<u8>
+    ensures { result.items ≡ [] }
+{
+    let mut reports = Vec::new(alloc);
+    if !db.are_keys_apart() {
+        let _ = reports.reserve(db.entry_count().saturating_mul(REPORT_LEN));
+    }
+    reports
 }
 
 /// The count, with one more where this is one.

@@ -6,8 +6,9 @@ ghost use Rattle.bib_spec.specs.Texts.{raw_limit};
 ghost use Rattle.bib_spec.specs.Records.{crossref};
 ghost use Rattle.bib_store.specs.Glancing.{LacksWord};
 
-use bib_scan::{first_of_two, same_folded};
+use bib_scan::same_folded;
 use bib_value::RAW_LIMIT;
+use memchr::memchr2;
 
 /// Whether the text ends in `crossref`, in any case.
 fn ends_in_crossref(text: &[u8]) -> bool
@@ -22,7 +23,7 @@ pub(crate) fn lacks_crossref(text: &[u8]) -> bool
 {
     let mut at = 0;
     // it ends in an f
-    'search: while let Some(found) = first_of_two(b'f', b'F', text.split_at(at).1) {
+    'search: while let Some(found) = memchr2(b'f', b'F', text.split_at(at).1) {
         let end = at + found + 1;
         if ends_in_crossref(text.split_at(end).0) {
             return false;
