@@ -19,6 +19,13 @@ shows '@Misc{K, Title = { A \n\tb }, title = {c}}@misc{k}' k '@misc K\ntitle = A
 shows '@string{jan = jan # { x}}@misc{a, month = jan}' a '@misc a\nmonth = x\n'
 shows '@misc{*}' '*' '@misc *\n'
 
+# A macro that is defined again and again: an entry sees what stands last before it.
+again='@string{p={A}}@misc{a,t=p}@string{P={B}}@misc{b,t=p}@string{p={C}}@misc{c,t=P}@string{p={D}}@misc{d,t=p}'
+shows "$again" a '@misc a\nt = A\n'
+shows "$again" b '@misc b\nt = B\n'
+shows "$again" c '@misc c\nt = C\n'
+shows "$again" d '@misc d\nt = D\n'
+
 # No entry has the key.
 when show macros.bib zz; ends_with 1; writes_nothing; says 'bibkeep: 11 NoSuchEntry'
 when show empty.bib a; ends_with 1; writes_nothing; says 'bibkeep: 11 NoSuchEntry'
