@@ -12,6 +12,9 @@ use bib_scan::{NAME_LIMIT, Text};
 use std::alloc::{AllocError, Global};
 use std::marker::Model;
 
+// After so many entries it shows whether most have a key of their own.
+const SAMPLE: usize = 16_384;
+
 /// The keys and the crossref texts of a file's entries. An entry that comes or goes costs a few steps for each page of
 /// entries, and the lengths of its key and its crossref text.
 #[derive(Drop)]
@@ -22,6 +25,8 @@ pub struct EntryTable {
     crossrefs: Vec<Option<Text>>,
     // the ids by the keys that their crossref texts name
     referring: KeyIndex,
+    // how many entries there are to be
+    awaited: usize,
 }
 
 /// Gives an id of the order its key, where it has none. Where memory is refused, each key has the ids that it had.
@@ -121,15 +126,28 @@ impl EntryTable {
             keys: KeyIndex::new(alloc),
             crossrefs: Vec::new(alloc),
             referring: KeyIndex::new(alloc),
+            awaited: 0,
         }
     }
 
-    /// Makes room for so many entries more, as far as there is memory for it. The table says what it said.
+    /// Makes room for so many entries more, as far as there is memory for it. There is room for thousands of keys at first, and
+    /// for all once thousands of entries show that most have a key of their own. The table says what it said.
     pub fn prepare(&mut self, additional: usize)
         ensures { SaysTheSame self.old self.new }
     {
         self.order.prepare(additional);
-        let _ = self.keys.reserve(additional);
+        self.awaited = self.order.count().saturating_add(additional);
+        let _ = self.keys.reserve(additional.min(SAMPLE));
+    }
+
+    /// Makes room for the keys of all entries that are awaited, where it shows that most have one of their own.
+    fn prepare_keys(&mut self)
+        ensures { self.new ≡ self.old }
+    {
+        let count = self.order.count();
+        if count == SAMPLE && self.keys.len() > SAMPLE / 2 {
+            let _ = self.keys.reserve(self.awaited.saturating_sub(count));
+        }
     }
 
     /// How many entries there are.
@@ -198,6 +216,7 @@ impl EntryTable {
         ensures ok { OnOk result ((keys : List Bytes) (crossrefs : List (Option Bytes)) → n ≤ length keys → IsTableOf keys crossrefs self.old → IsTableOf (insert keys n key.now) (insert crossrefs n crossref) self.new) }
         ensures err { OnErr result (SaysTheSame self.old self.new) }
     {
+        self.prepare_keys();
         let n = n.min(self.order.count());
         let id = self.order.insert(n)?;
         match self.describe(id, key, crossref) {

@@ -53,6 +53,13 @@ impl KeyIndex {
         }
     }
 
+    /// How many texts have, or had, an id.
+    pub fn len(&self) -> usize
+        ensures { result ≡ length self.now }
+    {
+        self.lists.len()
+    }
+
     /// Makes room for so many texts more. The index stays as it is.
     pub fn reserve(&mut self, additional: usize) -> Result<(), AllocError>
         ensures { self.new ≡ self.old }

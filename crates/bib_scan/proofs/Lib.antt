@@ -17,6 +17,7 @@ pub mod PartLaws
 pub mod ValueLaws
 pub mod RowLaws
 pub mod CleanLaws
+pub mod TypeNames
 pub mod CommandLaws
 -- ---- complete: the bytes of a tree are read as that tree
 pub mod AgainLaws

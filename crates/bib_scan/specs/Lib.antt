@@ -3,7 +3,6 @@ pub mod DelimiterView
 pub mod View
 pub mod FieldsLeft
 pub mod Layout
-pub mod FirstBytes
 pub mod Code
 pub mod PartView
 pub mod AssignedView

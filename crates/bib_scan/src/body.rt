@@ -9,6 +9,7 @@ ghost use Rattle.bib_scan.specs.LeftToRight.{read_run, past_byte, read_comma, re
 ghost use Rattle.bib_scan.specs.Code.{Gives};
 ghost use Rattle.bib_scan.specs.DelimiterView.{delimiter_view};
 
+use crate::class::{is_key_byte_in_braces, is_key_byte_in_parens};
 use crate::fault::{Fault, Stop};
 use crate::opening::Delimiter;
 use crate::row::{past_row, split_assignment};
@@ -56,9 +57,16 @@ pub(crate) fn key_len(delimiter: Delimiter, text: &[u8]) -> usize
     ensures len { result ≡ prefix_len (goes_on_key (delimiter_view delimiter)) text.now }
     ensures within { result ≤ length text.now }
 {
-    text.iter()
-        .take_while(|b| delimiter.goes_on_key(**b))
-        .count()
+    match delimiter {
+        Delimiter::Brace => text
+            .iter()
+            .take_while(|b| is_key_byte_in_braces(**b))
+            .count(),
+        Delimiter::Paren => text
+            .iter()
+            .take_while(|b| is_key_byte_in_parens(**b))
+            .count(),
+    }
 }
 
 /// A key, and the text after it.

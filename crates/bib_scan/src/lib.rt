@@ -23,7 +23,6 @@ pub use fault::ReadFault;
 pub use fields::{FieldView, Fields};
 pub use laws::{clean_before_sign, cut_ends, joined_readings, one_fault, one_place, one_reading};
 pub use layout::Layout;
-pub use near::first_of_two;
 pub use opening::is_clean_trail;
 pub use parts::{Parts, only_part, read_value};
 pub use reading::{FILE_LIMIT, read};

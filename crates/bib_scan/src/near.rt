@@ -7,7 +7,7 @@ use memchr::{memchr2_iter, memchr3_iter};
 /// The first place of one of two bytes in the text, in bytes from 0, or `None` where neither stands there. It is fast where
 /// that place is near. It takes time in the bytes before it, or in those of the text, and no memory.
 #[inline]
-pub fn first_of_two(a: u8, b: u8, text: &[u8]) -> Option<usize>
+pub(crate) fn first_of_two(a: u8, b: u8, text: &[u8]) -> Option<usize>
     ensures { IsFirstByte (is_byte2 a b) text.now result }
 {
     memchr2_iter(a, b, text).next()

@@ -4,12 +4,12 @@ ghost use Rattle.std.specs.Prelude.{◌≡◌, ◌↔◌, ◌≤◌, IsTrue, len
 ghost use Rattle.bib_spec.specs.Text.{is_type_byte, does_not_begin_with};
 ghost use Rattle.bib_spec.specs.Clean.{begins_command, opens_body, IsClean, IsCleanTrail};
 ghost use Rattle.bib_scan.specs.LeftToRight.{next_command, delimiter_of};
-ghost use Rattle.bib_spec.specs.Tree.{close_byte, goes_on_key};
+ghost use Rattle.bib_spec.specs.Tree.{close_byte};
 ghost use Rattle.bib_scan.specs.DelimiterView.{delimiter_view};
 
-use crate::class::{is_space, is_type_byte};
+use crate::class::is_type_byte;
 use crate::spans::{behind, past_space, split_type_name};
-use crate::text::{is_name, same_folded};
+use crate::text::{are_type_name, same_folded};
 use memchr::memchr;
 
 /// `{` with `}`, or `(` with `)`.
@@ -40,16 +40,6 @@ impl Delimiter {
             Delimiter::Paren => b')',
         }
     }
-
-    /// Whether the byte belongs to a key, in an item that this delimiter opens.
-    pub fn goes_on_key(self, byte: u8) -> bool
-        ensures { result ≡ goes_on_key (delimiter_view self) byte }
-    {
-        match self {
-            Delimiter::Brace => !(is_space(byte) || byte == b',' || byte == b'}'),
-            Delimiter::Paren => !(is_space(byte) || byte == b','),
-        }
-    }
 }
 
 /// Whether the text begins with an opening delimiter.
@@ -63,7 +53,7 @@ fn opens_body(text: &[u8]) -> bool
 }
 
 /// Whether a command begins at the front of the text.
-#[tactic(auto, unfolding(bib_spec::specs::Clean::begins_command))]
+#[tactic(auto, using(crate::proofs::TypeNames::type_front), unfolding(bib_spec::specs::Clean::begins_command))]
 fn begins_command(text: &[u8]) -> bool
     ensures { result ≡ begins_command text.now }
 {
@@ -71,8 +61,8 @@ fn begins_command(text: &[u8]) -> bool
         [first, after @ ..] => {
             let (type_name, rest) = split_type_name(past_space(after));
             *first == b'@'
-                && is_name(type_name)
-                && (same_folded(type_name, b"comment") || opens_body(past_space(rest)))
+                && are_type_name(type_name)
+                && (opens_body(past_space(rest)) || same_folded(type_name, b"comment"))
         }
         [] => false,
     }

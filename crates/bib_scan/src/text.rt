@@ -1,6 +1,6 @@
 //! Tests on texts.
 
-ghost use Rattle.std.specs.Prelude.{◌≡◌, ◌↔◌, IsTrue};
+ghost use Rattle.std.specs.Prelude.{◌≡◌, ◌↔◌, true, IsTrue};
 ghost use Rattle.std.specs.List.{list_all};
 ghost use Rattle.std.specs.Char.{is_ascii_digit};
 ghost use Rattle.bib_spec.specs.Text.{is_name_byte, is_type_byte, is_new_key_byte, is_name, is_new_key, same, does_not_begin_with, IsBalanced};
@@ -38,6 +38,15 @@ pub fn is_name(bytes: &[u8]) -> bool
         && bytes.len() <= NAME_LIMIT
         && begins_with_no_digit(bytes)
         && all_name_bytes(bytes)
+}
+
+/// Whether some bytes of a type name are a name.
+#[tactic(auto, using(crate::proofs::TypeNames::are_name_bytes), unfolding(bib_spec::specs::Text::is_name_within))]
+pub(crate) fn are_type_name(bytes: &[u8]) -> bool
+    requires { list_all is_type_byte bytes.now ≡ true }
+    ensures { result ≡ is_name bytes.now }
+{
+    !bytes.is_empty() && bytes.len() <= NAME_LIMIT && begins_with_no_digit(bytes)
 }
 
 /// Whether two texts are the same but for the case of ASCII letters, as types, names and keys are

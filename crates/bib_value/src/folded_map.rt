@@ -50,6 +50,13 @@ impl<V> FoldedMap<V> {
         self.alloc
     }
 
+    /// How many names there are.
+    pub fn len(&self) -> usize
+        ensures { result ≡ length self.now }
+    {
+        self.entries.len()
+    }
+
     /// Makes room for so many names more. The map stays as it is.
     pub fn reserve(&mut self, additional: usize) -> Result<(), AllocError>
         ensures { self.new ≡ self.old }

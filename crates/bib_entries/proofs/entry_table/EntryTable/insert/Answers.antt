@@ -6,7 +6,7 @@ use Rattle.bib_entries.proofs.entry_table.EntryTable.insert.Goals as goal
 
 pub returns-in-Ok-clause-ok : goal.returns-in-Ok-clause-ok
 returns-in-Ok-clause-ok c keys crossrefs fits t =
-    let inside = subst (IsTableOf keys crossrefs) (sym c.self.view_is) t in
+    let inside = subst (IsTableOf keys crossrefs) (sym (c.self.view_is ∙ c.prepare_keys.ensures)) t in
     let old : Kept = record { ids = c.self.inside.order; keys = c.self.inside.keys; crossrefs = c.self.inside.crossrefs.items; referring = c.self.inside.referring } in
     let few : c.args.n ≤ length c.self.inside.order = omega (arith, fits, same_count keys crossrefs old inside) in
     let n : c.min-n.result ≡ c.args.n = omega (arith, few, c.min-n.ensures, c.count.ensures.count) in
@@ -24,7 +24,7 @@ returns-in-Ok-clause-ok c keys crossrefs fits t =
 
 pub returns-in-Err-clause-err : goal.returns-in-Err-clause-err
 returns-in-Err-clause-err c keys crossrefs t =
-    let inside = subst (IsTableOf keys crossrefs) (sym c.self.view_is) t in
+    let inside = subst (IsTableOf keys crossrefs) (sym (c.self.view_is ∙ c.prepare_keys.ensures)) t in
     let old : Kept = record { ids = c.self.inside.order; keys = c.self.inside.keys; crossrefs = c.self.inside.crossrefs.items; referring = c.self.inside.referring } in
     let mid : Kept = record { ids = c.self-2.inside.order; keys = c.self-2.inside.keys; crossrefs = c.self-2.inside.crossrefs.items; referring = c.self-2.inside.referring } in
     let new : Kept = record { ids = c.remove.new.self; keys = c.self-2.inside.keys; crossrefs = c.self-2.inside.crossrefs.items; referring = c.self-2.inside.referring } in
