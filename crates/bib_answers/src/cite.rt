@@ -15,6 +15,9 @@ use bib_scan::Text;
 use bib_store::{Database, Paged};
 use std::alloc::{AllocError, Global};
 
+// As long as most lines are, in bytes.
+const LINE: usize = 16;
+
 /// The entries that the keys cite, where `min` children list a parent, and the keys that find none.
 pub fn answer_cite(
     alloc: Global,
@@ -50,7 +53,7 @@ fn listed_text(alloc: Global, db: &Database<Paged>, list: &[usize]) -> Result<Ve
     ensures { IfOk result (λ text. OfReading db.now (λ r. text.items ≡ listed_lines (entries_of r) list.now)) }
 {
     let marks = marks(alloc, db.entry_count(), list)?;
-    let mut out = Vec::new(alloc);
+    let mut out = Vec::with_capacity(alloc, list.len().saturating_mul(LINE))?;
     'list: for n in list {
         add_listed(&mut out, db, marks.as_slice(), *n)?;
     }

@@ -13,7 +13,7 @@ use std::alloc::{AllocError, Global};
 use std::marker::Model;
 
 // After so many entries it shows whether most have a key of their own.
-const SAMPLE: usize = 16_384;
+const SAMPLE: usize = 65_536;
 
 /// The keys and the crossref texts of a file's entries. An entry that comes or goes costs a few steps for each page of
 /// entries, and the lengths of its key and its crossref text.
@@ -130,13 +130,14 @@ impl EntryTable {
         }
     }
 
-    /// Makes room for so many entries more, as far as there is memory for it. There is room for thousands of keys at first, and
-    /// for all once thousands of entries show that most have a key of their own. The table says what it said.
+    /// Makes room for so many entries more, as far as there is memory for it. There is room for 65,536 keys
+    /// at first, and for all once so many entries show that most have a key of their own. The table says what it said.
     pub fn prepare(&mut self, additional: usize)
         ensures { SaysTheSame self.old self.new }
     {
         self.order.prepare(additional);
         self.awaited = self.order.count().saturating_add(additional);
+        let _ = self.crossrefs.reserve(additional);
         let _ = self.keys.reserve(additional.min(SAMPLE));
     }
 

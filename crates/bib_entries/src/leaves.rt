@@ -10,7 +10,7 @@ use crate::starts::near;
 use std::alloc::{AllocError, Global};
 
 /// How many numbers a page has at most.
-const LEAF_LIMIT: usize = 512;
+pub(crate) const LEAF_LIMIT: usize = 512;
 
 /// How many numbers of a full page stay when it becomes two.
 const HALF: usize = 256;
@@ -54,6 +54,7 @@ fn are_below(leaves: &[Leaf], n: usize) -> bool
 }
 
 /// How many of the numbers are below `n`: at once where all are, else in steps in the logarithm of their count.
+#[inline]
 pub(crate) fn count_below(leaves: &[Leaf], firsts: &[usize], count: usize, n: usize) -> usize
     requires { IsKept leaves.now firsts.now count }
     ensures within { result ≤ length (joined leaves.now) }
@@ -62,6 +63,15 @@ pub(crate) fn count_below(leaves: &[Leaf], firsts: &[usize], count: usize, n: us
     if are_below(leaves, n) {
         return count;
     }
+    count_searched(leaves, firsts, count, n)
+}
+
+/// The same, in steps in the logarithm of their count.
+fn count_searched(leaves: &[Leaf], firsts: &[usize], count: usize, n: usize) -> usize
+    requires { IsKept leaves.now firsts.now count }
+    ensures within { result ≤ length (joined leaves.now) }
+    ensures counted { Ascend (joined leaves.now) → result ≡ rank_in n (joined leaves.now) }
+{
     let p = leaves.partition_point(|leaf| leaf.ends_below(n));
     if p == leaves.len() {
         return count;

@@ -74,6 +74,7 @@ impl Paged {
     }
 
     /// How many of the numbers are below `n`: at once where all are.
+    #[inline]
     pub(crate) fn count_below(&self, n: usize) -> usize
         ensures within { result ≤ length self.now }
         ensures counted { Ascend self.now → result ≡ rank_in n self.now }

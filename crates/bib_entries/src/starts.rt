@@ -5,6 +5,18 @@ ghost use Rattle.bib_pages.specs.Pages.{joined, IsOnWay};
 ghost use Rattle.bib_entries.specs.Moves.{starts};
 
 use crate::leaf::Leaf;
+use crate::leaves::LEAF_LIMIT;
+
+/// The last page that begins no later than place `k`: at once where the pages before it are full. Only time rests on it.
+fn last_begun(firsts: &[usize], k: usize) -> usize {
+    let full = k / LEAF_LIMIT;
+    if full < firsts.len() && firsts[full] == k - k % LEAF_LIMIT {
+        return full;
+    }
+    firsts
+        .partition_point(|first| *first <= k)
+        .saturating_sub(1)
+}
 
 /// A page that begins no later than place `k`, and how many of the numbers before that place stand in it and in the pages
 /// after it. It is the last such page, which only time rests on.
@@ -12,10 +24,7 @@ use crate::leaf::Leaf;
 pub(crate) fn near(firsts: &[usize], k: usize) -> (usize, usize)
     ensures { (pages : List (List ℕ)) → firsts.now ≡ starts 0 pages → IsOnWay pages result.0 k result.1 }
 {
-    let p = match firsts.binary_search(&k) {
-        Ok(p) => p,
-        Err(p) => p.saturating_sub(1),
-    };
+    let p = last_begun(firsts, k);
     if p < firsts.len() {
         let first = firsts[p];
         if first <= k {

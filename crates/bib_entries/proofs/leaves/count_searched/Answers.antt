@@ -7,7 +7,7 @@ use Rattle.bib_entries.specs.Numbers.{Ascend, rank_in}
 use Rattle.bib_entries.specs.Moves.{ends_below}
 use Rattle.bib_entries.proofs.FilledPages.{length-starts, start_read}
 use Rattle.bib_entries.proofs.SoughtPages.{pages_parted, rank_past, rank_at, page_ascends}
-use Rattle.bib_entries.proofs.leaves.count_below.Goals as goal
+use Rattle.bib_entries.proofs.leaves.count_searched.Goals as goal
 
 pub returns-then-p-leaves-clause-counted : goal.returns-then-p-leaves-clause-counted
 returns-then-p-leaves-clause-counted c ascend =
