@@ -1,12 +1,12 @@
 //! `cite`: the entries that a list of keys cites.
 
-ghost use Rattle.std.specs.Prelude.{◌≡◌, ◌≤◌, ◌++◌, ℕ, List, [], length, false, slice_index_or, codes, IfOk, OnOk};
+ghost use Rattle.std.specs.Prelude.{◌≡◌, ◌≤◌, ◌++◌, ℕ, List, [], length, false, slice_index_or, codes, IfSome, IfOk, OnOk};
 ghost use Rattle.std.specs.List.{flat_map};
 ghost use Rattle.std.specs.Option.{option_map_or};
 ghost use Rattle.bib_spec.specs.Records.{entries_of, parent};
 ghost use Rattle.bib_store.specs.Meaning.{OfReading, IsEntryNumber};
 ghost use Rattle.bib_answers.specs.Opened.{AnswersFile};
-ghost use Rattle.bib_answers.specs.Cite.{with_listed, listed_line, listed_lines, unknown_line, cite_answer};
+ghost use Rattle.bib_answers.specs.Cite.{IsKeyed, with_listed, listed_line, listed_lines, unknown_line, cite_answer};
 ghost use Rattle.bib_answers.specs.Marks.{AreMarks, AreEntryNumbers, ArePlaces};
 
 use crate::answers::{Answer, done, unread};
@@ -47,6 +47,29 @@ fn cite(alloc: Global, db: &Database<Paged>, keys: &[Text], min: u32) -> Result<
     Ok(done(alloc, Text::from_vec(out)))
 }
 
+/// An entry's number, and its key.
+#[derive(Clone, Copy)]
+struct Keyed<'a> {
+    n: usize,
+    key: &'a [u8],
+}
+
+/// The key of entry `n`, which the last one may be: the children of a parent mostly stand together.
+fn with_key<'a>(db: &'a Database<Paged>, n: usize, last: Option<Keyed<'a>>) -> Keyed<'a>
+    requires number { IsEntryNumber db.now n }
+    requires last { IfSome last (IsKeyed db.now) }
+    ensures key { IsKeyed db.now result }
+    ensures number { result.n ≡ n }
+{
+    match last {
+        Some(known) if known.n == n => known,
+        _ => Keyed {
+            n,
+            key: db.entry(n).key(),
+        },
+    }
+}
+
 /// A line for each entry of the list.
 fn listed_text(alloc: Global, db: &Database<Paged>, list: &[usize]) -> Result<Vec<u8>, AllocError>
     requires { AreEntryNumbers db.now list.now }
@@ -54,8 +77,9 @@ fn listed_text(alloc: Global, db: &Database<Paged>, list: &[usize]) -> Result<Ve
 {
     let marks = marks(alloc, db.entry_count(), list)?;
     let mut out = Vec::with_capacity(alloc, list.len().saturating_mul(LINE))?;
+    let mut last = None;
     'list: for n in list {
-        add_listed(&mut out, db, marks.as_slice(), *n)?;
+        last = add_listed(&mut out, db, marks.as_slice(), *n, last)?;
     }
     Ok(out)
 }
@@ -80,43 +104,50 @@ fn is_marked(marks: &[bool], n: usize) -> bool
     n < marks.len() && marks[n]
 }
 
-/// The line of an entry in the list.
-fn add_listed(
+/// The line of an entry in the list, and a parent's key for the next.
+fn add_listed<'a>(
     out: &mut Vec<u8>,
-    db: &Database<Paged>,
+    db: &'a Database<Paged>,
     marks: &[bool],
     n: usize,
-) -> Result<(), AllocError>
-    requires { IsEntryNumber db.now n }
-    ensures { OnOk result (OfReading db.now (λ r. (list : List ℕ) → AreMarks (length (entries_of r)) list marks.now
+    last: Option<Keyed<'a>>,
+) -> Result<Option<Keyed<'a>>, AllocError>
+    requires number { IsEntryNumber db.now n }
+    requires last { IfSome last (IsKeyed db.now) }
+    ensures last { IfOk result (λ last. IfSome last (IsKeyed db.now)) }
+    ensures line { OnOk result (OfReading db.now (λ r. (list : List ℕ) → AreMarks (length (entries_of r)) list marks.now
         → out.new.items ≡ out.old.items ++ listed_line (entries_of r) list n)) }
 {
     out.extend_from_slice(db.entry(n).key())?;
-    add_parent(out, db, marks, n)?;
+    let last = add_parent(out, db, marks, n, last)?;
     out.extend_from_slice(b"\n")?;
-    Ok(())
+    Ok(last)
 }
 
 /// A tab and the parent's key, where the parent is marked.
-fn add_parent(
+fn add_parent<'a>(
     out: &mut Vec<u8>,
-    db: &Database<Paged>,
+    db: &'a Database<Paged>,
     marks: &[bool],
     n: usize,
-) -> Result<(), AllocError>
-    requires { IsEntryNumber db.now n }
-    ensures { OnOk result (OfReading db.now (λ r. (list : List ℕ) → AreMarks (length (entries_of r)) list marks.now
+    last: Option<Keyed<'a>>,
+) -> Result<Option<Keyed<'a>>, AllocError>
+    requires number { IsEntryNumber db.now n }
+    requires last { IfSome last (IsKeyed db.now) }
+    ensures last { IfOk result (λ last. IfSome last (IsKeyed db.now)) }
+    ensures parent { OnOk result (OfReading db.now (λ r. (list : List ℕ) → AreMarks (length (entries_of r)) list marks.now
         → out.new.items ≡ out.old.items ++ option_map_or (with_listed (entries_of r) list) (parent (entries_of r) n) [])) }
 {
     let Some(parent) = db.parent(n) else {
-        return Ok(());
+        return Ok(last);
     };
     if !is_marked(marks, parent) {
-        return Ok(());
+        return Ok(last);
     }
+    let parent = with_key(db, parent, last);
     out.extend_from_slice(b"\t")?;
-    out.extend_from_slice(db.entry(parent).key())?;
-    Ok(())
+    out.extend_from_slice(parent.key)?;
+    Ok(Some(parent))
 }
 
 /// The lines of the keys at these positions.
