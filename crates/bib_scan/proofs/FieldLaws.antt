@@ -7,7 +7,7 @@ use Rattle.std.specs.List.{flat_map, All}
 use Rattle.std.specs.Result.{result_ok}
 use Rattle.bib_spec.specs.Bytes.{name_limit}
 use Rattle.bib_spec.specs.Text.{Text, is_space, after_run}
-use Rattle.bib_spec.specs.Tree.{Assignment, Row, Value, value_bytes, row_bytes, last_comma_bytes, IsAssignment, IsRow, IsLastComma, IsValue, IsSpace}
+use Rattle.bib_spec.specs.Tree.{Assignment, Row, Value, value_bytes, row_bytes, IsAssignment, IsRow, IsLastComma, IsValue, IsSpace}
 use Rattle.bib_scan.specs.LeftToRight.{Read, read_assignment, read_value, begins_name}
 use Rattle.bib_scan.specs.View.{Field, field_behind, fields_behind}
 use Rattle.bib_scan.specs.FieldsLeft.{read_field, first_field, first_and_others, kind_behind, fields_left, all_fields_left}
@@ -46,24 +46,22 @@ close_no_comma : (c : ℕ) → Close c → eqb c 44 ≡ false
 close_no_comma c close = ne_eqb c 44 (λ e. both_ways (eqb 44 c) close.no_comma (subst (λ (n : ℕ). eqb 44 n ≡ true) (sym e) refl))
 
 -- no name begins with a closing delimiter
-no_assignment : (total start c : ℕ) (x : Text) → Close c → result_ok (read_field total start (c ∷ x)) ≡ None
+pub no_assignment : (total start c : ℕ) (x : Text) → Close c → result_ok (read_field total start (c ∷ x)) ≡ None
 unfolding read_assignment
 no_assignment total start c x close =
     let none : begins_name (c ∷ x) ≡ false = and_left _ _ close.ends.breaks.name in
     rw none refl
 
-no_field : (total c : ℕ) (tail : Option Text) (x : Text) → IsLastComma tail → Close c → first_field kind.Entry total (rows_inside c [] tail x) ≡ None
+pub no_field : (total c : ℕ) (tail : Option Text) (x : Text) → IsLastComma tail → Close c → first_field kind.Entry total (rows_inside c [] tail x) ≡ None
 no_field total c None x space close = rw (close_no_comma c close) refl
 no_field total c (Some s) x space close =
     let skipped : after_run is_space (s ++ c ∷ x) ≡ c ∷ x = skip_space s (c ∷ x) space (not_from_false _ close.ends.no_space) in
     rw skipped (no_assignment total _ c x close)
 
-pub rows_fields_again : (rs : List Row) (n total c : ℕ) (before : Text) (tail : Option Text) (x : Text) → All (IsRow name_limit) rs → IsLastComma tail → Close c → length rs ≤ n → total ≡ length (before ++ rows_inside c rs tail x) → fields_left n kind.Entry total (rows_inside c rs tail x) ≡ fields_behind before rs
-unfolding fields_left
-rows_fields_again [] zero total c before tail x all space close room whole = refl
-rows_fields_again [] (suc n) total c before tail x all space close room whole = ap (λ (o : Option (Field × Text)). first_and_others o (fields_left n kind.Entry total)) (no_field total c tail x space close)
-rows_fields_again (r ∷ rs) zero total c before tail x all space close room whole = absurd (omega arith)
-rows_fields_again (r ∷ rs) (suc n) total c before tail x all space close room whole =
+-- the first of some rows is read as its field
+pub row_field_again : (r : Row) (rs : List Row) (total c : ℕ) (before : Text) (tail : Option Text) (x : Text) → All (IsRow name_limit) (r ∷ rs) → Close c → total ≡ length (before ++ rows_inside c (r ∷ rs) tail x) →
+    first_field kind.Entry total (rows_inside c (r ∷ rs) tail x) ≡ Some (field_behind (length before) (before ++ 44 ∷ r.space_before_name) r.assignment, rows_inside c rs tail x)
+row_field_again r rs total c before tail x all close whole =
     let ok = All-head (IsRow name_limit) r rs all in
     let begin = rows_begin c rs tail x close in
     let rest : Text = rows_inside c rs tail x in
@@ -76,10 +74,22 @@ rows_fields_again (r ∷ rs) (suc n) total c before tail x all space close room 
     let read : read_field total (length before) named ≡ Ok (field_behind (length before) front r.assignment, rest) =
     subst (λ (u : Text). total ≡ length (front ++ assignment_inside r.assignment u) → read_field total (length before) (assignment_inside r.assignment u) ≡ Ok (field_behind (length before) front r.assignment, u)) (sym begin.3) (field_again total (length before) front r.assignment begin.0 begin.1 ok.assignment begin.2) whole_is in
     let found : first_field kind.Entry total (44 ∷ (r.space_before_name ++ named)) ≡ Some (field_behind (length before) front r.assignment, rest) = rw (start, skipped, read) refl in
-    let later = rows_fields_again rs n total c (before ++ row_bytes r) tail x (All-tail (IsRow name_limit) r rs all) space close (omega arith) (whole ∙ ap (λ (u : Text). length (before ++ u)) (append_assoc (row_bytes r) (flat_map row_bytes rs) (last_comma_bytes tail ++ c ∷ x)) ∙ ap (length {A = ℕ}) (sym (append_assoc before (row_bytes r) rest))) in
-    ap (fields_left (suc n) kind.Entry total) shape
-    ∙ ap (λ (o : Option (Field × Text)). first_and_others o (fields_left n kind.Entry total)) found
-    ∙ ap (λ (fs : List Field). field_behind (length before) front r.assignment ∷ fs) later
+    ap (first_field kind.Entry total) shape ∙ found
+
+some_first : (t : Text) (n total : ℕ) (y : Field × Text) → first_field kind.Entry total t ≡ Some y → fields_left (suc n) kind.Entry total t ≡ y.0 ∷ fields_left n kind.Entry total y.1
+unfolding fields_left
+some_first t n total y is = ap (λ (o : Option (Field × Text)). first_and_others o (fields_left n kind.Entry total)) is
+
+pub rows_fields_again : (rs : List Row) (n total c : ℕ) (before : Text) (tail : Option Text) (x : Text) → All (IsRow name_limit) rs → IsLastComma tail → Close c → length rs ≤ n → total ≡ length (before ++ rows_inside c rs tail x) → fields_left n kind.Entry total (rows_inside c rs tail x) ≡ fields_behind before rs
+unfolding fields_left
+rows_fields_again [] zero total c before tail x all space close room whole = refl
+rows_fields_again [] (suc n) total c before tail x all space close room whole = ap (λ (o : Option (Field × Text)). first_and_others o (fields_left n kind.Entry total)) (no_field total c tail x space close)
+rows_fields_again (r ∷ rs) zero total c before tail x all space close room whole = absurd (omega arith)
+rows_fields_again (r ∷ rs) (suc n) total c before tail x all space close room whole =
+    let shape : rows_inside c (r ∷ rs) tail x ≡ row_bytes r ++ rows_inside c rs tail x = append_assoc (row_bytes r) (flat_map row_bytes rs) _ in
+    let later = rows_fields_again rs n total c (before ++ row_bytes r) tail x (All-tail (IsRow name_limit) r rs all) space close (omega arith) (whole ∙ ap (λ (u : Text). length (before ++ u)) shape ∙ ap (length {A = ℕ}) (sym (append_assoc before (row_bytes r) (rows_inside c rs tail x)))) in
+    some_first (rows_inside c (r ∷ rs) tail x) n total _ (row_field_again r rs total c before tail x all close whole)
+    ∙ ap (λ (fs : List Field). field_behind (length before) (before ++ 44 ∷ r.space_before_name) r.assignment ∷ fs) later
 
 -- ---- the one field of definitions and preambles
 

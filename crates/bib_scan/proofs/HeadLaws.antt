@@ -1,14 +1,14 @@
 -- The view that is read from left to right is that of the item.
-use Rattle.std.proofs.Common.{◌≡◌, ℕ, ◌-◌, ◌≤◌, true, List, [], ◌∷◌, ◌++◌, length, refl, sym, ap, subst, ◌∙◌, arith, append_assoc, append-nil}
+use Rattle.std.proofs.Common.{◌≡◌, ℕ, ◌-◌, true, List, [], ◌∷◌, ◌++◌, length, refl, sym, ap, subst, ◌∙◌, arith, append_assoc, append-nil}
 use Rattle.std.proofs.lemmas.Bool.{not_from_false, not-true, or_parts, cond-true, cond-false}
 use Rattle.std.proofs.lemmas.List.{length-append}
 use Rattle.std.specs.Prelude.{codes}
-use Rattle.std.specs.List.{take_while, flat_map, AllPass}
+use Rattle.std.specs.List.{take_while, AllPass}
 use Rattle.bib_spec.specs.Bytes.{name_limit}
 use Rattle.bib_spec.specs.Text.{Text, is_space, is_type_byte, same, after_run, does_not_begin_with}
 use Rattle.bib_spec.specs.Tree as tree
 use Rattle.bib_spec.specs.Tree.{Tree, CommentTree, DefinitionTree, PreambleTree, EntryTree, Head, Opening, Delimiter, Brace, Paren, row_bytes, value_bytes, head_bytes, opening_bytes, open_byte, close_byte, last_comma_bytes, behind_key_bytes, tree_bytes, goes_on_key, is_no_keyword, IsHead, IsOpening, IsTree}
-use Rattle.bib_scan.specs.View.{Field, view_of}
+use Rattle.bib_scan.specs.View.{Field, fields_of, view_of}
 use Rattle.bib_scan.specs.FieldsLeft.{fields_left, all_fields_left, read_head, kind_named, read_opening, view_behind, read_view}
 use Rattle.bib_scan.specs.declared.view.Kind.{Kind}
 use Rattle.bib_scan.specs.declared.view.Kind.TheVariants as kind
@@ -16,8 +16,8 @@ use Rattle.bib_scan.proofs.RunLaws.{run_front, run_rest}
 use Rattle.bib_scan.proofs.PartLaws.{type_name_parts}
 use Rattle.bib_scan.proofs.ValueLaws.{Stands, skip_space}
 use Rattle.bib_scan.proofs.RowLaws.{assignment_inside}
-use Rattle.bib_scan.proofs.AgainLaws.{name_stands, value_stands, rows_inside, rows_begin}
-use Rattle.bib_scan.proofs.TreeAgainLaws.{closes, delimiter_again, open_no_space, type_ends, key_stands, rows_len, string_no_comment, preamble_no_comment, preamble_no_string, head_shape, opening_shape, definition_shape, preamble_shape}
+use Rattle.bib_scan.proofs.AgainLaws.{name_stands, value_stands, rows_inside}
+use Rattle.bib_scan.proofs.TreeAgainLaws.{closes, delimiter_again, open_no_space, type_ends, entry_in, string_no_comment, preamble_no_comment, preamble_no_string, head_shape, opening_shape, definition_shape, preamble_shape}
 use Rattle.bib_scan.proofs.FieldLaws.{rows_fields_again, definition_field_again, preamble_field_again}
 
 -- ---- heads
@@ -34,32 +34,44 @@ head_again h x is ends =
 opening_again : (d : Delimiter) (s u : Text) → AllPass is_space s → Stands u → read_opening (open_byte d ∷ (s ++ u)) ≡ (d, u)
 opening_again d s u space stands = λ i. (delimiter_again d i, skip_space s u space stands i)
 
+-- what is read of a text that begins with this opening
+pub record OpenedWith (t : Text) (o : Opening) (u : Text) : Type 0 where
+  pub type_name : (read_head t).0 ≡ o.head.type_name
+  pub opening : read_opening (after_run is_space (read_head t).1) ≡ (o.delimiter, u)
+
+pub opened_with : (t : Text) (o : Opening) (u : Text) → IsOpening o → Stands u → t ≡ opening_bytes o ++ u → OpenedWith t o u
+opened_with t o u is stands whole =
+    let inside : Text = open_byte o.delimiter ∷ (o.space_behind ++ u) in
+    let behind : Text = o.space_before_delimiter ++ inside in
+    let shape : t ≡ head_bytes o.head ++ behind = whole ∙ opening_shape o u ∙ sym (head_shape o.head behind) in
+    let head : read_head t ≡ (o.head.type_name, behind) = ap read_head shape ∙ head_again o.head behind is.head (type_ends o.space_before_delimiter o.delimiter (o.space_behind ++ u) is.space_before_delimiter) in
+    let skipped : after_run is_space behind ≡ inside = skip_space o.space_before_delimiter inside is.space_before_delimiter (not_from_false _ (open_no_space o.delimiter)) in
+    record {
+      type_name = ap (λ (h : Text × Text). h.0) head;
+      opening = ap (λ (h : Text × Text). read_opening (after_run is_space h.1)) head ∙ ap read_opening skipped ∙ opening_again o.delimiter o.space_behind u is.space_behind stands;
+    }
+
 -- a body that begins with this opening
 opened_again : (body trail : Text) (o : Opening) (u : Text) (k : Kind) → IsOpening o → Stands u → kind_named o.head.type_name ≡ k → body ≡ opening_bytes o ++ u → read_view body trail ≡ view_behind body trail o.head.type_name k (o.delimiter, u)
 opened_again body trail o u k is stands named whole =
-    let inside : Text = open_byte o.delimiter ∷ (o.space_behind ++ u) in
-    let behind : Text = o.space_before_delimiter ++ inside in
-    let shape : body ≡ head_bytes o.head ++ behind = whole ∙ opening_shape o u ∙ sym (head_shape o.head behind) in
-    let head : read_head body ≡ (o.head.type_name, behind) = ap read_head shape ∙ head_again o.head behind is.head (type_ends o.space_before_delimiter o.delimiter (o.space_behind ++ u) is.space_before_delimiter) in
-    let skipped : after_run is_space behind ≡ inside = skip_space o.space_before_delimiter inside is.space_before_delimiter (not_from_false _ (open_no_space o.delimiter)) in
-    let opened : read_opening (after_run is_space behind) ≡ (o.delimiter, u) = ap read_opening skipped ∙ opening_again o.delimiter o.space_behind u is.space_behind stands in
-    ap (λ (h : Text × Text). view_behind body trail h.0 (kind_named h.0) (read_opening (after_run is_space h.1))) head
-    ∙ ap (λ (q : Delimiter × Text). view_behind body trail o.head.type_name (kind_named o.head.type_name) q) opened
+    let at = opened_with body o u is stands whole in
+    ap (λ (q : Delimiter × Text). view_behind body trail (read_head body).0 (kind_named (read_head body).0) q) at.opening
+    ∙ ap (λ (n : Text). view_behind body trail n (kind_named n) (o.delimiter, u)) at.type_name
     ∙ ap (λ (j : Kind). view_behind body trail o.head.type_name j (o.delimiter, u)) named
 
 -- ---- kinds
 
-comment_named : (t : Text) → same t (codes "comment") ≡ true → kind_named t ≡ kind.Comment
+pub comment_named : (t : Text) → same t (codes "comment") ≡ true → kind_named t ≡ kind.Comment
 comment_named t is = cond-true (same t (codes "comment")) _ _ is
 
-definition_named : (t : Text) → same t (codes "string") ≡ true → kind_named t ≡ kind.Macro
+pub definition_named : (t : Text) → same t (codes "string") ≡ true → kind_named t ≡ kind.Macro
 definition_named t is = cond-false (same t (codes "comment")) _ _ (string_no_comment t is) ∙ cond-true (same t (codes "string")) _ _ is
 
-preamble_named : (t : Text) → same t (codes "preamble") ≡ true → kind_named t ≡ kind.Preamble
+pub preamble_named : (t : Text) → same t (codes "preamble") ≡ true → kind_named t ≡ kind.Preamble
 preamble_named t is =
     cond-false (same t (codes "comment")) _ _ (preamble_no_comment t is) ∙ cond-false (same t (codes "string")) _ _ (preamble_no_string t is) ∙ cond-true (same t (codes "preamble")) _ _ is
 
-entry_named : (t : Text) → is_no_keyword t ≡ true → kind_named t ≡ kind.Entry
+pub entry_named : (t : Text) → is_no_keyword t ≡ true → kind_named t ≡ kind.Entry
 entry_named t is =
     let none = or_parts _ _ (not-true _ is) in
     let first = or_parts _ _ none.0 in
@@ -95,31 +107,34 @@ preamble_view p trail is =
     let field = preamble_field_again (length body) (opening_bytes p.opening) p.value p.space_behind c [] is.value is.space_behind (closes p.opening.delimiter).ends (ap (length {A = ℕ}) whole) in
     read ∙ ap (λ (fs : List Field). record (view_of (record { tree = PreambleTree p; trail = trail })) { fields = fs }) field
 
+-- the fields of an entry are read behind its key
+pub entry_fields : (e : tree.Entry) → IsTree name_limit (EntryTree e) → all_fields_left kind.Entry (length (tree_bytes (EntryTree e))) (after_run is_space (behind_key_bytes e)) ≡ fields_of (EntryTree e)
+entry_fields e is =
+    let c = close_byte e.opening.delimiter in
+    let front : Text = opening_bytes e.opening in
+    let inside : Text = rows_inside c e.rows e.last_comma [] in
+    let at = entry_in name_limit e [] is in
+    let behind : behind_key_bytes e ≡ behind_key_bytes e ++ [] = sym (append-nil (behind_key_bytes e)) in
+    let before : Text = front ++ e.key ++ e.space_behind_key in
+    let whole : tree_bytes (EntryTree e) ≡ before ++ inside =
+    append_assoc front e.key (behind_key_bytes e) ∙ ap (λ (v : Text). front ++ (e.key ++ v)) (behind ∙ at.shape) ∙ sym (append_assoc (front ++ e.key) e.space_behind_key inside ∙ append_assoc front e.key _) in
+    ap (λ (u : Text). all_fields_left kind.Entry (length (tree_bytes (EntryTree e))) (after_run is_space u)) behind
+    ∙ ap (all_fields_left kind.Entry (length (tree_bytes (EntryTree e)))) at.rows
+    ∙ rows_fields_again e.rows (length inside) _ c before e.last_comma [] is.rows is.last_comma (closes e.opening.delimiter) at.room (ap (length {A = ℕ}) whole)
+
 entry_view : (e : tree.Entry) (trail : Text) → IsTree name_limit (EntryTree e) → read_view (tree_bytes (EntryTree e)) trail ≡ view_of (record { tree = EntryTree e; trail = trail })
 entry_view e trail is =
     let body : Text = tree_bytes (EntryTree e) in
     let d = e.opening.delimiter in
-    let c = close_byte d in
     let front : Text = opening_bytes e.opening in
-    let inside : Text = rows_inside c e.rows e.last_comma [] in
-    let begin = rows_begin c e.rows e.last_comma [] (closes d) in
-    let inside_stands : Stands inside = subst Stands (sym begin.3) (not_from_false _ begin.2.no_space) in
     let behind : Text = behind_key_bytes e in
-    let shape : behind ≡ e.space_behind_key ++ inside =
-    append_assoc (e.space_behind_key ++ flat_map row_bytes e.rows) (last_comma_bytes e.last_comma) (c ∷ []) ∙ append_assoc e.space_behind_key (flat_map row_bytes e.rows) (last_comma_bytes e.last_comma ++ c ∷ []) in
     let u : Text = e.key ++ behind in
-    let stands : Stands u = key_stands d e.key behind is.key (λ none. subst Stands (sym (shape ∙ ap (λ (v : Text). v ++ inside) (is.empty_key none))) inside_stands) in
+    let stands : Stands u = subst (λ (v : Text). Stands (e.key ++ v)) (append-nil behind) (entry_in name_limit e [] is).stands in
     let whole : body ≡ front ++ u = append_assoc front e.key behind in
     let read = opened_again body trail e.opening u kind.Entry is.opening stands (entry_named e.opening.head.type_name is.type_name) whole in
     let key : take_while (goes_on_key d) u ≡ e.key = run_front (goes_on_key d) e.key behind is.key is.key_ends in
-    let behind_key : after_run is_space (after_run (goes_on_key d) u) ≡ inside =
-    ap (after_run is_space) (run_rest (goes_on_key d) e.key behind is.key is.key_ends ∙ shape) ∙ skip_space e.space_behind_key inside is.space_behind_key inside_stands in
     let key_at : length body - length u ≡ length front = omega (arith, ap (length {A = ℕ}) whole, length-append front u) in
-    let before : Text = front ++ e.key ++ e.space_behind_key in
-    let total : length body ≡ length (before ++ inside) =
-    ap (length {A = ℕ}) (whole ∙ ap (λ (v : Text). front ++ (e.key ++ v)) shape ∙ sym (append_assoc (front ++ e.key) e.space_behind_key inside ∙ append_assoc front e.key _)) in
-    let room : length e.rows ≤ length inside = omega (arith, rows_len e.rows, length-append (flat_map row_bytes e.rows) (last_comma_bytes e.last_comma ++ c ∷ [])) in
-    let fields = ap (all_fields_left kind.Entry (length body)) behind_key ∙ rows_fields_again e.rows (length inside) (length body) c before e.last_comma [] is.rows is.last_comma (closes d) room total in
+    let fields = ap (λ (v : Text). all_fields_left kind.Entry (length body) (after_run is_space v)) (run_rest (goes_on_key d) e.key behind is.key is.key_ends) ∙ entry_fields e is in
     read ∙ (λ i. record {
       kind = kind.Entry;
       body = body;

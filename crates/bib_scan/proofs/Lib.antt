@@ -55,6 +55,8 @@ pub mod FieldLaws
 pub mod StepLaws
 pub mod HeadLaws
 pub mod LayoutLaws
+pub mod NoteLemmas
+pub mod NoteLaws
 pub mod TakenApart
 pub mod PartsFaults
 pub mod OnlyPart

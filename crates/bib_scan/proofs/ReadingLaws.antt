@@ -10,7 +10,7 @@ use Rattle.bib_spec.specs.Clean.{begins_command}
 use Rattle.bib_spec.specs.Tree.{Tree, CommentTree, DefinitionTree, PreambleTree, EntryTree, tree_bytes}
 use Rattle.bib_spec.specs.Reading.{Item, Reading, item_bytes, bytes_of, IsItem, ReadsWithin}
 use Rattle.bib_scan.specs.declared.layout.Span.{Span}
-use Rattle.bib_scan.specs.Layout.{start_of, span_of, placed, places_of}
+use Rattle.bib_scan.specs.Layout.{start_of, span_of, places_of}
 use Rattle.bib_scan.specs.LeftToRight.{Halt, span, read_command, next_command, read_commands, read_all_commands, ◌>>=◌}
 use Rattle.bib_scan.proofs.BraceLemmas.{take-more}
 use Rattle.bib_scan.proofs.CommandLemmas.{next_here, next_none}
@@ -119,7 +119,7 @@ next_within [] = omega arith
 next_within (b ∷ t) = elim (cases_Bool (begins_command (b ∷ t))) [ inl here ↦ omega (arith, next_here (b ∷ t) here) | inr none ↦ omega (arith, next_none b t none, next_within t) ]
 
 -- what is read is a reading
-pub reading_of : (limit : ℕ) (t : Text) (spans : List Span) → read_all_commands limit t ≡ Ok spans → (db : Reading) × ReadsWithin limit t db × (placed (next_command t) spans ≡ places_of db)
+pub reading_of : (limit : ℕ) (t : Text) (spans : List Span) → read_all_commands limit t ≡ Ok spans → (db : Reading) × ReadsWithin limit t db × (next_command t ≡ length db.front) × (spans ≡ (places_of db).items)
 reading_of limit t spans is =
     let front = take (next_command t) t in
     let rest = drop (next_command t) t in
@@ -132,7 +132,7 @@ reading_of limit t spans is =
     let within : next_command t ≤ length t = next_within t in
     let len : length front ≡ next_command t = length-take-le (next_command t) t within in
     let place : length t - length rest ≡ length front = omega arith in
-    (db, good, ap (λ (n : ℕ). placed n spans) (sym len) ∙ ap (placed (length front)) (ok.spans_are ∙ ap (λ (n : ℕ). spans_from n ok.items) place ∙ spans_all db))
+    (db, good, sym len, ok.spans_are ∙ ap (λ (n : ℕ). spans_from n ok.items) place ∙ spans_all db)
 
 -- ---- what has a reading is read
 

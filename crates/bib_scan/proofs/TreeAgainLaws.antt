@@ -74,9 +74,16 @@ pub key_stands : (d : Delimiter) (key r : Text) → AllPass (goes_on_key d) key 
 key_stands d [] r all rest = rest refl
 key_stands d (b ∷ key) r all rest = not_from_false _ (key_no_space d b (All-head (λ (y : ℕ). goes_on_key d y ≡ true) b key all))
 
-entry_again : (limit : ℕ) (e : Entry) (x : Text) → IsEntry limit e → read_entry limit e.opening.delimiter (e.opening.space_behind ++ (e.key ++ (behind_key_bytes e ++ x))) ≡ Ok x
-unfolding read_entry
-entry_again limit e x is =
+-- how an entry stands in its bytes, with this text after them
+pub record EntryIn (e : Entry) (x : Text) : Type 0 where
+  pub stands : Stands (e.key ++ (behind_key_bytes e ++ x))
+  pub key_ends : does_not_begin_with (goes_on_key e.opening.delimiter) (behind_key_bytes e ++ x) ≡ true
+  pub rows : after_run is_space (behind_key_bytes e ++ x) ≡ rows_inside (close_byte e.opening.delimiter) e.rows e.last_comma x
+  pub room : length e.rows ≤ length (rows_inside (close_byte e.opening.delimiter) e.rows e.last_comma x)
+  pub shape : behind_key_bytes e ++ x ≡ e.space_behind_key ++ rows_inside (close_byte e.opening.delimiter) e.rows e.last_comma x
+
+pub entry_in : (limit : ℕ) (e : Entry) (x : Text) → IsEntry limit e → EntryIn e x
+entry_in limit e x is =
     let d = e.opening.delimiter in
     let c = close_byte d in
     let inside : Text = rows_inside c e.rows e.last_comma x in
@@ -84,16 +91,29 @@ entry_again limit e x is =
     let inside_stands : Stands inside = subst Stands (sym begin.3) (not_from_false _ begin.2.no_space) in
     let shape : behind_key_bytes e ++ x ≡ e.space_behind_key ++ inside =
     append_assoc (e.space_behind_key ++ flat_map row_bytes e.rows ++ last_comma_bytes e.last_comma) (c ∷ []) x ∙ append_assoc (e.space_behind_key ++ flat_map row_bytes e.rows) (last_comma_bytes e.last_comma) (c ∷ x) ∙ append_assoc e.space_behind_key (flat_map row_bytes e.rows) (last_comma_bytes e.last_comma ++ c ∷ x) in
-    let behind : Text = behind_key_bytes e ++ x in
     let long : 0 < length (behind_key_bytes e) = omega (arith, length-append (e.space_behind_key ++ flat_map row_bytes e.rows ++ last_comma_bytes e.last_comma) (c ∷ [])) in
-    let stands : Stands (e.key ++ behind) = key_stands d e.key behind is.key (λ none. subst Stands (sym (shape ∙ ap (λ (u : Text). u ++ inside) (is.empty_key none))) inside_stands) in
-    let e1 : after_run is_space (e.opening.space_behind ++ (e.key ++ behind)) ≡ e.key ++ behind = skip_space e.opening.space_behind (e.key ++ behind) is.opening.space_behind stands in
-    let e2 : read_run limit (goes_on_key d) (e.key ++ behind) ≡ Ok (e.key, behind) = limited_again limit (goes_on_key d) e.key behind is.key is.key_len (stops_more (goes_on_key d) (behind_key_bytes e) x long is.key_ends) in
-    let e3 : after_run is_space behind ≡ inside = ap (after_run is_space) shape ∙ skip_space e.space_behind_key inside is.space_behind_key inside_stands in
-    let room : length e.rows < length inside + 1 = omega (arith, rows_len e.rows, length-append (flat_map row_bytes e.rows) (last_comma_bytes e.last_comma ++ c ∷ x)) in
+    record {
+      stands = key_stands d e.key (behind_key_bytes e ++ x) is.key (λ none. subst Stands (sym (shape ∙ ap (λ (u : Text). u ++ inside) (is.empty_key none))) inside_stands);
+      key_ends = stops_more (goes_on_key d) (behind_key_bytes e) x long is.key_ends;
+      rows = ap (after_run is_space) shape ∙ skip_space e.space_behind_key inside is.space_behind_key inside_stands;
+      room = omega (arith, rows_len e.rows, length-append (flat_map row_bytes e.rows) (last_comma_bytes e.last_comma ++ c ∷ x));
+      shape = shape;
+    }
+
+entry_again : (limit : ℕ) (e : Entry) (x : Text) → IsEntry limit e → read_entry limit e.opening.delimiter (e.opening.space_behind ++ (e.key ++ (behind_key_bytes e ++ x))) ≡ Ok x
+unfolding read_entry
+entry_again limit e x is =
+    let d = e.opening.delimiter in
+    let c = close_byte d in
+    let inside : Text = rows_inside c e.rows e.last_comma x in
+    let at = entry_in limit e x is in
+    let behind : Text = behind_key_bytes e ++ x in
+    let e1 : after_run is_space (e.opening.space_behind ++ (e.key ++ behind)) ≡ e.key ++ behind = skip_space e.opening.space_behind (e.key ++ behind) is.opening.space_behind at.stands in
+    let e2 : read_run limit (goes_on_key d) (e.key ++ behind) ≡ Ok (e.key, behind) = limited_again limit (goes_on_key d) e.key behind is.key is.key_len at.key_ends in
+    let room : length e.rows < length inside + 1 = omega (arith, at.room) in
     ap (λ (u : Text). read_run limit (goes_on_key d) u >>= λ key. read_all_rows limit c (after_run is_space key.1)) e1
     ∙ ap (λ (m : Read Text). m >>= λ key. read_all_rows limit c (after_run is_space key.1)) e2
-    ∙ ap (read_all_rows limit c) e3 ∙ rows_again limit e.rows (length inside + 1) c e.last_comma x is.rows is.last_comma (closes d) room
+    ∙ ap (read_all_rows limit c) at.rows ∙ rows_again limit e.rows (length inside + 1) c e.last_comma x is.rows is.last_comma (closes d) room
 
 -- ---- openings
 

@@ -4,15 +4,18 @@ use Rattle.std.specs.List.{flat_map, enumerate_from}
 use Rattle.bib_spec.specs.Text.{Text}
 use Rattle.bib_spec.specs.Tree.{tree_bytes}
 use Rattle.bib_spec.specs.Reading.{Item, Reading, Reads, item_bytes}
+use Rattle.bib_scan.specs.Note.{note_of}
 use Rattle.bib_scan.specs.declared.layout.Span.{Span}
+use Rattle.bib_scan.specs.declared.note.Note.{Note}
 
--- the length of the front, and where the body of each item lies
+-- the length of the front, where the body of each item lies, and what is noted of each
 pub record Places : Type 0 where
   pub front_len : ℕ
   pub items : List Span
+  pub notes : List Note
 
-abbrev pub placed : ℕ → List Span → Places
-placed front_len items = record { front_len = front_len; items = items }
+abbrev pub placed : ℕ → List Span → List Note → Places
+placed front_len items notes = record { front_len = front_len; items = items; notes = notes }
 
 -- item n begins after the front and the first n items
 abbrev pub start_of : Reading → ℕ → ℕ
@@ -26,7 +29,7 @@ span_of db numbered = record {
 }
 
 abbrev pub places_of : Reading → Places
-places_of db = placed (length db.front) (map (span_of db) (enumerate_from 0 db.items))
+places_of db = placed (length db.front) (map (span_of db) (enumerate_from 0 db.items)) (map (λ item. note_of item.tree) db.items)
 
 -- the places are those of what the file says
 abbrev pub IsLayoutOf : Text → Places → Type 0

@@ -2,6 +2,8 @@ pub mod LeftToRight
 pub mod DelimiterView
 pub mod View
 pub mod FieldsLeft
+pub mod Note
+pub mod NotesLeft
 pub mod Layout
 pub mod Code
 pub mod PartView

@@ -1,16 +1,20 @@
 //! Commands: keys, rows and closing delimiters.
 
-ghost use Rattle.std.specs.Prelude.{◌≡◌, ◌<◌, ◌≤◌, IfSome, IfOk, length};
+ghost use Rattle.std.specs.Prelude.{◌≡◌, ◌<◌, ◌≤◌, false, IfSome, IfOk, length, codes};
 ghost use Rattle.std.specs.Option.{option_copied};
 ghost use Rattle.std.specs.List.{prefix_len};
 ghost use Rattle.bib_spec.specs.Bytes.{name_limit};
+ghost use Rattle.bib_spec.specs.Text.{is_space, after_run, same};
 ghost use Rattle.bib_spec.specs.Tree.{goes_on_key, close_byte};
 ghost use Rattle.bib_scan.specs.LeftToRight.{read_run, past_byte, read_comma, read_close, read_all_rows, read_entry, read_definition, read_preamble, read_body, read_command};
+ghost use Rattle.bib_scan.specs.FieldsLeft.{kind_named, read_opening};
+ghost use Rattle.bib_scan.specs.NotesLeft.{crossref_left, entry_head, head_behind, read_entry_head};
 ghost use Rattle.bib_scan.specs.Code.{Gives};
 ghost use Rattle.bib_scan.specs.DelimiterView.{delimiter_view};
 
 use crate::class::{is_key_byte_in_braces, is_key_byte_in_parens};
 use crate::fault::{Fault, Stop};
+use crate::note::EntryHead;
 use crate::opening::Delimiter;
 use crate::row::{past_row, split_assignment};
 use crate::spans::{behind, past_space, split_type_name};
@@ -84,33 +88,51 @@ fn split_key(delimiter: Delimiter, text: &[u8]) -> Result<(&[u8], &[u8]), Stop<'
     Ok(text.split_at(len))
 }
 
-/// The text after an entry's rows and its closing delimiter.
-fn past_rows(close: u8, text: &[u8]) -> Result<&[u8], Stop<'_>>
-    ensures read { Gives (λ x. x.now) result (read_all_rows name_limit close text.now) }
-    ensures shorter { IfOk result (λ x. length x.now < length text.now) }
+/// The text after an entry's rows and its closing delimiter, and how many bytes are left from the comma of the first row on
+/// that is named `crossref`, or 0 where there is none.
+fn past_rows(delimiter: Delimiter, text: &[u8]) -> Result<(&[u8], usize), Stop<'_>>
+    ensures read { Gives (λ x. x.0.now) result (read_all_rows name_limit (close_byte (delimiter_view delimiter)) text.now) }
+    ensures shorter { IfOk result (λ x. length x.0.now < length text.now) }
+    ensures crossref { IfOk result (λ x. x.1 ≡ crossref_left text.now) }
+    ensures within { IfOk result (λ x. x.1 ≤ length text.now) }
 {
+    let close = delimiter.close();
     let mut rest = text;
+    let mut crossref_left = 0;
     'turns: loop {
         if let Some(end) = past_byte(close, rest) {
-            return Ok(end);
+            return Ok((end, crossref_left));
         }
         let named = past_space(past_comma(rest)?);
         if let Some(end) = past_byte(close, named) {
-            return Ok(end);
+            return Ok((end, crossref_left));
         }
-        let (_, behind) = split_assignment(named)?;
+        let (assigned, behind) = split_assignment(named)?;
+        if crossref_left == 0 && same_folded(assigned.name, b"crossref") {
+            crossref_left = rest.len();
+        }
         rest = behind;
     }
 }
 
-/// The text after an entry, given what follows its opening delimiter.
+/// The text after an entry, given what follows its opening delimiter, and what the entry says.
 #[tactic(auto, unfolding(crate::specs::LeftToRight::read_entry))]
-fn past_entry(delimiter: Delimiter, text: &[u8]) -> Result<&[u8], Stop<'_>>
-    ensures read { Gives (λ x. x.now) result (read_entry name_limit (delimiter_view delimiter) text.now) }
-    ensures shorter { IfOk result (λ x. length x.now < length text.now) }
+fn past_entry(delimiter: Delimiter, text: &[u8]) -> Result<(&[u8], EntryHead), Stop<'_>>
+    ensures read { Gives (λ x. x.0.now) result (read_entry name_limit (delimiter_view delimiter) text.now) }
+    ensures shorter { IfOk result (λ x. length x.0.now < length text.now) }
+    ensures head { IfOk result (λ x. x.1 ≡ entry_head (delimiter_view delimiter, after_run is_space text.now)) }
+    ensures key { IfOk result (λ x. x.1.key_len ≤ name_limit) }
+    ensures within { IfOk result (λ x. x.1.crossref_left ≤ length text.now) }
 {
-    let (_, rest) = split_key(delimiter, past_space(text))?;
-    past_rows(delimiter.close(), past_space(rest))
+    let inside = past_space(text);
+    let (key, behind_key) = split_key(delimiter, inside)?;
+    let (rest, crossref_left) = past_rows(delimiter, past_space(behind_key))?;
+    let head = EntryHead {
+        key_left: inside.len(),
+        key_len: key.len(),
+        crossref_left,
+    };
+    Ok((rest, head))
 }
 
 /// The text after a preamble, given what follows its opening delimiter.
@@ -130,39 +152,50 @@ fn past_definition(close: u8, text: &[u8]) -> Result<&[u8], Stop<'_>>
     past_close(close, past_row(text)?)
 }
 
-/// The text after a command of this type, given the text from its opening delimiter on.
+/// The text after a command of this type, which is no comment, given the text from its opening delimiter on; and what it
+/// says where it is an entry.
 #[tactic(auto, unfolding(crate::specs::LeftToRight::read_body))]
-fn past_body<'a>(type_name: &[u8], text: &'a [u8]) -> Result<&'a [u8], Stop<'a>>
-    ensures read { Gives (λ x. x.now) result (read_body name_limit type_name.now text.now) }
-    ensures shorter { IfOk result (λ x. length x.now < length text.now) }
+fn past_body<'a>(
+    type_name: &[u8],
+    text: &'a [u8],
+) -> Result<(&'a [u8], Option<EntryHead>), Stop<'a>>
+    ensures read { Gives (λ x. x.0.now) result (read_body name_limit type_name.now text.now) }
+    ensures shorter { IfOk result (λ x. length x.0.now < length text.now) }
+    ensures head { same type_name.now (codes "comment") ≡ false → IfOk result (λ x. x.1 ≡ head_behind (kind_named type_name.now) (read_opening text.now)) }
+    ensures key { IfOk result (λ x. IfSome x.1 (λ h. h.key_len ≤ name_limit)) }
+    ensures within { IfOk result (λ x. IfSome x.1 (λ h. h.crossref_left ≤ length text.now)) }
 {
     match text {
         [] => Err(Stop::expected(Fault::Unended, text)),
         [first, inside @ ..] => {
             let delimiter = Delimiter::of(*first);
             if same_folded(type_name, b"string") {
-                past_definition(delimiter.close(), inside)
+                Ok((past_definition(delimiter.close(), inside)?, None))
             } else if same_folded(type_name, b"preamble") {
-                past_preamble(delimiter.close(), inside)
+                Ok((past_preamble(delimiter.close(), inside)?, None))
             } else {
-                past_entry(delimiter, inside)
+                let (rest, head) = past_entry(delimiter, inside)?;
+                Ok((rest, Some(head)))
             }
         }
     }
 }
 
-/// The text after the command that begins here.
+/// The text after the command that begins here, and what the command says where it is an entry.
 #[tactic(auto, unfolding(crate::specs::LeftToRight::read_command))]
-pub(crate) fn past_command(text: &[u8]) -> Result<&[u8], Stop<'_>>
-    ensures read { Gives (λ x. x.now) result (read_command name_limit text.now) }
-    ensures shorter { IfOk result (λ x. length x.now < length text.now) }
+pub(crate) fn past_command(text: &[u8]) -> Result<(&[u8], Option<EntryHead>), Stop<'_>>
+    ensures read { Gives (λ x. x.0.now) result (read_command name_limit text.now) }
+    ensures shorter { IfOk result (λ x. length x.0.now < length text.now) }
+    ensures head { IfOk result (λ x. x.1 ≡ read_entry_head text.now) }
+    ensures key { IfOk result (λ x. IfSome x.1 (λ h. h.key_len ≤ name_limit)) }
+    ensures within { IfOk result (λ x. IfSome x.1 (λ h. h.crossref_left ≤ length text.now)) }
 {
     match text {
         [] => Err(Stop::expected(Fault::Unended, text)),
         [_, after @ ..] => {
             let (type_name, rest) = split_type_name(past_space(after));
             if same_folded(type_name, b"comment") {
-                Ok(rest)
+                Ok((rest, None))
             } else {
                 past_body(type_name, past_space(rest))
             }

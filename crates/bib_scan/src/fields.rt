@@ -109,7 +109,7 @@ fn split_assigned(
 
 /// A row as a field, and the text after it.
 #[inline(always)]
-fn split_row(body_len: usize, text: &[u8]) -> Result<(FieldView<'_>, &[u8]), Stop<'_>>
+pub(crate) fn split_row(body_len: usize, text: &[u8]) -> Result<(FieldView<'_>, &[u8]), Stop<'_>>
     requires { length text.now ≤ body_len }
     ensures read { Gives (λ x. (field_seen x.0, x.1.now)) result (read_row_field body_len text.now) }
     ensures shorter { IfOk result (λ x. length x.1.now < length text.now) }

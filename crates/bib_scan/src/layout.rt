@@ -2,6 +2,8 @@
 
 ghost use Rattle.std.specs.Prelude.{◌≡◌};
 
+use crate::note::Note;
+use crate::seq::Seq;
 use crate::spans::behind;
 use crate::view::ItemView;
 use std::marker::Model;
@@ -9,16 +11,35 @@ use std::marker::Model;
 /// Where the body of an item lies: its first byte, and the first one after it.
 #[derive(Clone, Copy, Debug, PartialEq, Eq)]
 pub(crate) struct Span {
-    pub start: usize,
-    pub end: usize,
+    pub start: u32,
+    pub end: u32,
+}
+
+impl Span {
+    ghost use Rattle.std.specs.Prelude.{◌≡◌, ◌≤◌, ◌<◌, ◌-◌, ◌^◌};
+    ghost use Rattle.bib_scan.specs.LeftToRight.{span};
+
+    /// The span of a body in a text of so many bytes, told by the bytes that are left from its first one on and behind it.
+    pub fn of_left(total: usize, from: usize, behind: usize) -> Self
+        requires short { total < 2 ^ 32 }
+        requires from { from ≤ total }
+        requires behind { behind ≤ total }
+        ensures { result ≡ span (total - from) (total - behind) }
+    {
+        Span {
+            start: (total - from) as u32,
+            end: (total - behind) as u32,
+        }
+    }
 }
 
 /// Where the front and the items of a file lie: places in bytes, from 0. Each of its views is a slice of the bytes
-/// that were read, and takes no time that grows with them.
+/// that were read, and takes no time that grows with them. It also has what was noted of each item.
 #[derive(Drop)]
 pub struct Layout {
     front_len: usize,
     items: Vec<Span>,
+    notes: Vec<Note>,
 }
 
 impl Model for Layout {
@@ -26,7 +47,7 @@ impl Model for Layout {
 
     ghost Value = { Places };
 
-    ghost view = { λ l. record { front_len = l.front_len; items = l.items.items } };
+    ghost view = { λ l. record { front_len = l.front_len; items = l.items.items; notes = l.notes.items } };
 }
 
 impl Layout {
@@ -36,11 +57,15 @@ impl Layout {
     ghost use Rattle.bib_scan.specs.Layout.{places_of, placed, trail_end, IsLayoutOf};
     ghost use Rattle.bib_scan.specs.View.{view_of};
 
-    /// The layout of a file whose front is so long, and whose items have their bodies there.
-    pub(crate) fn new(front_len: usize, items: Vec<Span>) -> Self
-        ensures { result ≡ placed front_len items.items }
+    /// The layout of a file whose front is so long, and whose items have their bodies there and these notes.
+    pub(crate) fn new(front_len: usize, items: Vec<Span>, notes: Vec<Note>) -> Self
+        ensures { result ≡ placed front_len items.items notes.items }
     {
-        Layout { front_len, items }
+        Layout {
+            front_len,
+            items,
+            notes,
+        }
     }
 
     /// How many items the file has.
@@ -67,7 +92,9 @@ impl Layout {
         ensures { (db : Reading) (i : Item) → Reads bytes.now db → slice_get db.items n ≡ Some i → result.now ≡ tree_bytes i.tree }
     {
         let body = self.items[n];
-        behind(bytes, body.start).split_at(body.end - body.start).0
+        behind(bytes, body.start as usize)
+            .split_at((body.end - body.start) as usize)
+            .0
     }
 
     /// Item n, as slices of the file: the head of its body is read, in time of its length.
@@ -85,7 +112,7 @@ impl Layout {
         ensures { result ≡ trail_end bytes.now self.now n }
     {
         match self.items.get(n + 1) {
-            Some(next) => next.start,
+            Some(next) => next.start as usize,
             None => bytes.len(),
         }
     }
@@ -98,6 +125,14 @@ impl Layout {
     {
         let body = self.items[n];
         let end = self.trail_end(bytes, n);
-        behind(bytes, body.end).split_at(end - body.end).0
+        let start = body.end as usize;
+        behind(bytes, start).split_at(end - start).0
+    }
+
+    /// What was noted of each item, in their order. The memory of the places is given back.
+    pub fn into_notes(self) -> Seq<Note>
+        ensures { result ≡ self.notes }
+    {
+        Seq::from_vec(self.notes)
     }
 }

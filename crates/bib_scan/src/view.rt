@@ -8,8 +8,9 @@ ghost use Rattle.bib_spec.specs.Tree.{Tree, IsTree, tree_bytes};
 
 use crate::body::key_len;
 use crate::fields::Fields;
+use crate::note::Note;
 use crate::opening::Delimiter;
-use crate::spans::{past_space, split_type_name};
+use crate::spans::{behind, past_space, split_type_name};
 use crate::text::same_folded;
 use std::marker::Model;
 
@@ -57,7 +58,6 @@ pub struct ItemView<'a> {
     kind: Kind,
     body: &'a [u8],
     trail: &'a [u8],
-    type_name: &'a [u8],
     key: &'a [u8],
     key_at: usize,
     // where the fields begin
@@ -67,7 +67,7 @@ pub struct ItemView<'a> {
 impl<'a> Model for ItemView<'a> {
     ghost use Rattle.std.specs.Prelude.{◌≤◌, length};
     ghost use Rattle.bib_scan.specs.View.{View};
-    ghost use Rattle.bib_scan.specs.FieldsLeft.{all_fields_left};
+    ghost use Rattle.bib_scan.specs.FieldsLeft.{all_fields_left, read_head};
 
     ghost Value = { View };
 
@@ -75,7 +75,7 @@ impl<'a> Model for ItemView<'a> {
       kind = v.kind;
       body = v.body.now;
       trail = v.trail.now;
-      type_name = v.type_name.now;
+      type_name = (read_head v.body.now).0;
       key = v.key.now;
       key_at = v.key_at;
       fields = all_fields_left v.kind (length v.body.now) v.rows.now;
@@ -87,6 +87,7 @@ impl<'a> Model for ItemView<'a> {
 impl<'a> ItemView<'a> {
     ghost use Rattle.std.specs.Prelude.{◌≡◌, ◌<◌, ◌^◌, length};
     ghost use Rattle.bib_scan.specs.View.{view_of, with_trail};
+    ghost use Rattle.bib_scan.specs.Note.{note_of};
 
     /// The view of the item with this body and trail. The body is read up to its fields, in time of that
     /// length.
@@ -103,7 +104,6 @@ impl<'a> ItemView<'a> {
                     kind: Kind::Entry,
                     body,
                     trail,
-                    type_name,
                     key,
                     key_at: body.len() - inside.len(),
                     rows: past_space(behind_key),
@@ -113,11 +113,31 @@ impl<'a> ItemView<'a> {
                 kind,
                 body,
                 trail,
-                type_name,
                 key: b"",
                 key_at: 0,
                 rows: inside,
             },
+        }
+    }
+
+    /// The view of the item with this body and trail, of which this was noted: of an entry, no byte up to the key's end is
+    /// read.
+    pub fn noted(body: &'a [u8], trail: &'a [u8], note: Note) -> Self
+        ensures slices { (result.body ≡ body.now) × (result.trail ≡ trail.now) }
+        ensures item { (tree : Tree) → IsTree name_limit tree → tree_bytes tree ≡ body.now → note ≡ note_of tree → result ≡ view_of (record { tree = tree; trail = trail.now }) }
+    {
+        let (key_at, key_len) = (note.key_at as usize, note.key_len as usize);
+        if key_at == 0 || key_at + key_len > body.len() {
+            return ItemView::of(body, trail);
+        }
+        let (key, behind_key) = behind(body, key_at).split_at(key_len);
+        ItemView {
+            kind: Kind::Entry,
+            body,
+            trail,
+            key,
+            key_at,
+            rows: past_space(behind_key),
         }
     }
 
@@ -142,11 +162,11 @@ impl<'a> ItemView<'a> {
         self.trail
     }
 
-    /// The word after the at-sign, as it stands.
+    /// The word after the at-sign, as it stands. It is read from the body.
     pub fn type_name(&self) -> &'a [u8]
         ensures { result.now ≡ self.now.type_name }
     {
-        self.type_name
+        split_head(self.body).0
     }
 
     /// An entry's key, as it stands; it is empty for other items, and may be for entries.

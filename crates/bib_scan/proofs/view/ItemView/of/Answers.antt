@@ -1,9 +1,9 @@
-use Rattle.std.proofs.Common.{◌≡◌, ℕ, ◌-◌, length, take, drop, sym, ap, ◌∙◌}
+use Rattle.std.proofs.Common.{◌≡◌, ℕ, ◌-◌, length, take, drop, refl, sym, ap, ◌∙◌}
 use Rattle.std.specs.List.{take_while}
 use Rattle.bib_spec.specs.Text.{Text, is_space, after_run}
 use Rattle.bib_spec.specs.Tree.{goes_on_key}
 use Rattle.bib_scan.specs.DelimiterView.{delimiter_view}
-use Rattle.bib_scan.specs.FieldsLeft.{all_fields_left, read_opening}
+use Rattle.bib_scan.specs.FieldsLeft.{all_fields_left, kind_named, read_head, read_opening}
 use Rattle.bib_scan.specs.declared.view.Kind.TheVariants as kind
 use Rattle.bib_scan.proofs.HeadLaws.{view_found, plain_view}
 use Rattle.bib_scan.proofs.view.ItemView.of.Goals as goal
@@ -22,17 +22,17 @@ returns-in-Entry-clause-item c tree is whole =
       kind = kind.Entry;
       body = body;
       trail = trail;
-      type_name = c.split_head.result.0.now;
+      type_name = (read_head body).0;
       key = key i;
       key_at = length body - length inside;
       fields = all_fields_left kind.Entry (length body) (rows i);
     })
-    ∙ view_found body trail _ kind.Entry _ tree c.split_head.ensures.parts (sym c.in-Entry.is ∙ c.named.ensures) opened is whole
+    ∙ view_found body trail _ kind.Entry _ tree refl (sym c.in-Entry.is ∙ c.named.ensures ∙ ap (λ (h : Text × Text). kind_named h.0) c.split_head.ensures.parts) (opened ∙ ap (λ (h : Text × Text). read_opening (after_run is_space h.1)) c.split_head.ensures.parts) is whole
 
 pub returns-in_default-clause-item : goal.returns-in_default-clause-item
 returns-in_default-clause-item c tree is whole =
     let body : Text = c.args.body.now in
     let trail : Text = c.args.trail.now in
     let opened = c.split_opening-delimiter.ensures.parts ∙ ap read_opening c.past_space.ensures.rest in
-    sym (plain_view body trail c.split_head.result.0.now c.named.result (delimiter_view c.split_opening-delimiter.result.0, c.split_opening-delimiter.result.1.now) c.in_default.not-Entry)
-    ∙ view_found body trail _ c.named.result _ tree c.split_head.ensures.parts c.named.ensures opened is whole
+    sym (plain_view body trail (read_head body).0 c.named.result (delimiter_view c.split_opening-delimiter.result.0, c.split_opening-delimiter.result.1.now) c.in_default.not-Entry)
+    ∙ view_found body trail _ c.named.result _ tree refl (c.named.ensures ∙ ap (λ (h : Text × Text). kind_named h.0) c.split_head.ensures.parts) (opened ∙ ap (λ (h : Text × Text). read_opening (after_run is_space h.1)) c.split_head.ensures.parts) is whole
