@@ -1,8 +1,10 @@
 -- The first crossref of an entry: where its word does not stand in the entry's bytes there is none, and else it is found row by row.
-use Rattle.std.proofs.Common.{◌≡◌, true, false, List, [], ◌∷◌, ◌++◌, length, map, Option, Some, None, refl, sym, ◌∙◌, ap, subst, append_assoc, All}
+use Rattle.std.proofs.Common.{◌≡◌, true, false, List, [], ◌∷◌, ◌++◌, length, map, Option, Some, None, ⊎_elim, refl, sym, ◌∙◌, ap, subst, append_assoc, All}
+use Rattle.std.specs.Prelude.{find}
 use Rattle.std.specs.List.{flat_map}
 use Rattle.std.specs.Option.{option_or}
-use Rattle.std.proofs.lemmas.Bool.{cond-true, cond-false}
+use Rattle.std.proofs.lemmas.Bool.{cases_Bool, cond-true, cond-false}
+use Rattle.std.proofs.lemmas.Option.{none-some, same_Some}
 use Rattle.std.proofs.lemmas.List.Elements.{All-head, All-tail}
 use Rattle.bib_spec.specs.Bytes.{comma, equals_sign, name_limit}
 use Rattle.bib_spec.specs.Text.{Text, same}
@@ -10,7 +12,8 @@ use Rattle.bib_spec.specs.Tree.{Tree, Row, Entry, EntryTree, IsRow, IsTree, valu
 use Rattle.bib_spec.specs.Reading.{Item}
 use Rattle.bib_spec.specs.Texts.{Macros, raw_text, field_text}
 use Rattle.bib_spec.specs.Records.{crossref, crossref_text, entry_in}
-use Rattle.bib_scan.specs.View.{View, Field, field_behind, fields_behind, view_of}
+use Rattle.bib_scan.specs.View.{View, Field, field_behind, fields_behind, fields_of, view_of}
+use Rattle.bib_scan.specs.Note.{is_crossref, crossref_field}
 use Rattle.bib_value.specs.Raw.{OfValue}
 use Rattle.bib_store.specs.Meaning.{is_entry_tree}
 use Rattle.bib_store.specs.ItemTexts.{crossref_in, OfRows}
@@ -64,6 +67,45 @@ entry_lacks m v lacks i is entry seen = there i.tree (entry_tree i.tree entry) (
         let shape = entry_shape (opening_bytes e.opening) e.key e.space_behind_key rows (last_comma_bytes e.last_comma) (close_byte e.opening.delimiter ∷ []) in
         ap (λ (x : Tree). map crossref_text (entry_in m x)) e_is
         ∙ ap (λ (o : Option Text). o ∷ []) (rows_lack m v.body (opening_bytes e.opening ++ (e.key ++ e.space_behind_key)) end e.rows (body ∙ ap tree_bytes e_is ∙ shape) lacks)
+
+-- ---- the first field of its name
+
+-- there is none
+none_in : (m : Macros) (before : Text) (rows : List Row) → find is_crossref (fields_behind before rows) ≡ None → None ≡ crossref_in m rows
+none_in m before [] none = refl
+none_in m before (row ∷ rows) none = ⊎_elim
+    (λ is. absurd (none-some (field_behind (length before) (before ++ comma ∷ row.space_before_name) row.assignment) (sym none ∙ cond-true (same row.assignment.name crossref) _ _ is)))
+    (λ other. none_in m (before ++ row_bytes row) rows (sym (cond-false (same row.assignment.name crossref) (Some (field_behind (length before) (before ++ comma ∷ row.space_before_name) row.assignment)) _ other) ∙ none) ∙ sym (row_is_other m row rows other))
+    (cases_Bool (same row.assignment.name crossref))
+
+-- it is this one, whose value says the text
+found_in : (m : Macros) (f : Field) (text : Text) → OfValue f.value (λ v. text ≡ field_text (raw_text m v)) → (before : Text) (rows : List Row) → All (IsRow name_limit) rows → find is_crossref (fields_behind before rows) ≡ Some f → Some text ≡ crossref_in m rows
+found_in m f text says before [] are is = absurd (none-some f is)
+found_in m f text says before (row ∷ rows) are is =
+    let here : Field = field_behind (length before) (before ++ comma ∷ row.space_before_name) row.assignment in
+    ⊎_elim
+    (λ named.
+    let good = All-head (IsRow name_limit) row rows are in
+    let value : value_bytes row.assignment.value ≡ f.value = ap (λ (g : Field). g.value) (same_Some here f (sym (cond-true (same row.assignment.name crossref) (Some here) (find is_crossref (fields_behind (before ++ row_bytes row) rows)) named) ∙ is)) in
+    ap Some (says row.assignment.value good.assignment.value value) ∙ sym (row_is_first m row rows named))
+    (λ other.
+    found_in m f text says (before ++ row_bytes row) rows (All-tail (IsRow name_limit) row rows are) (sym (cond-false (same row.assignment.name crossref) (Some here) (find is_crossref (fields_behind (before ++ row_bytes row) rows)) other) ∙ is)
+    ∙ sym (row_is_other m row rows other))
+    (cases_Bool (same row.assignment.name crossref))
+
+-- what the entry's fields say is said of the entry
+fields_seen : (v : View) (i : Item) → is_entry_tree i.tree ≡ true → v ≡ view_of i → crossref_field i.tree ≡ find is_crossref v.fields
+fields_seen v i entry seen =
+    let e = entry_tree i.tree entry in
+    ap crossref_field e.1 ∙ ap (λ (t : Tree). find is_crossref (fields_of t)) (sym e.1) ∙ ap (λ (w : View). find is_crossref w.fields) (sym seen)
+
+pub entry_finds_none : (m : Macros) (v : View) (i : Item) → is_entry_tree i.tree ≡ true → v ≡ view_of i → None ≡ crossref_field i.tree → OfRows v.fields (λ before rows. None ≡ crossref_in m rows)
+entry_finds_none m v i entry seen none before rows are fields =
+    none_in m before rows (ap (find is_crossref) (sym fields) ∙ sym (fields_seen v i entry seen) ∙ sym none)
+
+pub entry_finds : (m : Macros) (v : View) (i : Item) (f : Field) (text : Text) → is_entry_tree i.tree ≡ true → v ≡ view_of i → Some f ≡ crossref_field i.tree → OfValue f.value (λ w. text ≡ field_text (raw_text m w)) → OfRows v.fields (λ before rows. Some text ≡ crossref_in m rows)
+entry_finds m v i f text entry seen some says before rows are fields =
+    found_in m f text says before rows are (ap (find is_crossref) (sym fields) ∙ sym (fields_seen v i entry seen) ∙ sym some)
 
 -- ---- row by row
 

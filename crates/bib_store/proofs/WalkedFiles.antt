@@ -1,9 +1,9 @@
 -- The walk over the items of a file.
-use Rattle.std.proofs.Common.{◌≡◌, ℕ, zero, suc, ◌+◌, ◌-◌, ◌<◌, ◌≤◌, ◌^◌, cond, nat_lt, List, [], ◌∷◌, ◌++◌, length, take, drop, map, Option, Some, None, option_map, slice_get, get_or, ◌⊎◌, inl, inr, ⊎_elim, refl, sym, ◌∙◌, ap, subst, arith, append-nil, length-append, length-drop, length-take-le, le_of_suc-le-suc, not-suc-le-zero}
+use Rattle.std.proofs.Common.{◌≡◌, ℕ, zero, suc, ◌+◌, ◌-◌, ◌<◌, ◌≤◌, ◌^◌, cond, nat_lt, List, [], ◌∷◌, ◌++◌, length, take, drop, map, Option, Some, None, option_map, IfSome, slice_get, get_or, ◌⊎◌, inl, inr, ⊎_elim, refl, sym, ◌∙◌, ap, subst, arith, append-nil, length-append, length-drop, length-take-le, le_of_suc-le-suc, not-suc-le-zero}
 use Rattle.std.specs.List.{zip, flat_map}
 use Rattle.std.specs.Option.{option_or}
 use Rattle.std.proofs.lemmas.Bool.{cases_Bool, cond-true, cond-false, ltb-true, ltb-false}
-use Rattle.std.proofs.lemmas.Option.{none-some, same_Some, slice_get_within, slice_get_cases, get_or_from_slice_get, slice_get-map}
+use Rattle.std.proofs.lemmas.Option.{none-some, same_Some, slice_get_within, slice_get_cases, slice_get-get_or, get_or_from_slice_get, slice_get-map}
 use Rattle.std.proofs.lemmas.List.{take_more, take_all, length-map}
 use Rattle.std.proofs.lemmas.Grind.{flat_map-append}
 use Rattle.std.proofs.lemmas.List.Folds.{length-flat_map-take}
@@ -13,6 +13,8 @@ use Rattle.bib_spec.specs.Tree.{tree_bytes, IsTree}
 use Rattle.bib_spec.specs.Reading as reading
 use Rattle.bib_spec.specs.Reading.{Reading, bytes_of, item_bytes}
 use Rattle.bib_spec.specs.Texts.{Macros, months, macros_at, macros_after, value_places, raw_texts_in, raw_texts_from, too_long_at}
+use Rattle.bib_scan.specs.Note.{IsNoteOf}
+use Rattle.bib_scan.specs.declared.note.Note.{Note}
 use Rattle.bib_items.specs.declared.list.Item.{Item}
 use Rattle.bib_store.specs.declared.item_fault.ItemFault.{ItemFault}
 use Rattle.bib_store.specs.declared.item_fault.ItemFault.TheVariants.{TooLong, Memory}
@@ -20,7 +22,7 @@ use Rattle.bib_store.specs.declared.tables.Tables.{Tables}
 use Rattle.bib_items.specs.Items.{item, item_at, stored, without_range}
 use Rattle.bib_definitions.specs.Definitions.{texts_at}
 use Rattle.bib_store.specs.ItemTexts.{first_too_long, placed_texts, OfTree}
-use Rattle.bib_store.specs.Beside.{AreTablesOf, AreTables, HasItems, IsStep, IsTooLongAt}
+use Rattle.bib_store.specs.Beside.{AreTablesOf, AreTables, HasItems, AreNotesOf, IsStep, IsTooLongAt}
 use Rattle.bib_store.proofs.OneItemMore.{first-append, first-shift, raw_texts-append, too_long_within}
 
 -- ---- lists
@@ -117,6 +119,15 @@ item_is front_len from to all db n k order within number low kept =
           body = ap (λ (i : Item). i.body) (sym same);
           trail = ap (λ (i : Item). i.trail) (sym same);
         }
+
+-- what was noted of the item that stands at number k of the list
+pub noted_at : (from to : ℕ) (all : List Item) (notes : List Note) (n k : ℕ) (body : Text) → from ≤ to → to ≤ length all → k ≡ cond (nat_lt n from) n (n + (to - from)) → n < length all - (to - from)
+    → AreNotesOf notes (without_range from to all) → body ≡ (item_at all k).body → (o : Option Note) → o ≡ slice_get notes n → IfSome o (IsNoteOf body)
+noted_at from to all notes n k body order within number low are body_is None is = tt
+noted_at from to all notes n k body order within number low are body_is (Some note) is =
+    let inside : k < length all = kept_inside from to (length all) n k order within number low in
+    let at : slice_get (without_range from to all) n ≡ Some (item_at all k) = kept_at from to all n order within ∙ ap (slice_get all) (sym number) ∙ slice_get-get_or all k (item [] []) inside in
+    subst (λ (b : Text). IsNoteOf b note) (sym body_is) (are n note (item_at all k) (sym is) at)
 
 -- ---- the first text that is too long
 

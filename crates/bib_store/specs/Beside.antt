@@ -1,5 +1,5 @@
 -- The tables that are kept beside the items of a file.
-use Rattle.std.specs.Prelude.{ℕ, ◌≡◌, ◌≢◌, ◌≤◌, ◌<◌, ◌+◌, ◌^◌, ◌++◌, List, [], ◌∷◌, length, map, Some, None, All}
+use Rattle.std.specs.Prelude.{ℕ, ◌≡◌, ◌≢◌, ◌≤◌, ◌<◌, ◌+◌, ◌^◌, ◌++◌, List, [], ◌∷◌, length, map, slice_get, Option, Some, None, IfSome, All}
 use Rattle.bib_spec.specs.Bytes.{name_limit, file_limit}
 use Rattle.bib_spec.specs.Text.{Text}
 use Rattle.bib_spec.specs.Tree.{Tree, IsTree}
@@ -8,6 +8,8 @@ use Rattle.bib_spec.specs.Reading.{Reading, bytes_of, IsItem}
 use Rattle.bib_spec.specs.Texts.{months, gathered}
 use Rattle.bib_spec.specs.Records.{entry_in, keys_of, crossref_text}
 use Rattle.bib_scan.specs.View.{View, view_of, kind_of}
+use Rattle.bib_scan.specs.Note.{note_of, IsNoteOf}
+use Rattle.bib_scan.specs.declared.note.Note.{Note}
 use Rattle.bib_scan.specs.declared.view.Kind.{Kind}
 use Rattle.bib_scan.specs.declared.view.Kind.TheVariants as kind
 use Rattle.bib_items.specs.declared.list.Item.{Item}
@@ -45,6 +47,14 @@ pub record SayTheSame (old new : Tables) : Type 0 where
   pub len : new.file_len ≡ old.file_len
   pub tables : (items : List reading.Item) → AreTablesOf items old → AreTablesOf items new
 
+-- the notes are those of items that are kept so, in their order, from the first on; there may be fewer
+abbrev pub AreNotesOf : List Note → List Item → Type 0
+AreNotesOf notes kept = (n : ℕ) (note : Note) (item : Item) → slice_get notes n ≡ Some note → slice_get kept n ≡ Some item → IsNoteOf item.body note
+
+-- the note, if there is one, is that of the item that is seen
+abbrev pub IsNotedAs : Option Note → View → Type 0
+IsNotedAs note view = IfSome note (λ known. (i : reading.Item) → IsTree name_limit i.tree → view ≡ view_of i → known ≡ note_of i.tree)
+
 -- ---- one item more
 
 abbrev pub item_with : Tree → Text → reading.Item
@@ -67,6 +77,10 @@ pub record IsStep (n : ℕ) (tree : Tree) (old new : Tables) : Type 0 where
 -- the first raw text that is too long in item n stands at this place of its body
 abbrev pub IsTooLongAt : ℕ → Tree → Tables → ℕ → Type 0
 IsTooLongAt n tree t place = first_too_long (placed_texts (texts_at t.definitions n) tree) ≡ Some place
+
+-- it holds of the tree that is seen
+abbrev pub OfSeen : View → (Tree → Type 0) → Type 0
+OfSeen view P = (tree : Tree) → IsTree name_limit tree → view ≡ view_of (item_with tree []) → P tree
 
 -- it holds of the tree that is seen, unless that is a definition
 abbrev pub OfOther : View → (Tree → Type 0) → Type 0

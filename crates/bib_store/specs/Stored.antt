@@ -1,10 +1,12 @@
 -- How a file is kept.
-use Rattle.std.specs.Prelude.{◌≡◌, ◌≤◌, List, ◌++◌, length}
+use Rattle.std.specs.Prelude.{◌≡◌, ◌≤◌, List, ◌++◌, length, map}
 use Rattle.std.specs.List.{flat_map}
 use Rattle.bib_spec.specs.Bytes.{file_limit}
 use Rattle.bib_spec.specs.Text.{Text}
 use Rattle.bib_spec.specs.Reading.{Reading, Reads}
 use Rattle.bib_spec.specs.Texts.{Opens}
+use Rattle.bib_scan.specs.Note.{note_of}
+use Rattle.bib_scan.specs.declared.note.Note.{Note}
 use Rattle.bib_items.specs.declared.list.Item.{Item}
 use Rattle.bib_store.specs.declared.tables.Tables.{Tables}
 use Rattle.bib_items.specs.Items.{kept_bytes, all_stored}
@@ -14,13 +16,14 @@ use Rattle.bib_store.specs.Beside.{AreTables}
 abbrev pub file_of : Text → List Item → Text
 file_of front items = front ++ flat_map kept_bytes items
 
--- the front and the items are those of a file that is read and not too long
-pub record IsTaken (bytes front : Text) (items : List Item) : Type 0 where
+-- the front, the items and the notes are those of a file that is read and not too long
+pub record IsTaken (bytes front : Text) (items : List Item) (notes : List Note) : Type 0 where
   pub db : Reading
   pub reads : Reads bytes db
   pub short : length bytes ≤ file_limit
   pub front_is : front ≡ db.front
   pub items_are : items ≡ all_stored db.items
+  pub notes_are : notes ≡ map (λ item. note_of item.tree) db.items
 
 -- the front, the items and the tables are those of the reading, and the tables say how long the file is
 pub record IsKeptAs (db : Reading) (kept_front : Text) (kept_items : List Item) (kept_tables : Tables) : Type 0 where

@@ -70,7 +70,7 @@ fn coming_crossref(
     ensures too_long { IfErr result (λ fault. fault ≡ BadSplice → (i : Item) → IsTree name_limit i.tree → is_entry_tree i.tree ≡ true → item.now ≡ view_of i → (place : ℕ) × (first_too_long (placed_texts (texts_at definitions.now n) i.tree) ≡ Some place)) }
     ensures only { IfErr result (λ fault. (fault ≡ BadSplice) ⊎ (fault ≡ Memory)) }
 {
-    match crossref_within(alloc, item, &definitions.at(n), definitions.longest()) {
+    match crossref_within(alloc, item, &definitions.at(n), definitions.longest(), None) {
         Ok(said) => Ok(said),
         Err(ItemFault::TooLong(_)) => Err(StoreFault::BadSplice),
         Err(ItemFault::Memory) => Err(StoreFault::Memory),

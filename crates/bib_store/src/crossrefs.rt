@@ -11,6 +11,7 @@ ghost use Rattle.bib_spec.specs.Records.{entry_in, crossref_text};
 ghost use Rattle.bib_scan.specs.View.{view_of};
 ghost use Rattle.bib_value.specs.Raw.{OfValue};
 ghost use Rattle.bib_store.specs.Meaning.{is_entry_tree};
+ghost use Rattle.bib_store.specs.Beside.{IsNotedAs};
 ghost use Rattle.bib_store.specs.Bounds.{IsSettledEntry};
 ghost use Rattle.bib_store.specs.ItemTexts.{said_by, crossref_in, row_texts, first_too_long, placed_texts, OfRows};
 ghost use Rattle.bib_value.specs.declared.fault.ValueFault.TheVariants.{TextTooLong};
@@ -21,7 +22,7 @@ use crate::bounds::{is_settled_entry, is_settled_value};
 use crate::glancing::{are_short, lacks_crossref};
 use crate::item_fault::ItemFault;
 use crate::measuring::{measure, value_field_text};
-use bib_scan::{FieldView, Fields, ItemView, Text, same_folded};
+use bib_scan::{FieldView, Fields, ItemView, Note, Text, same_folded};
 use bib_value::{MacroTable, ValueFault};
 use std::alloc::Global;
 
@@ -140,16 +141,48 @@ fn first_crossref<M: MacroTable>(
     })
 }
 
+/// What the crossref of an entry says, none of whose texts is too long, and of which this was noted.
+fn noted_crossref<M: MacroTable>(
+    alloc: Global,
+    entry: &ItemView<'_>,
+    note: Note,
+    macros: &M,
+) -> Result<Said, ItemFault>
+    requires { IsNotedAs (Some note) entry.now }
+    ensures text { IfOk result (λ said. (i : Item) → IsTree name_limit i.tree → is_entry_tree i.tree ≡ true → entry.now ≡ view_of i → map crossref_text (entry_in (M.macros macros.now) i.tree) ≡ said.text ∷ []) }
+    ensures settled { IfOk result (λ said. said.settled ≡ true → IsSettledEntry entry.now said.text) }
+    ensures only { IfErr result (λ fault. fault ≡ ItemMemory) }
+{
+    match note.crossref(entry.body()) {
+        Some(field) => {
+            let text = unmeasured_text(alloc, field.value, macros)?;
+            Ok(Said {
+                text: Some(text),
+                settled: is_settled_value(alloc, field.value),
+            })
+        }
+        None => Ok(Said {
+            text: None,
+            settled: true,
+        }),
+    }
+}
+
 /// What the crossref of an entry says, none of whose texts is too long.
 fn short_crossref<M: MacroTable>(
     alloc: Global,
     entry: &ItemView<'_>,
     macros: &M,
+    note: Option<Note>,
 ) -> Result<Said, ItemFault>
+    requires { IsNotedAs note entry.now }
     ensures text { IfOk result (λ said. (i : Item) → IsTree name_limit i.tree → is_entry_tree i.tree ≡ true → entry.now ≡ view_of i → map crossref_text (entry_in (M.macros macros.now) i.tree) ≡ said.text ∷ []) }
     ensures settled { IfOk result (λ said. said.settled ≡ true → IsSettledEntry entry.now said.text) }
     ensures only { IfErr result (λ fault. fault ≡ ItemMemory) }
 {
+    if let Some(known) = note {
+        return noted_crossref(alloc, entry, known, macros);
+    }
     // most entries have none, and need not be read
     if lacks_crossref(entry.body()) {
         return Ok(Said {
@@ -160,22 +193,24 @@ fn short_crossref<M: MacroTable>(
     first_crossref(alloc, entry.fields(), macros)
 }
 
-/// What the crossref of an entry says, where no macro stands for more than `longest` bytes. Texts are measured only where
-/// one of them may be too long.
+/// What the crossref of an entry says, of which this may have been noted, where no macro stands for more than `longest`
+/// bytes. Texts are measured only where one of them may be too long.
 pub(crate) fn crossref_within<M: MacroTable>(
     alloc: Global,
     entry: &ItemView<'_>,
     macros: &M,
     longest: usize,
+    note: Option<Note>,
 ) -> Result<Said, ItemFault>
-    requires { AreAtMost longest (M.macros macros.now) }
+    requires longest { AreAtMost longest (M.macros macros.now) }
+    requires note { IsNotedAs note entry.now }
     ensures text { IfOk result (λ said. (i : Item) → IsTree name_limit i.tree → is_entry_tree i.tree ≡ true → entry.now ≡ view_of i → map crossref_text (entry_in (M.macros macros.now) i.tree) ≡ said.text ∷ []) }
     ensures settled { IfOk result (λ said. said.settled ≡ true → IsSettledEntry entry.now said.text) }
     ensures short { OnOk result ((i : Item) → IsTree name_limit i.tree → is_entry_tree i.tree ≡ true → entry.now ≡ view_of i → first_too_long (placed_texts (M.macros macros.now) i.tree) ≡ None) }
     ensures too_long { IfErr result (λ fault. (n : ℕ) → fault ≡ ItemTooLong n → (i : Item) → IsTree name_limit i.tree → is_entry_tree i.tree ≡ true → entry.now ≡ view_of i → first_too_long (placed_texts (M.macros macros.now) i.tree) ≡ Some n) }
 {
     if are_short(entry.body().len(), longest) {
-        return short_crossref(alloc, entry, macros);
+        return short_crossref(alloc, entry, macros, note);
     }
     let text = entry_crossref(alloc, entry, macros)?;
     let settled = is_settled_entry(alloc, entry, &text);

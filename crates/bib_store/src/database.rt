@@ -1,16 +1,21 @@
 //! The file as a list of items, with entries, keys and crossrefs.
 
+ghost use Rattle.std.specs.Prelude.{◌≡◌, ◌⊎◌, []};
+
 use crate::joining::join;
 use crate::keeping::{take_file, take_in};
 use crate::measuring::short_text;
 use crate::preambles::preamble_value;
-use crate::tables::Tables;
+use crate::tables::{Tables, note_at};
 use bib_definitions::MacrosAt;
 use bib_items::{ItemList, StoreFault};
-use bib_scan::{ItemView, ReadFault, Seq, Text};
+use bib_scan::{ItemView, Note, ReadFault, Seq, Text};
 use bib_value::MacroTable;
 use std::alloc::Global;
 use std::marker::Model;
+
+/// Notes of items are kept where there are no more of them than one for so many bytes of the file.
+const BYTES_A_NOTE: usize = 128;
 
 /// A file that is open: its items, and what they say together. A contract sees the file's bytes; what they say is that
 /// of their one reading.
@@ -20,17 +25,20 @@ pub struct Database<L: ItemList> {
     pub(crate) front: Text,
     pub(crate) items: L,
     pub(crate) tables: Tables,
+    // of all items, as long as none has changed since the file was opened; or of none
+    pub(crate) notes: Seq<Note>,
 }
 
 impl<L: ItemList> Model for Database<L> {
     ghost use Rattle.bib_spec.specs.Text.{Text as Bytes};
     ghost use Rattle.bib_store.specs.Stored.{file_of, IsKept};
+    ghost use Rattle.bib_store.specs.Beside.{AreNotesOf};
 
     ghost Value = { Bytes };
 
     ghost view = { λ d. file_of d.front (L.items d.items) };
 
-    ghost invariant = { λ d. IsKept d.front (L.items d.items) d.tables };
+    ghost invariant = { λ d. IsKept d.front (L.items d.items) d.tables × AreNotesOf d.notes (L.items d.items) };
 }
 
 impl<L: ItemList> Database<L> {
@@ -60,8 +68,8 @@ impl<L: ItemList> Database<L> {
         ensures file { OnOk result (IsOpenable bytes.now) }
         ensures fault { IfErr result (λ fault. IsOpenFault bytes.now fault.kind fault.place) }
     {
-        let (front, items) = take_in(alloc, bytes, empty)?;
-        Database::of_items(alloc, bytes.len(), front, items)
+        let (front, items, notes) = take_in(alloc, bytes, empty)?;
+        Database::of_items(alloc, bytes.len(), front, items, notes)
     }
 
     /// The same. The list may keep the file's memory in place of copies of its items.
@@ -72,23 +80,31 @@ impl<L: ItemList> Database<L> {
         ensures fault { IfErr result (λ fault. IsOpenFault file.items fault.kind fault.place) }
     {
         let len = file.len();
-        let (front, items) = take_file(alloc, file, empty)?;
-        Database::of_items(alloc, len, front, items)
+        let (front, items, notes) = take_file(alloc, file, empty)?;
+        Database::of_items(alloc, len, front, items, notes)
     }
 
-    /// The file of so many bytes that a front and the items after it are.
-    fn of_items(alloc: Global, len: usize, front: Text, items: L) -> Result<Database<L>, ReadFault>
-        requires { (bytes : Bytes) × IsTaken bytes front (L.items items) × (len ≡ length bytes) }
-        ensures opened { (bytes : Bytes) → IsTaken bytes front (L.items items) → IfOk result (λ db. db ≡ bytes) }
-        ensures file { (bytes : Bytes) → IsTaken bytes front (L.items items) → OnOk result (IsOpenable bytes) }
-        ensures fault { (bytes : Bytes) → IsTaken bytes front (L.items items) → IfErr result (λ fault. IsOpenFault bytes fault.kind fault.place) }
+    /// The file of so many bytes that a front and the items after it are, of which this was noted.
+    fn of_items(
+        alloc: Global,
+        len: usize,
+        front: Text,
+        items: L,
+        notes: Seq<Note>,
+    ) -> Result<Database<L>, ReadFault>
+        requires { (bytes : Bytes) × IsTaken bytes front (L.items items) notes × (len ≡ length bytes) }
+        ensures opened { (bytes : Bytes) → IsTaken bytes front (L.items items) notes → IfOk result (λ db. db ≡ bytes) }
+        ensures file { (bytes : Bytes) → IsTaken bytes front (L.items items) notes → OnOk result (IsOpenable bytes) }
+        ensures fault { (bytes : Bytes) → IsTaken bytes front (L.items items) notes → IfErr result (λ fault. IsOpenFault bytes fault.kind fault.place) }
     {
-        let tables = Tables::of(alloc, len, front.as_slice().len(), &items, 0, 0)?;
+        let front_len = front.as_slice().len();
+        let tables = Tables::of(alloc, len, front_len, &items, 0, 0, notes.as_slice())?;
         Ok(Database {
             alloc,
             front,
             items,
             tables,
+            notes: kept_notes(alloc, notes, len),
         })
     }
 
@@ -143,13 +159,17 @@ impl<L: ItemList> Database<L> {
         self.front.as_slice()
     }
 
-    /// Item `n`. Its head is read again, in time of its length.
+    /// Item `n`. Its head is read again, in time of its length, where the file has changed since it was opened or has many
+    /// short items.
     pub fn item(&self, n: usize) -> ItemView<'_>
         requires { IsItemNumber self.now n }
         ensures { OfReading self.now (λ db. (i : Item) → slice_get db.items n ≡ Some i → result ≡ view_of i) }
     {
         let (body, trail) = self.items.texts(n);
-        ItemView::of(body, trail)
+        match note_at(self.notes.as_slice(), n) {
+            Some(note) => ItemView::noted(body, trail, note),
+            None => ItemView::of(body, trail),
+        }
     }
 
     /// Where item `n` begins in the file, or where the file ends: a place in bytes.
@@ -276,5 +296,16 @@ impl<L: ItemList> Database<L> {
             }
             None => Ok(None),
         }
+    }
+}
+
+/// The notes of a file of so many bytes, where they take little memory beside it, and else none.
+fn kept_notes(alloc: Global, notes: Seq<Note>, file_len: usize) -> Seq<Note>
+    ensures { (result ≡ notes) ⊎ (result ≡ []) }
+{
+    if notes.as_slice().len() <= file_len / BYTES_A_NOTE {
+        notes
+    } else {
+        Seq::from_vec(Vec::new(alloc))
     }
 }

@@ -209,6 +209,7 @@ fn remake<L: ItemList>(
         items,
         first_old,
         window.to + count,
+        &[],
     ) {
         Ok(tables) => Ok(tables),
         Err(fault) => {

@@ -33,7 +33,7 @@ pub(crate) fn learn<L: ItemList>(
 {
     'learn: for j in 0..to - from {
         let k = to - 1 - j;
-        if let Err(fault) = tables.insert(alloc, at, &ItemView::of(items.body(k), b"")) {
+        if let Err(fault) = tables.insert(alloc, at, &ItemView::of(items.body(k), b""), None) {
             forget(tables, items, at, k + 1, to);
             return Err(fault.of_splice());
         }

@@ -9,7 +9,7 @@ ghost use Rattle.bib_items.specs.Items.{all_stored};
 ghost use Rattle.bib_items.specs.declared.fault.StoreFault.TheVariants.{Memory};
 
 use bib_items::{ItemList, StoreFault};
-use bib_scan::{Layout, ReadFault, Seq, Text, read};
+use bib_scan::{Layout, Note, ReadFault, Seq, Text, read};
 use std::alloc::Global;
 
 /// The list with the items of a file, in order.
@@ -42,19 +42,19 @@ fn keep_all<L: ItemList>(
     Ok((Seq::from_vec(front), items))
 }
 
-/// The front and the items of the file that these bytes are, as they are kept.
+/// The front and the items of the file that these bytes are, as they are kept, and what was noted of the items.
 pub(crate) fn take_in<L: ItemList>(
     alloc: Global,
     bytes: &[u8],
     empty: L,
-) -> Result<(Text, L), ReadFault>
+) -> Result<(Text, L, Seq<Note>), ReadFault>
     requires { L.items empty ≡ [] }
-    ensures taken { IfOk result (λ kept. IsTaken bytes.now kept.0 (L.items kept.1)) }
+    ensures taken { IfOk result (λ kept. IsTaken bytes.now kept.0 (L.items kept.1) kept.2) }
     ensures fault { IfErr result (λ fault. IsReadFault bytes.now fault.kind fault.place) }
 {
     let layout = read(alloc, bytes)?;
     match keep_all(alloc, &layout, bytes, empty) {
-        Ok(kept) => Ok(kept),
+        Ok((front, items)) => Ok((front, items, layout.into_notes())),
         Err(_) => Err(ReadFault { kind: 10, place: 0 }),
     }
 }
@@ -78,19 +78,20 @@ fn keep_file<L: ItemList>(
     Ok((Seq::from_vec(front), items))
 }
 
-/// The front and the items of this file, as they are kept. The list may keep the file's memory in place of copies.
+/// The front and the items of this file, as they are kept, and what was noted of the items. The list may keep the file's
+/// memory in place of copies.
 pub(crate) fn take_file<L: ItemList>(
     alloc: Global,
     file: Vec<u8>,
     empty: L,
-) -> Result<(Text, L), ReadFault>
+) -> Result<(Text, L, Seq<Note>), ReadFault>
     requires { L.items empty ≡ [] }
-    ensures taken { IfOk result (λ kept. IsTaken file.items kept.0 (L.items kept.1)) }
+    ensures taken { IfOk result (λ kept. IsTaken file.items kept.0 (L.items kept.1) kept.2) }
     ensures fault { IfErr result (λ fault. IsReadFault file.items fault.kind fault.place) }
 {
     let layout = read(alloc, file.as_slice())?;
     match keep_file(alloc, &layout, file, empty) {
-        Ok(kept) => Ok(kept),
+        Ok((front, items)) => Ok((front, items, layout.into_notes())),
         Err(_) => Err(ReadFault { kind: 10, place: 0 }),
     }
 }

@@ -8,6 +8,7 @@ use crate::runs::run_starts;
 use crate::touching::touched;
 use bib_data::Piece;
 use bib_items::{ItemList, StoreFault};
+use bib_scan::Seq;
 
 impl<L: ItemList> Database<L> {
     ghost use Rattle.std.specs.Prelude.{◌≡◌, ◌⊎◌, IfErr, OnOk, OnErr};
@@ -88,6 +89,7 @@ impl<L: ItemList> Database<L> {
             self.tables.file_len,
             pieces,
         )?;
+        self.notes = Seq::from_vec(Vec::new(self.alloc));
         replace_runs(
             self.alloc,
             self.front.as_slice(),
@@ -123,6 +125,7 @@ impl<L: ItemList> Database<L> {
         )?;
         let front = new_front(self.alloc, &change)?;
         let front_len = front_len(self.front.as_slice(), &front);
+        self.notes = Seq::from_vec(Vec::new(self.alloc));
         exchange(
             self.alloc,
             front_len,

@@ -1,6 +1,6 @@
 //! What is kept beside the items of a file.
 
-ghost use Rattle.std.specs.Prelude.{◌≡◌, ◌+◌, ◌-◌, ◌^◌, ◌≤◌, ◌<◌, ◌⊎◌, ℕ, suc, List, [], ◌∷◌, ◌++◌, Option, None, length, map, insert, nat_lt, if◌then◌else◌, IfOk, IfErr, OnOk, OnErr};
+ghost use Rattle.std.specs.Prelude.{◌≡◌, ◌+◌, ◌-◌, ◌^◌, ◌≤◌, ◌<◌, ◌⊎◌, ℕ, suc, List, [], ◌∷◌, ◌++◌, Option, None, length, map, insert, nat_lt, if◌then◌else◌, slice_get, IfSome, IfOk, IfErr, OnOk, OnErr};
 ghost use Rattle.std.specs.Option.{option_copied};
 ghost use Rattle.bib_spec.specs.Reading.{Reading};
 ghost use Rattle.bib_spec.specs.Texts.{too_long_at};
@@ -18,7 +18,7 @@ use crate::measuring::{measure, value_text};
 use bib_definitions::Definitions;
 use bib_entries::{EntryTable, Numbers};
 use bib_items::ItemList;
-use bib_scan::{FILE_LIMIT, FieldView, ItemView, Kind, NAME_LIMIT, ReadFault, Text};
+use bib_scan::{FieldView, ItemView, Kind, NAME_LIMIT, Note, ReadFault, Text};
 use std::alloc::Global;
 
 /// What is kept beside the items of a file.
@@ -46,11 +46,12 @@ impl Tables {
     ghost use Rattle.bib_items.specs.Items.{without_range};
     ghost use Rattle.bib_definitions.specs.Definitions.{AreDefinitionsOf, Defines, is_definition_tree, texts_at};
     ghost use Rattle.bib_store.specs.ItemTexts.{OfTree, own_text, first_too_long, placed_texts};
-    ghost use Rattle.bib_store.specs.Beside.{AreTablesOf, AreTables, SayTheSame, HasItems, IsStep, IsInsertion, IsRemoval, IsTooLongAt, OfView, OfOther};
+    ghost use Rattle.bib_store.specs.Beside.{AreTablesOf, AreTables, SayTheSame, HasItems, IsStep, IsInsertion, IsRemoval, IsTooLongAt, IsNotedAs, AreNotesOf, OfView, OfSeen, OfOther};
+    ghost use Rattle.bib_scan.specs.Note.{IsNoteOf};
 
     /// The tables of a file of `file_len` bytes whose front has `front_len`, and whose items are these, but for those from
-    /// number `from` up to `to`. They take memory for the keys, the texts of macros and the texts of crossrefs. The file is refused if
-    /// one of its raw texts is too long.
+    /// number `from` up to `to`; what was noted of them spares reading them again. They take memory for the keys, the texts
+    /// of macros and the texts of crossrefs. The file is refused if one of its raw texts is too long.
     pub(crate) fn of<L: ItemList>(
         alloc: Global,
         file_len: usize,
@@ -58,9 +59,11 @@ impl Tables {
         items: &L,
         from: usize,
         to: usize,
+        notes: &[Note],
     ) -> Result<Tables, ReadFault>
         requires order { from ≤ to }
         requires within { to ≤ length (L.items items.now) }
+        requires notes { AreNotesOf notes.now (without_range from to (L.items items.now)) }
         ensures tables { IfOk result (λ t. (db : Reading) → HasItems front_len (without_range from to (L.items items.now)) db → AreTables db t) }
         ensures len { IfOk result (λ t. t.file_len ≡ file_len) }
         ensures texts { OnOk result ((db : Reading) → HasItems front_len (without_range from to (L.items items.now)) db → too_long_at db ≡ None) }
@@ -73,7 +76,7 @@ impl Tables {
         'walk: for n in 0..count {
             let k = kept_number(n, from, to);
             let (body, trail) = items.texts(k);
-            if let Err(fault) = tables.add(alloc, n, body) {
+            if let Err(fault) = tables.add(alloc, n, body, note_at(notes, n)) {
                 return Err(fault.in_file(start));
             }
             start = behind(start, body, trail);
@@ -101,35 +104,68 @@ impl Tables {
         }
     }
 
-    /// Puts in item `n`, after all others.
-    fn add(&mut self, alloc: Global, n: usize, body: &[u8]) -> Result<(), ItemFault>
+    /// Puts in item `n`, after all others, of which this was noted.
+    fn add(
+        &mut self,
+        alloc: Global,
+        n: usize,
+        body: &[u8],
+        note: Option<Note>,
+    ) -> Result<(), ItemFault>
+        requires { IfSome note (IsNoteOf body.now) }
         ensures step { OnOk result (OfTree body.now (λ tree. IsStep n tree self.old self.new)) }
         ensures too_long { IfErr result (λ fault. (place : ℕ) → fault ≡ ItemTooLong place → OfTree body.now (λ tree. IsTooLongAt n tree self.old place)) }
     {
-        let view = ItemView::of(body, b"");
+        match note {
+            Some(known) => self.add_seen(alloc, n, &ItemView::noted(body, b"", known), note),
+            None => self.add_seen(alloc, n, &ItemView::of(body, b""), note),
+        }
+    }
+
+    /// Puts in item `n`, after all others, of which this was noted.
+    fn add_seen(
+        &mut self,
+        alloc: Global,
+        n: usize,
+        view: &ItemView<'_>,
+        note: Option<Note>,
+    ) -> Result<(), ItemFault>
+        requires { IsNotedAs note view.now }
+        ensures step { OnOk result (OfSeen view.now (λ tree. IsStep n tree self.old self.new)) }
+        ensures too_long { IfErr result (λ fault. (place : ℕ) → fault ≡ ItemTooLong place → OfSeen view.now (λ tree. IsTooLongAt n tree self.old place)) }
+    {
         match view.kind() {
-            Kind::Macro => self.add_definition(alloc, n, &view),
-            _ => self.add_other(alloc, n, &view),
+            Kind::Macro => self.add_definition(alloc, n, view),
+            _ => self.add_other(alloc, n, view, note),
         }
     }
 
     /// Puts in item `n`, which is no definition, after all others.
-    fn add_other(&mut self, alloc: Global, n: usize, view: &ItemView<'_>) -> Result<(), ItemFault>
+    fn add_other(
+        &mut self,
+        alloc: Global,
+        n: usize,
+        view: &ItemView<'_>,
+        note: Option<Note>,
+    ) -> Result<(), ItemFault>
+        requires { IsNotedAs note view.now }
         ensures step { OnOk result (OfOther view.now (λ tree. IsStep n tree self.old self.new)) }
         ensures too_long { IfErr result (λ fault. (place : ℕ) → fault ≡ ItemTooLong place → OfOther view.now (λ tree. IsTooLongAt n tree self.old place)) }
     {
-        self.insert(alloc, n, view)
+        self.insert(alloc, n, view, note)
     }
 
-    /// Puts in item `n`, which is no definition, before the items that had its number and the greater ones. It
-    /// takes time in the item's length, a few steps for each page of entries, preambles and definitions, and some for
-    /// those of one page. Where it is refused, the tables say what they said.
+    /// Puts in item `n`, which is no definition, before the items that had its number and the greater ones; of an entry of
+    /// which something was noted, only a crossref is read. It takes time in the item's length, a few steps for each page of
+    /// entries, preambles and definitions, and some for those of one page. Where it is refused, the tables say what they said.
     pub(crate) fn insert(
         &mut self,
         alloc: Global,
         n: usize,
         view: &ItemView<'_>,
+        note: Option<Note>,
     ) -> Result<(), ItemFault>
+        requires { IsNotedAs note view.now }
         ensures step { OnOk result (OfOther view.now (λ tree. IsInsertion n tree self.old self.new)) }
         ensures seen { texts_at self.new.definitions n ≡ texts_at self.old.definitions n }
         ensures len { self.new.file_len ≡ self.old.file_len }
@@ -137,7 +173,7 @@ impl Tables {
         ensures err { OnErr result (SayTheSame self.old self.new) }
     {
         match view.kind() {
-            Kind::Entry => self.insert_entry(alloc, n, view),
+            Kind::Entry => self.insert_entry(alloc, n, view, note),
             Kind::Preamble => self.insert_preamble(alloc, n, view),
             Kind::Comment => {
                 self.entries.make_way(n);
@@ -156,7 +192,9 @@ impl Tables {
         alloc: Global,
         n: usize,
         view: &ItemView<'_>,
+        note: Option<Note>,
     ) -> Result<(), ItemFault>
+        requires { IsNotedAs note view.now }
         ensures step { OnOk result (OfView kind.Entry view.now (λ tree. IsInsertion n tree self.old self.new)) }
         ensures seen { texts_at self.new.definitions n ≡ texts_at self.old.definitions n }
         ensures len { self.new.file_len ≡ self.old.file_len }
@@ -169,6 +207,7 @@ impl Tables {
             view,
             &self.definitions.at(n),
             longest,
+            note,
         )?;
         insert_named(&mut self.entries, &mut self.named, n, view.key(), text)?;
         self.preambles.make_way(n);
@@ -342,6 +381,13 @@ fn insert_named(
             Err(ItemFault::Memory)
         }
     }
+}
+
+/// What was noted of item `n`, if anything.
+pub(crate) fn note_at(notes: &[Note], n: usize) -> Option<Note>
+    ensures { result ≡ slice_get notes.now n }
+{
+    notes.get(n).copied()
 }
 
 /// The number of item `n` in the list from which those from number `from` up to `to` are left out.

@@ -20,5 +20,5 @@ returns-in-Err-TooLong-clause-too_long c = λ _ i tree entry seen. (
       ∙ c.in-Err-TooLong.ensures.too_long c.in-Err-TooLong.field-0-0 c.in-Err-TooLong.field-0-is i tree entry seen,
 )
 
-pub crossref_within-requires : goal.crossref_within-requires
-crossref_within-requires c = subst (AreAtMost c.longest.result) (sym c.at.ensures) (c.longest.ensures c.args.n)
+pub crossref_within-requires-clause-longest : goal.crossref_within-requires-clause-longest
+crossref_within-requires-clause-longest c = subst (AreAtMost c.longest.result) (sym c.at.ensures) (c.longest.ensures c.args.n)

@@ -10,10 +10,10 @@ pub returns-in-Ok-clause-taken : goal.returns-in-Ok-clause-taken
 returns-in-Ok-clause-taken g c =
     let found : (length c.args.file.items ≤ file_limit) × IsLayoutOf c.args.file.items c.in_ok-layout.layout
     = subst (λ (t : Text). (length t ≤ file_limit) × IsLayoutOf t c.in_ok-layout.layout) c.as_slice.ensures.value c.in_ok-layout.ensures.found in
-    taken c.args.file.items c.in-Ok.kept.0 (g.L.ItemList.items c.in-Ok.kept.1) c.in_ok-layout.layout found c.in-Ok.ensures.front c.in-Ok.ensures.items
+    taken c.args.file.items c.in-Ok.front (g.L.ItemList.items c.in-Ok.items) c.in_ok-layout.layout c.into_notes.result found c.in-Ok.ensures.front c.in-Ok.ensures.items c.into_notes.ensures
 
-pub returns-clause-fault : goal.returns-clause-fault
-returns-clause-fault g c =
+pub returns-in-Err-clause-fault : goal.returns-in-Err-clause-fault
+returns-in-Err-clause-fault g c =
     let found : (length c.args.file.items ≤ file_limit) × IsLayoutOf c.args.file.items c.in_ok-layout.layout
     = subst (λ (t : Text). (length t ≤ file_limit) × IsLayoutOf t c.in_ok-layout.layout) c.as_slice.ensures.value c.in_ok-layout.ensures.found in
     no_memory found.0

@@ -4,7 +4,7 @@ use Rattle.bib_store.proofs.keeping.take_in.Goals as goal
 
 pub returns-in-Ok-clause-taken : goal.returns-in-Ok-clause-taken
 returns-in-Ok-clause-taken g c =
-    taken c.args.bytes.now c.in-Ok.kept.0 (g.L.ItemList.items c.in-Ok.kept.1) c.in_ok-layout.layout c.in_ok-layout.ensures.found c.in-Ok.ensures.front c.in-Ok.ensures.items
+    taken c.args.bytes.now c.in-Ok.front (g.L.ItemList.items c.in-Ok.items) c.in_ok-layout.layout c.into_notes.result c.in_ok-layout.ensures.found c.in-Ok.ensures.front c.in-Ok.ensures.items c.into_notes.ensures
 
-pub returns-clause-fault : goal.returns-clause-fault
-returns-clause-fault g c = no_memory c.in_ok-layout.ensures.found.0
+pub returns-in-Err-clause-fault : goal.returns-in-Err-clause-fault
+returns-in-Err-clause-fault g c = no_memory c.in_ok-layout.ensures.found.0

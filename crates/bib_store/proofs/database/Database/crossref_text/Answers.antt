@@ -6,5 +6,5 @@ use Rattle.bib_store.proofs.database.Database.crossref_text.Goals as goal
 
 pub returns : goal.returns
 returns g c = λ db r.
-    let k = kept_as c.self.inside.front (g.L.ItemList.items c.self.inside.items) c.self.inside.tables c.args.self.now c.self.invariant c.self.view_is db r in
+    let k = kept_as c.self.inside.front (g.L.ItemList.items c.self.inside.items) c.self.inside.tables c.args.self.now c.self.invariant.0 c.self.view_is db r in
     c.crossref.ensures (keys_of (entries_of db)) (map crossref_text (entries_of db)) k.tables.named ∙ crossref_is (entries_of db) c.args.n

@@ -8,7 +8,7 @@ use Rattle.bib_store.proofs.database.Database.macro_text.Goals as goal
 
 pub returns-in_ok-text-in-Some-clause-short : goal.returns-in_ok-text-in-Some-clause-short
 returns-in_ok-text-in-Some-clause-short g c =
-    let k = kept_reading c.self.inside.front (g.L.ItemList.items c.self.inside.items) c.self.inside.tables c.args.self.now c.self.invariant c.self.view_is in
+    let k = kept_reading c.self.inside.front (g.L.ItemList.items c.self.inside.items) c.self.inside.tables c.args.self.now c.self.invariant.0 c.self.view_is in
     let seen : macros_at months k.0.items c.args.n (folded c.args.name.now) ≡ option_copied c.text_of.result =
     sym (ap (λ (m : Macros). m (folded c.args.name.now)) (c.macros_at.ensures k.0 k.1)) ∙ sym c.text_of.ensures in
     let found : option_copied c.text_of.result ≡ Some c.in-Some.text.now = cc (c.in-Some.is) in

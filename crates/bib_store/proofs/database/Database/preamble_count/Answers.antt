@@ -5,5 +5,5 @@ use Rattle.bib_store.proofs.database.Database.preamble_count.Goals as goal
 
 pub returns : goal.returns
 returns g c = λ db r.
-    let k = kept_as c.self.inside.front (g.L.ItemList.items c.self.inside.items) c.self.inside.tables c.args.self.now c.self.invariant c.self.view_is db r in
+    let k = kept_as c.self.inside.front (g.L.ItemList.items c.self.inside.items) c.self.inside.tables c.args.self.now c.self.invariant.0 c.self.view_is db r in
     c.count.ensures ∙ ap (length {A = ℕ}) k.tables.preambles ∙ length-preamble_numbers db

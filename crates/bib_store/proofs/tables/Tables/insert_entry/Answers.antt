@@ -48,5 +48,5 @@ returns-clause-step c =
     c.in_ok-text.ensures.short
     c.in_ok-text.field-0.settled c.in_ok-text.ensures.settled (subst (λ (b : Text). Admits (length b) c.in_ok-text.field-0.settled c.args.self.now.bounds c.admit.new.self) c.body.ensures c.admit.ensures)
 
-pub crossref_within-requires : goal.crossref_within-requires
-crossref_within-requires c = subst (AreAtMost c.longest-longest.result) (sym c.at.ensures) (c.longest-longest.ensures c.args.n)
+pub crossref_within-requires-clause-longest : goal.crossref_within-requires-clause-longest
+crossref_within-requires-clause-longest c = subst (AreAtMost c.longest-longest.result) (sym c.at.ensures) (c.longest-longest.ensures c.args.n)

@@ -1,5 +1,5 @@
 use Rattle.std.proofs.Common.{◌-◌, ◌<◌, ◌≤◌, length, inl, inr, ⊎_elim, arith}
-use Rattle.bib_store.proofs.WalkedFiles.{walk_start, walk_more, walk_over, walk_all, with_len, kept_inside, fault_cases}
+use Rattle.bib_store.proofs.WalkedFiles.{walk_start, walk_more, walk_over, walk_all, with_len, kept_inside, noted_at, fault_cases}
 use Rattle.bib_store.proofs.tables.Tables.of.Goals as goal
 
 pub walk-init : goal.walk-init
@@ -9,6 +9,12 @@ pub texts-requires : goal.texts-requires
 texts-requires g c =
     kept_inside c.args.from c.args.to (length (g.L.ItemList.items c.args.items.now)) c.walk.n c.kept_number-k.result c.requires.order c.requires.within c.kept_number-k.ensures
     (omega (arith, c.walk-test.true, c.count.ensures))
+
+pub add-requires : goal.add-requires
+add-requires g c =
+    let all = g.L.ItemList.items c.args.items.now in
+    noted_at c.args.from c.args.to all c.args.notes.now c.walk.n c.kept_number-k.result c.texts.result.0.now c.requires.order c.requires.within c.kept_number-k.ensures (omega (arith, c.walk-test.true, c.count.ensures))
+    c.requires.notes c.texts.ensures.body c.note_at.result c.note_at.ensures
 
 pub walk-preserved : goal.walk-preserved
 walk-preserved g c =
