@@ -27,6 +27,8 @@ pub struct Database<L: ItemList> {
     pub(crate) tables: Tables,
     // of all items, as long as none has changed since the file was opened; or of none
     pub(crate) notes: Seq<Note>,
+    // how many bytes were read when the file was opened, or was changed last
+    pub(crate) scanned: usize,
 }
 
 impl<L: ItemList> Model for Database<L> {
@@ -105,6 +107,7 @@ impl<L: ItemList> Database<L> {
             items,
             tables,
             notes: kept_notes(alloc, notes, len),
+            scanned: len,
         })
     }
 
@@ -122,6 +125,15 @@ impl<L: ItemList> Database<L> {
         ensures { result ≡ length self.now }
     {
         self.tables.file_len
+    }
+
+    /// How many bytes were read when the file was opened or was changed last: after opening it the file's length, and after a
+    /// splice the lengths of the new texts of what it read again, added up, or the new file's length where it read the
+    /// whole. A refused splice leaves it. (dialect)
+    pub fn last_scan(&self) -> usize
+        ensures { result ≤ length self.now }
+    {
+        self.scanned.min(self.tables.file_len)
     }
 
     /// The file is one that can be opened: it has a reading, and no raw text in it is too long.

@@ -247,7 +247,7 @@ fn follow_runs<L: ItemList>(
     n: usize,
     starts: &[usize],
     pieces: &[Piece],
-) -> Result<(), StoreFault>
+) -> Result<usize, StoreFault>
     requires measured { IsMeasured front.now (L.items items.old) tables.old }
     requires within { n ≤ length (L.items items.old) }
     ensures measured { IsMeasured front.now (L.items items.new) tables.new }
@@ -257,7 +257,7 @@ fn follow_runs<L: ItemList>(
 {
     let Some((start, starts)) = starts.split_last() else {
         if pieces.is_empty() {
-            return Ok(());
+            return Ok(0);
         }
         return Err(StoreFault::BadSplice);
     };
@@ -270,7 +270,7 @@ fn follow_runs<L: ItemList>(
     // so many items fit
     let _ = items.count();
     match follow_runs(alloc, front, items, tables, from, starts, earlier) {
-        Ok(()) => {
+        Ok(read) => {
             let first_old = items.count() - (old_count - from);
             take_out(
                 items,
@@ -280,7 +280,7 @@ fn follow_runs<L: ItemList>(
                 brought.lead,
                 first_old + touched,
             );
-            Ok(())
+            Ok(read.saturating_add(change.text.as_slice().len()))
         }
         Err(fault) => {
             take_out(
@@ -297,8 +297,8 @@ fn follow_runs<L: ItemList>(
     }
 }
 
-/// Replaces what pieces touch, run by run. The numbers of the pieces with which the runs begin are given. Where it is
-/// refused, nothing has changed.
+/// Replaces what pieces touch, run by run. The numbers of the pieces with which the runs begin are given. It tells how
+/// many bytes were read. Where it is refused, nothing has changed.
 pub(crate) fn replace_runs<L: ItemList>(
     alloc: Global,
     front: &[u8],
@@ -306,7 +306,7 @@ pub(crate) fn replace_runs<L: ItemList>(
     tables: &mut Tables,
     starts: &[usize],
     pieces: &[Piece],
-) -> Result<(), StoreFault>
+) -> Result<usize, StoreFault>
     requires kept { IsKept front.now (L.items items.old) tables.old }
     ensures kept { IsKept front.now (L.items items.new) tables.new }
     ensures fit { OnOk result (Fit pieces.now (file_of front.now (L.items items.old))) }
@@ -315,7 +315,7 @@ pub(crate) fn replace_runs<L: ItemList>(
 {
     let count = items.count();
     match follow_runs(alloc, front, items, tables, count, starts, pieces) {
-        Ok(()) => Ok(()),
+        Ok(read) => Ok(read),
         Err(fault) => Err(fault),
     }
 }

@@ -90,14 +90,16 @@ impl<L: ItemList> Database<L> {
             pieces,
         )?;
         self.notes = Seq::from_vec(Vec::new(self.alloc));
-        replace_runs(
+        let read = replace_runs(
             self.alloc,
             self.front.as_slice(),
             &mut self.items,
             &mut self.tables,
             &starts,
             pieces,
-        )
+        )?;
+        self.scanned = read;
+        Ok(())
     }
 
     /// Replaces pieces in one window, from the first item that they touch to the last.
@@ -134,6 +136,7 @@ impl<L: ItemList> Database<L> {
             &change,
         )?;
         put_front(&mut self.front, front);
+        self.scanned = change.text.as_slice().len();
         Ok(())
     }
 }

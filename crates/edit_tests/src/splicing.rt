@@ -159,6 +159,53 @@ const FAR_APART: &[Splice] = &[
     },
 ];
 
+/// A file, pieces that are put into it at once, and how many bytes were read last.
+struct Scan {
+    name: &'static str,
+    file: &'static [u8],
+    changes: &'static [Change],
+    scanned: usize,
+}
+
+const SCANS: &[Scan] = &[
+    Scan {
+        name: "a file is opened",
+        file: b"@misc{a}\n@misc{b}\n",
+        changes: &[],
+        scanned: 18,
+    },
+    Scan {
+        name: "an entry has another key",
+        file: b"@misc{a}\n@misc{b}\n",
+        changes: &[(15, b"b", b"C")],
+        scanned: 9,
+    },
+    Scan {
+        name: "the first entry goes to the end",
+        file: b"@misc{a}\n@misc{b}\n",
+        changes: &[(0, b"@misc{a}", b""), (18, b"", b"@misc{a}\n")],
+        scanned: 19,
+    },
+    Scan {
+        name: "two entries that lie apart have other keys",
+        file: FOUR,
+        changes: &[(15, b"b", b"B"), (33, b"d", b"D")],
+        scanned: 18,
+    },
+    Scan {
+        name: "a window that does not read by itself",
+        file: b"@misc{a}x@misc{b}}}",
+        changes: &[(7, b"}", b",x={")],
+        scanned: 22,
+    },
+    Scan {
+        name: "what is refused leaves it",
+        file: b"@misc{a}\n@misc{b}\n",
+        changes: &[(16, b"}", b"")],
+        scanned: 18,
+    },
+];
+
 fn text(alloc: Global, bytes: &[u8]) -> Result<Text, AllocError> {
     Ok(Seq::from_vec(bytes.to_vec(alloc)?))
 }
@@ -205,6 +252,32 @@ fn holds(alloc: Global, splice: &Splice) -> Result<bool, Stop> {
 fn all_hold(alloc: Global, splices: &[Splice]) -> Result<(), Fail> {
     for splice in splices {
         told(splice.name, holds(alloc, splice))?;
+    }
+    Ok(())
+}
+
+/// How many bytes were read once the file was opened and the pieces were put into it.
+fn scanned<L: ItemList>(alloc: Global, scan: &Scan, items: L) -> Result<usize, Stop>
+    requires { L.items items ≡ [] }
+{
+    let pieces = pieces_of(alloc, scan.changes)?;
+    let mut db = Database::open_bytes(alloc, scan.file, items)?;
+    if !scan.changes.is_empty() {
+        let _ = db.splice(pieces.as_slice());
+    }
+    Ok(db.last_scan())
+}
+
+fn is_scanned(alloc: Global, scan: &Scan) -> Result<bool, Stop> {
+    let flat = scanned(alloc, scan, Flat::new(alloc))?;
+    let paged = scanned(alloc, scan, Paged::new(alloc))?;
+    Ok(flat == scan.scanned && paged == scan.scanned)
+}
+
+#[test]
+fn few_bytes_are_read_again(rt: HostRuntime) -> Result<(), Fail> {
+    for scan in SCANS {
+        told(scan.name, is_scanned(rt.alloc(), scan))?;
     }
     Ok(())
 }

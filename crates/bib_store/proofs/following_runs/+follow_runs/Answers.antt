@@ -79,6 +79,9 @@ returns-in-Ok-clause-led g t c =
     c.args.pieces.now (g.L.ItemList.items c.take_out.new.items) c.take_out.new.tables _ _ c.split_at.ensures.by_index.0
     (omega (arith, place, c.count-old_count.ensures, c.count-in-Ok.ensures)) refl c.take_out.ensures.items c.in_ok-brought.ensures.followed c.take_out.ensures.followed
 
+pub returns-in-Ok-clause-measured : goal.returns-in-Ok-clause-measured
+returns-in-Ok-clause-measured g t c = c.take_out.ensures.measured c.args.front.now c.follow_runs.ensures.measured
+
 pub overflow_add-from-in-Err : goal.overflow_add-from-in-Err
 overflow_add-from-in-Err g t c =
     let r = c.in_ok-change.ensures in
