@@ -133,6 +133,7 @@ impl<L: ItemList> Database<L> {
     pub fn last_scan(&self) -> usize
         ensures { result ≤ length self.now }
     {
+        // what was read lies apart in the file, so that it is never longer
         self.scanned.min(self.tables.file_len)
     }
 

@@ -238,7 +238,8 @@ fn take_out<L: ItemList>(
 
 /// Replaces what pieces touch among the first `n` items, run by run from the last to the first. The numbers of the pieces
 /// with which the runs begin are given. The items of a run come before those that it touches, and these go only once the
-/// runs before it are done: where one of them is refused, those that came go, and nothing has changed.
+/// runs before it are done: where one of them is refused, those that came go, and nothing has changed. It tells how many
+/// bytes were read.
 fn follow_runs<L: ItemList>(
     alloc: Global,
     front: &[u8],
