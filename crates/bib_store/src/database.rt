@@ -129,7 +129,7 @@ impl<L: ItemList> Database<L> {
 
     /// How many bytes were read when the file was opened or was changed last: after opening it the file's length, and after a
     /// splice the lengths of the new texts of what it read again, added up, or the new file's length where it read the
-    /// whole. A refused splice leaves it. (dialect)
+    /// whole. What was read in vain before that does not count, and a refused splice leaves it. (dialect)
     pub fn last_scan(&self) -> usize
         ensures { result ≤ length self.now }
     {
