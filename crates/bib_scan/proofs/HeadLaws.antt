@@ -9,7 +9,7 @@ use Rattle.bib_spec.specs.Text.{Text, is_space, is_type_byte, same, after_run, d
 use Rattle.bib_spec.specs.Tree as tree
 use Rattle.bib_spec.specs.Tree.{Tree, CommentTree, DefinitionTree, PreambleTree, EntryTree, Head, Opening, Delimiter, Brace, Paren, row_bytes, value_bytes, head_bytes, opening_bytes, open_byte, close_byte, last_comma_bytes, behind_key_bytes, tree_bytes, goes_on_key, is_no_keyword, IsHead, IsOpening, IsTree}
 use Rattle.bib_scan.specs.View.{Field, fields_of, view_of}
-use Rattle.bib_scan.specs.FieldsLeft.{fields_left, all_fields_left, read_head, kind_named, read_opening, view_behind, read_view}
+use Rattle.bib_scan.specs.FieldsLeft.{fields_left, all_fields_left, read_head, kind_named, first_row, read_opening, view_behind, read_view}
 use Rattle.bib_scan.specs.declared.view.Kind.{Kind}
 use Rattle.bib_scan.specs.declared.view.Kind.TheVariants as kind
 use Rattle.bib_scan.proofs.RunLaws.{run_front, run_rest}
@@ -162,7 +162,7 @@ view_found body trail head k opened t head_is k_is opened_is is whole =
     ∙ ap (λ (b : Text). read_view b trail) (sym whole) ∙ view_again t trail is
 
 -- an item that is no entry has no key
-pub plain_view : (body trail type_name : Text) (k : Kind) (opened : Delimiter × Text) → (k ≡ kind.Entry → ⊥) → view_behind body trail type_name k opened ≡ record { kind = k; body = body; trail = trail; type_name = type_name; key = []; key_at = 0; fields = all_fields_left k (length body) opened.1 }
+pub plain_view : (body trail type_name : Text) (k : Kind) (opened : Delimiter × Text) → (k ≡ kind.Entry → ⊥) → view_behind body trail type_name k opened ≡ record { kind = k; body = body; trail = trail; type_name = type_name; key = []; key_at = 0; fields = all_fields_left k (length body) (first_row k opened.1) }
 plain_view body trail type_name kind.Entry opened other = absurd (other refl)
 plain_view body trail type_name kind.Macro opened other = refl
 plain_view body trail type_name kind.Preamble opened other = refl

@@ -78,6 +78,13 @@ abbrev pub read_opening : Text → Delimiter × Text
 read_opening [] = (Brace, [])
 read_opening (b ∷ t) = (delimiter_of b, after_run is_space t)
 
+-- where the fields of an item of this kind begin, from behind its key or, where it has none, behind its opening
+abbrev pub first_row : Kind → Text → Text
+first_row kind.Entry t = after_run is_space t
+first_row kind.Macro t = t
+first_row kind.Preamble t = t
+first_row kind.Comment t = t
+
 -- the view of an item of this kind and type, from its delimiter and the text after its opening
 abbrev pub view_behind : Text → Text → Text → Kind → Delimiter × Text → View
 view_behind body trail type_name kind.Entry opened =

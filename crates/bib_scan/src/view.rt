@@ -2,7 +2,7 @@
 
 ghost use Rattle.std.specs.Prelude.{◌≡◌, ◌≤◌, length};
 ghost use Rattle.bib_spec.specs.Bytes.{name_limit};
-ghost use Rattle.bib_scan.specs.FieldsLeft.{read_head, read_opening};
+ghost use Rattle.bib_scan.specs.FieldsLeft.{first_row, read_head, read_opening};
 ghost use Rattle.bib_scan.specs.DelimiterView.{delimiter_view};
 ghost use Rattle.bib_spec.specs.Tree.{Tree, IsTree, tree_bytes};
 
@@ -60,14 +60,14 @@ pub struct ItemView<'a> {
     trail: &'a [u8],
     key: &'a [u8],
     key_at: usize,
-    // where the fields begin
-    rows: &'a [u8],
+    // behind the key, or behind the opening of what has none
+    inside: &'a [u8],
 }
 
 impl<'a> Model for ItemView<'a> {
     ghost use Rattle.std.specs.Prelude.{◌≤◌, length};
     ghost use Rattle.bib_scan.specs.View.{View};
-    ghost use Rattle.bib_scan.specs.FieldsLeft.{all_fields_left, read_head};
+    ghost use Rattle.bib_scan.specs.FieldsLeft.{all_fields_left, first_row, read_head};
 
     ghost Value = { View };
 
@@ -78,10 +78,10 @@ impl<'a> Model for ItemView<'a> {
       type_name = (read_head v.body.now).0;
       key = v.key.now;
       key_at = v.key_at;
-      fields = all_fields_left v.kind (length v.body.now) v.rows.now;
+      fields = all_fields_left v.kind (length v.body.now) (first_row v.kind v.inside.now);
     } };
 
-    ghost invariant = { λ v. length v.rows.now ≤ length v.body.now };
+    ghost invariant = { λ v. length v.inside.now ≤ length v.body.now };
 }
 
 impl<'a> ItemView<'a> {
@@ -89,7 +89,7 @@ impl<'a> ItemView<'a> {
     ghost use Rattle.bib_scan.specs.View.{view_of, with_trail};
     ghost use Rattle.bib_scan.specs.Note.{note_of};
 
-    /// The view of the item with this body and trail. The body is read up to its fields, in time of that
+    /// The view of the item with this body and trail. The body is read up to the key's end, in time of that
     /// length.
     pub fn of(body: &'a [u8], trail: &'a [u8]) -> Self
         ensures slices { (result.body ≡ body.now) × (result.trail ≡ trail.now) }
@@ -106,7 +106,7 @@ impl<'a> ItemView<'a> {
                     trail,
                     key,
                     key_at: body.len() - inside.len(),
-                    rows: past_space(behind_key),
+                    inside: behind_key,
                 }
             }
             kind => ItemView {
@@ -115,13 +115,12 @@ impl<'a> ItemView<'a> {
                 trail,
                 key: b"",
                 key_at: 0,
-                rows: inside,
+                inside,
             },
         }
     }
 
-    /// The view of the item with this body and trail, of which this was noted: of an entry, no byte up to the key's end is
-    /// read.
+    /// The view of the item with this body and trail, of which this was noted: of an entry, no byte is read.
     pub fn noted(body: &'a [u8], trail: &'a [u8], note: Note) -> Self
         ensures slices { (result.body ≡ body.now) × (result.trail ≡ trail.now) }
         ensures item { (tree : Tree) → IsTree name_limit tree → tree_bytes tree ≡ body.now → note ≡ note_of tree → result ≡ view_of (record { tree = tree; trail = trail.now }) }
@@ -137,7 +136,7 @@ impl<'a> ItemView<'a> {
             trail,
             key,
             key_at,
-            rows: past_space(behind_key),
+            inside: behind_key,
         }
     }
 
@@ -189,7 +188,8 @@ impl<'a> ItemView<'a> {
         // A usize counts them.
         ensures count { length result < 2 ^ 64 }
     {
-        Fields::from_rest(self.kind, self.body.len(), self.rows)
+        let rows = first_row(self.kind, self.inside);
+        Fields::from_rest(self.kind, self.body.len(), rows)
     }
 
     /// The same item with another trail.
@@ -219,5 +219,16 @@ fn split_opening(text: &[u8]) -> (Delimiter, &[u8])
     match text {
         [first, inside @ ..] => (Delimiter::of(*first), past_space(inside)),
         [] => (Delimiter::Brace, text),
+    }
+}
+
+/// Where the fields of an item of this kind begin, from behind its key or, where it has none, behind its opening.
+fn first_row(kind: Kind, inside: &[u8]) -> &[u8]
+    ensures rows { result.now ≡ first_row kind inside.now }
+    ensures within { length result.now ≤ length inside.now }
+{
+    match kind {
+        Kind::Entry => past_space(inside),
+        Kind::Macro | Kind::Preamble | Kind::Comment => inside,
     }
 }
