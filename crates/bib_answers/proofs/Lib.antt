@@ -10,7 +10,6 @@ pub mod ReportSteps
 -- ---- cited lists, labels and names
 pub mod MarkSteps
 pub mod CitedNumbers
-pub mod CitedLines
 pub mod LabelFields
 pub mod LabelLines
 pub mod NameLines

@@ -1,5 +1,5 @@
 -- `cite`: the entries that a list of keys cites.
-use Rattle.std.specs.Prelude.{ℕ, ◌≡◌, ◌==◌, List, [], ◌++◌, if◌then◌else◌, slice_index_or, codes}
+use Rattle.std.specs.Prelude.{ℕ, ◌≡◌, ◌==◌, List, [], ◌++◌, Option, if◌then◌else◌, slice_index_or, codes}
 use Rattle.std.specs.List.{flat_map, list_any}
 use Rattle.std.specs.Option.{option_map_or}
 use Rattle.bib_spec.specs.Text.{Text}
@@ -7,13 +7,22 @@ use Rattle.bib_spec.specs.Reading.{Reading}
 use Rattle.bib_spec.specs.Records.{EntryTexts, entries_of, parent, listed, unknown}
 use Rattle.bib_store.specs.Meaning.{OfReading}
 use Rattle.bib_answers.specs.declared.answers.Answer.{Answer}
-use Rattle.bib_answers.specs.declared.cite.Keyed.{Keyed}
+use Rattle.bib_answers.specs.declared.listing.Keyed.{Keyed}
+use Rattle.bib_answers.specs.declared.listing.Line.{Line}
 use Rattle.bib_answers.specs.Entries.{key_at}
 use Rattle.bib_answers.specs.Outcome.{answer_of}
 
 -- the key is that of the entry with this number
 abbrev pub IsKeyed : Text → Keyed → Type 0
 IsKeyed file k = OfReading file (λ db. k.key.now ≡ key_at (entries_of db) k.n)
+
+-- a tab and the key of a parent, if there is one
+abbrev pub parent_bytes : Option Keyed → Text
+parent_bytes parent = option_map_or (λ (k : Keyed). codes "\t" ++ k.key.now) parent []
+
+-- a key and, after a tab, that of a parent, a line
+abbrev pub line_bytes : Line → Text
+line_bytes line = line.key.now ++ (parent_bytes line.parent ++ codes "\n")
 
 -- a tab and the key of the entry, if it is in the list
 abbrev pub with_listed : List EntryTexts → List ℕ → ℕ → Text

@@ -6,17 +6,15 @@ ghost use Rattle.std.specs.Option.{option_map_or};
 ghost use Rattle.bib_spec.specs.Records.{entries_of, parent};
 ghost use Rattle.bib_store.specs.Meaning.{OfReading, IsEntryNumber};
 ghost use Rattle.bib_answers.specs.Opened.{AnswersFile};
-ghost use Rattle.bib_answers.specs.Cite.{IsKeyed, with_listed, listed_line, listed_lines, unknown_line, cite_answer};
+ghost use Rattle.bib_answers.specs.Cite.{IsKeyed, parent_bytes, line_bytes, with_listed, listed_line, listed_lines, unknown_line, cite_answer};
 ghost use Rattle.bib_answers.specs.Marks.{AreMarks, AreEntryNumbers, ArePlaces};
 
 use crate::answers::{Answer, done, unread};
+use crate::listing::{Keyed, Line, Listing};
 use crate::opening::open;
 use bib_scan::Text;
 use bib_store::{Database, Paged};
 use std::alloc::{AllocError, Global};
-
-// As long as most lines are, in bytes.
-const LINE: usize = 16;
 
 /// The entries that the keys cite, where `min` children list a parent, and the keys that find none.
 pub fn answer_cite(
@@ -47,13 +45,6 @@ fn cite(alloc: Global, db: &Database<Paged>, keys: &[Text], min: u32) -> Result<
     Ok(done(alloc, Text::from_vec(out)))
 }
 
-/// An entry's number, and its key.
-#[derive(Clone, Copy)]
-struct Keyed<'a> {
-    n: usize,
-    key: &'a [u8],
-}
-
 /// The key of entry `n`, which the last one may be: the children of a parent mostly stand together.
 fn with_key<'a>(db: &'a Database<Paged>, n: usize, last: Option<Keyed<'a>>) -> Keyed<'a>
     requires number { IsEntryNumber db.now n }
@@ -76,12 +67,14 @@ fn listed_text(alloc: Global, db: &Database<Paged>, list: &[usize]) -> Result<Ve
     ensures { IfOk result (λ text. OfReading db.now (λ r. text.items ≡ listed_lines (entries_of r) list.now)) }
 {
     let marks = marks(alloc, db.entry_count(), list)?;
-    let mut out = Vec::with_capacity(alloc, list.len().saturating_mul(LINE))?;
+    let mut listing = Listing::new(alloc, list.len())?;
     let mut last = None;
     'list: for n in list {
-        last = add_listed(&mut out, db, marks.as_slice(), *n, last)?;
+        let line = line_of(db, marks.as_slice(), *n, last);
+        last = line.parent.or(last);
+        listing.push(line)?;
     }
-    Ok(out)
+    listing.into_text()
 }
 
 /// Which entries are in the list, by their numbers.
@@ -104,50 +97,43 @@ fn is_marked(marks: &[bool], n: usize) -> bool
     n < marks.len() && marks[n]
 }
 
-/// The line of an entry in the list, and a parent's key for the next.
-fn add_listed<'a>(
-    out: &mut Vec<u8>,
+/// The line of an entry in the list, whose parent's key may be the last one.
+fn line_of<'a>(
     db: &'a Database<Paged>,
     marks: &[bool],
     n: usize,
     last: Option<Keyed<'a>>,
-) -> Result<Option<Keyed<'a>>, AllocError>
+) -> Line<'a>
     requires number { IsEntryNumber db.now n }
     requires last { IfSome last (IsKeyed db.now) }
-    ensures last { IfOk result (λ last. IfSome last (IsKeyed db.now)) }
-    ensures line { OnOk result (OfReading db.now (λ r. (list : List ℕ) → AreMarks (length (entries_of r)) list marks.now
-        → out.new.items ≡ out.old.items ++ listed_line (entries_of r) list n)) }
+    ensures keyed { IfSome result.parent (IsKeyed db.now) }
+    ensures line { OfReading db.now (λ r. (list : List ℕ) → AreMarks (length (entries_of r)) list marks.now
+        → line_bytes result ≡ listed_line (entries_of r) list n) }
 {
-    out.extend_from_slice(db.entry(n).key())?;
-    let last = add_parent(out, db, marks, n, last)?;
-    out.extend_from_slice(b"\n")?;
-    Ok(last)
+    Line {
+        key: db.entry(n).key(),
+        parent: listed_parent(db, marks, n, last),
+    }
 }
 
-/// A tab and the parent's key, where the parent is marked.
-fn add_parent<'a>(
-    out: &mut Vec<u8>,
+/// The parent of an entry, where it is marked.
+fn listed_parent<'a>(
     db: &'a Database<Paged>,
     marks: &[bool],
     n: usize,
     last: Option<Keyed<'a>>,
-) -> Result<Option<Keyed<'a>>, AllocError>
+) -> Option<Keyed<'a>>
     requires number { IsEntryNumber db.now n }
     requires last { IfSome last (IsKeyed db.now) }
-    ensures last { IfOk result (λ last. IfSome last (IsKeyed db.now)) }
-    ensures parent { OnOk result (OfReading db.now (λ r. (list : List ℕ) → AreMarks (length (entries_of r)) list marks.now
-        → out.new.items ≡ out.old.items ++ option_map_or (with_listed (entries_of r) list) (parent (entries_of r) n) [])) }
+    ensures keyed { IfSome result (IsKeyed db.now) }
+    ensures parent { OfReading db.now (λ r. (list : List ℕ) → AreMarks (length (entries_of r)) list marks.now
+        → parent_bytes result ≡ option_map_or (with_listed (entries_of r) list) (parent (entries_of r) n) []) }
 {
-    let Some(parent) = db.parent(n) else {
-        return Ok(last);
-    };
+    let parent = db.parent(n)?;
     if !is_marked(marks, parent) {
-        return Ok(last);
+        return None;
     }
-    let parent = with_key(db, parent, last);
-    out.extend_from_slice(b"\t")?;
-    out.extend_from_slice(parent.key)?;
-    Ok(Some(parent))
+    Some(with_key(db, parent, last))
 }
 
 /// The lines of the keys at these positions.

@@ -10,6 +10,7 @@ mod cite;
 mod citing;
 mod kinds;
 mod labels;
+mod listing;
 mod messages;
 mod names;
 mod opening;

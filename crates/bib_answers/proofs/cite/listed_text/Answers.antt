@@ -1,4 +1,4 @@
-use Rattle.std.proofs.Common.{◌∙◌, ◌++◌, ◌<◌, length, get_or, rules, ap, subst}
+use Rattle.std.proofs.Common.{◌∙◌, ◌++◌, ◌<◌, length, rules, ap₂, subst}
 use Rattle.bib_spec.specs.Text.{Text}
 use Rattle.bib_spec.specs.Records.{entries_of}
 use Rattle.bib_answers.specs.Cite.{listed_line}
@@ -11,8 +11,8 @@ list-preserved c = (
   λ r reads.
       let are : AreMarks (length (entries_of r)) c.args.list.now c.as_slice.result.now = subst (λ n. AreMarks n c.args.list.now c.as_slice.result.now) (c.entry_count.ensures r reads) (rw c.as_slice.ensures.value c.in_ok-marks.ensures) in
       let within : c.list.n-index < length c.args.list.now = search rules in
-      c.in_ok-last.ensures.line r reads c.args.list.now are
-      ∙ ap (λ (t : Text). t ++ listed_line (entries_of r) c.args.list.now (get_or c.args.list.now c.list.n-index 0)) (c.list.invariant.0 r reads)
+      c.in_ok-push.ensures
+      ∙ ap₂ (λ (t u : Text). t ++ u) (c.list.invariant.0 r reads) (c.line_of-line.ensures.line r reads c.args.list.now are)
       ∙ lines_more (listed_line (entries_of r) c.args.list.now) c.args.list.now c.list.n-index 0 within,
-  c.in_ok-last.ensures.last,
+  search rules,
 )
