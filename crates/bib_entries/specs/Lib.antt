@@ -1,3 +1,4 @@
+pub mod Crossref
 pub mod EntryTable
 pub mod Moves
 pub mod Numbers

@@ -6,6 +6,7 @@ ghost use Rattle.bib_spec.specs.Text.{Text as Bytes};
 ghost use Rattle.bib_index.specs.KeyIndex.{IsIndexOf, ids_in, IsKept};
 ghost use Rattle.bib_entries.specs.EntryTable.{name_of, named_by, crossref_of, IsIndexWith, GivesCrossref, HaveTheSame};
 
+use crate::crossref::Crossref;
 use bib_index::KeyIndex;
 use bib_order::Order;
 use bib_scan::{NAME_LIMIT, Text};
@@ -19,10 +20,11 @@ const SAMPLE: usize = 65_536;
 /// entries, and the lengths of its key and its crossref text.
 #[derive(Drop)]
 pub struct EntryTable {
+    alloc: Global,
     order: Order,
     keys: KeyIndex,
     // by id, up to the last that has one
-    crossrefs: Vec<Option<Text>>,
+    crossrefs: Vec<Crossref>,
     // the ids by the keys that their crossref texts name
     referring: KeyIndex,
     // how many entries there are to be
@@ -53,24 +55,24 @@ fn take_key(keys: &mut KeyIndex, key: &[u8], id: usize)
 
 /// Makes room for the crossref text of an id, if it has one.
 fn make_room(
-    crossrefs: &mut Vec<Option<Text>>,
+    crossrefs: &mut Vec<Crossref>,
     id: usize,
-    crossref: &Option<Text>,
+    crossref: &Crossref,
 ) -> Result<(), AllocError>
     ensures room { OnOk result (IsSome crossref.now → id < length crossrefs.new.items) }
     ensures same { HaveTheSame crossrefs.old.items crossrefs.new.items }
 {
-    if crossref.is_none() {
+    if crossref.as_slice().is_none() {
         return Ok(());
     }
     'grow: while crossrefs.len() <= id {
-        crossrefs.push(None)?;
+        crossrefs.push(Crossref::none())?;
     }
     Ok(())
 }
 
 /// Keeps the crossref text of an id, for which there is room if it has one.
-fn put_crossref(crossrefs: &mut Vec<Option<Text>>, id: usize, crossref: Option<Text>)
+fn put_crossref(crossrefs: &mut Vec<Crossref>, id: usize, crossref: Crossref)
     requires { IsSome crossref → id < length crossrefs.old.items }
     ensures { GivesCrossref crossrefs.old.items crossrefs.new.items id crossref }
 {
@@ -80,19 +82,19 @@ fn put_crossref(crossrefs: &mut Vec<Option<Text>>, id: usize, crossref: Option<T
 }
 
 /// The key that a crossref text names, or an empty one where it names none.
-fn named_key(crossref: &Option<Text>) -> &[u8]
+fn named_key(crossref: &Crossref) -> &[u8]
     ensures key { name_of result.now ≡ named_by crossref.now }
     ensures short { length result.now ≤ name_limit }
 {
-    match crossref {
-        Some(text) if text.as_slice().len() <= NAME_LIMIT => text.as_slice(),
+    match crossref.as_slice() {
+        Some(text) if text.len() <= NAME_LIMIT => text,
         _ => &[],
     }
 }
 
 /// Takes from an id the key that its crossref text names. It asks for no memory.
 #[tactic(auto, using(crate::proofs::Tables::none_kept, crate::proofs::Tables::unnamed_stays))]
-fn take_named(referring: &mut KeyIndex, crossrefs: &[Option<Text>], id: usize)
+fn take_named(referring: &mut KeyIndex, crossrefs: &[Crossref], id: usize)
     ensures { (names : ℕ → Option Bytes) (order : List ℕ) → names id ≡ named_by (crossref_of crossrefs.now id) → IsIndexOf names order (ids_in referring.old) → IsIndexWith names id None order referring.new }
 {
     if let Some(crossref) = crossrefs.get(id) {
@@ -122,6 +124,7 @@ impl EntryTable {
         ensures { IsTableOf [] [] result }
     {
         EntryTable {
+            alloc,
             order: Order::new(alloc),
             keys: KeyIndex::new(alloc),
             crossrefs: Vec::new(alloc),
@@ -192,8 +195,8 @@ impl EntryTable {
             return None;
         }
         match self.crossrefs.get(self.order.id_at(n)) {
-            Some(Some(text)) => Some(text.as_slice()),
-            _ => None,
+            Some(crossref) => crossref.as_slice(),
+            None => None,
         }
     }
 
@@ -218,6 +221,7 @@ impl EntryTable {
         ensures err { OnErr result (SaysTheSame self.old self.new) }
     {
         self.prepare_keys();
+        let crossref = Crossref::of(self.alloc, crossref)?;
         let n = n.min(self.order.count());
         let id = self.order.insert(n)?;
         match self.describe(id, key, crossref) {
@@ -231,7 +235,7 @@ impl EntryTable {
 
     /// Gives an id its key and its crossref text, where it has none. Where memory is refused, it has none still.
     #[tactic(auto, using(crate::proofs::Tables::given_after))]
-    fn describe(&mut self, id: usize, key: &[u8], crossref: Option<Text>) -> Result<(), AllocError>
+    fn describe(&mut self, id: usize, key: &[u8], crossref: Crossref) -> Result<(), AllocError>
         requires { length key.now ≤ name_limit }
         ensures ids { self.new.ids ≡ self.old.ids }
         ensures key { OnOk result ((names : ℕ → Option Bytes) → names id ≡ None → IsIndexOf names self.old.ids (ids_in self.old.keys) → IsIndexWith names id (name_of key.now) self.old.ids self.new.keys) }

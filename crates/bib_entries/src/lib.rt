@@ -3,6 +3,7 @@
 //! entry that comes or goes leaves what is said of the others, whatever numbers they have then.
 #![tactic(auto)]
 
+mod crossref;
 mod entry_table;
 mod leaf;
 mod leaves;

@@ -1,4 +1,5 @@
 pub mod FoldedMap
+pub mod Held
 pub mod Faults
 pub mod Macros
 pub mod Months

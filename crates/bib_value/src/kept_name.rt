@@ -4,24 +4,33 @@ ghost use Rattle.std.specs.Prelude.{◌≡◌, [], ◌∷◌, IfOk};
 ghost use Rattle.bib_spec.specs.Text.{folded};
 
 use crate::folding::FoldedName;
+use crate::short_text::{SHORT_LEN, ShortText};
 use indexmap::Equivalent;
-use smallvec::SmallVec;
 use std::alloc::{AllocError, Global};
 use std::hash::{Hash, Hasher};
 use std::marker::Model;
 
-/// A name in lower case, as a map keeps it. One of at most 24 bytes takes no memory of its own.
+/// How the bytes of a name are kept.
+#[derive(Drop)]
+enum Held {
+    Short(ShortText),
+    // in a box, so that the place of a short one is small
+    Long(Box<Vec<u8>>),
+}
+
+/// A name in lower case, as a map keeps it: in 24 bytes, and in no memory of its own where it has at most 22.
 #[derive(Drop)]
 pub(crate) struct KeptName {
-    bytes: SmallVec<u8, 24>,
+    held: Held,
 }
 
 impl Model for KeptName {
     ghost use Rattle.bib_spec.specs.Text.{Text};
+    ghost use Rattle.bib_value.specs.Held.{bytes_of};
 
     ghost Value = { Text };
 
-    ghost view = { λ n. n.bytes.items };
+    ghost view = { λ n. bytes_of n.held };
 }
 
 impl KeptName {
@@ -29,16 +38,26 @@ impl KeptName {
     pub fn of(alloc: Global, name: &[u8]) -> Result<Self, AllocError>
         ensures { IfOk result (λ kept. kept ≡ folded name.now) }
     {
-        let mut bytes = SmallVec::from_slice(alloc, name)?;
+        if name.len() <= SHORT_LEN {
+            return Ok(KeptName {
+                held: Held::Short(ShortText::folded(name)),
+            });
+        }
+        let mut bytes = Vec::from_slice(alloc, name)?;
         bytes.as_mut_slice().make_ascii_lowercase();
-        Ok(KeptName { bytes })
+        Ok(KeptName {
+            held: Held::Long(Box::new(alloc, bytes)?),
+        })
     }
 
     /// Its bytes.
     fn as_slice(&self) -> &[u8]
         ensures { result.now ≡ self.now }
     {
-        self.bytes.as_slice()
+        match &self.held {
+            Held::Short(text) => text.as_slice(),
+            Held::Long(bytes) => bytes.as_slice(),
+        }
     }
 }
 

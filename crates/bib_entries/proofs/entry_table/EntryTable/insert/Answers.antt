@@ -1,6 +1,7 @@
-use Rattle.std.proofs.Common.{◌≡◌, ◌≤◌, ◌∙◌, ℕ, List, sym, ap, length, subst, arith, insert}
+use Rattle.std.proofs.Common.{◌≡◌, ◌≤◌, ◌∙◌, ℕ, List, Option, sym, ap, length, subst, arith, insert}
+use Rattle.bib_spec.specs.Text.{Text}
 use Rattle.bib_index.specs.KeyIndex.{IsIndexOf, ids_in}
-use Rattle.bib_entries.specs.EntryTable.{Kept, IsTableOf, IsIndexWith, StaysIndex, HaveTheSame, name_of, named_by}
+use Rattle.bib_entries.specs.EntryTable.{Kept, IsTableOf, IsIndexWith, StaysIndex, GivesCrossref, HaveTheSame, name_of, named_by}
 use Rattle.bib_entries.proofs.Tables.{inserted_table, kept_table, same_count}
 use Rattle.bib_entries.proofs.entry_table.EntryTable.insert.Goals as goal
 
@@ -12,15 +13,17 @@ returns-in-Ok-clause-ok c keys crossrefs fits t =
     let n : c.min-n.result ≡ c.args.n = omega (arith, few, c.min-n.ensures, c.count.ensures.count) in
     let came = c.in_ok-id.ensures.ok in
     let same : c.describe.new.self.ids ≡ c.insert.new.self = c.in-Ok.ensures.ids in
+    let text = c.in_ok-crossref.ensures in
     inserted_table keys crossrefs old c.describe.new.self c.args.n c.in_ok-id.id c.args.key.now c.args.crossref inside came.1
     (same ∙ came.0 ∙ ap (λ (k : ℕ). insert c.self.inside.order k c.in_ok-id.id) n)
     (λ names none is.
     subst (λ (l : List ℕ). IsIndexWith names c.in_ok-id.id (name_of c.args.key.now) l c.describe.new.self.keys) (sym same)
     (c.in-Ok.ensures.key names none (subst (λ (l : List ℕ). IsIndexOf names l (ids_in c.self.inside.keys)) same is)))
     (λ names none is.
-    subst (λ (l : List ℕ). IsIndexWith names c.in_ok-id.id (named_by c.args.crossref) l c.describe.new.self.referring) (sym same)
-    (c.in-Ok.ensures.named names none (subst (λ (l : List ℕ). IsIndexOf names l (ids_in c.self.inside.referring)) same is)))
-    c.in-Ok.ensures.crossref few
+    subst (λ (said : Option Text). IsIndexWith names c.in_ok-id.id (named_by said) c.describe.new.self.ids c.describe.new.self.referring) text
+    (subst (λ (l : List ℕ). IsIndexWith names c.in_ok-id.id (named_by c.in_ok-crossref.crossref) l c.describe.new.self.referring) (sym same)
+    (c.in-Ok.ensures.named names none (subst (λ (l : List ℕ). IsIndexOf names l (ids_in c.self.inside.referring)) same is))))
+    (subst (GivesCrossref c.self.inside.crossrefs.items c.describe.new.self.crossrefs c.in_ok-id.id) text c.in-Ok.ensures.crossref) few
 
 pub returns-in-Err-clause-err : goal.returns-in-Err-clause-err
 returns-in-Err-clause-err c keys crossrefs t =
