@@ -1,5 +1,5 @@
 -- The walk over the items of a file.
-use Rattle.std.proofs.Common.{◌≡◌, ℕ, zero, suc, ◌+◌, ◌-◌, ◌<◌, ◌≤◌, ◌^◌, cond, nat_lt, List, [], ◌∷◌, ◌++◌, length, take, drop, map, Option, Some, None, option_map, IfSome, slice_get, get_or, ◌⊎◌, inl, inr, ⊎_elim, refl, sym, ◌∙◌, ap, subst, arith, append-nil, length-append, length-drop, length-take-le, le_of_suc-le-suc, not-suc-le-zero}
+use Rattle.std.proofs.Common.{◌≡◌, ℕ, Bool, zero, suc, ◌+◌, ◌-◌, ◌<◌, ◌≤◌, ◌^◌, cond, nat_lt, List, [], ◌∷◌, ◌++◌, length, take, drop, map, Option, Some, None, option_map, IfSome, slice_get, get_or, ◌⊎◌, inl, inr, ⊎_elim, refl, sym, ◌∙◌, ap, subst, arith, append-nil, length-append, length-drop, length-take-le, le_of_suc-le-suc, not-suc-le-zero}
 use Rattle.std.specs.List.{zip, flat_map}
 use Rattle.std.specs.Option.{option_or}
 use Rattle.std.proofs.lemmas.Bool.{cases_Bool, cond-true, cond-false, ltb-true, ltb-false}
@@ -22,6 +22,8 @@ use Rattle.bib_store.specs.declared.tables.Tables.{Tables}
 use Rattle.bib_items.specs.Items.{item, item_at, stored, without_range}
 use Rattle.bib_definitions.specs.Definitions.{texts_at}
 use Rattle.bib_store.specs.ItemTexts.{first_too_long, placed_texts, OfTree}
+use Rattle.bib_store.specs.declared.bounds.Bounds.{Bounds}
+use Rattle.bib_store.specs.Bounds.{Admits}
 use Rattle.bib_store.specs.Beside.{AreTablesOf, AreTables, HasItems, AreNotesOf, IsStep, IsTooLongAt}
 use Rattle.bib_store.proofs.OneItemMore.{first-append, first-shift, raw_texts-append, too_long_within}
 
@@ -249,6 +251,11 @@ walk_all front_len from to all n place t order within end so_far db kept =
 pub with_len : (items : List reading.Item) (t : Tables) (n : ℕ) → AreTablesOf items t
     → AreTablesOf items (record { file_len = n; entries = t.entries; preambles = t.preambles; named = t.named; definitions = t.definitions; bounds = t.bounds })
 with_len items t n are = record { entries = are.entries; preambles = are.preambles; named = are.named; definitions = are.definitions; bounds = are.bounds }
+
+-- and where the bounds hold of an item more
+pub with_bounds : (items : List reading.Item) (t : Tables) (len : ℕ) (settled : Bool) (bounds : Bounds) → Admits len settled t.bounds bounds → AreTablesOf items t
+    → AreTablesOf items (record { file_len = t.file_len; entries = t.entries; preambles = t.preambles; named = t.named; definitions = t.definitions; bounds = bounds })
+with_bounds items t len settled bounds admits are = record { entries = are.entries; preambles = are.preambles; named = are.named; definitions = are.definitions; bounds = admits.all items are.bounds }
 
 pub fault_cases : (f : ItemFault) → (f ≡ Memory) ⊎ ((at : ℕ) × (f ≡ TooLong at))
 fault_cases Memory = inl refl

@@ -21,6 +21,9 @@ use bib_items::ItemList;
 use bib_scan::{FieldView, ItemView, Kind, NAME_LIMIT, Note, ReadFault, Text};
 use std::alloc::Global;
 
+/// How many keys are looked at together before their items are put in.
+const TOGETHER: usize = 64;
+
 /// What is kept beside the items of a file.
 #[derive(Drop)]
 pub(crate) struct Tables {
@@ -73,7 +76,11 @@ impl Tables {
         let count = items.count() - (to - from);
         let mut tables = Tables::with_room(alloc, count);
         let mut start = front_len;
+        let mut seen = 0;
         'walk: for n in 0..count {
+            if n % TOGETHER == 0 {
+                seen |= first_bytes(items, notes, n, from, to);
+            }
             let k = kept_number(n, from, to);
             let (body, trail) = items.texts(k);
             if let Err(fault) = tables.add(alloc, n, body, note_at(notes, n)) {
@@ -82,6 +89,8 @@ impl Tables {
             start = behind(start, body, trail);
         }
         tables.file_len = file_len;
+        // no bound is too great, and a compiler leaves out a look of which nothing is used
+        tables.bounds.admit(usize::from(seen), true);
         Ok(tables)
     }
 
@@ -381,6 +390,26 @@ fn insert_named(
             Err(ItemFault::Memory)
         }
     }
+}
+
+/// What the keys of 64 items begin with, in one byte: of those from number `first` on, in the list from which those from
+/// number `from` up to `to` are left out. Keys lie far apart in a file: here a processor waits for the memory of several at
+/// once, and not for one after another where the items are put in. Only time rests on it.
+fn first_bytes<L: ItemList>(items: &L, notes: &[Note], first: usize, from: usize, to: usize) -> u8
+    requires order { from ≤ to }
+    requires within { to ≤ length (L.items items.now) }
+{
+    let noted = notes.len().min(items.count() - (to - from));
+    let last = first.saturating_add(TOGETHER).min(noted);
+    let mut bytes = 0;
+    'look: for n in first..last {
+        let (body, trail) = items.texts(kept_number(n, from, to));
+        if let Some(note) = note_at(notes, n) {
+            let view = ItemView::noted(body, trail, note);
+            bytes |= view.key().first().copied().unwrap_or(0);
+        }
+    }
+    bytes
 }
 
 /// What was noted of item `n`, if anything.

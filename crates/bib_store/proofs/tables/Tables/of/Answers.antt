@@ -1,5 +1,5 @@
 use Rattle.std.proofs.Common.{◌-◌, ◌<◌, ◌≤◌, length, inl, inr, ⊎_elim, arith}
-use Rattle.bib_store.proofs.WalkedFiles.{walk_start, walk_more, walk_over, walk_all, with_len, kept_inside, noted_at, fault_cases}
+use Rattle.bib_store.proofs.WalkedFiles.{walk_start, walk_more, walk_over, walk_all, with_len, with_bounds, kept_inside, noted_at, fault_cases}
 use Rattle.bib_store.proofs.tables.Tables.of.Goals as goal
 
 pub walk-init : goal.walk-init
@@ -43,7 +43,8 @@ pub returns-clause-tables : goal.returns-clause-tables
 returns-clause-tables g c db kept =
     let all = g.L.ItemList.items c.args.items.now in
     let end : length all - (c.args.to - c.args.from) ≤ c.walk.n = omega (arith, c.walk-test.false, c.count.ensures) in
-    with_len db.items c.walk.tables c.args.file_len (walk_all c.args.front_len c.args.from c.args.to all c.walk.n c.walk.start c.walk.tables c.requires.order c.requires.within end c.walk.invariant db kept).0
+    with_bounds db.items _ _ _ c.admit.new.self c.admit.ensures
+    (with_len db.items c.walk.tables c.args.file_len (walk_all c.args.front_len c.args.from c.args.to all c.walk.n c.walk.start c.walk.tables c.requires.order c.requires.within end c.walk.invariant db kept).0)
 
 pub returns-clause-texts : goal.returns-clause-texts
 returns-clause-texts g c db kept =
