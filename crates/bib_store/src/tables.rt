@@ -19,7 +19,7 @@ use bib_definitions::Definitions;
 use bib_entries::{EntryTable, Numbers};
 use bib_items::ItemList;
 use bib_scan::{FieldView, ItemView, Kind, NAME_LIMIT, Note, ReadFault, Text};
-use std::alloc::Global;
+use std::alloc::{AllocError, Global};
 
 /// How many keys are looked at together before their items are put in.
 const TOGETHER: usize = 64;
@@ -79,7 +79,7 @@ impl Tables {
         let mut seen = 0;
         'walk: for n in 0..count {
             if n % TOGETHER == 0 {
-                seen |= first_bytes(items, notes, n, from, to);
+                seen |= first_bytes(alloc, items, notes, n, from, to).unwrap_or(0);
             }
             let k = kept_number(n, from, to);
             let (body, trail) = items.texts(k);
@@ -393,23 +393,33 @@ fn insert_named(
 }
 
 /// What the keys of 64 items begin with, in one byte: of those from number `first` on, in the list from which those from
-/// number `from` up to `to` are left out. Keys lie far apart in a file: here a processor waits for the memory of several at
-/// once, and not for one after another where the items are put in. Only time rests on it.
-fn first_bytes<L: ItemList>(items: &L, notes: &[Note], first: usize, from: usize, to: usize) -> u8
+/// number `from` up to `to` are left out. Keys lie far apart in a file: where all are found before one is looked at, a
+/// processor waits for the memory of many at once, and not for one after another. Only time rests on it.
+fn first_bytes<L: ItemList>(
+    alloc: Global,
+    items: &L,
+    notes: &[Note],
+    first: usize,
+    from: usize,
+    to: usize,
+) -> Result<u8, AllocError>
     requires order { from ≤ to }
     requires within { to ≤ length (L.items items.now) }
 {
     let noted = notes.len().min(items.count() - (to - from));
     let last = first.saturating_add(TOGETHER).min(noted);
-    let mut bytes = 0;
-    'look: for n in first..last {
+    let mut keys = Vec::with_capacity(alloc, TOGETHER)?;
+    'find: for n in first..last {
         let (body, trail) = items.texts(kept_number(n, from, to));
         if let Some(note) = note_at(notes, n) {
-            let view = ItemView::noted(body, trail, note);
-            bytes |= view.key().first().copied().unwrap_or(0);
+            keys.push(ItemView::noted(body, trail, note).key())?;
         }
     }
-    bytes
+    let mut bytes = 0;
+    'look: for key in keys.as_slice() {
+        bytes |= key.first().copied().unwrap_or(0);
+    }
+    Ok(bytes)
 }
 
 /// What was noted of item `n`, if anything.
