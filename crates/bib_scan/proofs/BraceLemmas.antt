@@ -2,7 +2,7 @@
 use Rattle.std.proofs.Common.{◌≡◌, ℕ, zero, suc, ◌+◌, ◌-◌, ◌<◌, ◌≤◌, Bool, true, false, ◌||◌, eqb, List, [], ◌∷◌, ◌++◌, length, get_or, take, drop, refl, sym, ap, subst, ◌∙◌, arith, append_assoc, append-nil, add-one, inl, inr, Ok, Err, None, Some}
 use Rattle.std.proofs.lemmas.List.{drop-drop, drop-take, take-take, get_or-drop, length-drop, drop_more, take_more, drop_all, take-append-drop}
 use Rattle.std.proofs.lemmas.Bool.{or_parts, or_cases, false_from_ne_true, and_right, eqb-true, eq-eqb, ne_eqb, cond-true}
-use Rattle.memchr.specs.Find.{IsFirstByte, is_byte2, is_byte3}
+use Rattle.memchr.specs.Find.{IsFirstByte, NoneBefore, Nowhere, Passes, is_byte2, is_byte3}
 use Rattle.bib_spec.specs.Fault.{Unended, UnbalancedBrace}
 use Rattle.bib_spec.specs.Text.{Text}
 use Rattle.bib_scan.specs.LeftToRight.{Read, Halt, stop, with_front, read_braced, read_quoted}
@@ -134,6 +134,23 @@ pub not_found : (test : ℕ → Bool) (F : Text → Read Text) → Takes test F 
 not_found test F takes h end t hay at whole is first before =
     let here = subst (λ (u : Text). IsFirstByte test u None) is first in
     run_out test F takes h end t at whole (λ k low. false_from_ne_true _ (here k (omega arith) low)) before
+
+-- the same where the place is counted from the start of the text
+pub found_from : (test : ℕ → Bool) (F : Text → Read Text) → Takes test F → (t : Text) (at place : ℕ) (whole : Read Text) → NoneBefore (Passes test t) at (length t) place → Passes test t place → whole ≡ with_front (take at t) (F (drop at t)) → Found test F t place whole
+found_from test F takes t at place whole first passes before =
+    let found = place - at in
+    let same : at + found ≡ place = omega (arith, first.low) in
+    let lt : found < length (drop at t) = omega (arith, first.low, first.high, length-drop at t) in
+    record {
+      within = first.high;
+      passes = passes;
+      read = subst (λ (p : ℕ). whole ≡ with_front (take p t) (F (get_or t p 0 ∷ drop (p + 1) t))) same
+          (advance test F takes t at found whole lt (λ k low. ap test (get_or-drop at t k 0) ∙ false_from_ne_true _ (first.before (at + k) (omega arith) (omega (arith, first.low)))) before);
+    }
+
+pub not_found_from : (test : ℕ → Bool) (F : Text → Read Text) → Takes test F → (h : Halt) → F [] ≡ Err h → (t : Text) (at : ℕ) (whole : Read Text) → Nowhere (Passes test t) at (length t) → whole ≡ with_front (take at t) (F (drop at t)) → whole ≡ Err h
+not_found_from test F takes h end t at whole none before =
+    run_out test F takes h end t at whole (λ k low. ap test (get_or-drop at t k 0) ∙ false_from_ne_true _ (none (at + k) (omega arith) (omega (arith, length-drop at t)))) before
 
 pub second : (b : ℕ) → is_byte2 123 125 b ≡ true → (b ≡ 123 → ⊥) → b ≡ 125
 second b passes other =

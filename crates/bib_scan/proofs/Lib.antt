@@ -61,3 +61,5 @@ pub mod TakenApart
 pub mod PartsFaults
 pub mod OnlyPart
 pub mod JoinedReadings
+pub mod MaskLemmas
+pub mod MarkLemmas

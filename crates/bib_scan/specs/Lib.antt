@@ -11,3 +11,4 @@ pub mod AssignedView
 pub mod Laws
 pub mod ValueParts
 pub mod PartsLeft
+pub mod Braces

@@ -3,6 +3,7 @@
 #![tactic(auto)]
 
 mod body;
+mod braces;
 mod class;
 mod fault;
 mod fields;

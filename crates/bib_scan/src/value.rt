@@ -8,9 +8,10 @@ ghost use Rattle.bib_scan.specs.LeftToRight.{read_braced, read_quoted, read_run,
 ghost use Rattle.bib_scan.specs.Code.{Gives};
 ghost use Rattle.bib_scan.specs.PartView.{part_view};
 
+use crate::braces::{Marked, next_brace};
 use crate::class::is_name_byte;
 use crate::fault::{Fault, Stop};
-use crate::near::{first_of_three, first_of_two};
+use crate::near::first_of_three;
 use crate::spans::{behind, digits_len, name_len, past_space};
 use crate::text::NAME_LIMIT;
 
@@ -30,8 +31,9 @@ fn split_braced(text: &[u8]) -> Result<(&[u8], &[u8]), Stop<'_>>
 {
     let mut depth = 0usize;
     let mut at = 0;
-    while let Some(found) = first_of_two(b'{', b'}', behind(text, at)) {
-        let place = at + found;
+    let mut marked = Marked::none();
+    while let Some(brace) = next_brace(text, at, marked) {
+        let place = brace.place;
         if text[place] == b'{' {
             depth += 1;
         } else if depth == 0 {
@@ -40,6 +42,7 @@ fn split_braced(text: &[u8]) -> Result<(&[u8], &[u8]), Stop<'_>>
             depth -= 1;
         }
         at = place + 1;
+        marked = brace.later;
     }
     Err(Stop {
         fault: Fault::Unended,

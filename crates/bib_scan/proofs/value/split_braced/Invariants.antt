@@ -1,10 +1,11 @@
 use Rattle.std.proofs.Common.{◌-◌, length}
+use Rattle.bib_scan.specs.Braces.{IsMarked}
 use Rattle.bib_scan.specs.LeftToRight.{read_braced}
 use Rattle.bib_scan.proofs.ScanInvariant.{Scanned}
 use Rattle.bib_scan.proofs.value.split_braced.Given as goal
 
-abbrev pub invariant-loop-found : goal.invariant-loop-found
-invariant-loop-found l = Scanned read_braced l.text l.at l.depth
+abbrev pub invariant-loop-brace : goal.invariant-loop-brace
+invariant-loop-brace l = record { scanned : Scanned read_braced l.text l.at l.depth; known : IsMarked l.text l.at l.marked }
 
-abbrev pub decreases-loop-found : goal.decreases-loop-found
-decreases-loop-found l = length l.text - l.at
+abbrev pub decreases-loop-brace : goal.decreases-loop-brace
+decreases-loop-brace l = length l.text - l.at
