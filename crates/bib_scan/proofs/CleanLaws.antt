@@ -1,5 +1,5 @@
 -- Where commands begin, and clean texts.
-use Rattle.std.proofs.Common.{◌≡◌, ◌↔◌, ℕ, zero, suc, ◌+◌, Bool, true, false, ◌&&◌, ◌||◌, ◌==◌, cond, [], ◌∷◌, ◌++◌, length, take, drop, refl, sym, ap, subst, ◌∙◌, arith, append-nil, inl, inr, ◌⊎◌}
+use Rattle.std.proofs.Common.{◌≡◌, ◌↔◌, ℕ, zero, suc, ◌+◌, Bool, true, false, ◌&&◌, ◌||◌, ◌==◌, cond, [], ◌∷◌, ◌++◌, length, take, drop, refl, sym, ap, subst, ◌∙◌, arith, append-nil, inl, inr}
 use Rattle.std.proofs.lemmas.Bool.{eqb-true, and_parts, cases_Bool}
 use Rattle.std.proofs.lemmas.List.{take-append-drop, take-append-le, drop-append-le}
 use Rattle.std.proofs.lemmas.List.Sums.{prefix_len-le-length}
@@ -9,6 +9,7 @@ use Rattle.bib_spec.specs.Text.{Text, is_space, is_name, is_name_byte, is_type_b
 use Rattle.bib_spec.specs.Clean.{begins_command, opens_body, IsClean}
 use Rattle.bib_scan.specs.Laws.{IsCleanBeforeSign}
 use Rattle.bib_scan.specs.LeftToRight.{next_command}
+use Rattle.bib_scan.specs.ReadSoFar.{Next}
 use Rattle.bib_scan.proofs.CommandLemmas.{next_none, next_here}
 
 -- a byte that stops a run stops it wherever it stands
@@ -74,10 +75,6 @@ from_before_sign (b ∷ t) clean = clean_cons b t (sym (begins_at b t []) ∙ cl
 
 pub clean_before_sign : (t : Text) → IsClean t ↔ IsCleanBeforeSign t
 clean_before_sign t = (before_sign t, from_before_sign t)
-
--- what follows a clean text: nothing, or a command
-abbrev pub Next : Text → Type 0
-Next r = (r ≡ []) ⊎ (begins_command r ≡ true)
 
 pub begins_sign : (r : Text) → begins_command r ≡ true → (x : Text) × (r ≡ 64 ∷ x)
 unfolding begins_command

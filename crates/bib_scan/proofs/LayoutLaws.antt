@@ -38,10 +38,10 @@ pub record ItemIn (b : Text) (places : Places) (n : ℕ) : Type 0 where
   pub next : (s : Span) → slice_get places.items (n + 1) ≡ Some s → s.start ≡ start + length (item_bytes item)
   pub last : slice_get places.items (n + 1) ≡ None → length b ≡ start + length (item_bytes item)
 
-any_item : Item
+pub any_item : Item
 any_item = record { tree = CommentTree (record { space_before_type = []; type_name = [] }); trail = [] }
 
-span_at : (db : Reading) (n : ℕ) → n < length db.items → slice_get (places_of db).items n ≡ Some (span_of db (n, get_or db.items n any_item))
+pub span_at : (db : Reading) (n : ℕ) → n < length db.items → slice_get (places_of db).items n ≡ Some (span_of db (n, get_or db.items n any_item))
 span_at db n lt =
     let numbered = enumerate_from 0 db.items in
     let low : n < length numbered = omega (arith, length-enumerate_from 0 db.items) in

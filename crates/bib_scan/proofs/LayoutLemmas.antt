@@ -1,17 +1,10 @@
 -- Steps of the reader of a whole text.
-use Rattle.std.proofs.Common.{◌≡◌, ℕ, zero, suc, ◌+◌, ◌-◌, ◌<◌, ◌≤◌, List, [], ◌∷◌, ◌++◌, length, drop, refl, sym, ap, ◌∙◌, arith, append_assoc, append-nil, Result, Ok, Err}
+use Rattle.std.proofs.Common.{◌≡◌, ℕ, zero, suc, ◌+◌, ◌-◌, ◌<◌, List, [], ◌∷◌, ◌++◌, length, drop, refl, sym, ap, ◌∙◌, arith, append_assoc, append-nil, Result, Ok, Err}
 use Rattle.std.proofs.lemmas.List.{length-drop}
 use Rattle.bib_spec.specs.Text.{Text}
 use Rattle.bib_scan.specs.declared.layout.Span.{Span}
-use Rattle.bib_scan.specs.LeftToRight.{Halt, span, read_command, next_command, read_commands, read_all_commands, ◌>>=◌}
-
-abbrev pub with_spans : List Span → Result (List Span) Halt → Result (List Span) Halt
-with_spans spans read = read >>= λ later. Ok (spans ++ later)
-
--- The commands of t are these, and then those of rest.
-pub record CommandsOn (limit : ℕ) (t rest : Text) (spans : List Span) : Type 0 where
-  pub shorter : length rest ≤ length t
-  pub read : (n : ℕ) × (length rest < n) × (read_all_commands limit t ≡ with_spans spans (read_commands limit (length t) n rest))
+use Rattle.bib_scan.specs.LeftToRight.{Halt, span, read_command, next_command, read_commands, read_all_commands}
+use Rattle.bib_scan.specs.ReadSoFar.{with_spans, CommandsOn}
 
 with_spans-nil : (r : Result (List Span) Halt) → with_spans [] r ≡ r
 with_spans-nil (Ok x) = refl

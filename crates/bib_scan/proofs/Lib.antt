@@ -57,6 +57,7 @@ pub mod HeadLaws
 pub mod LayoutLaws
 pub mod NoteLemmas
 pub mod NoteLaws
+pub mod ReaderLaws
 pub mod TakenApart
 pub mod PartsFaults
 pub mod OnlyPart

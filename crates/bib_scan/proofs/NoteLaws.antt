@@ -163,7 +163,7 @@ entry_note e x is =
     let key_at : length t - length u ≡ length front = omega (arith, ap (length {A = ℕ}) whole, length-append front u) in
     ap (note_from (length t)) head ∙ (λ i. record { key_at = key_at i; crossref_at = crossref_at i; key_len = key_len i })
 
-note_again : (t : Tree) (x : Text) → IsTree name_limit t → EndsName t x → read_note (tree_bytes t ++ x) ≡ note_of t
+pub note_again : (t : Tree) (x : Text) → IsTree name_limit t → EndsName t x → read_note (tree_bytes t ++ x) ≡ note_of t
 note_again (CommentTree h) x is ends = comment_note h x is (ends refl)
 note_again (DefinitionTree d) x is ends = definition_note d x is
 note_again (PreambleTree p) x is ends = preamble_note p x is

@@ -20,7 +20,8 @@ use Rattle.bib_scan.specs.declared.note.EntryHead.{EntryHead}
 use Rattle.bib_scan.specs.declared.note.Note.{Note}
 use Rattle.bib_scan.specs.declared.view.Kind.{Kind}
 use Rattle.bib_scan.specs.declared.view.Kind.TheVariants as kind
-use Rattle.bib_scan.proofs.CleanLaws.{Next, next_found}
+use Rattle.bib_scan.specs.ReadSoFar.{Next, NotedOn}
+use Rattle.bib_scan.proofs.CleanLaws.{next_found}
 use Rattle.bib_scan.proofs.CommandLaws.{command_ok}
 use Rattle.bib_scan.proofs.TreeAgainLaws.{closes}
 use Rattle.bib_scan.proofs.RowLaws.{closed_ok}
@@ -138,13 +139,6 @@ key_within t o is =
     subst (λ (p : Option EntryHead). IfSome p (λ h. h.key_left ≤ length t)) (sym is) within
 
 -- ---- the notes of a file
-
--- what was read stands before rest, and each item's note is what is noted where it begins
-pub record NotedOn (file rest : Text) (spans : List Span) (notes : List Note) : Type 0 where
-  pub front : Text
-  pub split : file ≡ front ++ rest
-  pub next : Next rest
-  pub notes_are : notes ≡ map (note_at file) spans
 
 pub noted_start : (file rest : Text) (spans : List Span) (notes : List Note) → rest ≡ drop (next_command file) file → spans ≡ [] → notes ≡ [] → NotedOn file rest spans notes
 noted_start file rest spans notes is no_spans no_notes = record {

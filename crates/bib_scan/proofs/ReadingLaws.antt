@@ -16,7 +16,8 @@ use Rattle.bib_scan.proofs.BraceLemmas.{take-more}
 use Rattle.bib_scan.proofs.CommandLemmas.{next_here, next_none}
 use Rattle.bib_scan.proofs.RunLaws.{bind_ok, ok_same}
 use Rattle.bib_scan.proofs.CommandLaws.{EndsName, IsTreeOf, command_ok}
-use Rattle.bib_scan.proofs.CleanLaws.{Next, next_found, next_again, begins_sign, at_no_type}
+use Rattle.bib_scan.specs.ReadSoFar.{Next}
+use Rattle.bib_scan.proofs.CleanLaws.{next_found, next_again, begins_sign, at_no_type}
 use Rattle.bib_scan.proofs.TreeAgainLaws.{tree_again}
 
 -- ---- what every tree has

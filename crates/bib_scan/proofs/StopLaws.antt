@@ -16,7 +16,8 @@ use Rattle.bib_scan.proofs.RunLaws.{chosen, not_ok, run_split, run_passes}
 use Rattle.bib_scan.proofs.PartLaws.{type_name_from}
 use Rattle.bib_scan.proofs.ValueLaws.{space_split}
 use Rattle.bib_scan.proofs.CommandLaws.{Typed, IsTyped, EndsName, IsTreeOf, opening, is_opening, typed_bytes, open_is, command_ok, or-second}
-use Rattle.bib_scan.proofs.CleanLaws.{Next, next_found, next_again, clean_nil}
+use Rattle.bib_scan.specs.ReadSoFar.{Next}
+use Rattle.bib_scan.proofs.CleanLaws.{next_found, next_again, clean_nil}
 use Rattle.bib_scan.proofs.TreeAgainLaws.{Again, head_shape, opened_again, tree_again}
 use Rattle.bib_scan.proofs.ReadingLaws.{not_here, ends_more, ends_take, some_bytes, one_turn}
 use Rattle.bib_scan.proofs.LongerNames.{longer_tree, longer_item}

@@ -4,7 +4,9 @@ pub mod View
 pub mod FieldsLeft
 pub mod Note
 pub mod NotesLeft
+pub mod ReadSoFar
 pub mod Layout
+pub mod Progress
 pub mod Code
 pub mod PartView
 pub mod AssignedView

@@ -1,6 +1,6 @@
 //! Files read, and files refused at a place.
 
-use bib_scan::{FILE_LIMIT, read};
+use bib_scan::{FILE_LIMIT, Reader, read};
 use std::alloc::{AllocError, Global};
 use std::test::Fail;
 
@@ -139,5 +139,38 @@ fn the_longest_file_is_read(rt: HostRuntime) -> Result<(), Fail> {
     assert_eq!(rt; answer(alloc, &bytes), Outcome::Items(0));
     bytes.push(b'x')?;
     assert_eq!(rt; answer(alloc, &bytes), Outcome::Fault(9, 16_777_216));
+    Ok(())
+}
+
+#[test]
+fn items_are_read_one_by_one_up_to_a_fault(rt: HostRuntime) -> Result<(), Fail> {
+    let mut reader = Reader::new(rt.alloc(), b"mail joe@x.org\n@a{x,} so\n@b{y,z}")?;
+    let item = reader.next_item()?.expect(&rt, "an item");
+    assert_eq!(rt; item.body, b"@a{x,}".as_slice());
+    assert_eq!(rt; item.start, 15);
+    match reader.next_item() {
+        Ok(_) => panic!(rt; "a name without a value is read"),
+        Err(fault) => assert_eq!(rt; (fault.kind, fault.place), (3, 31)),
+    }
+    Ok(())
+}
+
+/// An entry in whose value so many bytes stand before, between and behind braces.
+fn braces_apart(alloc: Global, apart: usize, end: &[u8]) -> Result<Vec<u8>, AllocError> {
+    let mut text = joined(alloc, b"@misc{a,t={", b'x', apart, b"{")?;
+    text.extend_from_slice(joined(alloc, b"", b'y', apart, b"}")?.as_slice())?;
+    text.extend_from_slice(joined(alloc, b"", b'z', apart, end)?.as_slice())?;
+    Ok(text)
+}
+
+#[test]
+fn braces_are_found_however_far_apart(rt: HostRuntime) -> Result<(), Fail> {
+    let alloc = rt.alloc();
+    for apart in 0..70 {
+        let whole = braces_apart(alloc, apart, b"}}")?;
+        assert_eq!(rt; answer(alloc, &whole), Outcome::Items(1));
+        let open = braces_apart(alloc, apart, b"}")?;
+        assert_eq!(rt; answer(alloc, &open), Outcome::Fault(1, open.len()));
+    }
     Ok(())
 }
