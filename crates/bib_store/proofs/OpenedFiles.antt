@@ -1,11 +1,10 @@
 -- A file that is opened: its items are put into a list, and the tables are made.
-use Rattle.std.proofs.Common.{◌≡◌, ℕ, ◌≤◌, List, [], length, slice_get, Option, Some, None, option_map, inl, inr, ◌⊎◌, ⊎_elim, refl, sym, ◌∙◌, ap, ap₂, subst}
+use Rattle.std.proofs.Common.{◌≡◌, ℕ, ◌≤◌, List, [], length, slice_get, Option, Some, None, option_map, refl, sym, ◌∙◌, ap, ap₂, subst}
 use Rattle.std.proofs.lemmas.Option.{none-some, same_Some, slice_get_within, get_or_from_slice_get, slice_get-map}
 use Rattle.bib_spec.specs.Bytes.{file_limit}
 use Rattle.bib_spec.specs.Text.{Text}
 use Rattle.bib_spec.specs.Reading.{Reading, Reads}
-use Rattle.bib_spec.specs.Texts.{too_long_at, Opens, IsOpenable}
-use Rattle.bib_spec.specs.Fault.{IsReadFault, no_memory}
+use Rattle.bib_spec.specs.Texts.{IsOpenable}
 use Rattle.bib_spec.specs.Bytes.{name_limit}
 use Rattle.bib_spec.specs.Tree.{IsTree, tree_bytes}
 use Rattle.bib_spec.specs.Reading as reading
@@ -15,10 +14,10 @@ use Rattle.bib_scan.specs.declared.note.Note.{Note}
 use Rattle.bib_scan.proofs.NoteLaws.{same_note}
 use Rattle.bib_items.specs.declared.list.Item.{Item}
 use Rattle.bib_store.specs.declared.tables.Tables.{Tables}
-use Rattle.bib_items.specs.Items.{stored, all_stored, without_range}
-use Rattle.bib_store.specs.Meaning.{OfReading, IsTextFault, IsOpenFault}
-use Rattle.bib_store.specs.Beside.{HasItems, AreTables, AreNotesOf}
-use Rattle.bib_store.specs.Stored.{file_of, IsTaken, IsKeptAs, IsKept}
+use Rattle.bib_items.specs.Items.{stored, all_stored}
+use Rattle.bib_store.specs.Meaning.{OfReading}
+use Rattle.bib_store.specs.Beside.{AreNotesOf}
+use Rattle.bib_store.specs.Stored.{file_of, IsTaken, AreTablesOfFile, IsKeptAs, IsKept}
 use Rattle.bib_store.proofs.KeptItems.{file-stored}
 
 -- ---- the file
@@ -37,20 +36,12 @@ taken bytes front items places notes (short, is) front_is items_are noted = reco
 pub taken_file : (bytes front : Text) (items : List Item) (notes : List Note) → IsTaken bytes front items notes → file_of front items ≡ bytes
 taken_file bytes front items notes t = ap₂ file_of t.front_is t.items_are ∙ file-stored t.db ∙ t.reads.bytes
 
-pub taken_items : (bytes front : Text) (items : List Item) (notes : List Note) (t : IsTaken bytes front items notes) → HasItems (length front) (without_range 0 0 items) t.db
-taken_items bytes front items notes t = record {
-  items = t.reads.items;
-  same = sym t.items_are;
-  front = ap (length {A = ℕ}) (sym t.front_is);
-  file = subst (λ (file : Text). length file ≤ file_limit) (sym t.reads.bytes) t.short;
-}
-
 -- what is noted of an item is noted of its bytes
 some_mapped : {X Y : Type 0} → (f : X → Y) (o : Option X) (y : Y) → option_map f o ≡ Some y → (x : X) × (o ≡ Some x) × (y ≡ f x)
 some_mapped f None y is = absurd (none-some y is)
 some_mapped f (Some x) y is = (x, refl, sym (same_Some (f x) y is))
 
-pub taken_notes : (bytes front : Text) (items : List Item) (notes : List Note) → IsTaken bytes front items notes → AreNotesOf notes (without_range 0 0 items)
+pub taken_notes : (bytes front : Text) (items : List Item) (notes : List Note) → IsTaken bytes front items notes → AreNotesOf notes items
 taken_notes bytes front items notes t n note kept noted at tree is same =
     let f = λ (i : reading.Item). note_of i.tree in
     let of_note = some_mapped f (slice_get t.db.items n) note (sym (slice_get-map f t.db.items n) ∙ ap (λ (ns : List Note). slice_get ns n) (sym t.notes_are) ∙ noted) in
@@ -63,32 +54,21 @@ taken_notes bytes front items notes t n note kept noted at tree is same =
 pub no_notes : (notes : List Note) (kept : List Item) → notes ≡ [] → AreNotesOf notes kept
 no_notes notes kept none = subst (λ (ns : List Note). AreNotesOf ns kept) (sym none) (λ n note item noted. absurd (none-some note noted))
 
--- what keeps the tables from being made keeps the file from being opened
-pub taken_fault : (bytes front : Text) (items : List Item) (notes : List Note) (t : IsTaken bytes front items notes) (kind place : ℕ) →
-    (((kind ≡ 10) × (place ≡ 0)) ⊎ ((kind ≡ 8) × ((db : Reading) → HasItems (length front) (without_range 0 0 items) db → too_long_at db ≡ Some place))) → IsOpenFault bytes kind place
-taken_fault bytes front items notes t kind place fault = ⊎_elim
-    (λ memory. inl (subst (λ (k : ℕ). IsReadFault bytes k place) (sym memory.0) (subst (λ (p : ℕ). IsReadFault bytes 10 p) (sym memory.1) (no_memory t.short))))
-    (λ long. let it : IsTextFault bytes kind place = record { number = long.0; short = t.short; db = t.db; reads = t.reads; first = long.1 t.db (taken_items bytes front items notes t) } in inr it)
-    fault
-
-pub taken_kept : (bytes front : Text) (items : List Item) (notes : List Note) (t : IsTaken bytes front items notes) (tables : Tables) →
-    ((db : Reading) → HasItems (length front) (without_range 0 0 items) db → AreTables db tables) → tables.file_len ≡ length bytes →
-    ((db : Reading) → HasItems (length front) (without_range 0 0 items) db → too_long_at db ≡ None) → IsKept front items tables
-taken_kept bytes front items notes t tables are len short =
-    let has : HasItems (length front) (without_range 0 0 items) t.db = taken_items bytes front items notes t in
+pub taken_kept : (bytes front : Text) (items : List Item) (notes : List Note) (t : IsTaken bytes front items notes) (tables : Tables) → AreTablesOfFile bytes tables → IsKept front items tables
+taken_kept bytes front items notes t tables are =
     let file : bytes ≡ file_of front items = sym (taken_file bytes front items notes t) in
     let kept : IsKeptAs t.db front items tables = record {
       opens = record {
         reads = subst (λ (f : Text). Reads f t.db) file t.reads;
         short = subst (λ (f : Text). length f ≤ file_limit) file t.short;
-        texts = short t.db has;
+        texts = are.texts t.db t.reads;
       };
       front = t.front_is;
       items = t.items_are;
-      tables = are t.db has;
-      len = len ∙ ap (length {A = ℕ}) file;
+      tables = are.tables t.db t.reads;
+      len = are.len ∙ ap (length {A = ℕ}) file;
     } in
     record { db = t.db; is = kept }
 
-pub taken_opens : (bytes front : Text) (items : List Item) (notes : List Note) (tables : Tables) → IsTaken bytes front items notes → IsKept front items tables → IsOpenable bytes
-taken_opens bytes front items notes tables t kept = (kept.db, subst (λ (f : Text). Opens f kept.db) (taken_file bytes front items notes t) kept.is.opens)
+pub taken_opens : (bytes front : Text) (items : List Item) (notes : List Note) (tables : Tables) → IsTaken bytes front items notes → AreTablesOfFile bytes tables → IsOpenable bytes
+taken_opens bytes front items notes tables t are = (t.db, record { reads = t.reads; short = t.short; texts = are.texts t.db t.reads })

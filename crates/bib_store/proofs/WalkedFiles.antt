@@ -1,20 +1,20 @@
 -- The walk over the items of a file.
-use Rattle.std.proofs.Common.{◌≡◌, ℕ, Bool, zero, suc, ◌+◌, ◌-◌, ◌<◌, ◌≤◌, ◌^◌, cond, nat_lt, List, [], ◌∷◌, ◌++◌, length, take, drop, map, Option, Some, None, option_map, IfSome, slice_get, get_or, ◌⊎◌, inl, inr, ⊎_elim, refl, sym, ◌∙◌, ap, subst, arith, append-nil, length-append, length-drop, length-take-le, le_of_suc-le-suc, not-suc-le-zero}
+use Rattle.std.proofs.Common.{◌≡◌, ℕ, zero, suc, ◌+◌, ◌-◌, ◌<◌, ◌≤◌, ◌^◌, cond, nat_lt, List, [], ◌∷◌, ◌++◌, length, take, drop, map, Option, Some, None, option_map, slice_get, get_or, ◌⊎◌, inl, inr, ⊎_elim, refl, sym, ◌∙◌, ap, subst, arith, append-nil, length-append, length-drop, length-take-le, le_of_suc-le-suc, not-suc-le-zero}
 use Rattle.std.specs.List.{zip, flat_map}
 use Rattle.std.specs.Option.{option_or}
 use Rattle.std.proofs.lemmas.Bool.{cases_Bool, cond-true, cond-false, ltb-true, ltb-false}
-use Rattle.std.proofs.lemmas.Option.{none-some, same_Some, slice_get_within, slice_get_cases, slice_get-get_or, get_or_from_slice_get, slice_get-map}
+use Rattle.std.proofs.lemmas.Option.{none-some, same_Some, slice_get_within, slice_get_cases, get_or_from_slice_get, slice_get-map}
 use Rattle.std.proofs.lemmas.List.{take_more, take_all, length-map}
 use Rattle.std.proofs.lemmas.Grind.{flat_map-append}
 use Rattle.std.proofs.lemmas.List.Folds.{length-flat_map-take}
-use Rattle.bib_spec.specs.Bytes.{name_limit}
+use Rattle.bib_spec.specs.Bytes.{name_limit, file_limit}
 use Rattle.bib_spec.specs.Text.{Text}
 use Rattle.bib_spec.specs.Tree.{tree_bytes, IsTree}
 use Rattle.bib_spec.specs.Reading as reading
-use Rattle.bib_spec.specs.Reading.{Reading, bytes_of, item_bytes}
+use Rattle.bib_spec.specs.Reading.{Reading, Reads, bytes_of, item_bytes}
 use Rattle.bib_spec.specs.Texts.{Macros, months, macros_at, macros_after, value_places, raw_texts_in, raw_texts_from, too_long_at}
-use Rattle.bib_scan.specs.Note.{IsNoteOf}
-use Rattle.bib_scan.specs.declared.note.Note.{Note}
+use Rattle.bib_scan.specs.Layout.{start_of}
+use Rattle.bib_scan.specs.Progress.{IsItemOf, AreAllOf}
 use Rattle.bib_items.specs.declared.list.Item.{Item}
 use Rattle.bib_store.specs.declared.item_fault.ItemFault.{ItemFault}
 use Rattle.bib_store.specs.declared.item_fault.ItemFault.TheVariants.{TooLong, Memory}
@@ -22,9 +22,7 @@ use Rattle.bib_store.specs.declared.tables.Tables.{Tables}
 use Rattle.bib_items.specs.Items.{item, item_at, stored, without_range}
 use Rattle.bib_definitions.specs.Definitions.{texts_at}
 use Rattle.bib_store.specs.ItemTexts.{first_too_long, placed_texts, OfTree}
-use Rattle.bib_store.specs.declared.bounds.Bounds.{Bounds}
-use Rattle.bib_store.specs.Bounds.{Admits}
-use Rattle.bib_store.specs.Beside.{AreTablesOf, AreTables, HasItems, AreNotesOf, IsStep, IsTooLongAt}
+use Rattle.bib_store.specs.Beside.{AreTablesOf, AreTables, SayTheSame, HasItems, IsStep, IsTooLongAt}
 use Rattle.bib_store.proofs.OneItemMore.{first-append, first-shift, raw_texts-append, too_long_within}
 
 -- ---- lists
@@ -90,9 +88,7 @@ kept_inside from to len n k order within number low = ⊎_elim
 -- item n of the file is the one that stands at number k of the list
 pub record IsItemAt (db : Reading) (n : ℕ) (kept : Item) : Type 0 where
   pub it : reading.Item
-  pub rest : List reading.Item
   pub at : slice_get db.items n ≡ Some it
-  pub parts : db.items ≡ take n db.items ++ it ∷ rest
   pub tree : IsTree name_limit it.tree
   pub body : tree_bytes it.tree ≡ kept.body
   pub trail : it.trail ≡ kept.trail
@@ -111,25 +107,13 @@ item_is front_len from to all db n k order within number low kept =
         let whole : slice_get all k ≡ Some (stored here) =
         ap (slice_get all) number ∙ sym (kept_at from to all n order within) ∙ ap (λ (l : List Item). slice_get l n) (sym kept.same) ∙ slice_get-map stored db.items n ∙ ap (option_map stored) at in
         let same : item_at all k ≡ stored here = get_or_from_slice_get all k (stored here) (item [] []) whole in
-        let parts = parted db.items n here at in
         record {
           it = here;
-          rest = parts.0;
           at = at;
-          parts = parts.1;
           tree = subst (λ (i : reading.Item). IsTree name_limit i.tree) is (kept.items n here inside).tree;
           body = ap (λ (i : Item). i.body) (sym same);
           trail = ap (λ (i : Item). i.trail) (sym same);
         }
-
--- what was noted of the item that stands at number k of the list
-pub noted_at : (from to : ℕ) (all : List Item) (notes : List Note) (n k : ℕ) (body : Text) → from ≤ to → to ≤ length all → k ≡ cond (nat_lt n from) n (n + (to - from)) → n < length all - (to - from)
-    → AreNotesOf notes (without_range from to all) → body ≡ (item_at all k).body → (o : Option Note) → o ≡ slice_get notes n → IfSome o (IsNoteOf body)
-noted_at from to all notes n k body order within number low are body_is None is = tt
-noted_at from to all notes n k body order within number low are body_is (Some note) is =
-    let inside : k < length all = kept_inside from to (length all) n k order within number low in
-    let at : slice_get (without_range from to all) n ≡ Some (item_at all k) = kept_at from to all n order within ∙ ap (slice_get all) (sym number) ∙ slice_get-get_or all k (item [] []) inside in
-    subst (λ (b : Text). IsNoteOf b note) (sym body_is) (are n note (item_at all k) (sym is) at)
 
 -- ---- the first text that is too long
 
@@ -159,6 +143,64 @@ pub record IsWalked (db : Reading) (n place : ℕ) (t : Tables) : Type 0 where
   pub start : place ≡ length db.front + length (flat_map item_bytes (take n db.items))
   pub texts : first_too_long (raw_texts_from (length db.front) months (take n db.items)) ≡ None
 
+-- the macros before the next item
+next_macros : (db : Reading) (n : ℕ) (t : Tables) → n < length db.items → AreTablesOf (take n db.items) t
+    → texts_at t.definitions n ≡ macros_at months (take n db.items) (length (take n db.items))
+next_macros db n t inside are =
+    let len : length (take n db.items) ≡ n = length-take-le n db.items (omega (arith, inside)) in
+    are.definitions.texts n ∙ ap (macros_at months (take n db.items)) (sym len)
+
+-- item n
+module _ (db : Reading) (n place : ℕ) (it : reading.Item) (at : slice_get db.items n ≡ Some it) where
+  -- where it ends
+  pub room : length db.front + length (flat_map item_bytes (take n db.items)) + length (item_bytes it) ≤ length (bytes_of db)
+  room =
+      let inside = slice_get_within db.items n it at in
+      let sum = length-flat_map-take item_bytes db.items n it inside in
+      let here = ap (λ (i : reading.Item). length (item_bytes i)) (get_or_from_slice_get db.items n it it at) in
+      omega (arith, sum, here, length-append db.front (flat_map item_bytes db.items))
+
+  pub taken : take (n + 1) db.items ≡ take n db.items ++ it ∷ []
+  taken =
+      let inside = slice_get_within db.items n it at in
+      take_more db.items n it inside ∙ ap (λ (x : reading.Item). take n db.items ++ x ∷ []) (get_or_from_slice_get db.items n it it at)
+
+  -- it is put in
+  pub walked_more : (next : ℕ) (old new : Tables) → next ≡ length db.front + length (flat_map item_bytes (take (n + 1) db.items)) → IsStep n it.tree old new → IsWalked db n place old → IsWalked db (n + 1) next new
+  walked_more next old new next_is one w =
+      let inside = slice_get_within db.items n it at in
+      let len : length (take n db.items) ≡ n = length-take-le n db.items (omega (arith, inside)) in
+      record {
+        tables = subst (λ (items : List reading.Item). AreTablesOf items new) (sym taken) (one.tables (take n db.items) it.trail len w.tables);
+        start = next_is;
+        texts = ap (λ (items : List reading.Item). first_too_long (raw_texts_from (length db.front) months items)) taken
+            ∙ first_here (length db.front) (take n db.items) [] it None w.texts (ap (λ (m : Macros). first_too_long (placed_texts m it.tree)) (sym (next_macros db n old inside w.tables)) ∙ one.texts);
+      }
+
+  -- a text in it is too long
+  pub walked_over : (t : Tables) (here result : ℕ) → (place + here < 2 ^ 64 → result ≡ place + here) → IsTooLongAt n it.tree t here → length (bytes_of db) ≤ file_limit → IsWalked db n place t → too_long_at db ≡ Some result
+  walked_over t here result reaches over short w =
+      let inside = slice_get_within db.items n it at in
+      let parts = parted db.items n it at in
+      let m = macros_at months (take n db.items) (length (take n db.items)) in
+      let first : first_too_long (placed_texts m it.tree) ≡ Some here =
+      ap (λ (mm : Macros). first_too_long (placed_texts mm it.tree)) (sym (next_macros db n t inside w.tables)) ∙ over in
+      let low_place = too_long_within m it.tree here first in
+      let bytes = length-append (tree_bytes it.tree) it.trail in
+      ap (λ (items : List reading.Item). first_too_long (raw_texts_from (length db.front) months items)) parts.1
+      ∙ first_here (length db.front) (take n db.items) parts.0 it (Some here) w.texts first
+      ∙ ap Some (omega (arith, w.start) ∙ sym (reaches (omega (arith, w.start, low_place, bytes, room, short))))
+
+-- all items
+pub walked_all : (db : Reading) (n place : ℕ) (t : Tables) → length db.items ≤ n → IsWalked db n place t → AreTables db t × (too_long_at db ≡ None)
+walked_all db n place t end w =
+    let taken_all : take n db.items ≡ db.items = take_all n db.items end in (
+      subst (λ (items : List reading.Item). AreTablesOf items t) taken_all w.tables,
+      ap (λ (items : List reading.Item). first_too_long (raw_texts_from (length db.front) months items)) (sym taken_all) ∙ w.texts,
+    )
+
+-- ---- the walk over a list
+
 pub record WalkedTo (front_len : ℕ) (kept : List Item) (n place : ℕ) (t : Tables) : Type 0 where
   pub walked : (db : Reading) → HasItems front_len kept db → IsWalked db n place t
 
@@ -167,24 +209,8 @@ walk_start front_len kept t none = record {
   walked = λ db is. record { tables = none; start = sym is.front ∙ omega arith; texts = refl };
 }
 
--- the macros before the next item
-next_macros : (db : Reading) (n : ℕ) (t : Tables) → n < length db.items → AreTablesOf (take n db.items) t
-    → texts_at t.definitions n ≡ macros_at months (take n db.items) (length (take n db.items))
-next_macros db n t inside are =
-    let len : length (take n db.items) ≡ n = length-take-le n db.items (omega (arith, inside)) in
-    are.definitions.texts n ∙ ap (macros_at months (take n db.items)) (sym len)
-
 module _ (front_len from to : ℕ) (all : List Item) (n k place : ℕ) (order : from ≤ to) (within : to ≤ length all)
     (number : k ≡ cond (nat_lt n from) n (n + (to - from))) (low : n < length all - (to - from)) where
-  -- where the next item ends
-  room : (db : Reading) (it : reading.Item) → slice_get db.items n ≡ Some it
-      → length db.front + length (flat_map item_bytes (take n db.items)) + length (item_bytes it) ≤ length (bytes_of db)
-  room db it at =
-      let inside = slice_get_within db.items n it at in
-      let sum = length-flat_map-take item_bytes db.items n it inside in
-      let here = ap (λ (i : reading.Item). length (item_bytes i)) (get_or_from_slice_get db.items n it it at) in
-      omega (arith, sum, here, length-append db.front (flat_map item_bytes db.items))
-
   pub walk_more : (body trail : Text) (old new : Tables) (next : ℕ)
       → body ≡ (item_at all k).body → trail ≡ (item_at all k).trail
       → (place + length body + length trail < 2 ^ 64 → next ≡ place + length body + length trail)
@@ -194,26 +220,17 @@ module _ (front_len from to : ℕ) (all : List Item) (n k place : ℕ) (order : 
     walked = λ db kept.
         let w = so_far.walked db kept in
         let i = item_is front_len from to all db n k order within number low kept in
-        let inside = slice_get_within db.items n i.it i.at in
-        let len : length (take n db.items) ≡ n = length-take-le n db.items (omega (arith, inside)) in
-        let one = step i.it.tree i.tree (i.body ∙ sym body_is) in
-        let taken : take (n + 1) db.items ≡ take n db.items ++ i.it ∷ [] =
-        take_more db.items n i.it inside ∙ ap (λ (x : reading.Item). take n db.items ++ x ∷ []) (get_or_from_slice_get db.items n i.it i.it i.at) in
         let bytes = length-append (tree_bytes i.it.tree) i.it.trail in
         let body_len = ap (λ (t : Text). length t) (body_is ∙ sym i.body) in
         let trail_len = ap (λ (t : Text). length t) (trail_is ∙ sym i.trail) in
-        let end = room db i.it i.at in
-        let all_bytes = length-append (flat_map item_bytes (take n db.items)) (item_bytes i.it) in
+        let end = room db n place i.it i.at in
         let before = flat_map item_bytes (take n db.items) in
+        let all_bytes = length-append before (item_bytes i.it) in
         let grown : flat_map item_bytes (take (n + 1) db.items) ≡ before ++ item_bytes i.it =
-        ap (flat_map item_bytes) taken ∙ flat_map-append item_bytes (take n db.items) (i.it ∷ []) ∙ ap (λ (t : Text). before ++ t) (append-nil (item_bytes i.it)) in
-        record {
-          tables = subst (λ (items : List reading.Item). AreTablesOf items new) (sym taken) (one.tables (take n db.items) i.it.trail len w.tables);
-          start = reaches (omega (arith, w.start, end, body_len, trail_len, bytes, kept.file))
-              ∙ omega (arith, w.start, body_len, trail_len, bytes, all_bytes, ap (λ (t : Text). length t) grown);
-          texts = ap (λ (items : List reading.Item). first_too_long (raw_texts_from (length db.front) months items)) taken
-              ∙ first_here (length db.front) (take n db.items) [] i.it None w.texts (ap (λ (m : Macros). first_too_long (placed_texts m i.it.tree)) (sym (next_macros db n old inside w.tables)) ∙ one.texts);
-        };
+        ap (flat_map item_bytes) (taken db n place i.it i.at) ∙ flat_map-append item_bytes (take n db.items) (i.it ∷ []) ∙ ap (λ (t : Text). before ++ t) (append-nil (item_bytes i.it)) in
+        let next_is = reaches (omega (arith, w.start, end, body_len, trail_len, bytes, kept.file))
+        ∙ omega (arith, w.start, body_len, trail_len, bytes, all_bytes, ap (λ (t : Text). length t) grown) in
+        walked_more db n place i.it i.at next old new next_is (step i.it.tree i.tree (i.body ∙ sym body_is)) w;
   }
 
   pub walk_over : (body : Text) (t : Tables) (at result : ℕ)
@@ -223,39 +240,61 @@ module _ (front_len from to : ℕ) (all : List Item) (n k place : ℕ) (order : 
       → WalkedTo front_len (without_range from to all) n place t
       → (db : Reading) → HasItems front_len (without_range from to all) db → too_long_at db ≡ Some result
   walk_over body t at result body_is reaches over so_far db kept =
-      let w = so_far.walked db kept in
       let i = item_is front_len from to all db n k order within number low kept in
-      let inside = slice_get_within db.items n i.it i.at in
-      let m = macros_at months (take n db.items) (length (take n db.items)) in
-      let here : first_too_long (placed_texts m i.it.tree) ≡ Some at =
-      ap (λ (mm : Macros). first_too_long (placed_texts mm i.it.tree)) (sym (next_macros db n t inside w.tables)) ∙ over i.it.tree i.tree (i.body ∙ sym body_is) in
-      let low_place = too_long_within m i.it.tree at here in
-      let bytes = length-append (tree_bytes i.it.tree) i.it.trail in
-      let end = room db i.it i.at in
-      ap (λ (items : List reading.Item). first_too_long (raw_texts_from (length db.front) months items)) i.parts
-      ∙ first_here (length db.front) (take n db.items) i.rest i.it (Some at) w.texts here
-      ∙ ap Some (omega (arith, w.start) ∙ sym (reaches (omega (arith, w.start, low_place, bytes, end, kept.file))))
+      walked_over db n place i.it i.at t at result reaches (over i.it.tree i.tree (i.body ∙ sym body_is)) kept.file (so_far.walked db kept)
 
 pub walk_all : (front_len from to : ℕ) (all : List Item) (n place : ℕ) (t : Tables) → from ≤ to → to ≤ length all → length all - (to - from) ≤ n
     → WalkedTo front_len (without_range from to all) n place t
     → (db : Reading) → HasItems front_len (without_range from to all) db → AreTables db t × (too_long_at db ≡ None)
 walk_all front_len from to all n place t order within end so_far db kept =
-    let w = so_far.walked db kept in
     let count : length db.items ≡ length all - (to - from) = sym (length-map db.items stored) ∙ ap (λ (l : List Item). length l) kept.same ∙ count_kept from to all order within in
-    let taken : take n db.items ≡ db.items = take_all n db.items (omega (arith, count, end)) in (
-      subst (λ (items : List reading.Item). AreTablesOf items t) taken w.tables,
-      ap (λ (items : List reading.Item). first_too_long (raw_texts_from (length db.front) months items)) (sym taken) ∙ w.texts,
-    )
+    walked_all db n place t (omega (arith, count, end)) (so_far.walked db kept)
+
+-- ---- the walk while a file is read
+
+-- whatever the file says, its first n items have these tables
+pub record ReadTo (file : Text) (n : ℕ) (t : Tables) : Type 0 where
+  pub walked : (db : Reading) → Reads file db → IsWalked db n (start_of db n) t
+
+pub read_start : (file : Text) (t : Tables) → AreTablesOf [] t → ReadTo file 0 t
+read_start file t none = record { walked = λ db reads. record { tables = none; start = refl; texts = refl } }
+
+-- tables that say the same
+pub read_same : (file : Text) (n : ℕ) (old new : Tables) → SayTheSame old new → ReadTo file n old → ReadTo file n new
+read_same file n old new same so_far = record {
+  walked = λ db reads.
+      let w = so_far.walked db reads in
+      record { tables = same.tables (take n db.items) w.tables; start = w.start; texts = w.texts };
+}
+
+module _ (file : Text) (n : ℕ) (body : Text) (start : ℕ) (is : IsItemOf file n body start) where
+  tree_at : (db : Reading) (reads : Reads file db) → IsTree name_limit (is db reads).it.tree
+  tree_at db reads =
+      let i = is db reads in
+      let inside = slice_get_within db.items n i.it i.at in
+      subst (λ (x : reading.Item). IsTree name_limit x.tree) (get_or_from_slice_get db.items n i.it i.it i.at) (reads.items n i.it inside).tree
+
+  pub read_more : (old new : Tables) → OfTree body (λ tree. IsStep n tree old new) → ReadTo file n old → ReadTo file (n + 1) new
+  read_more old new step so_far = record {
+    walked = λ db reads.
+        let i = is db reads in
+        walked_more db n (start_of db n) i.it i.at (start_of db (n + 1)) old new refl (step i.it.tree (tree_at db reads) i.bytes) (so_far.walked db reads);
+  }
+
+  pub read_over : (t : Tables) (at result : ℕ) → (start + at < 2 ^ 64 → result ≡ start + at) → OfTree body (λ tree. IsTooLongAt n tree t at) → length file ≤ file_limit → ReadTo file n t
+      → (db : Reading) → Reads file db → too_long_at db ≡ Some result
+  read_over t at result reaches over short so_far db reads =
+      let i = is db reads in
+      let placed : start_of db n + at < 2 ^ 64 → result ≡ start_of db n + at = subst (λ (s : ℕ). s + at < 2 ^ 64 → result ≡ s + at) i.place reaches in
+      walked_over db n (start_of db n) i.it i.at t at result placed (over i.it.tree (tree_at db reads) i.bytes) (subst (λ (b : Text). length b ≤ file_limit) (sym reads.bytes) short) (so_far.walked db reads)
+
+pub read_all : (file : Text) (n : ℕ) (t : Tables) → AreAllOf file n → ReadTo file n t → (db : Reading) → Reads file db → AreTables db t × (too_long_at db ≡ None)
+read_all file n t all so_far db reads = walked_all db n (start_of db n) t (omega (arith, all db reads)) (so_far.walked db reads)
 
 -- tables are tables of these items, however long the file is said to be
 pub with_len : (items : List reading.Item) (t : Tables) (n : ℕ) → AreTablesOf items t
     → AreTablesOf items (record { file_len = n; entries = t.entries; preambles = t.preambles; named = t.named; definitions = t.definitions; bounds = t.bounds })
 with_len items t n are = record { entries = are.entries; preambles = are.preambles; named = are.named; definitions = are.definitions; bounds = are.bounds }
-
--- and where the bounds hold of an item more
-pub with_bounds : (items : List reading.Item) (t : Tables) (len : ℕ) (settled : Bool) (bounds : Bounds) → Admits len settled t.bounds bounds → AreTablesOf items t
-    → AreTablesOf items (record { file_len = t.file_len; entries = t.entries; preambles = t.preambles; named = t.named; definitions = t.definitions; bounds = bounds })
-with_bounds items t len settled bounds admits are = record { entries = are.entries; preambles = are.preambles; named = are.named; definitions = are.definitions; bounds = admits.all items are.bounds }
 
 pub fault_cases : (f : ItemFault) → (f ≡ Memory) ⊎ ((at : ℕ) × (f ≡ TooLong at))
 fault_cases Memory = inl refl

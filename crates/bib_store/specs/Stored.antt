@@ -1,16 +1,17 @@
 -- How a file is kept.
-use Rattle.std.specs.Prelude.{◌≡◌, ◌≤◌, List, ◌++◌, length, map}
+use Rattle.std.specs.Prelude.{◌≡◌, ◌≤◌, List, ◌++◌, None, length, map}
 use Rattle.std.specs.List.{flat_map}
 use Rattle.bib_spec.specs.Bytes.{file_limit}
 use Rattle.bib_spec.specs.Text.{Text}
 use Rattle.bib_spec.specs.Reading.{Reading, Reads}
-use Rattle.bib_spec.specs.Texts.{Opens}
+use Rattle.bib_spec.specs.Texts.{Opens, too_long_at}
 use Rattle.bib_scan.specs.Note.{note_of}
 use Rattle.bib_scan.specs.declared.note.Note.{Note}
 use Rattle.bib_items.specs.declared.list.Item.{Item}
 use Rattle.bib_store.specs.declared.tables.Tables.{Tables}
 use Rattle.bib_items.specs.Items.{kept_bytes, all_stored}
 use Rattle.bib_store.specs.Beside.{AreTables}
+use Rattle.bib_store.specs.Meaning.{OfReading}
 
 -- the file that a front and the items after it are
 abbrev pub file_of : Text → List Item → Text
@@ -24,6 +25,12 @@ pub record IsTaken (bytes front : Text) (items : List Item) (notes : List Note) 
   pub front_is : front ≡ db.front
   pub items_are : items ≡ all_stored db.items
   pub notes_are : notes ≡ map (λ item. note_of item.tree) db.items
+
+-- the tables are those of the file, in which no raw text is too long
+pub record AreTablesOfFile (file : Text) (t : Tables) : Type 0 where
+  pub tables : OfReading file (λ db. AreTables db t)
+  pub len : t.file_len ≡ length file
+  pub texts : OfReading file (λ db. too_long_at db ≡ None)
 
 -- the front, the items and the tables are those of the reading, and the tables say how long the file is
 pub record IsKeptAs (db : Reading) (kept_front : Text) (kept_items : List Item) (kept_tables : Tables) : Type 0 where

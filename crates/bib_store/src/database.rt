@@ -1,12 +1,12 @@
 //! The file as a list of items, with entries, keys and crossrefs.
 
-ghost use Rattle.std.specs.Prelude.{◌≡◌, ◌⊎◌, []};
+ghost use Rattle.std.specs.Prelude.{◌≡◌, ◌⊎◌, [], slice_get};
 
 use crate::joining::join;
 use crate::keeping::{take_file, take_in};
 use crate::measuring::short_text;
 use crate::preambles::preamble_value;
-use crate::tables::{Tables, note_at};
+use crate::tables::Tables;
 use bib_definitions::MacrosAt;
 use bib_items::{ItemList, StoreFault};
 use bib_scan::{ItemView, Note, ReadFault, Seq, Text};
@@ -56,7 +56,7 @@ impl<L: ItemList> Database<L> {
     ghost use Rattle.bib_entries.specs.EntryTable.{referrers, AreApart};
     ghost use Rattle.bib_store.specs.Tables.{crossrefs_of};
     ghost use Rattle.bib_spec.specs.Text.{Text as Bytes};
-    ghost use Rattle.bib_store.specs.Stored.{IsTaken};
+    ghost use Rattle.bib_store.specs.Stored.{IsTaken, AreTablesOfFile};
     ghost use Rattle.bib_definitions.specs.MacrosSeen.{macros_seen};
     ghost use Rattle.bib_store.specs.Meaning.{OfReading, IsItemNumber, IsItemPlace, IsEntryNumber, IsPreambleNumber, entry_items, entry_numbers, IsOpenFault};
     ghost use Rattle.bib_items.specs.declared.fault.StoreFault.TheVariants.{Memory, NoSuchEntry};
@@ -70,8 +70,9 @@ impl<L: ItemList> Database<L> {
         ensures file { OnOk result (IsOpenable bytes.now) }
         ensures fault { IfErr result (λ fault. IsOpenFault bytes.now fault.kind fault.place) }
     {
-        let (front, items, notes) = take_in(alloc, bytes, empty)?;
-        Database::of_items(alloc, bytes.len(), front, items, notes)
+        let (tables, layout) = Tables::read(alloc, bytes)?;
+        let (front, items, notes) = take_in(alloc, layout, bytes, empty)?;
+        Ok(Database::of_items(alloc, front, items, notes, tables))
     }
 
     /// The same. The list may keep the file's memory in place of copies of its items.
@@ -81,34 +82,31 @@ impl<L: ItemList> Database<L> {
         ensures file { OnOk result (IsOpenable file.items) }
         ensures fault { IfErr result (λ fault. IsOpenFault file.items fault.kind fault.place) }
     {
-        let len = file.len();
-        let (front, items, notes) = take_file(alloc, file, empty)?;
-        Database::of_items(alloc, len, front, items, notes)
+        let (tables, layout) = Tables::read(alloc, file.as_slice())?;
+        let (front, items, notes) = take_file(alloc, layout, file, empty)?;
+        Ok(Database::of_items(alloc, front, items, notes, tables))
     }
 
-    /// The file of so many bytes that a front and the items after it are, of which this was noted.
+    /// The file that a front and the items after it are, of which this was noted and these are the tables.
     fn of_items(
         alloc: Global,
-        len: usize,
         front: Text,
         items: L,
         notes: Seq<Note>,
-    ) -> Result<Database<L>, ReadFault>
-        requires { (bytes : Bytes) × IsTaken bytes front (L.items items) notes × (len ≡ length bytes) }
-        ensures opened { (bytes : Bytes) → IsTaken bytes front (L.items items) notes → IfOk result (λ db. db ≡ bytes) }
-        ensures file { (bytes : Bytes) → IsTaken bytes front (L.items items) notes → OnOk result (IsOpenable bytes) }
-        ensures fault { (bytes : Bytes) → IsTaken bytes front (L.items items) notes → IfErr result (λ fault. IsOpenFault bytes fault.kind fault.place) }
+        tables: Tables,
+    ) -> Database<L>
+        requires { (bytes : Bytes) × IsTaken bytes front (L.items items) notes × AreTablesOfFile bytes tables }
+        ensures { (bytes : Bytes) → IsTaken bytes front (L.items items) notes → result ≡ bytes }
     {
-        let front_len = front.as_slice().len();
-        let tables = Tables::of(alloc, len, front_len, &items, 0, 0, notes.as_slice())?;
-        Ok(Database {
+        let len = tables.file_len;
+        Database {
             alloc,
             front,
             items,
             tables,
             notes: kept_notes(alloc, notes, len),
             scanned: len,
-        })
+        }
     }
 
     /// The file's bytes: a copy of them, in memory for them alone.
@@ -321,4 +319,11 @@ fn kept_notes(alloc: Global, notes: Seq<Note>, file_len: usize) -> Seq<Note>
     } else {
         Seq::from_vec(Vec::new(alloc))
     }
+}
+
+/// What was noted of item `n`, if anything.
+fn note_at(notes: &[Note], n: usize) -> Option<Note>
+    ensures { result ≡ slice_get notes.now n }
+{
+    notes.get(n).copied()
 }

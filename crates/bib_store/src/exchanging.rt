@@ -209,7 +209,6 @@ fn remake<L: ItemList>(
         items,
         first_old,
         window.to + count,
-        &[],
     ) {
         Ok(tables) => Ok(tables),
         Err(fault) => {

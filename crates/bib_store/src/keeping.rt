@@ -1,6 +1,7 @@
 //! Taking a file's items into a list.
 
-ghost use Rattle.std.specs.Prelude.{◌≡◌, [], IfOk, IfErr};
+ghost use Rattle.std.specs.Prelude.{◌≡◌, ◌≤◌, [], length, IfOk, IfErr};
+ghost use Rattle.bib_spec.specs.Bytes.{file_limit};
 ghost use Rattle.bib_scan.specs.Layout.{IsLayoutOf};
 ghost use Rattle.bib_spec.specs.Fault.{IsReadFault};
 ghost use Rattle.bib_store.specs.Meaning.{OfReading};
@@ -9,7 +10,7 @@ ghost use Rattle.bib_items.specs.Items.{all_stored};
 ghost use Rattle.bib_items.specs.declared.fault.StoreFault.TheVariants.{Memory};
 
 use bib_items::{ItemList, StoreFault};
-use bib_scan::{Layout, Note, ReadFault, Seq, Text, read};
+use bib_scan::{Layout, Note, ReadFault, Seq, Text};
 use std::alloc::Global;
 
 /// The list with the items of a file, in order.
@@ -45,14 +46,15 @@ fn keep_all<L: ItemList>(
 /// The front and the items of the file that these bytes are, as they are kept, and what was noted of the items.
 pub(crate) fn take_in<L: ItemList>(
     alloc: Global,
+    layout: Layout,
     bytes: &[u8],
     empty: L,
 ) -> Result<(Text, L, Seq<Note>), ReadFault>
-    requires { L.items empty ≡ [] }
+    requires layout { (length bytes.now ≤ file_limit) × IsLayoutOf bytes.now layout }
+    requires empty { L.items empty ≡ [] }
     ensures taken { IfOk result (λ kept. IsTaken bytes.now kept.0 (L.items kept.1) kept.2) }
     ensures fault { IfErr result (λ fault. IsReadFault bytes.now fault.kind fault.place) }
 {
-    let layout = read(alloc, bytes)?;
     match keep_all(alloc, &layout, bytes, empty) {
         Ok((front, items)) => Ok((front, items, layout.into_notes())),
         Err(_) => Err(ReadFault { kind: 10, place: 0 }),
@@ -82,14 +84,15 @@ fn keep_file<L: ItemList>(
 /// memory in place of copies.
 pub(crate) fn take_file<L: ItemList>(
     alloc: Global,
+    layout: Layout,
     file: Vec<u8>,
     empty: L,
 ) -> Result<(Text, L, Seq<Note>), ReadFault>
-    requires { L.items empty ≡ [] }
+    requires layout { (length file.items ≤ file_limit) × IsLayoutOf file.items layout }
+    requires empty { L.items empty ≡ [] }
     ensures taken { IfOk result (λ kept. IsTaken file.items kept.0 (L.items kept.1) kept.2) }
     ensures fault { IfErr result (λ fault. IsReadFault file.items fault.kind fault.place) }
 {
-    let layout = read(alloc, file.as_slice())?;
     match keep_file(alloc, &layout, file, empty) {
         Ok((front, items)) => Ok((front, items, layout.into_notes())),
         Err(_) => Err(ReadFault { kind: 10, place: 0 }),

@@ -18,11 +18,11 @@ use crate::measuring::{measure, value_text};
 use bib_definitions::Definitions;
 use bib_entries::{EntryTable, Numbers};
 use bib_items::ItemList;
-use bib_scan::{FieldView, ItemView, Kind, NAME_LIMIT, Note, ReadFault, Text};
-use std::alloc::{AllocError, Global};
+use bib_scan::{FieldView, ItemView, Kind, Layout, NAME_LIMIT, Note, ReadFault, Reader, Text};
+use std::alloc::Global;
 
-/// How many keys are looked at together before their items are put in.
-const TOGETHER: usize = 64;
+/// After so many items it shows about how many a file has.
+const SAMPLE: usize = 64;
 
 /// What is kept beside the items of a file.
 #[derive(Drop)]
@@ -49,12 +49,53 @@ impl Tables {
     ghost use Rattle.bib_items.specs.Items.{without_range};
     ghost use Rattle.bib_definitions.specs.Definitions.{AreDefinitionsOf, Defines, is_definition_tree, texts_at};
     ghost use Rattle.bib_store.specs.ItemTexts.{OfTree, own_text, first_too_long, placed_texts};
-    ghost use Rattle.bib_store.specs.Beside.{AreTablesOf, AreTables, SayTheSame, HasItems, IsStep, IsInsertion, IsRemoval, IsTooLongAt, IsNotedAs, AreNotesOf, OfView, OfSeen, OfOther};
+    ghost use Rattle.bib_store.specs.Beside.{AreTablesOf, AreTables, SayTheSame, HasItems, IsStep, IsInsertion, IsRemoval, IsTooLongAt, IsNotedAs, OfView, OfSeen, OfOther};
+    ghost use Rattle.bib_store.specs.Meaning.{IsOpenFault};
+    ghost use Rattle.bib_store.specs.Stored.{AreTablesOfFile};
+    ghost use Rattle.bib_scan.specs.Layout.{IsLayoutOf};
     ghost use Rattle.bib_scan.specs.Note.{IsNoteOf};
+    ghost use Rattle.bib_spec.specs.Bytes.{file_limit};
+
+    /// The tables of the file that these bytes are, and where everything stands in it: each item is put in when it is
+    /// read. They take memory for the keys, the texts of macros and the texts of crossrefs. The file is refused as reading
+    /// refuses it, with 8 if one of its raw texts is too long, and with 10 where memory ran out.
+    pub(crate) fn read(alloc: Global, bytes: &[u8]) -> Result<(Tables, Layout), ReadFault>
+        ensures tables { IfOk result (λ read. AreTablesOfFile bytes.now read.0) }
+        ensures layout { IfOk result (λ read. (length bytes.now ≤ file_limit) × IsLayoutOf bytes.now read.1) }
+        ensures fault { IfErr result (λ fault. IsOpenFault bytes.now fault.kind fault.place) }
+    {
+        let mut tables = Tables::new(alloc);
+        let layout = tables.fill(alloc, bytes)?;
+        Ok((tables, layout))
+    }
+
+    /// The same, where the tables have no items.
+    fn fill(&mut self, alloc: Global, bytes: &[u8]) -> Result<Layout, ReadFault>
+        requires { AreTablesOf [] self.old }
+        ensures tables { OnOk result (AreTablesOfFile bytes.now self.new) }
+        ensures layout { IfOk result (λ layout. (length bytes.now ≤ file_limit) × IsLayoutOf bytes.now layout) }
+        ensures fault { IfErr result (λ fault. IsOpenFault bytes.now fault.kind fault.place) }
+    {
+        let mut reader = Reader::new(alloc, bytes)?;
+        let mut n = 0;
+        'walk: while let Some(item) = reader.next_item()? {
+            if let Err(fault) = self.add(alloc, n, item.body, Some(item.note)) {
+                // a fault of reading comes first, wherever it is
+                reader.finish()?;
+                return Err(fault.in_file(item.start));
+            }
+            n += 1;
+            if n == SAMPLE {
+                self.prepare(items_in(bytes.len(), item.start));
+            }
+        }
+        self.file_len = bytes.len();
+        reader.finish()
+    }
 
     /// The tables of a file of `file_len` bytes whose front has `front_len`, and whose items are these, but for those from
-    /// number `from` up to `to`; what was noted of them spares reading them again. They take memory for the keys, the texts
-    /// of macros and the texts of crossrefs. The file is refused if one of its raw texts is too long.
+    /// number `from` up to `to`. They take memory for the keys, the texts of macros and the texts of crossrefs. The file is
+    /// refused if one of its raw texts is too long.
     pub(crate) fn of<L: ItemList>(
         alloc: Global,
         file_len: usize,
@@ -62,11 +103,9 @@ impl Tables {
         items: &L,
         from: usize,
         to: usize,
-        notes: &[Note],
     ) -> Result<Tables, ReadFault>
         requires order { from ≤ to }
         requires within { to ≤ length (L.items items.now) }
-        requires notes { AreNotesOf notes.now (without_range from to (L.items items.now)) }
         ensures tables { IfOk result (λ t. (db : Reading) → HasItems front_len (without_range from to (L.items items.now)) db → AreTables db t) }
         ensures len { IfOk result (λ t. t.file_len ≡ file_len) }
         ensures texts { OnOk result ((db : Reading) → HasItems front_len (without_range from to (L.items items.now)) db → too_long_at db ≡ None) }
@@ -74,43 +113,43 @@ impl Tables {
             ⊎ ((fault.kind ≡ 8) × ((db : Reading) → HasItems front_len (without_range from to (L.items items.now)) db → too_long_at db ≡ Some fault.place))) }
     {
         let count = items.count() - (to - from);
-        let mut tables = Tables::with_room(alloc, count);
+        let mut tables = Tables::new(alloc);
+        tables.prepare(count);
         let mut start = front_len;
-        let mut seen = 0;
         'walk: for n in 0..count {
-            if n % TOGETHER == 0 {
-                seen |= first_bytes(alloc, items, notes, n, from, to).unwrap_or(0);
-            }
             let k = kept_number(n, from, to);
             let (body, trail) = items.texts(k);
-            if let Err(fault) = tables.add(alloc, n, body, note_at(notes, n)) {
+            if let Err(fault) = tables.add(alloc, n, body, None) {
                 return Err(fault.in_file(start));
             }
             start = behind(start, body, trail);
         }
         tables.file_len = file_len;
-        // no bound is too great, and a compiler leaves out a look of which nothing is used
-        tables.bounds.admit(usize::from(seen), true);
         Ok(tables)
     }
 
-    /// The tables of no items, with room for the keys of so many, as far as there is memory for it.
-    fn with_room(alloc: Global, count: usize) -> Self
+    /// The tables of no items. They ask for no memory.
+    fn new(alloc: Global) -> Self
         ensures { AreTablesOf [] result }
     {
-        let mut named = EntryTable::new(alloc);
-        named.prepare(count);
         Tables {
             file_len: 0,
             entries: Numbers::new(alloc),
             preambles: Numbers::new(alloc),
-            named,
+            named: EntryTable::new(alloc),
             definitions: Definitions::new(alloc),
             bounds: Bounds {
                 settled: true,
                 longest_body: 0,
             },
         }
+    }
+
+    /// Makes room for so many items more, as far as there is memory for it.
+    fn prepare(&mut self, additional: usize)
+        ensures { SayTheSame self.old self.new }
+    {
+        self.named.prepare(additional);
     }
 
     /// Puts in item `n`, after all others, of which this was noted.
@@ -392,41 +431,9 @@ fn insert_named(
     }
 }
 
-/// What the keys of 64 items begin with, in one byte: of those from number `first` on, in the list from which those from
-/// number `from` up to `to` are left out. Keys lie far apart in a file: where all are found before one is looked at, a
-/// processor waits for the memory of many at once, and not for one after another. Only time rests on it.
-fn first_bytes<L: ItemList>(
-    alloc: Global,
-    items: &L,
-    notes: &[Note],
-    first: usize,
-    from: usize,
-    to: usize,
-) -> Result<u8, AllocError>
-    requires order { from ≤ to }
-    requires within { to ≤ length (L.items items.now) }
-{
-    let noted = notes.len().min(items.count() - (to - from));
-    let last = first.saturating_add(TOGETHER).min(noted);
-    let mut keys = Vec::with_capacity(alloc, TOGETHER)?;
-    'find: for n in first..last {
-        let (body, trail) = items.texts(kept_number(n, from, to));
-        if let Some(note) = note_at(notes, n) {
-            keys.push(ItemView::noted(body, trail, note).key())?;
-        }
-    }
-    let mut bytes = 0;
-    'look: for key in keys.as_slice() {
-        bytes |= key.first().copied().unwrap_or(0);
-    }
-    Ok(bytes)
-}
-
-/// What was noted of item `n`, if anything.
-pub(crate) fn note_at(notes: &[Note], n: usize) -> Option<Note>
-    ensures { result ≡ slice_get notes.now n }
-{
-    notes.get(n).copied()
+/// About how many items a file of so many bytes has, of which the last of the first ones begins at `start`.
+fn items_in(file_len: usize, start: usize) -> usize {
+    file_len / (start / SAMPLE).max(1)
 }
 
 /// The number of item `n` in the list from which those from number `from` up to `to` are left out.

@@ -4,7 +4,7 @@ use Rattle.bib_store.proofs.keeping.take_in.Goals as goal
 
 pub returns-in-Ok-clause-taken : goal.returns-in-Ok-clause-taken
 returns-in-Ok-clause-taken g c =
-    taken c.args.bytes.now c.in-Ok.front (g.L.ItemList.items c.in-Ok.items) c.in_ok-layout.layout c.into_notes.result c.in_ok-layout.ensures.found c.in-Ok.ensures.front c.in-Ok.ensures.items c.into_notes.ensures
+    taken c.args.bytes.now c.in-Ok.front (g.L.ItemList.items c.in-Ok.items) c.args.layout c.into_notes.result c.requires.layout c.in-Ok.ensures.front c.in-Ok.ensures.items c.into_notes.ensures
 
 pub returns-in-Err-clause-fault : goal.returns-in-Err-clause-fault
-returns-in-Err-clause-fault g c = no_memory c.in_ok-layout.ensures.found.0
+returns-in-Err-clause-fault g c = no_memory c.requires.layout.0

@@ -1,20 +1,14 @@
-use Rattle.std.proofs.Common.{◌-◌, ◌<◌, ◌≤◌, length, inl, inr, ⊎_elim, arith}
-use Rattle.bib_store.proofs.WalkedFiles.{walk_start, walk_more, walk_over, walk_all, with_len, with_bounds, kept_inside, noted_at, fault_cases}
+use Rattle.std.proofs.Common.{◌-◌, ◌<◌, ◌≤◌, [], length, inl, inr, ⊎_elim, arith}
+use Rattle.bib_store.proofs.WalkedFiles.{walk_start, walk_more, walk_over, walk_all, with_len, kept_inside, fault_cases}
 use Rattle.bib_store.proofs.tables.Tables.of.Goals as goal
 
 pub walk-init : goal.walk-init
-walk-init g c = walk_start c.args.front_len _ c.with_room-tables.result c.with_room-tables.ensures
+walk-init g c = walk_start c.args.front_len _ c.prepare.new.self (c.prepare.ensures.tables [] c.new-tables.ensures)
 
 pub texts-requires : goal.texts-requires
 texts-requires g c =
     kept_inside c.args.from c.args.to (length (g.L.ItemList.items c.args.items.now)) c.walk.n c.kept_number-k.result c.requires.order c.requires.within c.kept_number-k.ensures
     (omega (arith, c.walk-test.true, c.count.ensures))
-
-pub add-requires : goal.add-requires
-add-requires g c =
-    let all = g.L.ItemList.items c.args.items.now in
-    noted_at c.args.from c.args.to all c.args.notes.now c.walk.n c.kept_number-k.result c.texts.result.0.now c.requires.order c.requires.within c.kept_number-k.ensures (omega (arith, c.walk-test.true, c.count.ensures))
-    c.requires.notes c.texts.ensures.body c.note_at.result c.note_at.ensures
 
 pub walk-preserved : goal.walk-preserved
 walk-preserved g c =
@@ -43,8 +37,7 @@ pub returns-clause-tables : goal.returns-clause-tables
 returns-clause-tables g c db kept =
     let all = g.L.ItemList.items c.args.items.now in
     let end : length all - (c.args.to - c.args.from) ≤ c.walk.n = omega (arith, c.walk-test.false, c.count.ensures) in
-    with_bounds db.items _ _ _ c.admit.new.self c.admit.ensures
-    (with_len db.items c.walk.tables c.args.file_len (walk_all c.args.front_len c.args.from c.args.to all c.walk.n c.walk.start c.walk.tables c.requires.order c.requires.within end c.walk.invariant db kept).0)
+    with_len db.items c.walk.tables c.args.file_len (walk_all c.args.front_len c.args.from c.args.to all c.walk.n c.walk.start c.walk.tables c.requires.order c.requires.within end c.walk.invariant db kept).0
 
 pub returns-clause-texts : goal.returns-clause-texts
 returns-clause-texts g c db kept =
