@@ -29,6 +29,7 @@ STARTING = 7
 # How many rows each subject has, and those that are left out, since they are tried over pages.
 ROWS = {
     "files": 9,
+    "readers": 9,
     "parts": 7,
     "values": 5,
     "indexes": 9,
@@ -50,7 +51,7 @@ QUIET = "quiet"
 SET_UP = "set_up"
 QUIET_ROWS = 17
 # The calls with a result that take no memory.
-WITHOUT_MEMORY = {"Database::find", "Macros::months"}
+WITHOUT_MEMORY = {"Database::find", "Macros::months", "Reader::new"}
 # A request that comes after all of a row, and one that comes before the first.
 LATE = REFUSED - STARTING - 1
 BEFORE_THE_FIRST = ("files", 0, 0)
