@@ -1,5 +1,7 @@
 -- ---- the readers, step by step
 pub mod BalanceLaws
+pub mod MaskLemmas
+pub mod MarkLemmas
 pub mod BraceLemmas
 pub mod FirstPlaces
 pub mod ScanInvariant
@@ -62,5 +64,3 @@ pub mod TakenApart
 pub mod PartsFaults
 pub mod OnlyPart
 pub mod JoinedReadings
-pub mod MaskLemmas
-pub mod MarkLemmas

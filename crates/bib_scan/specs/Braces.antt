@@ -1,4 +1,4 @@
--- The braces of a text, some of which are known before they are read.
+-- No promise rests on this page: it says which braces of a text are known before they are read.
 use Rattle.std.specs.Prelude.{ℕ, ◌≡◌, ◌+◌, ◌-◌, ◌<◌, ◌≤◌, length}
 use Rattle.std.specs.Int.{bit_at}
 use Rattle.memchr.specs.Find.{NoneBefore, Passes, is_byte2}

@@ -49,7 +49,7 @@ impl<'a> Model for Reader<'a> {
 }
 
 impl<'a> Reader<'a> {
-    ghost use Rattle.std.specs.Prelude.{◌≡◌, ◌+◌, ◌<◌, ◌≤◌, None, length, IfOk, IfErr, IfSome, OnOk};
+    ghost use Rattle.std.specs.Prelude.{◌≡◌, ◌+◌, ◌<◌, ◌≤◌, None, length, IfOk, IfErr, IfSome, OnOk, OnErr};
     ghost use Rattle.bib_spec.specs.Bytes.{file_limit};
     ghost use Rattle.bib_spec.specs.Fault.{IsReadFault};
     ghost use Rattle.bib_scan.specs.Layout.{IsLayoutOf};
@@ -78,8 +78,8 @@ impl<'a> Reader<'a> {
         })
     }
 
-    /// Reads the next item, if there is one more. Refused with 1 to 7 at the first byte at which no file continues, with 10
-    /// where memory ran out.
+    /// Reads the next item, if there is one more, in time of the bytes up to the one after it. Refused with 1 to 7 at the
+    /// first byte at which no file continues, with 10 where memory ran out; the reader then stands where it stood.
     pub fn next_item(&mut self) -> Result<Option<ItemRead<'a>>, ReadFault>
         ensures file { self.new.file ≡ self.old.file }
         ensures item { IfOk result (λ item. IfSome item (λ read. IsItemOf self.old.file self.old.count read.body.now read.start)) }
@@ -87,6 +87,7 @@ impl<'a> Reader<'a> {
         ensures count { IfOk result (λ item. IfSome item (λ _. (self.new.count ≡ self.old.count + 1) × (self.new.left < self.old.left))) }
         ensures done { IfOk result (λ item. item ≡ None → (self.new.left ≡ 0) × AreAllOf self.old.file self.old.count) }
         ensures fault { IfErr result (λ fault. IsReadFault self.old.file fault.kind fault.place) }
+        ensures err { OnErr result (self.new ≡ self.old) }
     {
         if self.rest.is_empty() {
             return Ok(None);
