@@ -87,6 +87,13 @@ def one_macro(count):
     return b"@string{m = {text}}\n" + b"".join(b"@misc{k%d, t = m}\n" % n for n in range(count))
 
 
+def articles_of_one_journal(count):
+    """So many articles, in each of which one and the same macro stands for the journal."""
+    return b"@string{m = {Annals of Examples}}\n" + b"".join(
+        ("@article{key%d,\n  author = {%s},\n  title = {%s},\n  journal = m,\n  year = %d\n}\n" % (n, NAMES[n % len(NAMES)], text_of(n, 6), 1950 + n % 75)).encode()
+        for n in range(count))
+
+
 def chained_macros(count):
     """So many macros, each defined by the one before, and an entry that uses the last."""
     links = b"".join(b"@string{m%d = m%d}\n" % (n, n - 1) for n in range(1, count))
@@ -253,6 +260,7 @@ CONTENTS = {
     "library 8": lambda: library(8000000),
     "library 16": lambda: library(16000000),
     "use 100": lambda: one_macro(100000),
+    "journal 100": lambda: articles_of_one_journal(100000),
     "base 50": lambda: one_base(50000),
     "base 100": lambda: one_base(100000),
     "great": great,

@@ -5,6 +5,7 @@ pub mod ItemCounts
 pub mod ItemFields
 pub mod EntryNumbers
 pub mod Shown
+pub mod Recurrences
 pub mod SeenSteps
 pub mod ReportSteps
 -- ---- cited lists, labels and names

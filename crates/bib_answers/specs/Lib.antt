@@ -8,6 +8,7 @@ pub mod Cite
 pub mod Marks
 pub mod Check
 pub mod Fields
+pub mod Recurring
 pub mod Seen
 pub mod Kinds
 pub mod Cited

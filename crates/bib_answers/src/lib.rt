@@ -11,6 +11,7 @@ mod citing;
 mod kinds;
 mod labels;
 mod listing;
+mod marks;
 mod messages;
 mod names;
 mod opening;

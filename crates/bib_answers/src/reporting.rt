@@ -1,6 +1,6 @@
 //! What is wrong with one item, a line each.
 
-ghost use Rattle.std.specs.Prelude.{◌≡◌, ◌++◌, ℕ, Bool, List, [], OnOk};
+ghost use Rattle.std.specs.Prelude.{◌≡◌, ◌++◌, ◌∷◌, ℕ, Bool, List, [], OnOk};
 ghost use Rattle.std.specs.Option.{option_copied};
 ghost use Rattle.bib_spec.specs.Bytes.{name_limit};
 ghost use Rattle.bib_spec.specs.Text.{Text, folded};
@@ -12,6 +12,7 @@ ghost use Rattle.bib_value.specs.Raw.{OfValue};
 ghost use Rattle.bib_store.specs.Meaning.{OfReading, IsItemNumber};
 ghost use Rattle.bib_answers.specs.Check.{Assigned, report, report_both, use_report, use_reports, defined_in, extra_report, field_reports, of_entry, repeated_report, target_report, crossref_report, entries_before, reports_on};
 ghost use Rattle.bib_answers.specs.Fields.{Views, IsKeyOf, AreFieldsOf, AreSound};
+ghost use Rattle.bib_answers.specs.Recurring.{AreTold};
 ghost use Rattle.bib_answers.specs.Seen.{HaveSeen};
 
 use crate::answers::MEMORY;
@@ -73,6 +74,7 @@ fn add_field_reports<'a, M: MacroTable>(
     earlier.clear();
     let mut fields = item.fields();
     'fields: while let Some(field) = fields.next() {
+        earlier.mark(item)?;
         add_extra(out, earlier, item.key(), field.name)?;
         add_uses(
             alloc,
@@ -103,7 +105,7 @@ fn add_extra(
     key: &[u8],
     name: &[u8],
 ) -> Result<(), AllocError>
-    ensures { OnOk result ((names : List Text) → HaveSeen earlier.now names → out.new.items ≡ out.old.items ++ extra_report key.now names name.now) }
+    ensures { OnOk result ((names rest : List Text) → HaveSeen earlier.now names → AreTold earlier.now.marks names (name.now ∷ rest) → out.new.items ≡ out.old.items ++ extra_report key.now names name.now) }
 {
     if earlier.has(name) {
         return add_report_both(out, b"extra field", key, name);

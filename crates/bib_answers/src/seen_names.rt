@@ -4,50 +4,81 @@ ghost use Rattle.std.specs.Prelude.{◌≡◌, ◌≤◌, ◌∷◌, List, [], l
 ghost use Rattle.std.specs.List.{list_any};
 ghost use Rattle.bib_spec.specs.Bytes.{name_limit};
 ghost use Rattle.bib_spec.specs.Text.{Text, same};
+ghost use Rattle.bib_answers.specs.Recurring.{may_recur, AreTold, names_of};
 
-use bib_scan::same_folded;
+use crate::marks::Marks;
+use bib_scan::{ItemView, same_folded};
 use bib_value::FoldedMap;
 use std::alloc::{AllocError, Global};
 
 /// How many names are compared one by one. More names than most items have.
-const FEW: usize = 24;
+const FEW: usize = 64;
 
-/// Names, without regard to ASCII case. The first ones are kept where they stand and compared one by one, which takes
-/// memory for their places alone; the others, if there are so many, have a map.
+/// How many bytes of an item there are for each mark.
+const BYTES_A_MARK: usize = 2;
+
+/// The names of an item's fields that were seen, without regard to ASCII case. The first ones are kept where they stand and
+/// compared one by one, which takes memory for their places alone. Where there are more, all names of the item are marked,
+/// and of the others only those have a place in a map that may stand there twice.
 #[derive(Drop)]
 pub struct SeenNames<'a> {
     alloc: Global,
     few: Vec<&'a [u8]>,
-    others: Option<FoldedMap<()>>,
+    marks: Option<Marks>,
+    others: FoldedMap<()>,
 }
 
 impl<'a> SeenNames<'a> {
-    ghost use Rattle.bib_answers.specs.Seen.{is_other, HaveSeen};
+    ghost use Rattle.bib_answers.specs.Seen.{is_other, HaveSeen, IsAt};
 
     /// No names. It takes no memory.
     pub fn new(alloc: Global) -> Self
-        ensures { HaveSeen result [] }
+        ensures { (all : List Text) → IsAt result all [] all }
     {
         SeenNames {
             alloc,
             few: Vec::new(alloc),
-            others: None,
+            marks: None,
+            others: FoldedMap::new(alloc),
         }
     }
 
     /// Forgets all names. It keeps the memory for the first ones.
     pub fn clear(&mut self)
-        ensures { HaveSeen self.new [] }
+        ensures { (all : List Text) → IsAt self.new all [] all }
     {
         self.few.clear();
-        self.others = None;
+        self.marks = None;
+        self.others = FoldedMap::new(self.alloc);
     }
 
-    /// Whether the name was seen.
-    pub fn has(&self, name: &[u8]) -> bool
-        ensures { (names : List Text) → HaveSeen self.now names → result ≡ list_any (same name.now) names }
+    /// Marks the names of the item, whose fields are these, once more of them were seen than are compared one by one.
+    pub fn mark(&mut self, item: &ItemView<'_>) -> Result<(), AllocError>
+        ensures { OnOk result ((earlier rest : List Text) → IsAt self.old (names_of item.now.fields) earlier rest → IsAt self.new (names_of item.now.fields) earlier rest) }
     {
-        self.is_few(name) || self.is_other(name)
+        if self.few.len() < FEW || self.marks.is_some() {
+            return Ok(());
+        }
+        let count = item.body().len() / BYTES_A_MARK;
+        self.marks = Some(Marks::of(self.alloc, item.fields(), count)?);
+        Ok(())
+    }
+
+    /// Whether the name was seen, which is one of those that were marked.
+    pub fn has(&self, name: &[u8]) -> bool
+        ensures { (earlier rest : List Text) → HaveSeen self.now earlier → AreTold self.now.marks earlier (name.now ∷ rest) → result ≡ list_any (same name.now) earlier }
+    {
+        self.may_recur(name) && (self.is_few(name) || self.is_other(name))
+    }
+
+    /// Whether the item may have the name twice.
+    fn may_recur(&self, name: &[u8]) -> bool
+        ensures { result ≡ may_recur self.now.marks name.now }
+    {
+        match &self.marks {
+            Some(marks) => marks.is_shared(name),
+            None => true,
+        }
     }
 
     /// Whether the name is one of those that are compared one by one.
@@ -61,38 +92,21 @@ impl<'a> SeenNames<'a> {
     fn is_other(&self, name: &[u8]) -> bool
         ensures { result ≡ is_other self.now.others name.now }
     {
-        match &self.others {
-            Some(others) => others.get(name).is_some(),
-            None => false,
-        }
+        self.others.get(name).is_some()
     }
 
     /// The name is seen.
     pub fn add(&mut self, name: &'a [u8]) -> Result<(), AllocError>
         requires { length name.now ≤ name_limit }
-        ensures { OnOk result ((names : List Text) → HaveSeen self.old names → HaveSeen self.new (name.now ∷ names)) }
+        ensures seen { OnOk result ((names : List Text) → HaveSeen self.old names → HaveSeen self.new (name.now ∷ names)) }
+        ensures marks { self.new.marks ≡ self.old.marks }
     {
         if self.few.len() < FEW {
             self.few.push(name)?;
             return Ok(());
         }
-        self.add_other(name)
-    }
-
-    /// The name is put into the map.
-    fn add_other(&mut self, name: &[u8]) -> Result<(), AllocError>
-        requires { length name.now ≤ name_limit }
-        ensures { OnOk result ((names : List Text) → HaveSeen self.old names → HaveSeen self.new (name.now ∷ names)) }
-    {
-        match &mut self.others {
-            Some(others) => {
-                others.insert(name, ())?;
-            }
-            None => {
-                let mut others = FoldedMap::new(self.alloc);
-                others.insert(name, ())?;
-                self.others = Some(others);
-            }
+        if self.may_recur(name) {
+            self.others.insert(name, ())?;
         }
         Ok(())
     }
