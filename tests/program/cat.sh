@@ -5,6 +5,7 @@ given row.bib 'mail joe@x.org\n@Misc{a,}\n'
 given empty.bib ''
 given bytes.bib 'caf\351 \000\r\n@misc(a)b, t = {x \377} # "y" # 12 # jan)\t'
 given comment.bib '@comment{ @misc{a}}'
+given text.bib 'no item'
 given 'a name.bib' '@misc{a}'
 given newline.bib '@misc{a, t = "x}y"}'
 given_length longest.bib 16777216
@@ -17,6 +18,7 @@ when cat row.bib; ends_with 0; writes row.bib; says_nothing
 when cat empty.bib; ends_with 0; writes_nothing; says_nothing
 when cat bytes.bib; ends_with 0; writes bytes.bib; says_nothing
 when cat comment.bib; ends_with 0; writes comment.bib; says_nothing
+when cat text.bib; ends_with 0; writes text.bib; says_nothing
 when cat 'a name.bib'; ends_with 0; writes 'a name.bib'; says_nothing
 when cat "$work/row.bib"; ends_with 0; writes row.bib; says_nothing
 when cat -- row.bib; ends_with 0; writes row.bib; says_nothing
@@ -39,6 +41,7 @@ refuses '@misc{a, t {x}}' 'bibkeep: 3 ExpectedEquals at 11'
 refuses '@misc{a b}' 'bibkeep: 4 ExpectedCommaOrClose at 8'
 refuses '@misc{a, t = }' 'bibkeep: 5 ExpectedValue at 13'
 refuses '@misc{a, t = "x}y"}' 'bibkeep: 6 UnbalancedBrace at 15'
+refuses 'mail joe@x.org\n@Misc{a,}}@misc{b' 'bibkeep: 1 Unended at 32'
 refuses "@misc{$(printf '%0256d' 0)}" 'bibkeep: 7 KeyTooLong at 261'
 when cat too_long.bib; ends_with 1; writes_nothing; says 'bibkeep: 9 FileTooLong at 16777216'
 input=too_long.bib; when cat; ends_with 1; writes_nothing; says 'bibkeep: 9 FileTooLong at 16777216'

@@ -5,6 +5,7 @@ when --help; ends_with 0; mentions 'Usage: bibkeep'; says_nothing
 when -h; ends_with 0; mentions 'Edits BibTeX databases'; says_nothing
 when help; ends_with 0; mentions 'Writes the bytes of a file'; says_nothing
 when cat --help; ends_with 0; mentions 'or standard input where it is left out'; says_nothing
+when cat -h; ends_with 0; mentions 'Usage: bibkeep cat [F]'; says_nothing
 when help cat; ends_with 0; mentions 'Usage: bibkeep cat [F]'; says_nothing
 when check --help; ends_with 0; mentions 'Usage: bibkeep check <F>'; says_nothing
 when help show; ends_with 0; mentions 'Usage: bibkeep show <F> <KEY>'; says_nothing
@@ -16,8 +17,10 @@ when -V; ends_with 0; mentions 'bibkeep 0.1.0'; says_nothing
 when; ends_with 2; writes_nothing; complains_of 'Usage: bibkeep'
 when keep; ends_with 2; writes_nothing; complains_of "'keep'"
 when Cat; ends_with 2; writes_nothing; complains_of "'Cat'"
+when CAT; ends_with 2; writes_nothing; complains_of "'CAT'"
 when cat row.bib row.bib; ends_with 2; writes_nothing; complains_of "'row.bib'"
 when cat --all; ends_with 2; writes_nothing; complains_of "'--all'"
+when cat --steps; ends_with 2; writes_nothing; complains_of "'--steps'"
 when check; ends_with 2; writes_nothing; complains_of '<F>'
 when check row.bib row.bib; ends_with 2; writes_nothing; complains_of "'row.bib'"
 when show row.bib; ends_with 2; writes_nothing; complains_of '<KEY>'
@@ -34,6 +37,10 @@ when_shell_runs 'cp "$program" keep-1.0 && ./keep-1.0 --help'; ends_with 0; ment
 when_shell_runs './keep-1.0 help cite'; ends_with 0; mentions 'Usage: bibkeep cite'; says_nothing
 when_shell_runs './keep-1.0 --version'; ends_with 0; mentions 'bibkeep 0.1.0'; says_nothing
 when_shell_runs './keep-1.0 show f.bib'; ends_with 2; writes_nothing; complains_of 'Usage: bibkeep show <F> <KEY>'
+
+# It may be started without any word, not even its own name.
+given no_words.py 'import ctypes, sys\nctypes.CDLL(None).execv(sys.argv[1].encode(), (ctypes.c_char_p * 1)())\n'
+when_shell_runs 'python3 no_words.py "$program"'; ends_with 2; writes_nothing; complains_of 'Usage: bibkeep'
 
 when_shell_runs '"$program" --help >/dev/full'; ends_with 3; says 'bibkeep: write fault'
 when_shell_runs '"$program" --version >&-'; ends_with 3; says 'bibkeep: write fault'

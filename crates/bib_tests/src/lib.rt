@@ -2,15 +2,11 @@
 #![tactic(auto)]
 
 #[cfg(test)]
-mod command_lines;
-#[cfg(test)]
-mod fakes;
+mod flushing;
 #[cfg(test)]
 mod names;
 #[cfg(test)]
 mod reading;
-#[cfg(test)]
-mod running;
 #[cfg(test)]
 mod values;
 #[cfg(test)]

@@ -1,6 +1,6 @@
 //! Files read, and files refused at a place.
 
-use bib_scan::{FILE_LIMIT, Reader, read};
+use bib_scan::{FILE_LIMIT, ReadFault, Reader, read};
 use std::alloc::{AllocError, Global};
 use std::test::Fail;
 
@@ -18,6 +18,50 @@ fn answer(alloc: Global, bytes: &[u8]) -> Outcome {
     }
 }
 
+const ACCEPTED: &[(&[u8], usize)] = &[
+    (b"", 0),
+    (b"no command", 0),
+    (b"@1misc{a}", 0),
+    (b"@misc{ }", 1),
+    (b"@misc(a )", 1),
+    (b"@misc{a, @b = @x,}", 1),
+    (
+        b"@string{p = {A} # 1 # q}@preamble( \"a{\"}\" )@misc(, a = 1 , )",
+        3,
+    ),
+    (b"@misc @misc{a}", 1),
+    // a command inside a comment is an item
+    (b"@comment{ @misc{a}}", 2),
+    (b"@COMMENT@misc{a}", 2),
+];
+
+const REFUSED: &[(&[u8], u8, usize)] = &[
+    // where no value goes on
+    (b"@misc{a, t = \"x}y\"}", 6, 15),
+    (b"@misc{a, t {x}}", 3, 11),
+    (b"@misc{a, t = }", 5, 13),
+    (b"@misc{a, t = {x}", 1, 16),
+    (b"@misc{a, t = 1a}", 4, 14),
+    (b"@misc{a, t = \"x\" #}", 5, 18),
+    // where no entry goes on
+    (b"@misc{a b}", 4, 8),
+    (b"@misc{a,,}", 2, 8),
+    (b"@misc(a)", 1, 8),
+    (b"@misc( )", 1, 8),
+    (b"@string{a=1,}", 4, 11),
+    (b"@preamble{}", 5, 10),
+];
+
+#[test]
+fn files_are_read_or_refused_at_a_place(rt: HostRuntime) {
+    for (bytes, items) in ACCEPTED {
+        assert_eq!(rt; answer(rt.alloc(), bytes), Outcome::Items(*items));
+    }
+    for (bytes, kind, place) in REFUSED {
+        assert_eq!(rt; answer(rt.alloc(), bytes), Outcome::Fault(*kind, *place));
+    }
+}
+
 /// The texts joined, the middle one so many times.
 fn joined(
     alloc: Global,
@@ -26,8 +70,7 @@ fn joined(
     count: usize,
     end: &[u8],
 ) -> Result<Vec<u8>, AllocError> {
-    let mut text = Vec::new(alloc);
-    text.extend_from_slice(front)?;
+    let mut text = Vec::from_slice(alloc, front)?;
     for _ in 0..count {
         text.push(middle)?;
     }
@@ -35,142 +78,149 @@ fn joined(
     Ok(text)
 }
 
+/// A file with one byte many times, and what comes of it.
+#[derive(Clone, Copy)]
+struct Long<'a> {
+    name: &'a str,
+    front: &'a [u8],
+    middle: u8,
+    count: usize,
+    end: &'a [u8],
+    outcome: Outcome,
+}
+
+const LONG: &[Long<'static>] = &[
+    Long {
+        name: "a key of 255 bytes",
+        front: b"@misc{",
+        middle: b'k',
+        count: 255,
+        end: b"}",
+        outcome: Outcome::Items(1),
+    },
+    Long {
+        name: "a key of 256 bytes",
+        front: b"@misc{",
+        middle: b'k',
+        count: 256,
+        end: b"}",
+        outcome: Outcome::Fault(7, 261),
+    },
+    Long {
+        name: "a field's name of 256 bytes",
+        front: b"@misc{a,",
+        middle: b'n',
+        count: 256,
+        end: b"=1}",
+        outcome: Outcome::Fault(7, 263),
+    },
+    Long {
+        name: "a macro's name of 256 bytes",
+        front: b"@misc{a,t=",
+        middle: b'n',
+        count: 256,
+        end: b"}",
+        outcome: Outcome::Fault(7, 265),
+    },
+    Long {
+        name: "a type's name of 256 bytes",
+        front: b"@",
+        middle: b't',
+        count: 256,
+        end: b"{a}",
+        outcome: Outcome::Items(0),
+    },
+    Long {
+        name: "the longest file",
+        front: b"",
+        middle: b'x',
+        count: FILE_LIMIT,
+        end: b"",
+        outcome: Outcome::Items(0),
+    },
+    Long {
+        name: "a file one byte longer",
+        front: b"",
+        middle: b'x',
+        count: FILE_LIMIT,
+        end: b"x",
+        outcome: Outcome::Fault(9, 16_777_216),
+    },
+];
+
+fn answer_to_long(alloc: Global, row: &Long<'_>) -> Result<Outcome, AllocError> {
+    let bytes = joined(alloc, row.front, row.middle, row.count, row.end)?;
+    Ok(answer(alloc, bytes.as_slice()))
+}
+
 #[test]
-fn an_at_sign_in_an_address_is_text(rt: HostRuntime) -> Result<(), Fail> {
-    let bytes = b"mail joe@x.org\n@Misc{a,}\n";
-    let layout = read(rt.alloc(), bytes)?;
-    assert_eq!(rt; layout.len(), 1);
-    assert_eq!(rt; layout.front(bytes), b"mail joe@x.org\n".as_slice());
+fn names_keys_and_files_have_limits(rt: HostRuntime) -> Result<(), Fail> {
+    for row in LONG {
+        assert!(rt;
+            answer_to_long(rt.alloc(), row)? == row.outcome,
+            "{}",
+            row.name
+        );
+    }
     Ok(())
 }
 
-#[test]
-fn a_command_inside_a_comment_is_an_item(rt: HostRuntime) {
-    assert_eq!(rt;
-        answer(rt.alloc(), b"@comment{ @misc{a}}"),
-        Outcome::Items(2)
-    );
-    assert_eq!(rt; answer(rt.alloc(), b"@COMMENT@misc{a}"), Outcome::Items(2));
-}
-
-#[test]
-fn faults_of_values_stand_where_no_value_goes_on(rt: HostRuntime) {
-    let rows: [(&[u8], u8, usize); 6] = [
-        (b"@misc{a, t = \"x}y\"}", 6, 15),
-        (b"@misc{a, t {x}}", 3, 11),
-        (b"@misc{a, t = }", 5, 13),
-        (b"@misc{a, t = {x}", 1, 16),
-        (b"@misc{a, t = 1a}", 4, 14),
-        (b"@misc{a, t = \"x\" #}", 5, 18),
-    ];
-    for (bytes, kind, place) in rows {
-        assert_eq!(rt; answer(rt.alloc(), bytes), Outcome::Fault(kind, place));
-    }
-}
-
-#[test]
-fn faults_of_rows_stand_where_no_entry_goes_on(rt: HostRuntime) {
-    let rows: [(&[u8], u8, usize); 6] = [
-        (b"@misc{a b}", 4, 8),
-        (b"@misc{a,,}", 2, 8),
-        (b"@misc(a)", 1, 8),
-        (b"@misc( )", 1, 8),
-        (b"@string{a=1,}", 4, 11),
-        (b"@preamble{}", 5, 10),
-    ];
-    for (bytes, kind, place) in rows {
-        assert_eq!(rt; answer(rt.alloc(), bytes), Outcome::Fault(kind, place));
-    }
-}
-
-#[test]
-fn accepted_forms(rt: HostRuntime) {
-    let rows: [(&[u8], usize); 8] = [
-        (b"", 0),
-        (b"no command", 0),
-        (b"@1misc{a}", 0),
-        (b"@misc{ }", 1),
-        (b"@misc(a )", 1),
-        (b"@misc{a, @b = @x,}", 1),
-        (
-            b"@string{p = {A} # 1 # q}@preamble( \"a{\"}\" )@misc(, a = 1 , )",
-            3,
-        ),
-        (b"@misc @misc{a}", 1),
-    ];
-    for (bytes, items) in rows {
-        assert_eq!(rt; answer(rt.alloc(), bytes), Outcome::Items(items));
-    }
-}
-
-#[test]
-fn names_and_keys_have_at_most_255_bytes(rt: HostRuntime) -> Result<(), Fail> {
-    let alloc = rt.alloc();
-    let key = joined(alloc, b"@misc{", b'k', 255, b"}")?;
-    assert_eq!(rt; answer(alloc, &key), Outcome::Items(1));
-    let key = joined(alloc, b"@misc{", b'k', 256, b"}")?;
-    assert_eq!(rt; answer(alloc, &key), Outcome::Fault(7, 261));
-    let name = joined(alloc, b"@misc{a,", b'n', 256, b"=1}")?;
-    assert_eq!(rt; answer(alloc, &name), Outcome::Fault(7, 263));
-    let macro_name = joined(alloc, b"@misc{a,t=", b'n', 256, b"}")?;
-    assert_eq!(rt; answer(alloc, &macro_name), Outcome::Fault(7, 265));
-    let type_name = joined(alloc, b"@", b't', 256, b"{a}")?;
-    assert_eq!(rt; answer(alloc, &type_name), Outcome::Items(0));
-    Ok(())
+/// So many braces that are opened and closed inside one another in a value, and then the end.
+fn answer_to_nested(alloc: Global, depth: usize, end: &[u8]) -> Result<Outcome, AllocError> {
+    let closing = joined(alloc, b"", b'}', depth, end)?;
+    let bytes = joined(alloc, b"@misc{a,t=", b'{', depth, closing.as_slice())?;
+    Ok(answer(alloc, bytes.as_slice()))
 }
 
 #[test]
 fn braces_nest_500_000_deep(rt: HostRuntime) -> Result<(), Fail> {
-    let alloc = rt.alloc();
-    let mut bytes = joined(alloc, b"@misc{a,t=", b'{', 500_000, b"")?;
-    for _ in 0..500_000 {
-        bytes.push(b'}')?;
-    }
-    assert_eq!(rt; answer(alloc, &bytes), Outcome::Fault(1, 1_000_010));
-    bytes.push(b'}')?;
-    assert_eq!(rt; answer(alloc, &bytes), Outcome::Items(1));
+    let open = answer_to_nested(rt.alloc(), 500_000, b"")?;
+    let whole = answer_to_nested(rt.alloc(), 500_000, b"}")?;
+    assert!(rt; open == Outcome::Fault(1, 1_000_010) && whole == Outcome::Items(1));
     Ok(())
 }
 
-#[test]
-fn the_longest_file_is_read(rt: HostRuntime) -> Result<(), Fail> {
-    let alloc = rt.alloc();
-    let mut bytes = joined(alloc, b"", b'x', FILE_LIMIT, b"")?;
-    assert_eq!(rt; answer(alloc, &bytes), Outcome::Items(0));
-    bytes.push(b'x')?;
-    assert_eq!(rt; answer(alloc, &bytes), Outcome::Fault(9, 16_777_216));
-    Ok(())
+/// Whether the first item is seen, and then the fault behind it.
+fn is_read_up_to_a_fault(reader: &mut Reader<'_>) -> Result<bool, ReadFault> {
+    let is_first = match reader.next_item()? {
+        Some(item) => item.body == b"@a{x,}".as_slice() && item.start == 15,
+        None => false,
+    };
+    match reader.next_item() {
+        Ok(_) => Ok(false),
+        Err(fault) => Ok(is_first && fault.kind == 3 && fault.place == 31),
+    }
 }
 
 #[test]
 fn items_are_read_one_by_one_up_to_a_fault(rt: HostRuntime) -> Result<(), Fail> {
     let mut reader = Reader::new(rt.alloc(), b"mail joe@x.org\n@a{x,} so\n@b{y,z}")?;
-    let item = reader.next_item()?.expect(&rt, "an item");
-    assert_eq!(rt; item.body, b"@a{x,}".as_slice());
-    assert_eq!(rt; item.start, 15);
-    match reader.next_item() {
-        Ok(_) => panic!(rt; "a name without a value is read"),
-        Err(fault) => assert_eq!(rt; (fault.kind, fault.place), (3, 31)),
-    }
+    assert!(rt; is_read_up_to_a_fault(&mut reader)?);
     Ok(())
 }
 
 /// An entry in whose value so many bytes stand before, between and behind braces.
-fn braces_apart(alloc: Global, apart: usize, end: &[u8]) -> Result<Vec<u8>, AllocError> {
-    let mut text = joined(alloc, b"@misc{a,t={", b'x', apart, b"{")?;
-    text.extend_from_slice(joined(alloc, b"", b'y', apart, b"}")?.as_slice())?;
-    text.extend_from_slice(joined(alloc, b"", b'z', apart, end)?.as_slice())?;
-    Ok(text)
+fn answer_to_apart(
+    alloc: Global,
+    apart: usize,
+    end: &[u8],
+) -> Result<(Outcome, usize), AllocError> {
+    let back = joined(alloc, b"}", b'z', apart, end)?;
+    let middle = joined(alloc, b"{", b'y', apart, back.as_slice())?;
+    let bytes = joined(alloc, b"@misc{a,t={", b'x', apart, middle.as_slice())?;
+    Ok((answer(alloc, bytes.as_slice()), bytes.len()))
+}
+
+fn are_found(alloc: Global, apart: usize) -> Result<bool, AllocError> {
+    let (whole, _) = answer_to_apart(alloc, apart, b"}}")?;
+    let (open, end) = answer_to_apart(alloc, apart, b"}")?;
+    Ok(whole == Outcome::Items(1) && open == Outcome::Fault(1, end))
 }
 
 #[test]
 fn braces_are_found_however_far_apart(rt: HostRuntime) -> Result<(), Fail> {
-    let alloc = rt.alloc();
     for apart in 0..70 {
-        let whole = braces_apart(alloc, apart, b"}}")?;
-        assert_eq!(rt; answer(alloc, &whole), Outcome::Items(1));
-        let open = braces_apart(alloc, apart, b"}")?;
-        assert_eq!(rt; answer(alloc, &open), Outcome::Fault(1, open.len()));
+        assert!(rt; are_found(rt.alloc(), apart)?, "{apart} bytes apart");
     }
     Ok(())
 }

@@ -43,12 +43,21 @@ fn stands_for(macros: &Macros, name: &[u8], text: &[u8]) -> bool {
     }
 }
 
-#[test]
-fn parts_are_joined_as_they_stand(rt: HostRuntime) -> Result<(), Fail> {
-    let macros = Macros::months(rt.alloc())?;
-    let bytes = b"\"a\" # { b} # 12 # Mar # none";
-    assert!(rt; says(rt.alloc(), bytes, &macros, None, b"a b12March")?);
-    Ok(())
+/// A value, in the definition of a macro if one is named, and what it says beside the months.
+const SAID: &[(&[u8], Option<&[u8]>, &[u8])] = &[
+    // parts are joined as they stand
+    (b"\"a\" # { b} # 12 # Mar # none", None, b"a b12March"),
+    // a macro gives nothing in its own definition
+    (b"jan # { x} # JAN", Some(b"Jan"), b" x"),
+];
+
+fn are_said(alloc: Global, macros: &Macros) -> Result<bool, Fail> {
+    for (bytes, own, text) in SAID {
+        if !says(alloc, bytes, macros, *own, text)? {
+            return Ok(false);
+        }
+    }
+    Ok(true)
 }
 
 /// Whether names stand for what they were defined as last.
@@ -59,36 +68,6 @@ fn are_replaced(macros: &mut Macros) -> Result<bool, ValueFault> {
         && macros.text(b"q").is_none();
     define(macros, b"MAR", b"3")?;
     Ok(are_apart && stands_for(macros, b"mar", b"3"))
-}
-
-#[test]
-fn a_definition_replaces_a_month(rt: HostRuntime) -> Result<(), Fail> {
-    let mut macros = Macros::months(rt.alloc())?;
-    assert!(rt; are_replaced(&mut macros)?);
-    Ok(())
-}
-
-#[test]
-fn a_macro_gives_nothing_in_its_own_definition(rt: HostRuntime) -> Result<(), Fail> {
-    let macros = Macros::months(rt.alloc())?;
-    let bytes = b"jan # { x} # JAN";
-    assert!(rt; says(rt.alloc(), bytes, &macros, Some(b"Jan"), b" x")?);
-    Ok(())
-}
-
-#[test]
-fn white_space_is_made_one(rt: HostRuntime) -> Result<(), Fail> {
-    let rows: [(&[u8], &[u8]); 5] = [
-        (b" a \n\tb ", b"a b"),
-        (b"", b""),
-        (b" \r\n ", b""),
-        (b"ab", b"ab"),
-        (b"a\r\n\r\nb  c", b"a b c"),
-    ];
-    for (bytes, text) in rows {
-        assert_eq!(rt; field_text(rt.alloc(), bytes)?.as_slice(), text);
-    }
-    Ok(())
 }
 
 /// Lets a macro stand for its text twice.
@@ -116,9 +95,35 @@ fn is_limited(alloc: Global, macros: &mut Macros) -> Result<bool, Fail> {
     Ok(is_full && is_over && fault == Some(ValueFault::TextTooLong))
 }
 
+/// Whether values say their texts, a definition replaces a month, and a text may be as long as the limit.
+fn are_kept(alloc: Global, macros: &mut Macros) -> Result<bool, Fail> {
+    Ok(are_said(alloc, macros)? && are_replaced(macros)? && is_limited(alloc, macros)?)
+}
+
 #[test]
-fn a_text_may_be_as_long_as_the_limit(rt: HostRuntime) -> Result<(), Fail> {
+fn macros_stand_for_their_texts(rt: HostRuntime) -> Result<(), Fail> {
     let mut macros = Macros::months(rt.alloc())?;
-    assert!(rt; is_limited(rt.alloc(), &mut macros)?);
+    assert!(rt; are_kept(rt.alloc(), &mut macros)?);
+    Ok(())
+}
+
+const SPACED: &[(&[u8], &[u8])] = &[
+    (b" a \n\tb ", b"a b"),
+    (b"", b""),
+    (b" \r\n ", b""),
+    (b"ab", b"ab"),
+    (b"a\r\n\r\nb  c", b"a b c"),
+];
+
+fn is_made_one(alloc: Global, bytes: &[u8], text: &[u8]) -> Result<bool, ValueFault> {
+    let made = field_text(alloc, bytes)?;
+    Ok(made.as_slice() == text)
+}
+
+#[test]
+fn white_space_is_made_one(rt: HostRuntime) -> Result<(), Fail> {
+    for (bytes, text) in SPACED {
+        assert!(rt; is_made_one(rt.alloc(), bytes, text)?, "{bytes:?}");
+    }
     Ok(())
 }

@@ -66,13 +66,6 @@ const LONE: Seen<'_> = Seen {
 };
 
 #[test]
-fn an_entry_has_its_key_and_its_trail(rt: HostRuntime) -> Result<(), Fail> {
-    let bytes = b"mail joe@x.org\n@Misc{a,}\n";
-    assert!(rt; are_seen(rt.alloc(), bytes, b"mail joe@x.org\n", &[LONE])?);
-    Ok(())
-}
-
-#[test]
 fn an_item_is_seen_with_another_trail(rt: HostRuntime) {
     let moved = ItemView::of(LONE.body, LONE.trail).with_trail(b" ");
     assert!(rt;
@@ -86,27 +79,26 @@ fn an_item_is_seen_with_another_trail(rt: HostRuntime) {
     );
 }
 
-#[test]
-fn a_comment_leaves_its_text_to_its_trail(rt: HostRuntime) -> Result<(), Fail> {
-    let comment = Seen {
-        kind: Kind::Comment,
-        body: b"@comment",
-        trail: b"{ ",
-        type_name: b"comment",
-        key: b"",
-        key_at: 0,
-        fields: &[],
-    };
-    let entry = Seen {
-        body: b"@misc{a}",
-        trail: b"}",
-        type_name: b"misc",
-        ..LONE
-    };
-    let items = [comment, entry];
-    assert!(rt; are_seen(rt.alloc(), b"@comment{ @misc{a}}", b"", &items)?);
-    Ok(())
-}
+/// A comment leaves its text to its trail.
+const COMMENT: Seen<'_> = Seen {
+    kind: Kind::Comment,
+    body: b"@comment",
+    trail: b"{ ",
+    type_name: b"comment",
+    key: b"",
+    key_at: 0,
+    fields: &[],
+};
+
+const COMMENTED: Seen<'_> = Seen {
+    kind: Kind::Entry,
+    body: b"@misc{a}",
+    trail: b"}",
+    type_name: b"misc",
+    key: b"a",
+    key_at: 6,
+    fields: &[],
+};
 
 const DEFINITION: Seen<'_> = Seen {
     kind: Kind::Macro,
@@ -188,11 +180,22 @@ fn fields_stand_at_their_places(rt: HostRuntime) {
     }
 }
 
+/// A file, its front, and its items.
+const FILES: &[(&[u8], &[u8], &[Seen<'static>])] = &[
+    (b"mail joe@x.org\n@Misc{a,}\n", b"mail joe@x.org\n", &[LONE]),
+    (b"@comment{ @misc{a}}", b"", &[COMMENT, COMMENTED]),
+    (
+        b"x @string{p = {A} # 1}\n@preamble( \"x\" )@Book (k9 , a = 1 # p,\n b={c} , )tail",
+        b"x ",
+        &[DEFINITION, PREAMBLE, BOOK],
+    ),
+];
+
 #[test]
-fn a_file_of_every_kind_is_seen_item_by_item(rt: HostRuntime) -> Result<(), Fail> {
-    let bytes = b"x @string{p = {A} # 1}\n@preamble( \"x\" )@Book (k9 , a = 1 # p,\n b={c} , )tail";
-    let items = [DEFINITION, PREAMBLE, BOOK];
-    assert!(rt; are_seen(rt.alloc(), bytes, b"x ", &items)?);
+fn a_file_is_seen_item_by_item(rt: HostRuntime) -> Result<(), Fail> {
+    for (bytes, front, items) in FILES {
+        assert!(rt; are_seen(rt.alloc(), bytes, front, items)?, "{bytes:?}");
+    }
     Ok(())
 }
 
@@ -207,12 +210,22 @@ fn has_parts(alloc: Global, bytes: &[u8], all: &[(usize, Part<'_>)]) -> Result<b
     )
 }
 
+const TAKEN_APART: &[(&[u8], &[(usize, Part<'static>)])] = &[
+    (
+        b"\"a\" # b",
+        &[(0, Part::Quoted(b"a")), (6, Part::Macro(b"b"))],
+    ),
+    (
+        b"{x{y}} # 12",
+        &[(0, Part::Braced(b"x{y}")), (9, Part::Digits(b"12"))],
+    ),
+];
+
 #[test]
 fn a_value_is_taken_apart(rt: HostRuntime) -> Result<(), Fail> {
-    let parts = [(0, Part::Quoted(b"a")), (6, Part::Macro(b"b"))];
-    assert!(rt; has_parts(rt.alloc(), b"\"a\" # b", &parts)?);
-    let parts = [(0, Part::Braced(b"x{y}")), (9, Part::Digits(b"12"))];
-    assert!(rt; has_parts(rt.alloc(), b"{x{y}} # 12", &parts)?);
+    for (bytes, parts) in TAKEN_APART {
+        assert!(rt; has_parts(rt.alloc(), bytes, parts)?, "{bytes:?}");
+    }
     Ok(())
 }
 
@@ -230,20 +243,21 @@ fn answer(alloc: Global, bytes: &[u8]) -> Outcome {
     }
 }
 
+const VALUES: &[(&[u8], Outcome)] = &[
+    (b"\"a\" # b", Outcome::Parts(2)),
+    (b"\"a\" #", Outcome::Fault(1, 5)),
+    (b"1 ", Outcome::Fault(1, 2)),
+    (b" 1", Outcome::Fault(5, 0)),
+    (b"", Outcome::Fault(1, 0)),
+    (b"{a}{b}", Outcome::Fault(4, 3)),
+    (b"{a} {b}", Outcome::Fault(4, 4)),
+    (b"\"a}\"", Outcome::Fault(6, 2)),
+];
+
 #[test]
 fn a_text_that_is_no_value_is_refused_at_its_place(rt: HostRuntime) {
-    let rows: [(&[u8], Outcome); 8] = [
-        (b"\"a\" # b", Outcome::Parts(2)),
-        (b"\"a\" #", Outcome::Fault(1, 5)),
-        (b"1 ", Outcome::Fault(1, 2)),
-        (b" 1", Outcome::Fault(5, 0)),
-        (b"", Outcome::Fault(1, 0)),
-        (b"{a}{b}", Outcome::Fault(4, 3)),
-        (b"{a} {b}", Outcome::Fault(4, 4)),
-        (b"\"a}\"", Outcome::Fault(6, 2)),
-    ];
-    for (bytes, outcome) in rows {
-        assert_eq!(rt; answer(rt.alloc(), bytes), outcome);
+    for (bytes, outcome) in VALUES {
+        assert_eq!(rt; answer(rt.alloc(), bytes), *outcome);
     }
 }
 
