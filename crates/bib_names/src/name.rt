@@ -1,8 +1,10 @@
 //! The parts of a name.
 
-ghost use Rattle.std.specs.Prelude.{◌≡◌, ◌↔◌, ◌<◌, ◌≤◌, [], Err, IfOk, IfErr, OnOk, OnErr, IfSome, IfNone, Some, ◌==◌, true, length, vec_len};
+ghost use Rattle.std.specs.Prelude.{◌≡◌, ◌↔◌, ◌<◌, ◌≤◌, ◌+◌, [], Err, IfOk, IfErr, OnOk, OnErr, IfSome, IfNone, Some, ◌==◌, true, length, drop, vec_len};
+ghost use Rattle.std.specs.List.{slice_range};
 ghost use Rattle.bib_spec.specs.Text.{IsBalanced};
-ghost use Rattle.bib_names.specs.Places.{is_level};
+ghost use Rattle.bib_names.specs.Places.{is_level, stretch};
+ghost use Rattle.bib_names.specs.Words.{words_of};
 ghost use Rattle.bib_names.specs.Name.{is_comma, commas, von_end, von_start, hyphened_start, cut_at, without_comma, with_commas, without_end, parts_of_bare, parts_of};
 ghost use Rattle.bib_names.specs.FirstComma.{commas_from, IsFirstComma};
 
@@ -132,26 +134,55 @@ fn with_commas<'a>(
     })
 }
 
+/// The parts of a name of one piece.
+fn of_one_piece(alloc: Global, bare: &[u8]) -> Result<Name<'_>, AllocError>
+    ensures { IfOk result (λ name. name ≡ without_comma (words_of (stretch 0 bare.now))) }
+{
+    without_comma(alloc, words(alloc, bare, 0)?)
+}
+
+/// The parts of a name of two pieces, whose comma stands here.
+fn of_two_pieces(alloc: Global, bare: &[u8], one: usize) -> Result<Name<'_>, AllocError>
+    requires { one < length bare.now }
+    ensures { IfOk result (λ name. name ≡ with_commas (words_of (stretch 0 (slice_range bare.now 0 one))) [] (words_of (stretch (one + 1) (drop (one + 1) bare.now)))) }
+{
+    let words_before = words(alloc, &bare[..one], 0)?;
+    let first = words(alloc, bare.split_at(one + 1).1, one + 1)?;
+    with_commas(words_before, Vec::new(alloc), first)
+}
+
+/// The parts of a name of three pieces, whose commas stand here.
+fn of_three_pieces(
+    alloc: Global,
+    bare: &[u8],
+    one: usize,
+    two: usize,
+) -> Result<Name<'_>, AllocError>
+    requires ordered { one < two }
+    requires within { two < length bare.now }
+    ensures { IfOk result (λ name. name ≡ with_commas (words_of (stretch 0 (slice_range bare.now 0 one))) (words_of (stretch (one + 1) (slice_range bare.now (one + 1) two))) (words_of (stretch (two + 1) (drop (two + 1) bare.now)))) }
+{
+    let words_before = words(alloc, &bare[..one], 0)?;
+    let jr = words(alloc, &bare[one + 1..two], one + 1)?;
+    let first = words(alloc, bare.split_at(two + 1).1, two + 1)?;
+    with_commas(words_before, jr, first)
+}
+
 /// The parts of a name without what is dropped at its end, none if it has more than two commas.
 fn parts_of_bare(alloc: Global, bare: &[u8]) -> Result<Option<Name<'_>>, AllocError>
     ensures parts { IfOk result (λ parts. parts ≡ parts_of_bare bare.now) }
     ensures few { OnErr result (length (commas bare.now) ≤ 2) }
 {
     let Some(one) = comma_from(bare, 0) else {
-        return Ok(Some(without_comma(alloc, words(alloc, bare, 0)?)?));
+        return Ok(Some(of_one_piece(alloc, bare)?));
     };
     let Some(two) = comma_from(bare, one + 1) else {
-        let words_before = words(alloc, bare.split_at(one).0, 0)?;
-        let first = words(alloc, bare.split_at(one + 1).1, one + 1)?;
-        return Ok(Some(with_commas(words_before, Vec::new(alloc), first)?));
+        return Ok(Some(of_two_pieces(alloc, bare, one)?));
     };
     if comma_from(bare, two + 1).is_some() {
         return Ok(None);
     }
-    let words_before = words(alloc, bare.split_at(one).0, 0)?;
-    let jr = words(alloc, &bare[one + 1..two], one + 1)?;
-    let first = words(alloc, bare.split_at(two + 1).1, two + 1)?;
-    Ok(Some(with_commas(words_before, jr, first)?))
+    Ok(Some(of_three_pieces(alloc, bare, one, two)?))
 }
 
 /// The parts of a name whose braces balance, none if it has more than two commas.
