@@ -1,7 +1,9 @@
 //! Labels for a list of records.
 
-ghost use Rattle.std.specs.Prelude.{◌≡◌, ◌≤◌, ◌<◌, ◌+◌, ◌^◌, ℕ, List, IfOk, IfErr, length, map, reverse};
+ghost use Rattle.std.specs.Prelude.{◌≡◌, ◌≤◌, ◌<◌, ◌+◌, ◌++◌, ◌∷◌, [], ◌^◌, ℕ, List, IfOk, IfErr, OnOk, length, map, reverse, if◌then◌else◌};
+ghost use Rattle.std.specs.Str.{bytes_eq};
 ghost use Rattle.bib_spec.specs.MadeKeys.{letters};
+ghost use Rattle.bib_names.specs.Counts.{times};
 ghost use Rattle.bib_names.specs.Label.{label_base, label_of, labels_of};
 
 use crate::fault::NameFault;
@@ -37,6 +39,24 @@ fn label_of(alloc: Global, base: &[u8], count: usize, earlier: usize) -> Result<
     Ok(Seq::from_vec(label))
 }
 
+/// Puts the label of one more base after the others, given how often each base stands in the list and earlier.
+fn push_label<'a>(
+    alloc: Global,
+    labels: &mut Vec<Text>,
+    all: &Tally<'_>,
+    earlier: &mut Tally<'a>,
+    base: &'a [u8],
+) -> Result<(), AllocError>
+    requires { times earlier.old.counts base.now + 1 < 2 ^ 64 }
+    ensures label { OnOk result (labels.new.items ≡ labels.old.items ++ label_of base.now (times all.now.counts base.now) (times earlier.old.counts base.now) ∷ []) }
+    ensures earlier { OnOk result ((other : List ℕ) → times earlier.new.counts other ≡ times earlier.old.counts other + (if bytes_eq other base.now then 1 else 0)) }
+{
+    let count = all.count(base);
+    let label = label_of(alloc, base, count, earlier.add(base)?)?;
+    labels.push(label)?;
+    Ok(())
+}
+
 /// The labels of records with these bases, as `labels` gives them: whoever has many records needs to keep no more of each
 /// than its base. It takes time in the lengths of the bases.
 pub fn labels_of(alloc: Global, bases: &[Text]) -> Result<Seq<Text>, AllocError>
@@ -46,9 +66,7 @@ pub fn labels_of(alloc: Global, bases: &[Text]) -> Result<Seq<Text>, AllocError>
     let mut earlier = Tally::none(alloc);
     let mut labels = Vec::new(alloc);
     for base in bases {
-        let base = base.as_slice();
-        let count = all.count(base);
-        labels.push(label_of(alloc, base, count, earlier.add(base)?)?)?;
+        push_label(alloc, &mut labels, &all, &mut earlier, base.as_slice())?;
     }
     Ok(Seq::from_vec(labels))
 }
