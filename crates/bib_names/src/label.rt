@@ -1,8 +1,8 @@
 //! The letters of a label and its base.
 
-ghost use Rattle.std.specs.Prelude.{◌≡◌, ◌≤◌, ◌<◌, ◌++◌, ◌∷◌, [], Some, None, IfOk, IfErr, length, map, filter, take};
+ghost use Rattle.std.specs.Prelude.{◌≡◌, ◌≤◌, ◌<◌, ◌++◌, ◌∷◌, [], Some, None, IfOk, IfErr, OnOk, length, map, filter, take};
 ghost use Rattle.std.specs.Char.{is_ascii_digit};
-ghost use Rattle.bib_names.specs.Label.{text_in, label_names, balances, listed_names, names_in, group, initials_template, print_of, initials_of, first_three, letters_of_one, ends_with_others, letters_of_many, letters_of_fields, or_anon, last_two, label_base};
+ghost use Rattle.bib_names.specs.Label.{text_in, label_names, balances, listed_names, names_in, group, initials_template, print_of, initials_of, first_three, letters_of_one, ends_with_others, letters_of_many, letters_of_names, letters_of_fields, or_anon, last_two, label_base};
 ghost use Rattle.bib_names.specs.Surname.{initials_printed, last_printed};
 
 use crate::fault::NameFault;
@@ -33,12 +33,14 @@ pub fn text_in<'a>(fields: &'a [(Text, Text)], name: &[u8]) -> &'a [u8]
 pub fn label_names(alloc: Global) -> Result<Seq<&'static [u8]>, AllocError>
     ensures { IfOk result (λ names. map (λ n. n.now) names ≡ label_names) }
 {
-    let mut names = Vec::new(alloc);
-    names.push(b"author".as_slice())?;
-    names.push(b"editor".as_slice())?;
-    names.push(b"key".as_slice())?;
-    names.push(b"year".as_slice())?;
-    Ok(Seq::from_vec(names))
+    Ok(Seq::from_vec(Vec::from_slice(alloc, &names_read())?))
+}
+
+/// The same names.
+fn names_read() -> [&'static [u8]; 4]
+    ensures { map (λ n. n.now) result ≡ label_names }
+{
+    [b"author", b"editor", b"key", b"year"]
 }
 
 /// Whether the braces of the text balance, as a test that a definition computes.
@@ -146,13 +148,20 @@ fn letters_of_one(alloc: Global, name: &[u8]) -> Result<Text, AllocError>
     }
 }
 
+/// Adds the print of a name by `{v{}}{l{}}`.
+fn push_initials(alloc: Global, out: &mut Vec<u8>, name: &[u8]) -> Result<(), AllocError>
+    ensures { OnOk result (out.new.items ≡ out.old.items ++ print_of initials_template name.now) }
+{
+    out.extend_from_slice(print_of_initials(alloc, name)?.as_slice())
+}
+
 /// The prints of names by `{v{}}{l{}}`, joined.
 fn initials_of(alloc: Global, names: &[&[u8]]) -> Result<Vec<u8>, AllocError>
     ensures { IfOk result (λ t. t.items ≡ initials_of (map (λ n. n.now) names.now)) }
 {
     let mut out = Vec::new(alloc);
     for name in names {
-        out.extend_from_slice(print_of_initials(alloc, name)?.as_slice())?;
+        push_initials(alloc, &mut out, name)?;
     }
     Ok(out)
 }
@@ -185,16 +194,23 @@ fn letters_of_many(alloc: Global, names: &[&[u8]]) -> Result<Text, AllocError>
     Ok(Seq::from_vec(out))
 }
 
+/// The letters of these names, or where there are none of this text.
+fn letters_of_names(alloc: Global, names: &[&[u8]], key: &[u8]) -> Result<Text, AllocError>
+    ensures { IfOk result (λ t. t ≡ letters_of_names (map (λ n. n.now) names.now) key.now) }
+{
+    match names {
+        [] => first_three(alloc, key),
+        [name] => letters_of_one(alloc, name),
+        many => letters_of_many(alloc, many),
+    }
+}
+
 /// The letters of a label, empty if it has none.
 fn letters_of_fields(alloc: Global, fields: &[(Text, Text)]) -> Result<Text, AllocError>
     ensures { IfOk result (λ t. t ≡ letters_of_fields fields.now) }
 {
     let names = names_in(alloc, fields)?;
-    match names.as_slice() {
-        [] => first_three(alloc, text_in(fields, b"key")),
-        [name] => letters_of_one(alloc, name),
-        many => letters_of_many(alloc, many),
-    }
+    letters_of_names(alloc, names.as_slice(), text_in(fields, b"key"))
 }
 
 /// The text, or `anon` where it is empty.

@@ -54,10 +54,10 @@ fn name_between(text: &[u8], start: usize, end: usize) -> &[u8]
 pub(crate) fn names_of(alloc: Global, text: &[u8]) -> Result<Seq<&[u8]>, AllocError>
     ensures { IfOk result (λ names. map (λ n. n.now) names ≡ names_of text.now) }
 {
-    let mut names = Vec::new(alloc);
     if is_blank(text) {
-        return Ok(Seq::from_vec(names));
+        return Ok(Seq::from_vec(Vec::new(alloc)));
     }
+    let mut names = Vec::new(alloc);
     let mut start = 0;
     let mut braces = Braces::none();
     for (place, &byte) in text.iter().enumerate() {

@@ -1,6 +1,6 @@
 //! Printing a name by a template.
 
-ghost use Rattle.std.specs.Prelude.{◌≡◌, ◌≤◌, ◌<◌, ◌++◌, ◌∷◌, [], ◌==◌, IfOk, IfErr, OnOk, length};
+ghost use Rattle.std.specs.Prelude.{◌≡◌, ◌≤◌, ◌<◌, ◌+◌, ◌++◌, ◌∷◌, [], ◌==◌, IfOk, IfErr, OnOk, length, drop};
 ghost use Rattle.bib_names.specs.Printing.{shown, dot, is_short, joint, tied, joined, finished, printed_words, printed_group, part_of, printed_with_trail, printed};
 
 use crate::fault::NameFault;
@@ -106,19 +106,34 @@ pub(crate) fn finished(mut out: Vec<u8>) -> Result<Vec<u8>, AllocError>
     Ok(out)
 }
 
+/// Adds what is shown of the word at this place, and what stands between it and the next.
+fn push_word(
+    out: &mut Output,
+    group: &Group,
+    words: &[Word<'_>],
+    n: usize,
+) -> Result<(), AllocError>
+    requires { n < length words.now }
+    ensures { OnOk result (printed_words group.now out.new (drop (n + 1) words.now) ≡ printed_words group.now out.old (drop n words.now)) }
+{
+    let word = &words[n];
+    let shown = shown(group.form, word.text);
+    out.push_text(shown)?;
+    if n + 1 < words.len() {
+        let next = &words[n + 1];
+        return push_between(out, group, shown, next.sep, n + 2 == words.len());
+    }
+    Ok(())
+}
+
 /// The words of a group, after what stands before them.
 fn printed_words(alloc: Global, group: &Group, words: &[Word<'_>]) -> Result<Vec<u8>, AllocError>
     ensures { IfOk result (λ r. r.items ≡ printed_words group.now group.now.pre words.now) }
 {
     let mut out = Output::none(alloc);
     out.push_text(group.pre.as_slice())?;
-    for (n, word) in words.iter().enumerate() {
-        let shown = shown(group.form, word.text);
-        out.push_text(shown)?;
-        if n + 1 < words.len() {
-            let next = &words[n + 1];
-            push_between(&mut out, group, shown, next.sep, n + 2 == words.len())?;
-        }
+    for n in 0..words.len() {
+        push_word(&mut out, group, words, n)?;
     }
     Ok(out.into_vec())
 }
@@ -160,6 +175,18 @@ fn printed_with_trail(alloc: Global, group: &Group, name: &Name<'_>) -> Result<V
     Ok(out)
 }
 
+/// Adds the print of a group, and the text after it.
+fn push_printed(
+    alloc: Global,
+    out: &mut Vec<u8>,
+    group: &Group,
+    name: &Name<'_>,
+) -> Result<(), AllocError>
+    ensures { OnOk result (out.new.items ≡ out.old.items ++ printed_with_trail name.now group.now) }
+{
+    out.extend_from_slice(printed_with_trail(alloc, group, name)?.as_slice())
+}
+
 /// The print of a name by a template.
 pub(crate) fn printed(
     alloc: Global,
@@ -170,7 +197,7 @@ pub(crate) fn printed(
 {
     let mut out = Vec::from_slice(alloc, template.front())?;
     for group in template.groups() {
-        out.extend_from_slice(printed_with_trail(alloc, group, name)?.as_slice())?;
+        push_printed(alloc, &mut out, group, name)?;
     }
     Ok(Seq::from_vec(out))
 }

@@ -1,6 +1,6 @@
 //! Special characters and text characters.
 
-ghost use Rattle.std.specs.Prelude.{◌≡◌, ◌<◌, ◌≤◌, ◌==◌, ◌^◌, ◌+◌, [], ◌∷◌, min, length, IfSome, IfNone, true, false};
+ghost use Rattle.std.specs.Prelude.{◌≡◌, ◌<◌, ◌≤◌, ◌==◌, ◌&&◌, ◌^◌, ◌+◌, [], ◌∷◌, min, length, IfSome, IfNone, true, false};
 ghost use Rattle.std.specs.List.{prefix_len};
 ghost use Rattle.bib_names.specs.Marks.{goes_on};
 ghost use Rattle.bib_names.specs.Places.{is_level};
@@ -43,6 +43,15 @@ fn is_opening(text: &[u8], place: usize) -> bool
     text[place] == b'{' && text.len() - place > 1 && text[place + 1] == b'\\'
 }
 
+/// Whether they stand there at depth 0.
+fn is_level_opening(text: &[u8], place: usize, braces: Braces) -> bool
+    requires within { place < length text.now }
+    requires braces { (braces.opened == braces.closed) ≡ is_level text.now place }
+    ensures { result ≡ (is_level text.now place && is_opening text.now place) }
+{
+    braces.are_level() && is_opening(text, place)
+}
+
 /// The end of the special character that begins at the place, if one does.
 pub(crate) fn special_end(text: &[u8], place: usize, braces: Braces) -> Option<usize>
     requires within { place < length text.now }
@@ -50,7 +59,7 @@ pub(crate) fn special_end(text: &[u8], place: usize, braces: Braces) -> Option<u
     ensures found { IfSome result (IsSpecial text.now place) }
     ensures none { IfNone result (begins_special text.now place ≡ false) }
 {
-    if braces.are_level() && is_opening(text, place) {
+    if is_level_opening(text, place, braces) {
         group_end(text, place)
     } else {
         None

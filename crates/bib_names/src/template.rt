@@ -1,6 +1,6 @@
 //! Templates and their grammar.
 
-ghost use Rattle.std.specs.Prelude.{◌≡◌, ◌≤◌, ◌<◌, ◌⊎◌, Some, None, Err, IfOk, IfErr, IfSome, IfNone, length, option_map};
+ghost use Rattle.std.specs.Prelude.{◌≡◌, ◌≤◌, ◌<◌, ◌⊎◌, ◌++◌, ◌∷◌, [], Some, None, Err, IfOk, IfErr, OnOk, IfSome, IfNone, length, option_map};
 ghost use Rattle.std.specs.List.{prefix_len, take_while};
 ghost use Rattle.bib_spec.specs.Text.{after_run};
 ghost use Rattle.bib_names.specs.Template.{is_no_brace, is_ornament, OneTemplate};
@@ -222,6 +222,18 @@ fn owned_group(alloc: Global, group: &GroupText<'_>) -> Result<Group, AllocError
     })
 }
 
+/// Puts a copy of the group after the others.
+fn push_group(
+    alloc: Global,
+    groups: &mut Vec<Group>,
+    group: &GroupText<'_>,
+) -> Result<(), AllocError>
+    ensures { OnOk result (groups.new.items ≡ groups.old.items ++ group.now ∷ []) }
+{
+    groups.push(owned_group(alloc, group)?)?;
+    Ok(())
+}
+
 impl Template {
     ghost use Rattle.std.specs.Prelude.{List};
     ghost use Rattle.bib_names.specs.Template.{Pattern, IsTemplate, spelling};
@@ -242,7 +254,7 @@ impl Template {
             let Some((group, behind)) = split_group(inside) else {
                 return Err(NameFault::BadTemplate);
             };
-            groups.push(owned_group(alloc, &group)?)?;
+            push_group(alloc, &mut groups, &group)?;
             rest = behind;
         }
         if !rest.is_empty() {

@@ -22,7 +22,7 @@ loop-inside-preserved c =
     let bytes = c.args.bytes.now in
     let rest = after_byte-found 123 c.loop-inside.rest.now c.in-Some.inside.now c.in-Some.ensures.found in
     let far = subst (λ (t : List ℕ). IsReadSoFar bytes c.split_plain.result.0.now c.loop-inside.groups.items t) rest c.loop-inside.invariant in
-    rw (c.in_ok-push.ensures.items, c.in_ok-owned_group.ensures)
+    rw c.in_ok-push_group.ensures
     (read_more bytes c.split_plain.result.0.now c.loop-inside.groups.items c.in-Some.inside.now _ c.in-Some-split_group.behind.now far c.in-Some-split_group.ensures.found)
 
 pub returns-then-not-is_empty-clause-refused : goal.returns-then-not-is_empty-clause-refused
