@@ -1,6 +1,6 @@
 //! Names and values in turn.
 
-ghost use Rattle.std.specs.Prelude.{◌≡◌, Some, None, map, IfOk};
+ghost use Rattle.std.specs.Prelude.{◌≡◌, ◌++◌, ◌∷◌, [], Some, None, map, IfOk, OnOk};
 ghost use Rattle.bib_spec.specs.Text.{Text as Bytes};
 ghost use Rattle.bib_script.specs.Script.{fields_of};
 
@@ -12,6 +12,19 @@ pub(crate) fn copied(alloc: Global, word: &[u8]) -> Result<Text, AllocError>
     ensures { IfOk result (λ text. text ≡ word.now) }
 {
     Ok(Seq::from_vec(word.to_vec(alloc)?))
+}
+
+/// Puts a field of this name and this value after the others.
+fn push_field(
+    alloc: Global,
+    fields: &mut Vec<(Text, Text)>,
+    name: &[u8],
+    value: &[u8],
+) -> Result<(), AllocError>
+    ensures { OnOk result (fields.new.items ≡ fields.old.items ++ (name.now, value.now) ∷ []) }
+{
+    fields.push((copied(alloc, name)?, copied(alloc, value)?))?;
+    Ok(())
 }
 
 /// The fields that words say, names and values in turn, if their number is even.
@@ -26,7 +39,7 @@ pub(crate) fn fields_of(
     'pair: loop {
         match rest {
             [name, value, others @ ..] => {
-                fields.push((copied(alloc, name)?, copied(alloc, value)?))?;
+                push_field(alloc, &mut fields, name, value)?;
                 rest = others;
             }
             [_name] => return Ok(None),

@@ -1,12 +1,19 @@
 //! The words of each edit.
 
-ghost use Rattle.std.specs.Prelude.{◌≡◌, map, IfOk};
-ghost use Rattle.bib_script.specs.Script.{set_of, drop_of, add_of, remove_of, move_of, rename_key_of, rename_macro_of, inline_of, introduce_of, regenerate_of, renaming_of, edit_of};
+ghost use Rattle.std.specs.Prelude.{◌≡◌, bytes_eq, map, option_map, IfOk};
+ghost use Rattle.bib_script.specs.Script.{fields_of, new_entry, set_of, drop_of, add_of, remove_of, move_of, rename_key_of, rename_macro_of, inline_of, introduce_of, regenerate_of, renaming_of, edit_of};
 
 use crate::fields::{copied, fields_of};
 use crate::numbers::number_of;
 use bib_data::{Edit, NewEntry};
 use std::alloc::{AllocError, Global};
+
+/// Whether the word is this verb, byte for byte.
+fn is(word: &[u8], verb: &[u8]) -> bool
+    ensures { result ≡ bytes_eq word.now verb.now }
+{
+    word == verb
+}
 
 /// `set KEY FIELD VALUE`
 fn set_of(alloc: Global, words: &[&[u8]]) -> Result<Option<Edit>, AllocError>
@@ -35,6 +42,25 @@ fn drop_of(alloc: Global, words: &[&[u8]]) -> Result<Option<Edit>, AllocError>
     }))
 }
 
+/// The entry of this type and this key with the fields that words say.
+fn entry_of(
+    alloc: Global,
+    kind_name: &[u8],
+    key: &[u8],
+    fields: &[&[u8]],
+) -> Result<Option<NewEntry>, AllocError>
+    ensures { IfOk result (λ entry. entry ≡ option_map (new_entry kind_name.now key.now) (fields_of (map (λ w. w.now) fields.now))) }
+{
+    let Some(fields) = fields_of(alloc, fields)? else {
+        return Ok(None);
+    };
+    Ok(Some(NewEntry {
+        kind_name: copied(alloc, kind_name)?,
+        key: copied(alloc, key)?,
+        fields,
+    }))
+}
+
 /// `add POSITION TYPE KEY FIELD VALUE ..`
 fn add_of(alloc: Global, words: &[&[u8]]) -> Result<Option<Edit>, AllocError>
     ensures { IfOk result (λ edit. edit ≡ add_of (map (λ w. w.now) words.now)) }
@@ -45,15 +71,10 @@ fn add_of(alloc: Global, words: &[&[u8]]) -> Result<Option<Edit>, AllocError>
     let Some(position) = number_of(position) else {
         return Ok(None);
     };
-    let Some(fields) = fields_of(alloc, fields)? else {
-        return Ok(None);
-    };
-    let entry = NewEntry {
-        kind_name: copied(alloc, kind_name)?,
-        key: copied(alloc, key)?,
-        fields,
-    };
-    Ok(Some(Edit::AddEntry { position, entry }))
+    match entry_of(alloc, kind_name, key, fields)? {
+        Some(entry) => Ok(Some(Edit::AddEntry { position, entry })),
+        None => Ok(None),
+    }
 }
 
 /// `remove KEY`
@@ -150,15 +171,15 @@ fn regenerate_of(words: &[&[u8]]) -> Option<Edit>
 fn renaming_of(alloc: Global, verb: &[u8], words: &[&[u8]]) -> Result<Option<Edit>, AllocError>
     ensures { IfOk result (λ edit. edit ≡ renaming_of verb.now (map (λ w. w.now) words.now)) }
 {
-    if verb == b"rename-key".as_slice() {
+    if is(verb, b"rename-key") {
         rename_key_of(alloc, words)
-    } else if verb == b"rename-macro".as_slice() {
+    } else if is(verb, b"rename-macro") {
         rename_macro_of(alloc, words)
-    } else if verb == b"inline".as_slice() {
+    } else if is(verb, b"inline") {
         inline_of(alloc, words)
-    } else if verb == b"introduce".as_slice() {
+    } else if is(verb, b"introduce") {
         introduce_of(alloc, words)
-    } else if verb == b"regenerate".as_slice() {
+    } else if is(verb, b"regenerate") {
         Ok(regenerate_of(words))
     } else {
         Ok(None)
@@ -172,15 +193,15 @@ pub(crate) fn edit_of(alloc: Global, words: &[&[u8]]) -> Result<Option<Edit>, Al
     let [verb, words @ ..] = words else {
         return Ok(None);
     };
-    if *verb == b"set".as_slice() {
+    if is(verb, b"set") {
         set_of(alloc, words)
-    } else if *verb == b"drop".as_slice() {
+    } else if is(verb, b"drop") {
         drop_of(alloc, words)
-    } else if *verb == b"add".as_slice() {
+    } else if is(verb, b"add") {
         add_of(alloc, words)
-    } else if *verb == b"remove".as_slice() {
+    } else if is(verb, b"remove") {
         remove_of(alloc, words)
-    } else if *verb == b"move".as_slice() {
+    } else if is(verb, b"move") {
         move_of(alloc, words)
     } else {
         renaming_of(alloc, verb, words)
