@@ -52,18 +52,21 @@ module _ {A : Type 0} (kept : RisLine → List A) where
       → l5 ≡ a ++ flat_map kept (lines_of (g1 ∷ g2 ∷ g3 ∷ g4 ∷ g5 ∷ []))
   five_groups a l1 l2 l3 l4 l5 g1 g2 g3 g4 g5 p1 p2 p3 p4 p5 = more_groups a l1 l5 g1 (g2 ∷ g3 ∷ g4 ∷ g5 ∷ []) p1 (four_groups l1 l2 l3 l4 l5 g2 g3 g4 g5 p2 p3 p4 p5)
 
-  -- five sections and a group, one after another
-  pub six_sections : (a b c d e : List Tagged) (g : Tagged) (l0 l1 l2 l3 l4 l5 l6 : List A)
+  -- five sections, one after another
+  pub five_sections : (a b c d e : List Tagged) (l0 l1 l2 l3 l4 l5 : List A)
       → l1 ≡ l0 ++ flat_map kept (lines_of a) → l2 ≡ l1 ++ flat_map kept (lines_of b) → l3 ≡ l2 ++ flat_map kept (lines_of c) → l4 ≡ l3 ++ flat_map kept (lines_of d)
-      → l5 ≡ l4 ++ flat_map kept (lines_of e) → l6 ≡ l5 ++ flat_map kept (tagged_lines g)
-      → l6 ≡ l0 ++ flat_map kept (lines_of ((a ++ (b ++ (c ++ (d ++ e)))) ++ (g ∷ [])))
-  six_sections a b c d e g l0 l1 l2 l3 l4 l5 l6 p1 p2 p3 p4 p5 p6 =
-      more_sections_kept l0 l5 l6 (a ++ (b ++ (c ++ (d ++ e)))) (g ∷ [])
-      (more_sections_kept l0 l1 l5 a (b ++ (c ++ (d ++ e))) p1
+      → l5 ≡ l4 ++ flat_map kept (lines_of e)
+      → l5 ≡ l0 ++ flat_map kept (lines_of (a ++ (b ++ (c ++ (d ++ e)))))
+  five_sections a b c d e l0 l1 l2 l3 l4 l5 p1 p2 p3 p4 p5 =
+      more_sections_kept l0 l1 l5 a (b ++ (c ++ (d ++ e))) p1
       (more_sections_kept l1 l2 l5 b (c ++ (d ++ e)) p2
       (more_sections_kept l2 l3 l5 c (d ++ e) p3
-      (more_sections_kept l3 l4 l5 d e p4 p5))))
-      (one_group l5 l6 g p6)
+      (more_sections_kept l3 l4 l5 d e p4 p5)))
+
+  -- a section, and a group after it
+  pub section_and_group : (a : List Tagged) (g : Tagged) (l0 l1 l2 : List A) → l1 ≡ l0 ++ flat_map kept (lines_of a) → l2 ≡ l1 ++ flat_map kept (tagged_lines g)
+      → l2 ≡ l0 ++ flat_map kept (lines_of (a ++ (g ∷ [])))
+  section_and_group a g l0 l1 l2 p q = more_sections_kept l0 l1 l2 a (g ∷ []) p (one_group l1 l2 g q)
 
 -- lines that are kept as themselves
 pub kept_whole : (lines : List RisLine) → flat_map (λ l. l ∷ []) lines ≡ lines

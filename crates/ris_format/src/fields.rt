@@ -1,6 +1,6 @@
 //! Fields of a record by their names.
 
-ghost use Rattle.std.specs.Prelude.{◌≡◌, ◌++◌, ◌∷◌, [], OnOk, IfOk, filter, map};
+ghost use Rattle.std.specs.Prelude.{◌≡◌, ◌++◌, ◌∷◌, [], OnOk, IfOk, codes, filter, map};
 ghost use Rattle.ris_format.specs.Mapping.{is_filled, has_text, text_of, field, later_names, field_names, ris_names};
 
 use crate::kinds::{Kind, is};
@@ -68,14 +68,19 @@ pub(crate) fn field_names(alloc: Global, kind: Kind) -> Result<Vec<&'static [u8]
     ensures { IfOk result (λ names. map (λ n. n.now) names.items ≡ field_names kind) }
 {
     let mut names: Vec<&'static [u8]> = Vec::with_capacity(alloc, MOST_FIELDS)?;
-    names.push(b"author")?;
-    names.push(b"editor")?;
-    names.push(b"title")?;
+    names.extend_from_slice(&first_names())?;
     if !kind.is_article() {
         names.push(b"booktitle")?;
     }
     names.extend_from_slice(&later_names(kind))?;
     Ok(names)
+}
+
+/// The names up to title.
+fn first_names() -> [&'static [u8]; 3]
+    ensures { map (λ n. n.now) result ≡ codes "author" ∷ codes "editor" ∷ codes "title" ∷ [] }
+{
+    [b"author", b"editor", b"title"]
 }
 
 /// The names from series on.

@@ -1,12 +1,12 @@
 //! From a record to RIS.
 
-ghost use Rattle.std.specs.Prelude.{◌≡◌, ◌++◌, true, IfOk, IfErr, OnOk, map, filter};
+ghost use Rattle.std.specs.Prelude.{◌≡◌, ◌++◌, ◌∷◌, [], if◌then◌else◌, true, IfOk, IfErr, OnOk, map, filter};
 ghost use Rattle.std.specs.List.{list_any, flat_map};
 ghost use Rattle.std.specs.Str.{bytes_eq};
 ghost use Rattle.ris_text.specs.Writing.{record_text, is_well_formed};
 ghost use Rattle.ris_format.specs.Kinds.{ris_type};
 ghost use Rattle.ris_format.specs.Lines.{lines_of};
-ghost use Rattle.ris_format.specs.Mapping.{booktitle_text, field_names, written_names, written_titles, written_numbers, written_publishers, written_notes, written, ris, is_carried, is_dropped, dropped};
+ghost use Rattle.ris_format.specs.Mapping.{booktitle_text, field_names, written_names, written_titles, written_numbers, written_publishers, written_notes, written_fields, written, ris, is_carried, is_dropped, dropped};
 ghost use Rattle.ris_format.specs.declared.fault.MappingFault.TheVariants.{Memory};
 
 use crate::dates::{has_slash, month_digits, push_date};
@@ -115,6 +115,22 @@ fn push_notes<T: Kept>(
     push_keywords(alloc, lines, *b"KW", text_of(fields, b"keywords"))
 }
 
+/// Puts the lines of a record's fields after the others.
+fn push_fields<T: Kept>(
+    alloc: Global,
+    lines: &mut Vec<T>,
+    kind: Kind,
+    fields: &[(Text, Text)],
+) -> Result<(), AllocError>
+    ensures { OnOk result (lines.new.items ≡ lines.old.items ++ flat_map T.kept (lines_of (written_fields kind fields.now))) }
+{
+    push_names(alloc, lines, fields)?;
+    push_titles(alloc, lines, kind, fields)?;
+    push_numbers(alloc, lines, fields)?;
+    push_publishers(alloc, lines, kind, fields)?;
+    push_notes(alloc, lines, fields)
+}
+
 /// Puts the lines of a record after the others, with its key at the end.
 fn push_record<T: Kept>(
     alloc: Global,
@@ -124,12 +140,7 @@ fn push_record<T: Kept>(
 ) -> Result<(), AllocError>
     ensures { OnOk result (lines.new.items ≡ lines.old.items ++ flat_map T.kept (lines_of (written kind entry.now))) }
 {
-    let fields = entry.fields.as_slice();
-    push_names(alloc, lines, fields)?;
-    push_titles(alloc, lines, kind, fields)?;
-    push_numbers(alloc, lines, fields)?;
-    push_publishers(alloc, lines, kind, fields)?;
-    push_notes(alloc, lines, fields)?;
+    push_fields(alloc, lines, kind, entry.fields.as_slice())?;
     push_single(alloc, lines, *b"ID", entry.key.as_slice())
 }
 
@@ -174,6 +185,22 @@ fn is_dropped(alloc: Global, kind: Kind, field: &(Text, Text)) -> Result<bool, A
     Ok(!is_carried(alloc, kind, field.0.as_slice(), field.1.as_slice())?)
 }
 
+/// Puts the name of the field after the others, where the field is dropped.
+fn push_dropped(
+    alloc: Global,
+    names: &mut Vec<Text>,
+    kind: Kind,
+    field: &(Text, Text),
+) -> Result<(), AllocError>
+    ensures { OnOk result (names.new.items ≡ (if is_dropped kind field.now then names.old.items ++ field.now.0 ∷ [] else names.old.items)) }
+{
+    if is_dropped(alloc, kind, field)? {
+        let name = copy(alloc, field.0.as_slice())?;
+        names.push(name)?;
+    }
+    Ok(())
+}
+
 /// The names of the fields that are dropped.
 fn dropped_names(
     alloc: Global,
@@ -184,10 +211,7 @@ fn dropped_names(
 {
     let mut names = Vec::new(alloc);
     for field in fields {
-        if is_dropped(alloc, kind, field)? {
-            let name = copy(alloc, field.0.as_slice())?;
-            names.push(name)?;
-        }
+        push_dropped(alloc, &mut names, kind, field)?;
     }
     Ok(names)
 }

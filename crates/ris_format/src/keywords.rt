@@ -1,8 +1,8 @@
 //! Keywords, both ways.
 
-ghost use Rattle.std.specs.Prelude.{◌≡◌, ◌++◌, OnOk, IfOk, map};
+ghost use Rattle.std.specs.Prelude.{◌≡◌, ◌++◌, OnOk, IfOk, map, filter};
 ghost use Rattle.std.specs.List.{flat_map};
-ghost use Rattle.ris_format.specs.Lines.{line};
+ghost use Rattle.ris_format.specs.Lines.{has_bytes, line};
 ghost use Rattle.ris_format.specs.Keywords.{is_comma_byte, keyword_pieces, written_keywords, read_keywords, are_plain_keywords};
 
 use crate::keeping::Kept;
@@ -33,18 +33,24 @@ fn keyword_pieces(alloc: Global, text: &[u8]) -> Result<Vec<&[u8]>, AllocError>
     Ok(pieces)
 }
 
-/// The keywords of a text.
-fn keywords(alloc: Global, text: &[u8]) -> Result<Vec<&[u8]>, AllocError>
-    ensures { IfOk result (λ words. map (λ w. w.now) words.items ≡ written_keywords text.now) }
+/// Those of the pieces that have a byte.
+fn filled<'a>(alloc: Global, pieces: &[&'a [u8]]) -> Result<Vec<&'a [u8]>, AllocError>
+    ensures { IfOk result (λ words. map (λ w. w.now) words.items ≡ filter has_bytes (map (λ p. p.now) pieces.now)) }
 {
-    let pieces = keyword_pieces(alloc, text)?;
     let mut words = Vec::new(alloc);
-    for piece in pieces.as_slice() {
+    for piece in pieces {
         if has_bytes(piece) {
             words.push(*piece)?;
         }
     }
     Ok(words)
+}
+
+/// The keywords of a text.
+fn keywords(alloc: Global, text: &[u8]) -> Result<Vec<&[u8]>, AllocError>
+    ensures { IfOk result (λ words. map (λ w. w.now) words.items ≡ written_keywords text.now) }
+{
+    filled(alloc, keyword_pieces(alloc, text)?.as_slice())
 }
 
 /// Puts a line for each keyword after the others.

@@ -1,9 +1,9 @@
 //! Names of persons, both ways.
 
-ghost use Rattle.std.specs.Prelude.{◌≡◌, ◌++◌, ◌==◌, ◌&&◌, OnOk, IfOk, map, length, true, false};
+ghost use Rattle.std.specs.Prelude.{◌≡◌, ◌++◌, ◌==◌, ◌&&◌, not, OnOk, IfOk, map, length, codes, true, false};
 ghost use Rattle.std.specs.List.{slice_range, list_any, list_all, flat_map};
 ghost use Rattle.ris_format.specs.Lines.{line};
-ghost use Rattle.ris_format.specs.People.{word_end, to_last_end, part_text, family, person, ris_name, bib_name, is_somebody, taken_apart, is_broken, is_refused, written_person, written_names, written_people, name_pieces, person_of, lacks_and, is_opaque, read_balanced, read_name, read_people, is_plain_name, are_plain_names};
+ghost use Rattle.ris_format.specs.People.{word_end, to_last_end, part_text, family, person, ris_name, bib_name, is_somebody, taken_apart, is_broken, is_refused, written_person, written_name, written_names, written_people, name_pieces, person_of, lacks_and, is_opaque, read_balanced, read_name, read_people, is_plain_name, are_plain_names};
 ghost use Rattle.bib_names.specs.Label.{balances, listed_names};
 
 use crate::braces::Braces;
@@ -155,12 +155,19 @@ fn listed_names(alloc: Global, list: &[u8]) -> Result<Seq<&[u8]>, AllocError>
     }
 }
 
+/// Whether the name cannot be taken apart.
+fn is_broken(alloc: Global, name: &[u8]) -> Result<bool, AllocError>
+    ensures { IfOk result (λ b. b ≡ is_broken name.now) }
+{
+    Ok(taken_apart(alloc, name)?.is_none())
+}
+
 /// Whether one of the names cannot be taken apart.
 fn is_any_broken(alloc: Global, names: &[&[u8]]) -> Result<bool, AllocError>
     ensures { IfOk result (λ b. b ≡ list_any is_broken (map (λ n. n.now) names.now)) }
 {
     for name in names {
-        if taken_apart(alloc, name)?.is_none() {
+        if is_broken(alloc, name)? {
             return Ok(true);
         }
     }
@@ -195,6 +202,23 @@ fn push_person<T: Kept>(
     Ok(())
 }
 
+/// Puts a line for the name after the others, where it has a word. Says whether it can be taken apart.
+fn push_name<T: Kept>(
+    alloc: Global,
+    lines: &mut Vec<T>,
+    tag: [u8; 2],
+    name: &[u8],
+) -> Result<bool, AllocError>
+    ensures whole { IfOk result (λ is_whole. is_whole ≡ not (is_broken name.now)) }
+    ensures lines { OnOk result (lines.new.items ≡ lines.old.items ++ flat_map T.kept (map (line tag) (written_name name.now))) }
+{
+    let Some(parts) = taken_apart(alloc, name)? else {
+        return Ok(false);
+    };
+    push_person(alloc, lines, tag, &Person::of(name, &parts))?;
+    Ok(true)
+}
+
 /// Puts a line for each of these names after the others, none where one of them cannot be taken apart.
 fn push_names<T: Kept>(
     alloc: Global,
@@ -206,11 +230,10 @@ fn push_names<T: Kept>(
 {
     let before = lines.len();
     'names: for name in names {
-        let Some(parts) = taken_apart(alloc, name)? else {
+        if !push_name(alloc, lines, tag, name)? {
             lines.truncate(before);
             return Ok(());
-        };
-        push_person(alloc, lines, tag, &Person::of(name, &parts))?;
+        }
     }
     Ok(())
 }
@@ -336,6 +359,14 @@ fn read_name(alloc: Global, value: &[u8]) -> Result<Text, AllocError>
     }
 }
 
+/// Puts a value as one more name of a list.
+fn push_read(alloc: Global, list: &mut Vec<u8>, value: &[u8]) -> Result<(), AllocError>
+    ensures { OnOk result (list.new.items ≡ list.old.items ++ (codes " and " ++ read_name value.now)) }
+{
+    list.extend_from_slice(b" and ")?;
+    list.extend_from_slice(read_name(alloc, value)?.as_slice())
+}
+
 /// The values as a list of names.
 pub(crate) fn read_people(alloc: Global, values: &[&[u8]]) -> Result<Text, AllocError>
     ensures { IfOk result (λ list. list ≡ read_people (map (λ v. v.now) values.now)) }
@@ -345,8 +376,7 @@ pub(crate) fn read_people(alloc: Global, values: &[&[u8]]) -> Result<Text, Alloc
     };
     let mut list = read_name(alloc, first)?.into_vec();
     for value in rest {
-        list.extend_from_slice(b" and ")?;
-        list.extend_from_slice(read_name(alloc, value)?.as_slice())?;
+        push_read(alloc, &mut list, value)?;
     }
     Ok(Seq::from_vec(list))
 }

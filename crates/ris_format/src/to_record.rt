@@ -1,7 +1,10 @@
 //! From RIS to a record.
 
-ghost use Rattle.std.specs.Prelude.{◌≡◌, ◌++◌, IfOk, IfErr, OnOk, filter};
-ghost use Rattle.ris_format.specs.Mapping.{has_text, read_names, read_journal, read_booktitle, read_titles, read_numbers, read_publishers, read_notes, read_fields, record_in, back};
+ghost use Rattle.std.specs.Prelude.{◌≡◌, ◌++◌, ◌∷◌, [], IfOk, IfErr, OnOk, codes, filter};
+ghost use Rattle.ris_format.specs.Keywords.{read_keywords};
+ghost use Rattle.ris_format.specs.Lines.{values_at};
+ghost use Rattle.ris_format.specs.Mapping.{field, has_text, read_names, read_journal, read_booktitle, read_titles, read_numbers, read_publishers, read_notes, read_fields, record_in, back};
+ghost use Rattle.ris_format.specs.People.{read_people};
 ghost use Rattle.ris_format.specs.declared.fault.MappingFault.TheVariants.{Memory};
 
 use crate::dates::{read_month, read_year};
@@ -17,6 +20,21 @@ use bib_scan::{Seq, Text};
 use ris_text::{RisLine, RisRecord};
 use std::alloc::{AllocError, Global};
 
+/// Puts a field with the names that stand after these tags after the other fields.
+fn push_people(
+    alloc: Global,
+    fields: &mut Vec<(Text, Text)>,
+    name: &[u8],
+    tags: &[[u8; 2]],
+    lines: &[RisLine],
+) -> Result<(), AllocError>
+    ensures { OnOk result (fields.new.items ≡ fields.old.items ++ filter has_text (field name.now (read_people (values_at tags.now lines.now)) ∷ [])) }
+{
+    let values = values_at(alloc, tags, lines)?;
+    let people = read_people(alloc, values.as_slice())?;
+    push_text(alloc, fields, name, people)
+}
+
 /// Puts author, editor and title after the other fields.
 fn push_names(
     alloc: Global,
@@ -25,12 +43,8 @@ fn push_names(
 ) -> Result<(), AllocError>
     ensures { OnOk result (fields.new.items ≡ fields.old.items ++ filter has_text (read_names lines.now)) }
 {
-    let authors = values_at(alloc, &[*b"AU", *b"A1"], lines)?;
-    let author = read_people(alloc, authors.as_slice())?;
-    push_text(alloc, fields, b"author", author)?;
-    let editors = values_at(alloc, &[*b"A2", *b"ED"], lines)?;
-    let editor = read_people(alloc, editors.as_slice())?;
-    push_text(alloc, fields, b"editor", editor)?;
+    push_people(alloc, fields, b"author", &[*b"AU", *b"A1"], lines)?;
+    push_people(alloc, fields, b"editor", &[*b"A2", *b"ED"], lines)?;
     push_field(alloc, fields, b"title", value_at(&[*b"TI", *b"T1"], lines))
 }
 
@@ -119,6 +133,19 @@ fn push_publishers(
     )
 }
 
+/// Puts the keywords after the other fields.
+fn push_keywords(
+    alloc: Global,
+    fields: &mut Vec<(Text, Text)>,
+    lines: &[RisLine],
+) -> Result<(), AllocError>
+    ensures { OnOk result (fields.new.items ≡ fields.old.items ++ filter has_text (field (codes "keywords") (read_keywords (values_at (codes "KW" ∷ []) lines.now)) ∷ [])) }
+{
+    let words = values_at(alloc, &[*b"KW"], lines)?;
+    let keywords = join(alloc, b", ", words.as_slice())?;
+    push_text(alloc, fields, b"keywords", keywords)
+}
+
 /// Puts addresses on the web, abstract, note and keywords after the other fields.
 fn push_notes(
     alloc: Global,
@@ -136,9 +163,7 @@ fn push_notes(
         value_at(&[*b"AB", *b"N2"], lines),
     )?;
     push_field(alloc, fields, b"note", value_at(&[*b"N1"], lines))?;
-    let words = values_at(alloc, &[*b"KW"], lines)?;
-    let keywords = join(alloc, b", ", words.as_slice())?;
-    push_text(alloc, fields, b"keywords", keywords)
+    push_keywords(alloc, fields, lines)
 }
 
 /// The fields that lines say whose values are field texts.

@@ -1,6 +1,8 @@
-use Rattle.std.proofs.Common.{codes}
+use Rattle.std.proofs.Common.{◌∙◌, ◌++◌, ap, codes}
+use Rattle.std.specs.List.{flat_map}
 use Rattle.std.proofs.lemmas.Result.{on_ok_weaker}
-use Rattle.ris_format.specs.Lines.{tagged}
+use Rattle.bib_spec.specs.Text.{Text}
+use Rattle.ris_format.specs.Lines.{tagged, tagged_lines}
 use Rattle.ris_format.specs.People.{written_people}
 use Rattle.ris_format.specs.Mapping.{text_of}
 use Rattle.ris_format.proofs.SectionLaws.{two_groups}
@@ -9,7 +11,11 @@ use Rattle.ris_format.proofs.from_record.push_names.Goals as goal
 pub returns : goal.returns
 returns g c =
     let fields = c.args.fields.now in
-    let authors = rw c.text_of.ensures at c.in_ok-push_people.ensures in
+    let before = c.args.lines.now.items in
+    let between = c.push_people.new.lines.items in
     on_ok_weaker c.push_people-2.result
-    (λ h. let editors = rw c.text_of-2.ensures at h in two_groups g.T.Kept.kept _ _ _ (tagged (codes "AU") (written_people (text_of fields (codes "author")))) (tagged (codes "A2") (written_people (text_of fields (codes "editor")))) authors editors)
+    (λ h. two_groups g.T.Kept.kept before between c.push_people-2.new.lines.items
+    (tagged (codes "AU") (written_people (text_of fields (codes "author")))) (tagged (codes "A2") (written_people (text_of fields (codes "editor"))))
+    (c.in_ok-push_people.ensures ∙ ap (λ (t : Text). before ++ flat_map g.T.Kept.kept (tagged_lines (tagged (codes "AU") (written_people t)))) c.text_of.ensures)
+    (h ∙ ap (λ (t : Text). between ++ flat_map g.T.Kept.kept (tagged_lines (tagged (codes "A2") (written_people t)))) c.text_of-2.ensures))
     c.push_people-2.ensures

@@ -1,23 +1,22 @@
-use Rattle.std.proofs.Common.{◌≡◌, codes, rules}
+use Rattle.std.proofs.Common.{◌≡◌, ◌∙◌, ◌++◌, ap, codes, rules}
+use Rattle.std.specs.List.{flat_map}
 use Rattle.std.proofs.lemmas.Result.{on_ok_weaker}
-use Rattle.ris_format.specs.Lines.{single, tagged}
-use Rattle.ris_format.specs.Mapping.{written_names, written_titles, written_numbers, written_publishers, written_notes}
-use Rattle.ris_format.proofs.SectionLaws.{six_sections}
+use Rattle.bib_spec.specs.Text.{Text}
+use Rattle.ris_format.specs.Lines.{single, tagged, tagged_lines, lines_of}
+use Rattle.ris_format.specs.Mapping.{Fields, written_fields}
+use Rattle.ris_format.proofs.SectionLaws.{section_and_group}
 use Rattle.ris_format.proofs.from_record.push_record.Goals as goal
 
 pub returns : goal.returns
 returns g c =
     let entry = c.args.entry.now in
     let kind = c.args.kind in
-    let fields : c.as_slice-fields.result.now ≡ entry.fields = search rules in
-    let key : c.as_slice.result.now ≡ entry.key = search rules in
+    let before = c.args.lines.now.items in
+    let between = c.push_fields.new.lines.items in
+    let fields : c.as_slice.result.now ≡ entry.fields = search rules in
+    let key : c.as_slice-2.result.now ≡ entry.key = search rules in
     on_ok_weaker c.push_single.result
-    (λ h. six_sections g.T.Kept.kept (written_names entry.fields) (written_titles kind entry.fields) (written_numbers entry.fields) (written_publishers kind entry.fields) (written_notes entry.fields)
-    (tagged (codes "ID") (single entry.key)) _ _ _ _ _ _ _
-    (rw fields at c.in_ok-push_names.ensures)
-    (rw fields at c.in_ok-push_titles.ensures)
-    (rw fields at c.in_ok-push_numbers.ensures)
-    (rw fields at c.in_ok-push_publishers.ensures)
-    (rw fields at c.in_ok-push_notes.ensures)
-    (rw key at h))
+    (λ h. section_and_group g.T.Kept.kept (written_fields kind entry.fields) (tagged (codes "ID") (single entry.key)) before between c.push_single.new.lines.items
+    (c.in_ok-push_fields.ensures ∙ ap (λ (fs : Fields). before ++ flat_map g.T.Kept.kept (lines_of (written_fields kind fs))) fields)
+    (h ∙ ap (λ (t : Text). between ++ flat_map g.T.Kept.kept (tagged_lines (tagged (codes "ID") (single t)))) key))
     c.push_single.ensures

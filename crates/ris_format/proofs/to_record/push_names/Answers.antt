@@ -1,4 +1,4 @@
-use Rattle.std.proofs.Common.{◌≡◌, ◌∙◌, [], ◌∷◌, codes, map, ap}
+use Rattle.std.proofs.Common.{[], ◌∷◌, codes}
 use Rattle.std.proofs.lemmas.Result.{on_ok_weaker}
 use Rattle.ris_format.specs.Lines.{values_at, value_at}
 use Rattle.ris_format.specs.People.{read_people}
@@ -10,18 +10,13 @@ pub returns : goal.returns
 returns c =
     let lines = c.args.lines.now in
     let before = c.args.fields.now.items in
-    let with_author = c.push_text.new.fields.items in
-    let with_editor = c.push_text-2.new.fields.items in
+    let with_author = c.push_people.new.fields.items in
+    let with_editor = c.push_people-2.new.fields.items in
     let authors = read_people (values_at (codes "AU" ∷ codes "A1" ∷ []) lines) in
     let editors = read_people (values_at (codes "A2" ∷ codes "ED" ∷ []) lines) in
     let title = value_at (codes "TI" ∷ codes "T1" ∷ []) lines in
-    let author : c.in_ok-author.author ≡ authors =
-    c.in_ok-author.ensures ∙ ap read_people (ap (map (λ v. v.now)) c.as_slice.ensures.value ∙ c.in_ok-authors.ensures) in
-    let editor : c.in_ok-editor.editor ≡ editors =
-    c.in_ok-editor.ensures ∙ ap read_people (ap (map (λ v. v.now)) c.as_slice-2.ensures.value ∙ c.in_ok-editors.ensures) in
     on_ok_weaker c.push_field.result
     (λ h. three_fields before with_author with_editor c.push_field.new.fields.items (field (codes "author") authors) (field (codes "editor") editors) (field (codes "title") title)
-    (field_put before with_author (codes "author") c.in_ok-author.author authors c.in_ok-push_text.ensures author)
-    (field_put with_author with_editor (codes "editor") c.in_ok-editor.editor editors c.in_ok-push_text-2.ensures editor)
+    c.in_ok-push_people.ensures c.in_ok-push_people-2.ensures
     (field_put with_editor c.push_field.new.fields.items (codes "title") c.value_at.result.now title h c.value_at.ensures))
     c.push_field.ensures
