@@ -19,4 +19,5 @@ pub mod TemplateLaws
 pub mod LabelLaws
 pub mod SurnameLaws
 pub mod LabelFields
+pub mod LabelPartLaws
 pub mod MadeKeyLaws

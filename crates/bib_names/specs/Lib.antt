@@ -13,5 +13,6 @@ pub mod TemplateReading
 pub mod Printing
 pub mod Outputs
 pub mod Label
+pub mod LabelParts
 pub mod Surname
 pub mod Counts

@@ -2,11 +2,12 @@
 
 ghost use Rattle.std.specs.Prelude.{◌≡◌, ◌≤◌, ◌<◌, ◌++◌, ◌∷◌, [], Some, None, IfOk, IfErr, OnOk, length, map, filter, take};
 ghost use Rattle.std.specs.Char.{is_ascii_digit};
-ghost use Rattle.bib_names.specs.Label.{text_in, label_names, balances, listed_names, names_in, group, initials_template, print_of, initials_of, first_three, letters_of_one, ends_with_others, letters_of_many, letters_of_names, letters_of_fields, or_anon, last_two, label_base};
+ghost use Rattle.bib_names.specs.Label.{text_in, label_names, balances, listed_names, group, initials_template, print_of, initials_of, first_three, letters_of_one, ends_with_others, letters_of_many, or_anon, last_two, label_base};
 ghost use Rattle.bib_names.specs.Surname.{initials_printed, last_printed};
 
 use crate::fault::NameFault;
 use crate::name_list::names_of;
+use crate::parts::base_of;
 use crate::printing::printed_group;
 use crate::special::{Chars, char_count};
 use crate::surname::{Surname, initials, surname_in};
@@ -51,25 +52,13 @@ pub(crate) fn balances(text: &[u8]) -> bool
 }
 
 /// The names of a list, none where its braces do not balance.
-fn listed_names(alloc: Global, text: &[u8]) -> Result<Seq<&[u8]>, AllocError>
+pub(crate) fn listed_names(alloc: Global, text: &[u8]) -> Result<Seq<&[u8]>, AllocError>
     ensures { IfOk result (λ names. map (λ n. n.now) names ≡ listed_names text.now) }
 {
     if balances(text) {
         names_of(alloc, text)
     } else {
         Ok(Seq::from_vec(Vec::new(alloc)))
-    }
-}
-
-/// The names of the author, or where there are none of the editor.
-fn names_in<'a>(alloc: Global, fields: &'a [(Text, Text)]) -> Result<Seq<&'a [u8]>, AllocError>
-    ensures { IfOk result (λ names. map (λ n. n.now) names ≡ names_in fields.now) }
-{
-    let authors = listed_names(alloc, text_in(fields, b"author"))?;
-    if authors.as_slice().is_empty() {
-        listed_names(alloc, text_in(fields, b"editor"))
-    } else {
-        Ok(authors)
     }
 }
 
@@ -118,7 +107,7 @@ fn print_of_initials(alloc: Global, name: &[u8]) -> Result<Vec<u8>, AllocError>
 }
 
 /// The first three text characters, without ordinary braces.
-fn first_three(alloc: Global, text: &[u8]) -> Result<Text, AllocError>
+pub(crate) fn first_three(alloc: Global, text: &[u8]) -> Result<Text, AllocError>
     ensures { IfOk result (λ t. t ≡ first_three text.now) }
 {
     let mut out = Vec::new(alloc);
@@ -134,7 +123,7 @@ fn first_three(alloc: Global, text: &[u8]) -> Result<Text, AllocError>
 }
 
 /// The letters of one name.
-fn letters_of_one(alloc: Global, name: &[u8]) -> Result<Text, AllocError>
+pub(crate) fn letters_of_one(alloc: Global, name: &[u8]) -> Result<Text, AllocError>
     ensures { IfOk result (λ t. t ≡ letters_of_one name.now) }
 {
     let Some(surname) = surname_in(alloc, name)? else {
@@ -177,7 +166,7 @@ fn ends_with_others(names: &[&[u8]]) -> bool
 }
 
 /// The letters of two names or more.
-fn letters_of_many(alloc: Global, names: &[&[u8]]) -> Result<Text, AllocError>
+pub(crate) fn letters_of_many(alloc: Global, names: &[&[u8]]) -> Result<Text, AllocError>
     requires { 0 < length names.now }
     ensures { IfOk result (λ t. t ≡ letters_of_many (map (λ n. n.now) names.now)) }
 {
@@ -194,25 +183,6 @@ fn letters_of_many(alloc: Global, names: &[&[u8]]) -> Result<Text, AllocError>
     Ok(Seq::from_vec(out))
 }
 
-/// The letters of these names, or where there are none of this text.
-fn letters_of_names(alloc: Global, names: &[&[u8]], key: &[u8]) -> Result<Text, AllocError>
-    ensures { IfOk result (λ t. t ≡ letters_of_names (map (λ n. n.now) names.now) key.now) }
-{
-    match names {
-        [] => first_three(alloc, key),
-        [name] => letters_of_one(alloc, name),
-        many => letters_of_many(alloc, many),
-    }
-}
-
-/// The letters of a label, empty if it has none.
-fn letters_of_fields(alloc: Global, fields: &[(Text, Text)]) -> Result<Text, AllocError>
-    ensures { IfOk result (λ t. t ≡ letters_of_fields fields.now) }
-{
-    let names = names_in(alloc, fields)?;
-    letters_of_names(alloc, names.as_slice(), text_in(fields, b"key"))
-}
-
 /// The text, or `anon` where it is empty.
 pub(crate) fn or_anon(alloc: Global, text: Vec<u8>) -> Result<Vec<u8>, AllocError>
     ensures { IfOk result (λ t. t.items ≡ or_anon text.items) }
@@ -225,7 +195,7 @@ pub(crate) fn or_anon(alloc: Global, text: Vec<u8>) -> Result<Vec<u8>, AllocErro
 }
 
 /// The digits of a text.
-fn digits_of(alloc: Global, text: &[u8]) -> Result<Vec<u8>, AllocError>
+pub(crate) fn digits_of(alloc: Global, text: &[u8]) -> Result<Vec<u8>, AllocError>
     ensures { IfOk result (λ t. t.items ≡ filter is_ascii_digit text.now) }
 {
     text.iter()
@@ -235,21 +205,10 @@ fn digits_of(alloc: Global, text: &[u8]) -> Result<Vec<u8>, AllocError>
 }
 
 /// The last two bytes of a text, or fewer.
-fn last_two(text: &[u8]) -> &[u8]
+pub(crate) fn last_two(text: &[u8]) -> &[u8]
     ensures { result.now ≡ last_two text.now }
 {
     text.split_at(text.len().saturating_sub(2)).1
-}
-
-/// The label base of a record with these fields.
-pub(crate) fn base_of(alloc: Global, fields: &[(Text, Text)]) -> Result<Text, AllocError>
-    ensures { IfOk result (λ t. t ≡ label_base fields.now) }
-{
-    let letters = letters_of_fields(alloc, fields)?;
-    let mut out = or_anon(alloc, letters.into_vec())?;
-    let digits = digits_of(alloc, text_in(fields, b"year"))?;
-    out.extend_from_slice(last_two(digits.as_slice()))?;
-    Ok(Seq::from_vec(out))
 }
 
 /// The base of a record's label: letters from its names, and the last two digits of its year. All rules are this

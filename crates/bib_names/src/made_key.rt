@@ -7,8 +7,9 @@ ghost use Rattle.bib_spec.specs.MadeKeys.{base_limit, candidate, IsKeyBase};
 ghost use Rattle.bib_names.specs.Label.{or_anon, key_base};
 
 use crate::fault::NameFault;
-use crate::label::{base_of, or_anon};
+use crate::label::or_anon;
 use crate::labelling::letters;
+use crate::parts::base_of;
 use bib_data::Record;
 use bib_scan::{Seq, Text};
 use std::alloc::{AllocError, Global};
@@ -17,7 +18,7 @@ use std::alloc::{AllocError, Global};
 pub const BASE_LIMIT: usize = 40;
 
 /// The letters and digits of a text, or `anon`, cut to the limit.
-fn key_letters(alloc: Global, base: &[u8]) -> Result<Vec<u8>, AllocError>
+pub(crate) fn key_letters(alloc: Global, base: &[u8]) -> Result<Vec<u8>, AllocError>
     ensures { IfOk result (λ t. t.items ≡ take base_limit (or_anon (filter is_ascii_alphanumeric base.now))) }
 {
     let kept: Vec<u8> = base

@@ -1,0 +1,115 @@
+-- What fields give to a label, part by part, also of those that inherit from others.
+use Rattle.std.proofs.Common.{◌≡◌, ◌∙◌, ◌==◌, ◌||◌, length, Bool, true, false, not, cond, List, [], ◌∷◌, ◌++◌, filter, Option, Some, None, codes, refl, sym, ap, arith, append-nil, ne_eqb, ⊎_elim}
+use Rattle.std.specs.Prelude.{unwrap_or}
+use Rattle.std.specs.List.{find, list_any}
+use Rattle.std.specs.Option.{option_map_or}
+use Rattle.std.specs.Char.{is_ascii_digit}
+use Rattle.std.specs.Str.{bytes_eq}
+use Rattle.std.proofs.lemmas.Bool.{false≢true, cases_Bool, cond-true, cond-false}
+use Rattle.std.proofs.lemmas.Slice.Eq.{bytes_eq-Decides}
+use Rattle.bib_spec.specs.Text.{Text, same}
+use Rattle.bib_spec.specs.Records.{RecordField, missing}
+use Rattle.bib_spec.proofs.Names.{true-same}
+use Rattle.bib_names.specs.Label.{Fields, text_in, listed_names, letters_of_names, first_three, or_anon, last_two, letters_of_fields, label_base}
+use Rattle.bib_names.specs.declared.parts.LabelParts.{LabelParts}
+use Rattle.bib_names.specs.LabelParts.{letters_if_any, letters_in, year_digits, parts_of, letters_from, base_from, has_field, given_or, parts_with}
+use Rattle.bib_names.proofs.LabelFields.{find_filtered}
+
+-- ---- letters
+
+some_member : {X : Type 0} (x : X) (xs : List X) → (length (x ∷ xs) == 0) ≡ false
+some_member x xs = ne_eqb (length (x ∷ xs)) 0 (λ none. omega (arith, none))
+
+letters_by : (authors editors : List Text) (key : Text) →
+    unwrap_or (letters_if_any authors) (unwrap_or (letters_if_any editors) (first_three key)) ≡ letters_of_names (cond (length authors == 0) editors authors) key
+letters_by [] [] key = refl
+letters_by [] (e ∷ []) key = refl
+letters_by [] (e ∷ f ∷ es) key = refl
+letters_by (a ∷ []) editors key = refl
+letters_by (a ∷ b ∷ more) editors key = ap (λ (none : Bool). letters_of_names (cond none editors (a ∷ b ∷ more)) key) (sym (some_member a (b ∷ more)))
+
+-- the label base from what the fields give
+pub base_of_parts : (fields : Fields) → base_from (parts_of fields) ≡ label_base fields
+base_of_parts fields = ap
+    (λ (t : Text). or_anon t ++ year_digits (text_in fields (codes "year")))
+    (letters_by (listed_names (text_in fields (codes "author"))) (listed_names (text_in fields (codes "editor"))) (text_in fields (codes "key")))
+
+-- ---- what is sought in two lists
+
+find_first : {X : Type 0} (seek : X → Bool) (xs ys : List X) → find seek ys ≡ None → find seek (xs ++ ys) ≡ find seek xs
+find_first seek [] ys none = none
+find_first seek (x ∷ xs) ys none = ap (cond (seek x) (Some x)) (find_first seek xs ys none)
+
+find_second : {X : Type 0} (seek : X → Bool) (xs ys : List X) → list_any seek xs ≡ false → find seek (xs ++ ys) ≡ find seek ys
+find_second seek [] ys out = refl
+find_second {X} seek (x ∷ xs) ys out = at (seek x) out (find_second seek xs ys)
+  where
+    at : (s : Bool) → (s || list_any seek xs) ≡ false → (list_any seek xs ≡ false → find seek (xs ++ ys) ≡ find seek ys) → cond s (Some x) (find seek (xs ++ ys)) ≡ find seek ys
+    at true out later = absurd (false≢true (sym out))
+    at false out later = later out
+
+-- what is left out is not found
+find_dropped : {X : Type 0} (seek keep : X → Bool) (xs : List X) → ((x : X) → seek x ≡ true → keep x ≡ false) → find seek (filter keep xs) ≡ None
+find_dropped seek keep [] dropped = refl
+find_dropped {X} seek keep (x ∷ xs) dropped = at (keep x) (seek x) refl (dropped x) (find_dropped seek keep xs dropped)
+  where
+    at : (k s : Bool) → seek x ≡ s → (s ≡ true → k ≡ false) → find seek (filter keep xs) ≡ None → find seek (cond k (x ∷ filter keep xs) (filter keep xs)) ≡ None
+    at false s is drops later = later
+    at true true is drops later = absurd (false≢true (sym (drops refl)))
+    at true false is drops later = ap (λ b. cond b (Some x) (find seek (filter keep xs))) is ∙ later
+
+-- one of them satisfies a test that follows from the first
+any_weaker : {X : Type 0} (seek test : X → Bool) (xs : List X) → ((x : X) → seek x ≡ true → test x ≡ true) → list_any test xs ≡ false → list_any seek xs ≡ false
+any_weaker seek test [] follows out = refl
+any_weaker {X} seek test (x ∷ xs) follows out = at (seek x) (test x) (follows x) out (any_weaker seek test xs follows)
+  where
+    at : (s t : Bool) → (s ≡ true → t ≡ true) → (t || list_any test xs) ≡ false → (list_any test xs ≡ false → list_any seek xs ≡ false) → (s || list_any seek xs) ≡ false
+    at s true f out later = absurd (false≢true (sym out))
+    at true false f out later = absurd (false≢true (f refl))
+    at false false f out later = later out
+
+-- ---- texts that are inherited
+
+module _ (own others : Fields) (name : Text) where
+  abbrev seeks : RecordField → Bool
+  seeks field = bytes_eq field.0 name
+
+  exact : (field : RecordField) → seeks field ≡ true → field.0 ≡ name
+  exact field is = (bytes_eq-Decides field.0 name).0 is
+
+  text_owned : has_field own name ≡ true → text_in (own ++ missing own others) name ≡ text_in own name
+  text_owned has = ap (λ (o : Option RecordField). option_map_or (λ field. field.1) o [])
+      (find_first seeks own (missing own others)
+      (find_dropped seeks (λ field. not (has_field own field.0)) others (λ field is. ap (λ (t : Text). not (has_field own t)) (exact field is) ∙ ap not has)))
+
+  text_inherited : has_field own name ≡ false → text_in (own ++ missing own others) name ≡ text_in others name
+  text_inherited has = ap (λ (o : Option RecordField). option_map_or (λ field. field.1) o [])
+      (find_second seeks own (missing own others)
+      (any_weaker seeks (λ other. same other.0 name) own (λ field is. ap (λ (t : Text). same t name) (exact field is) ∙ true-same name name refl) has)
+      ∙ find_filtered seeks (λ field. not (has_field own field.0)) others (λ field is. ap (λ (t : Text). not (has_field own t)) (exact field is) ∙ ap not has))
+
+  -- what the field of this name gives in a record with what it inherits
+  pub given_with : {X : Type 0} (give : Text → X) → given_or give own name (give (text_in others name)) ≡ give (text_in (own ++ missing own others) name)
+  given_with give = ⊎_elim
+      (λ has. cond-true (has_field own name) (give (text_in own name)) (give (text_in others name)) has ∙ ap give (sym (text_owned has)))
+      (λ has. cond-false (has_field own name) (give (text_in own name)) (give (text_in others name)) has ∙ ap give (sym (text_inherited has)))
+      (cases_Bool (has_field own name))
+
+abbrev made : Option Text → Option Text → Text → Text → LabelParts
+made author editor key year = record { author = author; editor = editor; key = key; year = year }
+
+-- what the fields of a record give with what it inherits
+pub parts_inherited : (own others : Fields) → parts_with own (parts_of others) ≡ parts_of (own ++ missing own others)
+parts_inherited own others = λ i. made
+    (given_with own others (codes "author") letters_in i)
+    (given_with own others (codes "editor") letters_in i)
+    (given_with own others (codes "key") first_three i)
+    (given_with own others (codes "year") year_digits i)
+
+-- the label base of a record with what it inherits
+pub base_inherited : (own others : Fields) (inherited : LabelParts) → inherited ≡ parts_of others → base_from (parts_with own inherited) ≡ label_base (own ++ missing own others)
+base_inherited own others inherited is = ap (λ (p : LabelParts). base_from (parts_with own p)) is ∙ ap base_from (parts_inherited own others) ∙ base_of_parts (own ++ missing own others)
+
+-- the label base of a record that inherits nothing
+pub base_alone : (fields : Fields) (inherited : LabelParts) → inherited ≡ parts_of [] → base_from (parts_with fields inherited) ≡ label_base fields
+base_alone fields inherited is = base_inherited fields [] inherited is ∙ ap label_base (append-nil fields)
