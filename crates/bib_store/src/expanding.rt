@@ -76,6 +76,23 @@ impl<L: ItemList> Database<L> {
         })
     }
 
+    /// The own fields of entry `n` that have one of these names, without regard to ASCII case, as its record has them and its
+    /// children inherit them: the first of each name, and no `crossref`. It takes memory for those alone, and time in the
+    /// bytes of the entry, times the number of names. The one refusal is want of memory.
+    pub fn own_fields_with(
+        &self,
+        n: usize,
+        names: &[&[u8]],
+    ) -> Result<Seq<(Text, Text)>, StoreFault>
+        requires { IsEntryNumber self.now n }
+        ensures fields { IfOk result (λ fields. OfReading self.now (λ db. fields ≡ chosen (map (λ name. name.now) names.now) (fields_at (entries_of db) n))) }
+        ensures only { IfErr result (λ fault. fault ≡ Memory) }
+    {
+        let mut fields = Vec::with_capacity(self.allocator(), names.len().min(FEW))?;
+        self.choose(n, &self.entry(n), names, &mut fields)?;
+        Ok(Seq::from_vec(fields))
+    }
+
     /// Where its memory comes from.
     pub(crate) fn allocator(&self) -> Global {
         self.alloc
