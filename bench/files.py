@@ -236,6 +236,12 @@ def one_base(count):
     return b"".join(b"@misc{k%d, author = {Knuth, Donald}, year = 1984}\n" % n for n in range(count))
 
 
+def children_of_long(count):
+    """So many entries without an author of one parent, which comes last and has 100 bytes for each of them: half in its authors, half in a note."""
+    people = b" and ".join(b"Author %06d" % n for n in range(50 * count // 18))
+    return entries(count, b",crossref={p}") + b"@a{p,year=1984,author={%s},note={%s}}" % (people, b"x" * (50 * count))
+
+
 def great():
     """A macro whose text is long, and so many uses that all of them would be gigabytes."""
     return b"@string{m = {%s}}\n" % (b"x" * 1000000) + b"".join(b"@misc{k%d, t = m}\n" % n for n in range(20000))
@@ -263,6 +269,8 @@ CONTENTS = {
     "journal 100": lambda: articles_of_one_journal(100000),
     "base 50": lambda: one_base(50000),
     "base 100": lambda: one_base(100000),
+    "long parent 5": lambda: children_of_long(5000),
+    "long parent 10": lambda: children_of_long(10000),
     "great": great,
     "authors 50000": lambda: authors(50000),
     "authors 100000": lambda: authors(100000),

@@ -7,6 +7,26 @@ parts='@string{conf={conf}}@misc{conf95}@misc{b, crossref = conf # {95}}'
 uses='@misc{a, t = m}@string{m = 1}@misc{b, t = m}'
 crossed='@misc{Lam86, author = {Donald E. Knuth}, year = 1984}\n@misc{Knu84, author = {Leslie Lamport}, year = 1986, crossref = {lam86}}\n'
 made='@misc{Knu84, author = {Donald E. Knuth}, year = 1984}\n@misc{Lam86, author = {Leslie Lamport}, year = 1986, crossref = {Knu84}}\n'
+family='@misc{a, crossref = {p}, year = 2001}
+@misc{b, crossref = {q}}
+@misc{c, crossref = {P}}
+@misc{d, crossref = {p}, author = {Leslie Lamport}}
+@misc{e}
+@misc{f, crossref = {q}, author = {}}
+@misc{g, crossref = {p}, author = {}}
+@misc{p, author = {Donald E. Knuth}, year = 1984}
+@misc{q, editor = {Brian Kernighan and Dennis Ritchie}, year = 1978}
+'
+named='@misc{Knu01, crossref = {Knu84a}, year = 2001}
+@misc{KR78, crossref = {KR78b}}
+@misc{Knu84, crossref = {Knu84a}}
+@misc{Lam84, crossref = {Knu84a}, author = {Leslie Lamport}}
+@misc{anon}
+@misc{KR78a, crossref = {KR78b}, author = {}}
+@misc{anon84, crossref = {Knu84a}, author = {}}
+@misc{Knu84a, author = {Donald E. Knuth}, year = 1984}
+@misc{KR78b, editor = {Brian Kernighan and Dennis Ritchie}, year = 1978}
+'
 
 makes "$two" 'rename-key\ta\tA' '@misc{A}\n@misc{b}\n'
 makes "$parts" 'rename-key\tconf95\ticc' '@string{conf={conf}}@misc{icc}@misc{b, crossref = {icc}}'
@@ -23,6 +43,7 @@ makes '@misc{a}\n@misc{b, t = "x"}\n' 'introduce\tm\tx' '@misc{a}\n@string{m = {
 makes "$crossed" 'regenerate' "$made"
 makes "$crossed" 'regenerate\nregenerate' "$made"
 makes '@misc{,year=1999}@misc{x,year=1999}@misc{c,year=2000,crossref={anon99A}}' 'regenerate' '@misc{anon99,year=1999}@misc{anon99b,year=1999}@misc{anon00,year=2000,crossref={anon99A}}'
+makes "$family" 'regenerate' "$named"
 makes '' 'regenerate' ''
 makes '@misc{a, crossref = {b}}@misc{c}' 'rename-key\ta\td\nrename-key\tc\ta\nregenerate' '@misc{anon, crossref = {b}}@misc{anona}'
 

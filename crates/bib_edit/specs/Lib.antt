@@ -12,6 +12,7 @@ pub mod Limits
 pub mod Dangling
 pub mod NewKeys
 pub mod TakenKeys
+pub mod LastParent
 pub mod PlacedParts
 pub mod Definitions
 pub mod Laws

@@ -11,6 +11,7 @@ mod drop_field;
 mod fault;
 mod inline_macro;
 mod introduce_macro;
+mod last_parents;
 mod laws;
 mod limits;
 mod made_keys;

@@ -1,49 +1,72 @@
 //! Keys that are made for entries.
 
-ghost use Rattle.std.specs.Prelude.{◌≡◌, ◌≤◌, ◌+◌, ◌*◌, length, map, slice_get, Some, IfOk, IfErr};
+ghost use Rattle.std.specs.Prelude.{◌≡◌, ◌≤◌, ◌+◌, ◌*◌, ◌++◌, length, map, slice_get, Some, IfOk, IfErr, OnOk};
 ghost use Rattle.std.specs.List.{AllByRecursion};
 ghost use Rattle.bib_spec.specs.Bytes.{name_limit, file_limit};
-ghost use Rattle.bib_spec.specs.Records.{EntryTexts, entries_of, record_of, default_depth};
+ghost use Rattle.bib_spec.specs.Records.{EntryTexts, entries_of, missing, record_of, default_depth};
 ghost use Rattle.bib_spec.specs.MadeKeys.{free_key, made_keys, new_keys, base_limit};
 ghost use Rattle.bib_store.specs.Meaning.{OfReading, IsEntryNumber};
-ghost use Rattle.bib_names.specs.Label.{label_names};
+ghost use Rattle.bib_names.specs.Label.{Fields, label_names, key_base};
+ghost use Rattle.bib_names.specs.LabelParts.{parts_of};
 ghost use Rattle.bib_edit.specs.Asking.{made_base};
+ghost use Rattle.bib_edit.specs.LastParent.{IsLastParent};
 ghost use Rattle.bib_edit.specs.TakenKeys.{AreTaken, taken_in};
 ghost use Rattle.bib_edit.specs.declared.fault.EditFault.TheVariants.{Memory};
 
 use crate::fault::EditFault;
+use crate::last_parents::LastParent;
 use crate::taken_keys::TakenKeys;
-use bib_names::{key_base, label_names};
+use bib_names::{LabelParts, key_base_with, label_names};
 use bib_scan::{Seq, Text};
 use bib_store::{Database, ItemList};
 use std::alloc::{AllocError, Global};
 
-/// The base of the key that is made for entry `n`: that of its record. No other fields of it are gathered than those of
-/// these names, which are all that a base is made of.
+/// The base of the key that is made for entry `n`: that of its record. No other fields are gathered than those of these
+/// names, which are all that a base is made of, and those of its parent are not read again where it is the last.
 fn base_of<L: ItemList>(
     alloc: Global,
     db: &Database<L>,
     n: usize,
     names: &[&[u8]],
+    last: &mut LastParent,
 ) -> Result<Text, EditFault>
     requires number { IsEntryNumber db.now n }
     requires names { map (λ name. name.now) names.now ≡ label_names }
+    requires last { IsLastParent db.now last.old }
+    ensures last { OnOk result (IsLastParent db.now last.new) }
     ensures base { IfOk result (λ base. OfReading db.now (λ r. (entry : EntryTexts) → slice_get (entries_of r) n ≡ Some entry → base ≡ made_base (record_of default_depth (entries_of r) n entry))) }
     ensures short { IfOk result (λ base. length base ≤ base_limit) }
     ensures only { IfErr result (λ fault. fault ≡ Memory) }
 {
-    let Ok(record) = db.expanded_with(n, names) else {
+    let Ok(fields) = db.own_fields_with(n, names) else {
         return Err(EditFault::Memory);
     };
-    match key_base(alloc, &record) {
+    let Some(parent) = db.parent(n) else {
+        return base_with(alloc, fields.as_slice(), &LabelParts::none(alloc));
+    };
+    last.turn_to(alloc, db, parent, names)?;
+    base_with(alloc, fields.as_slice(), last.parts())
+}
+
+/// The base of the key that is made of these fields, and of what is inherited.
+fn base_with(
+    alloc: Global,
+    fields: &[(Text, Text)],
+    inherited: &LabelParts,
+) -> Result<Text, EditFault>
+    ensures base { IfOk result (λ base. (others : Fields) → inherited.now ≡ parts_of others → base ≡ key_base (fields.now ++ missing fields.now others)) }
+    ensures short { IfOk result (λ base. length base ≤ base_limit) }
+    ensures only { IfErr result (λ fault. fault ≡ Memory) }
+{
+    match key_base_with(alloc, fields, inherited) {
         Ok(base) => Ok(base),
         Err(_) => Err(EditFault::Memory),
     }
 }
 
 /// The made keys of all entries: for each in turn the first candidate of its base that is neither an earlier entry's made
-/// key nor the text of a dangling crossref. It takes time in the number of entries and the lengths of their records, and
-/// memory for the keys.
+/// key nor the text of a dangling crossref. It takes time in the number of entries and in their bytes, those of a parent
+/// once for each run of its children, which only a child of another parent ends, and memory for the keys.
 pub(crate) fn made_keys<L: ItemList>(
     alloc: Global,
     db: &Database<L>,
@@ -57,9 +80,10 @@ pub(crate) fn made_keys<L: ItemList>(
     taken.add_dangling(db)?;
     let label_names = label_names(alloc)?;
     let names = label_names.as_slice();
+    let mut last = LastParent::none(alloc);
     let mut keys = Vec::new(alloc);
     'entries: for n in 0..db.entry_count() {
-        let base = base_of(alloc, db, n, names)?;
+        let base = base_of(alloc, db, n, names, &mut last)?;
         keys.push(taken.take_free(base.as_slice())?)?;
     }
     Ok(Seq::from_vec(keys))

@@ -1,12 +1,12 @@
 -- Fields of some names, gathered one after another, are those of all that would be gathered.
-use Rattle.std.proofs.Common.{◌≡◌, Bool, true, false, cond, ◌||◌, List, [], ◌∷◌, ◌++◌, filter, refl, sym, ◌∙◌, ap, map, append-nil, ⊎_elim}
+use Rattle.std.proofs.Common.{◌≡◌, Bool, true, false, not, cond, ◌||◌, List, [], ◌∷◌, ◌++◌, filter, refl, sym, ◌∙◌, ap, map, append-nil, ⊎_elim}
 use Rattle.std.specs.List.{list_any, AllZip, AllByRecursion}
 use Rattle.std.proofs.lemmas.Bool.{false≢true, cases_Bool, cond-true, cond-false}
 use Rattle.std.proofs.lemmas.List.Elements.{filter-append}
 use Rattle.bib_spec.specs.Text.{Text, folded, same}
 use Rattle.bib_spec.specs.Tree.{Row}
 use Rattle.bib_spec.specs.Texts.{Macros, raw_text}
-use Rattle.bib_spec.specs.Records.{Field, RecordField, record_field, field_of, crossref}
+use Rattle.bib_spec.specs.Records.{Field, RecordField, record_field, field_of, crossref, missing}
 use Rattle.bib_spec.proofs.Names.{same_of, same-true}
 use Rattle.bib_scan.specs.View as view
 use Rattle.bib_value.specs.Raw.{OfValue}
@@ -71,6 +71,36 @@ module _ (names : List Text) (all : List RecordField) (field : Field) where
   free_field wanted free =
       ap (chosen names) (cond-false (is_taken all field.name) all (all ++ record_field field ∷ []) (sym (taken_kept wanted) ∙ free))
       ∙ split ∙ ap (λ (l : List RecordField). chosen names all ++ l) (cond-true (is_one_of names (folded field.name)) (record_field field ∷ []) [] (one_of_folded names field.name ∙ wanted))
+
+-- ---- fields that are inherited
+
+-- one of the fields has this name
+abbrev bears : Text → List RecordField → Bool
+bears name fields = list_any (λ other. same other.0 name) fields
+
+-- those of the others that are missing, of which these are chosen, are missing of what is chosen
+missing_chosen : (names : List Text) (own others : List RecordField) → chosen names (missing own others) ≡ missing (chosen names own) (chosen names others)
+missing_chosen names own [] = refl
+missing_chosen names own (x ∷ xs) =
+    at (is_one_of names x.0) (bears x.0 own) (bears x.0 (chosen names own)) refl refl
+    (λ wanted. any_filtered (λ (f : RecordField). same f.0 x.0) (λ f. is_one_of names f.0) own (λ f alike. one_of_alike names f.0 x.0 alike ∙ wanted))
+    (missing_chosen names own xs)
+  where
+    at : (w h k : Bool) → is_one_of names x.0 ≡ w → bears x.0 (chosen names own) ≡ k → (w ≡ true → k ≡ h) → chosen names (missing own xs) ≡ missing (chosen names own) (chosen names xs)
+        → chosen names (cond (not h) (x ∷ missing own xs) (missing own xs)) ≡ missing (chosen names own) (cond w (x ∷ chosen names xs) (chosen names xs))
+    at false true k is has_is kept further = further
+    at false false k is has_is kept further = ap (λ b. cond b (x ∷ chosen names (missing own xs)) (chosen names (missing own xs))) is ∙ further
+    at true true k is has_is kept further =
+        further ∙ sym (ap (λ b. cond (not b) (x ∷ missing (chosen names own) (chosen names xs)) (missing (chosen names own) (chosen names xs))) (has_is ∙ kept refl))
+    at true false k is has_is kept further =
+        ap (λ b. cond b (x ∷ chosen names (missing own xs)) (chosen names (missing own xs))) is
+        ∙ ap (λ (l : List RecordField). x ∷ l) further
+        ∙ sym (ap (λ b. cond (not b) (x ∷ missing (chosen names own) (chosen names xs)) (missing (chosen names own) (chosen names xs))) (has_is ∙ kept refl))
+
+-- what is chosen of own fields and those that are inherited
+pub chosen_inherited : (names : List Text) (own others : List RecordField) → chosen names (own ++ missing own others) ≡ chosen names own ++ missing (chosen names own) (chosen names others)
+chosen_inherited names own others =
+    filter-append (λ (f : RecordField). is_one_of names f.0) own (missing own others) ∙ ap (λ (l : List RecordField). chosen names own ++ l) (missing_chosen names own others)
 
 -- ---- a loop that chooses
 

@@ -1,4 +1,4 @@
-use Rattle.std.proofs.Common.{◌≤◌, ◌<◌, List, [], ◌∷◌, length, sym, ◌∙◌, ap, subst, arith, append-nil}
+use Rattle.std.proofs.Common.{rules, ◌≤◌, ◌<◌, List, [], ◌∷◌, length, sym, ◌∙◌, ap, subst, arith, append-nil}
 use Rattle.std.specs.List.{AllByRecursion}
 use Rattle.bib_spec.specs.Bytes.{name_limit}
 use Rattle.bib_spec.specs.Text.{Text}
@@ -24,6 +24,7 @@ entries-init g c = (
       (subst (λ (l : List Text). AreTaken l c.add_dangling.new.self) (append-nil (dangling_texts (entries_of db))) (c.in_ok-add_dangling.ensures.taken db reads [] c.none-taken.ensures)) c.new-keys.ensures.items,
   subst (AllByRecursion (λ key. length key ≤ name_limit)) (sym c.new-keys.ensures.items) tt,
   λ db reads. let none = c.none-taken.ensures.count in let dangling = c.in_ok-add_dangling.ensures.count db reads in omega (arith, none, dangling),
+  search rules,
 )
 
 pub take_free-requires-clause-count : goal.take_free-requires-clause-count
@@ -54,6 +55,7 @@ entries-preserved g c = (
       let taken = c.entries.invariant.2 db reads in
       let more = c.in_ok-take_free.ensures.count in
       omega (arith, taken, more),
+  c.in_ok-base.ensures.last,
 )
 
 pub returns-clause-keys : goal.returns-clause-keys
