@@ -37,7 +37,7 @@ ROWS = {
     "paged_lists": 3,
     "flat_stores": 13,
     "paged_stores": 13,
-    "names": 13,
+    "names": 14,
     "flat_edits": 18,
     "paged_edits": 18,
     "plans": 23,

@@ -94,8 +94,8 @@ fn copied_if_any(alloc: Global, text: &Option<Text>) -> Result<Option<Text>, All
     }
 }
 
-/// What fields give to a label. Its author and its editor are read both, and each text once. The one refusal is want of
-/// memory.
+/// What fields give to a label. It takes time in the lengths of the fields, and memory for the names of author and of
+/// editor, which are both read. The one refusal is want of memory.
 pub fn label_parts(alloc: Global, fields: &[(Text, Text)]) -> Result<LabelParts, NameFault>
     ensures parts { IfOk result (λ parts. parts ≡ parts_of fields.now) }
     ensures memory { IfErr result (λ fault. fault ≡ NameFault.Memory) }
@@ -191,8 +191,8 @@ pub(crate) fn base_of(alloc: Global, fields: &[(Text, Text)]) -> Result<Text, Al
 }
 
 /// The base of the made key of a record that has these fields of its own, and inherits those that are missing from others,
-/// of which it needs no more than what they give to a label. So what many entries inherit is read once. The one refusal is
-/// want of memory.
+/// of which it needs no more than what they give to a label. So what many entries inherit is read once. It takes time in
+/// the lengths of these fields and of the letters that are given. The one refusal is want of memory.
 pub fn key_base_with(
     alloc: Global,
     fields: &[(Text, Text)],
