@@ -1,9 +1,9 @@
 //! The commands and their words, and what help says of each.
 
 ghost use Rattle.std.specs.Prelude.{◌≡◌, IfOk, codes};
-ghost use Rattle.clap.specs.Words.{new_app};
+ghost use Rattle.clap.specs.Words.{App, new_app};
 ghost use Rattle.bib_command.specs.Lines.{Reads};
-ghost use Rattle.bib_command.specs.CommandLine.{over_file, cat_line, show_line, cite_line, keys_line, names_line, steps_line, bibkeep_top, bibkeep_shows, bibkeep_edits, bibkeep_journals, bibkeep};
+ghost use Rattle.bib_command.specs.CommandLine.{adds, over_file, cat_line, show_line, cite_line, keys_line, names_line, steps_line, bibkeep_top, bibkeep_shows, bibkeep_edits, bibkeep_journals, bibkeep};
 
 use crate::arguments::{any_file, count, keys, needed};
 use clap::Command;
@@ -13,41 +13,40 @@ use std::alloc::{AllocError, Global};
 pub fn command_line<'a>(alloc: Global) -> Result<Command<'a>, AllocError>
     ensures { IfOk result (Reads bibkeep) }
 {
-    journals(alloc)?
-        .subcommand(ris(alloc)?)?
-        .subcommand(import(alloc)?)
+    adds(adds(journals(alloc), ris(alloc)), import(alloc))
 }
 
 /// With the commands over what was done to a file.
 fn journals<'a>(alloc: Global) -> Result<Command<'a>, AllocError>
     ensures { IfOk result (Reads bibkeep_journals) }
 {
-    edits(alloc)?
-        .subcommand(undo(alloc)?)?
-        .subcommand(redo(alloc)?)?
-        .subcommand(log(alloc)?)?
-        .subcommand(forget(alloc)?)
+    let turns = adds(adds(edits(alloc), undo(alloc)), redo(alloc));
+    adds(adds(turns, log(alloc)), forget(alloc))
 }
 
 /// With the commands that make something of what a file says.
 fn edits<'a>(alloc: Global) -> Result<Command<'a>, AllocError>
     ensures { IfOk result (Reads bibkeep_edits) }
 {
-    shows(alloc)?
-        .subcommand(labels(alloc)?)?
-        .subcommand(names(alloc)?)?
-        .subcommand(edit(alloc)?)
+    adds(adds(adds(shows(alloc), labels(alloc)), names(alloc)), edit(alloc))
 }
 
 /// With the commands that show what a file says.
 fn shows<'a>(alloc: Global) -> Result<Command<'a>, AllocError>
     ensures { IfOk result (Reads bibkeep_shows) }
 {
-    top(alloc)?
-        .subcommand(cat(alloc)?)?
-        .subcommand(check(alloc)?)?
-        .subcommand(show(alloc)?)?
-        .subcommand(cite(alloc)?)
+    let checks = adds(adds(top(alloc), cat(alloc)), check(alloc));
+    adds(adds(checks, show(alloc)), cite(alloc))
+}
+
+/// The command with one more subcommand, where both could be made.
+fn adds<'a>(
+    command: Result<Command<'a>, AllocError>,
+    more: Result<Command<'a>, AllocError>,
+) -> Result<Command<'a>, AllocError>
+    ensures { (a s : App) → IfOk command.entry (Reads a) → IfOk more.entry (Reads s) → IfOk result (Reads (adds a s)) }
+{
+    command?.subcommand(more?)
 }
 
 /// The program, by this name whatever the file is called that it was started as.

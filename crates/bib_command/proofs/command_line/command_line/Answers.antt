@@ -1,0 +1,4 @@
+use Rattle.bib_command.proofs.command_line.command_line.Goals as goal
+
+pub returns : goal.returns
+returns c = c.adds-2.ensures _ _ (c.adds.ensures _ _ c.journals.ensures c.ris.ensures) c.import.ensures
