@@ -39,21 +39,6 @@ module _ (test : Tree → Bool) where
       ap (option_map suc) (first-none items (none_later item items (length items) none))
       ∙ sym (cond-false (test item.tree) (Some 0) (option_map suc (first_item test items)) (none 0 item (zero-lt-suc (length items)) refl))
 
-  -- some item passes the test exactly where there is a first
-  pub any-first : (items : List Item) (n : ℕ) → n < length items → ((item : Item) → slice_get items n ≡ Some item → test item.tree ≡ true) → true ≡ list_any (λ item. test item.tree) items
-  any-first [] n lt this = absurd (not-suc-le-zero lt)
-  any-first (item ∷ items) zero lt this = sym (ap (λ b. b || list_any (λ item. test item.tree) items) (this item refl))
-  any-first (item ∷ items) (suc n) lt this = or_behind (test item.tree) (any-first items n (le_of_suc-le-suc lt) this)
-    where
-      or_behind : (b : Bool) {c : Bool} → true ≡ c → true ≡ (b || c)
-      or_behind true h = refl
-      or_behind false h = h
-
-  pub any-none : (items : List Item) → NoneTo items (length items) → false ≡ list_any (λ item. test item.tree) items
-  any-none [] none = refl
-  any-none (item ∷ items) none =
-      any-none items (none_later item items (length items) none) ∙ sym (ap (λ b. b || list_any (λ item. test item.tree) items) (none 0 item (zero-lt-suc (length items)) refl))
-
   -- ---- how many
 
   abbrev passing : List Item → ℕ

@@ -5,6 +5,8 @@ pub mod FoundItems
 pub mod SeenItems
 pub mod SeenNames
 pub mod PlacedItems
+pub mod MetParts
+pub mod NamesInUse
 pub mod PlacedFields
 pub mod PlacedValues
 pub mod PlacedTexts
