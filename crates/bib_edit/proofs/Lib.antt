@@ -1,5 +1,6 @@
 -- ---- items, fields and values by their places
 pub mod FirstFound
+pub mod TabledDefinitions
 pub mod FirstItems
 pub mod FoundItems
 pub mod SeenItems

@@ -3,61 +3,20 @@
 ghost use Rattle.std.specs.Prelude.{◌≡◌, Some, IfOk, IfErr};
 ghost use Rattle.std.specs.Option.{option_map};
 ghost use Rattle.bib_spec.specs.Tree.{Definition};
-ghost use Rattle.edit_spec.specs.Edits.{defines, definitions, text_of_macro};
-ghost use Rattle.bib_spec.specs.Reading.{Item};
-ghost use Rattle.bib_scan.specs.View.{view_of};
+ghost use Rattle.edit_spec.specs.Edits.{text_of_macro};
 ghost use Rattle.bib_scan.specs.Layout.{start_of};
 ghost use Rattle.bib_store.specs.Meaning.{OfReading};
-ghost use Rattle.bib_edit.specs.Addressing.{first_item};
 ghost use Rattle.bib_edit.specs.Definitions.{IsDefinedAt, IsDefinitionFault, IsDefinitionAt, IsDefinitionNumber, braced, name_token, is_given};
 ghost use Rattle.bib_edit.specs.PlacedParts.{token_seen};
 
 use crate::fault::EditFault;
 use crate::tokens::Token;
-use bib_scan::{ItemView, Kind, Seq, Text, same_folded};
+use bib_scan::{Seq, Text};
 use bib_store::{Database, ItemList};
 use bib_value::{MacroTable, month};
 use std::alloc::{AllocError, Global};
 
-/// Whether the item defines the macro.
-fn defines(view: &ItemView<'_>, name: &[u8]) -> bool
-    ensures { (i : Item) → view.now ≡ view_of i → result ≡ defines name.now i.tree }
-{
-    match view.kind() {
-        Kind::Macro => view
-            .fields()
-            .next()
-            .is_some_and(|f| same_folded(f.name, name)),
-        Kind::Entry | Kind::Preamble | Kind::Comment => false,
-    }
-}
-
-/// The number of the first item that defines the macro.
-fn first_definition<L: ItemList>(db: &Database<L>, name: &[u8]) -> Option<usize>
-    ensures { OfReading db.now (λ r. result ≡ first_item (defines name.now) r.items) }
-{
-    'items: for n in 0..db.item_count() {
-        if defines(&db.item(n), name) {
-            return Some(n);
-        }
-    }
-    None
-}
-
-/// How many items define the macro.
-fn count_definitions<L: ItemList>(db: &Database<L>, name: &[u8]) -> usize
-    ensures { OfReading db.now (λ r. result ≡ definitions name.now r) }
-{
-    let mut count: usize = 0;
-    'items: for n in 0..db.item_count() {
-        if defines(&db.item(n), name) {
-            count += 1;
-        }
-    }
-    count
-}
-
-/// The number of the item that is the one definition of the macro.
+/// The number of the item that is the one definition of the macro. It is asked of the tables, without a walk over items.
 pub(crate) fn lone_definition<L: ItemList>(
     db: &Database<L>,
     name: &[u8],
@@ -65,10 +24,10 @@ pub(crate) fn lone_definition<L: ItemList>(
     ensures lone { IfOk result (λ n. OfReading db.now (λ r. IsDefinedAt name.now r n)) }
     ensures refused { IfErr result (λ fault. OfReading db.now (λ r. IsDefinitionFault name.now r fault)) }
 {
-    if count_definitions(db, name) > 1 {
+    if db.definition_count(name) > 1 {
         return Err(EditFault::Ambiguous);
     }
-    match first_definition(db, name) {
+    match db.first_definition(name) {
         Some(n) => Ok(n),
         None => Err(EditFault::NotFound),
     }
@@ -111,5 +70,5 @@ pub(crate) fn is_given<L: ItemList>(db: &Database<L>, name: &[u8]) -> bool
     if month(name).is_some() {
         return true;
     }
-    first_definition(db, name).is_some()
+    db.first_definition(name).is_some()
 }
