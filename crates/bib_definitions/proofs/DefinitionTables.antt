@@ -24,7 +24,7 @@ counted_step (CommentTree c) k item rest m more h = h
 counted_step (EntryTree e) k item rest m more h = h
 counted_step (PreambleTree p) k item rest m more h = h
 
-counted : (k : ℕ) (m : Macros) (items : List Item) → length (numbers is_definition_tree k items) ≡ length (gathered defined_by m items)
+pub counted : (k : ℕ) (m : Macros) (items : List Item) → length (numbers is_definition_tree k items) ≡ length (gathered defined_by m items)
 counted k m [] = refl
 counted k m (item ∷ items) =
     counted_step item.tree k item (numbered is_definition_tree (k + 1) items) m (gathered defined_by (macros_at m (item ∷ items) 1) items) (counted (k + 1) (macros_at m (item ∷ items) 1) items)

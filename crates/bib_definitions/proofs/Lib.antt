@@ -4,3 +4,4 @@ pub mod HeldLists
 pub mod OrderedNames
 pub mod DefinitionTables
 pub mod LongestTexts
+pub mod FirstDefinitions

@@ -1,7 +1,7 @@
 -- The macros that a file defines, and what they stand for where each item stands.
-use Rattle.std.specs.Prelude.{◌≡◌, ◌≤◌, ℕ, Bool, true, false, List, [], ◌∷◌, length, map, filter, Some}
+use Rattle.std.specs.Prelude.{◌≡◌, ◌≤◌, ℕ, suc, Bool, true, false, List, [], ◌∷◌, length, map, filter, count_by, Option, Some, None, option_map, if◌then◌else◌}
 use Rattle.std.specs.List.{enumerate_from}
-use Rattle.bib_spec.specs.Text.{Text, folded}
+use Rattle.bib_spec.specs.Text.{Text, folded, same}
 use Rattle.bib_spec.specs.Tree.{Tree, CommentTree, DefinitionTree, PreambleTree, EntryTree}
 use Rattle.bib_spec.specs.Reading.{Item}
 use Rattle.bib_spec.specs.Texts.{Macros, months, raw_text, macros_in, macros_at, gathered}
@@ -30,6 +30,22 @@ is_definition_tree (DefinitionTree d) = true
 is_definition_tree (CommentTree h) = false
 is_definition_tree (PreambleTree p) = false
 is_definition_tree (EntryTree e) = false
+
+-- the item defines the name, folded
+abbrev pub is_definition_of : Text → Tree → Bool
+is_definition_of name (DefinitionTree d) = same d.assignment.name name
+is_definition_of name (CommentTree h) = false
+is_definition_of name (PreambleTree p) = false
+is_definition_of name (EntryTree e) = false
+
+-- how many of the items define the name
+abbrev pub definition_count : Text → List Item → ℕ
+definition_count name items = count_by (λ item. is_definition_of name item.tree) items
+
+-- the number of the first of the items that defines the name
+abbrev pub first_definition : Text → List Item → Option ℕ
+first_definition name [] = None
+first_definition name (item ∷ items) = if is_definition_of name item.tree then Some 0 else option_map suc (first_definition name items)
 
 -- the numbers that the definitions have among the items, in order
 abbrev pub definition_numbers : List Item → List ℕ

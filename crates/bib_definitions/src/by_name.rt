@@ -55,7 +55,7 @@ impl ByName {
     }
 
     /// The definitions of a name.
-    fn of(&self, name: &[u8]) -> &[Definition]
+    pub(crate) fn of(&self, name: &[u8]) -> &[Definition]
         ensures is { result.now ≡ definitions_of self.now (folded name.now) }
         ensures ascend { Ascends result.now }
     {

@@ -29,7 +29,7 @@ impl Definitions {
     ghost use Rattle.bib_spec.specs.Bytes.{name_limit};
     ghost use Rattle.bib_spec.specs.Reading.{Item};
     ghost use Rattle.bib_spec.specs.Texts.{months, macros_at};
-    ghost use Rattle.bib_definitions.specs.Definitions.{texts_at, is_definition_tree, AreDefinitionsOf, Defines, AreAtMost, AreSettled};
+    ghost use Rattle.bib_definitions.specs.Definitions.{texts_at, is_definition_tree, definition_count, first_definition, AreDefinitionsOf, Defines, AreAtMost, AreSettled};
     ghost use Rattle.bib_definitions.specs.MacrosSeen.{macros_seen};
 
     /// No definitions: names stand for months alone. It takes no memory.
@@ -103,6 +103,25 @@ impl Definitions {
         ensures { (n : ℕ) → AreAtMost result (texts_at self.now n) }
     {
         self.names.longest()
+    }
+
+    /// How many items define the name, folded. It takes time in the length of the name.
+    pub fn count(&self, name: &[u8]) -> usize
+        ensures { (items : List Item) → AreDefinitionsOf items self.now → result ≡ definition_count name.now items }
+    {
+        self.names.of(name).len()
+    }
+
+    /// The number of the first item that defines the name, folded. It takes time in the length of the name, and in the
+    /// logarithm of the count of definitions.
+    pub fn first(&self, name: &[u8]) -> Option<usize>
+        requires { (items : List Item) × AreDefinitionsOf items self.now }
+        ensures { (items : List Item) → AreDefinitionsOf items self.now → result ≡ first_definition name.now items }
+    {
+        match self.names.of(name).first() {
+            Some(definition) => Some(self.numbers.get(definition.rank)),
+            None => None,
+        }
     }
 
     /// What macros stand for before item `n`. It takes time in the logarithm of the count of definitions.

@@ -38,7 +38,7 @@ impl Model for Names {
 
 impl Names {
     ghost use Rattle.std.specs.Prelude.{◌++◌, ◌∷◌, [], ◌+◌, ℕ, List, length, IfOk, OnErr};
-    ghost use Rattle.bib_definitions.specs.ByName.{AreAllOf, texts_after};
+    ghost use Rattle.bib_definitions.specs.ByName.{AreAllOf, texts_after, definitions_of};
     ghost use Rattle.bib_definitions.specs.Definitions.{AreWithin};
 
     /// No definitions: names stand for months alone. It takes no memory.
@@ -110,6 +110,13 @@ impl Names {
             }
         }
         Ok(names)
+    }
+
+    /// The definitions of the name, in file order. It takes time in the length of the name.
+    pub(crate) fn of(&self, name: &[u8]) -> &[Definition]
+        ensures { result.now ≡ definitions_of self.now.defined (folded name.now) }
+    {
+        self.by_name.of(name)
     }
 
     /// What the name stands for after so many definitions. It takes time in the length of the name and, for a name that

@@ -1,5 +1,5 @@
--- The name that a definition gives a text, and the names that are in use.
-use Rattle.std.proofs.Common.{◌≡◌, ℕ, ◌+◌, ◌<◌, ◌^◌, ◌||◌, Bool, true, false, List, [], ◌∷◌, ◌++◌, Option, Some, None, is_some, slice_get, length, refl, sym, ◌∙◌, ap, arith, length-append}
+-- The name that a definition gives a text.
+use Rattle.std.proofs.Common.{◌≡◌, ℕ, ◌+◌, ◌<◌, ◌^◌, true, List, [], ◌∷◌, ◌++◌, Option, Some, None, is_some, slice_get, length, refl, sym, ◌∙◌, ap, arith, length-append}
 use Rattle.std.specs.Option.{option_copied}
 use Rattle.std.specs.Borrow.{Bor}
 use Rattle.bib_spec.specs.Text.{Text, same}
@@ -19,10 +19,6 @@ use Rattle.bib_edit.proofs.PlacedItems.{item-ends}
 pub some-copied : {X : Type 0} (o : Option (Bor X)) → is_some (option_copied o) ≡ is_some o
 some-copied None = refl
 some-copied (Some x) = refl
-
-pub in-use : (a b : Bool) → a ≡ false → true ≡ b → true ≡ (a || b)
-in-use true b h is = refl
-in-use false b h is = is
 
 abbrev pub definition_item : Definition → Text → Item
 definition_item d trail = record { tree = DefinitionTree d; trail = trail }

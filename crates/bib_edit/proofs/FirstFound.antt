@@ -1,16 +1,13 @@
--- The first item that passes a test, tried item by item, and how many items do.
-use Rattle.std.proofs.Common.{◌≡◌, ℕ, zero, suc, ◌+◌, ◌<◌, ◌≤◌, ◌==◌, Bool, true, false, ◌||◌, List, [], ◌∷◌, Option, Some, None, is_some, option_map, slice_get, length, drop, count_by, ⊎_elim, refl, sym, ◌∙◌, ap, arith, suc-le-suc, zero-lt-suc, le_of_suc-le-suc, not-suc-le-zero}
+-- The first item that passes a test, tried item by item, and that some do exactly where there is one.
+use Rattle.std.proofs.Common.{◌≡◌, ℕ, zero, suc, ◌+◌, ◌<◌, ◌==◌, Bool, true, false, ◌||◌, List, [], ◌∷◌, Option, Some, None, is_some, option_map, slice_get, length, count_by, ⊎_elim, refl, sym, ◌∙◌, ap, arith, suc-le-suc, zero-lt-suc, le_of_suc-le-suc, not-suc-le-zero}
 use Rattle.std.specs.List.{list_any}
 use Rattle.std.proofs.lemmas.Bool.{cases_Bool, cond-true, cond-false, eqb-true, eqb-false}
-use Rattle.std.proofs.lemmas.List.{drop_all}
 use Rattle.std.proofs.lemmas.Option.{none-some}
 use Rattle.bib_spec.specs.Tree.{Tree}
 use Rattle.bib_spec.specs.Reading.{Item}
 use Rattle.bib_spec.proofs.Counts.{count-yes, count-no}
 use Rattle.bib_spec.proofs.Places.{suc_some}
 use Rattle.bib_edit.specs.Addressing.{first_item}
-use Rattle.bib_edit.proofs.PlacedValues.{drop-next}
-use Rattle.bib_edit.proofs.SeenItems.{slice_get-within}
 
 module _ (test : Tree → Bool) where
   -- none of the first n items passes the test
@@ -39,46 +36,10 @@ module _ (test : Tree → Bool) where
       ap (option_map suc) (first-none items (none_later item items (length items) none))
       ∙ sym (cond-false (test item.tree) (Some 0) (option_map suc (first_item test items)) (none 0 item (zero-lt-suc (length items)) refl))
 
-  -- some item passes the test exactly where there is a first
-  pub any-first : (items : List Item) (n : ℕ) → n < length items → ((item : Item) → slice_get items n ≡ Some item → test item.tree ≡ true) → true ≡ list_any (λ item. test item.tree) items
-  any-first [] n lt this = absurd (not-suc-le-zero lt)
-  any-first (item ∷ items) zero lt this = sym (ap (λ b. b || list_any (λ item. test item.tree) items) (this item refl))
-  any-first (item ∷ items) (suc n) lt this = or_behind (test item.tree) (any-first items n (le_of_suc-le-suc lt) this)
-    where
-      or_behind : (b : Bool) {c : Bool} → true ≡ c → true ≡ (b || c)
-      or_behind true h = refl
-      or_behind false h = h
-
-  pub any-none : (items : List Item) → NoneTo items (length items) → false ≡ list_any (λ item. test item.tree) items
-  any-none [] none = refl
-  any-none (item ∷ items) none =
-      any-none items (none_later item items (length items) none) ∙ sym (ap (λ b. b || list_any (λ item. test item.tree) items) (none 0 item (zero-lt-suc (length items)) refl))
-
   -- ---- how many
 
   abbrev passing : List Item → ℕ
   passing items = count_by (λ item. test item.tree) items
-
-  -- so many of the first n items pass the test
-  abbrev pub IsCountTo : List Item → ℕ → ℕ → Type 0
-  IsCountTo items n count = count + passing (drop n items) ≡ passing items
-
-  pub count-met : (items : List Item) (n count : ℕ) → n < length items → ((item : Item) → slice_get items n ≡ Some item → test item.tree ≡ true) → IsCountTo items n count → IsCountTo items (n + 1) (count + 1)
-  count-met items n count lt this to =
-      let it = slice_get-within items n lt in
-      let more : passing (drop n items) ≡ 1 + passing (drop (n + 1) items) = ap passing (drop-next items n it.0 it.1) ∙ count-yes (λ item. test item.tree) it.0 (drop (n + 1) items) (this it.0 it.1) in
-      omega (arith, more, to)
-
-  pub count-unmet : (items : List Item) (n count : ℕ) → n < length items → ((item : Item) → slice_get items n ≡ Some item → test item.tree ≡ false) → IsCountTo items n count → IsCountTo items (n + 1) count
-  count-unmet items n count lt this to =
-      let it = slice_get-within items n lt in
-      let more : passing (drop n items) ≡ passing (drop (n + 1) items) = ap passing (drop-next items n it.0 it.1) ∙ count-no (λ item. test item.tree) it.0 (drop (n + 1) items) (this it.0 it.1) in
-      omega (arith, more, to)
-
-  pub count-all : (items : List Item) (n count : ℕ) → length items ≤ n → IsCountTo items n count → count ≡ passing items
-  count-all items n count past to =
-      let none : passing (drop n items) ≡ 0 = ap passing (drop_all n items past) in
-      omega (arith, none, to)
 
   -- where there is no first, none passes
   pub none-count : (items : List Item) → None ≡ first_item test items → passing items ≡ 0

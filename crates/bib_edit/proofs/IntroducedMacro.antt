@@ -1,12 +1,14 @@
 -- Why the introducing of a macro is refused, and that it is not.
-use Rattle.std.proofs.Common.{◌≡◌, ℕ, suc, ◌+◌, ◌*◌, ◌<◌, ◌≤◌, ◌||◌, true, false, is_some, List, [], ◌∷◌, Some, None, length, map, drop, sym, ◌∙◌, ap, arith}
+use Rattle.std.proofs.Common.{◌≡◌, ℕ, suc, ◌+◌, ◌*◌, ◌<◌, ◌≤◌, ◌||◌, Bool, true, false, is_some, List, [], ◌∷◌, Option, Some, None, option_map, length, map, take, drop, sym, ◌∙◌, ap, subst, arith}
+use Rattle.std.specs.Option.{IfSome}
 use Rattle.std.specs.List.{list_any}
 use Rattle.std.proofs.lemmas.Bool.{true≢false, both_ways, or_parts}
 use Rattle.std.proofs.lemmas.List.Elements.{All-nil, All-cons, All-head}
 use Rattle.bib_spec.specs.Bytes.{name_limit, file_limit}
 use Rattle.bib_spec.specs.Text.{Text, folded, is_name, IsBalanced}
 use Rattle.bib_spec.specs.Tree.{IsLink, IsValue}
-use Rattle.bib_spec.specs.Reading.{Reading, Reads, bytes_of}
+use Rattle.bib_spec.specs.Tree.{Tree}
+use Rattle.bib_spec.specs.Reading.{Item, Reading, Reads, bytes_of}
 use Rattle.bib_spec.specs.Texts.{months, Opens}
 use Rattle.bib_spec.specs.Texts.{IsOpenable}
 use Rattle.edit_spec.specs.Edits.{IntroduceMacro, BadKey, BadName, BadValue, BadPosition, NotFound, Ambiguous, KeyInUse, NameInUse, Referred, WouldMerge, FileTooLong, TextTooLong, in_braces, defines, uses, holds, any_part, is_in_use, introduce_macro, EditFault, rank, Refuses, IsAccepted, IsFirstRefusal}
@@ -18,7 +20,8 @@ use Rattle.bib_scan.specs.Layout.{start_of}
 use Rattle.bib_store.specs.Meaning.{OfReading}
 use Rattle.bib_edit.specs.Asking.{made_base}
 use Rattle.bib_edit.specs.Addressing.{first_item}
-use Rattle.bib_edit.specs.Definitions.{definition_text}
+use Rattle.bib_edit.specs.Definitions.{definition_text, is_used}
+use Rattle.bib_edit.specs.declared.tokens.First.{First}
 use Rattle.bib_edit.specs.NewEntries.{insertion_of}
 use Rattle.bib_edit.specs.PlacedParts.{items_placed, tokens_of, replaced_by, covered}
 use Rattle.bib_edit.specs.Limits.{olds_len, news_len}
@@ -101,7 +104,19 @@ module _ (name text : Text) (db : Reading) where
                 (more TextTooLong (λ long. both_ways (any_long months (introduce_macro name text db).items) (long-introduced name text months db.items fine (none-long file db opens)) (sym (too_long-any (introduce_macro name text db)) ∙ long))
                 (more FileTooLong (λ long. let lengths = introduce-length in omega (arith, lengths, long, short)) passes_unused))
 
--- what is found in the file: the first item that has the text, and the parts from there on
+-- ---- what is found in the file
+
+-- the first item that has the text, and what was met before it
+pub found-first : (test : Tree → Bool) (items : List Item) (o : Option First) (first : First) → o ≡ Some first → option_map (λ (f : First). f.n) o ≡ first_item test items → Some first.n ≡ first_item test items
+found-first test items o first is found = sym (ap (option_map (λ (f : First). f.n)) is) ∙ found
+
+pub found-none : (test : Tree → Bool) (items : List Item) (o : Option First) → o ≡ None → option_map (λ (f : First). f.n) o ≡ first_item test items → None ≡ first_item test items
+found-none test items o is found = sym (ap (option_map (λ (f : First). f.n)) is) ∙ found
+
+pub met-first : (name file : Text) (o : Option First) (first : First) → o ≡ Some first → IfSome o (λ f. OfReading file (λ db. f.met ≡ is_used name (take f.n db.items))) → OfReading file (λ db. first.met ≡ is_used name (take first.n db.items))
+met-first name file o first is met = subst (λ (p : Option First). IfSome p (λ f. OfReading file (λ db. f.met ≡ is_used name (take f.n db.items)))) is met
+
+-- the first item that has the text, and the parts from there on
 module _ (file name text : Text) (n : ℕ) (found : OfReading file (λ db. Some n ≡ first_item (any_part (holds text)) db.items)) (tokens : List (ℕ × Text))
     (told : OfReading file (λ db. tokens ≡ tokens_of (holds text) (items_placed (start_of db n) (drop n db.items)))) where
   pub introducing-pieces : (db : Reading) → Reads file db → pieces_of made_base db (IntroduceMacro name text) ≡ insertion_of db n (definition_text name text) ∷ map (replaced_by name) tokens

@@ -1,12 +1,15 @@
 -- The definition of a macro that an edit names.
-use Rattle.std.specs.Prelude.{ℕ, ◌≡◌, ◌+◌, ◌<◌, List, Some, slice_get, length, codes, ◌++◌, ◌∷◌, []}
+use Rattle.std.specs.Prelude.{ℕ, ◌≡◌, ◌+◌, ◌<◌, Bool, not, ◌&&◌, ◌||◌, List, Some, is_some, slice_get, length, take, drop, codes, ◌++◌, ◌∷◌, []}
+use Rattle.std.specs.List.{list_any}
 use Rattle.bib_spec.specs.Bytes.{open_brace, close_brace}
-use Rattle.bib_spec.specs.Text.{Text}
+use Rattle.bib_spec.specs.Text.{Text, folded, same}
 use Rattle.bib_spec.specs.Tree.{Definition, DefinitionTree, opening_bytes}
 use Rattle.bib_spec.specs.Reading.{Item, Reading}
+use Rattle.bib_spec.specs.Texts.{months}
 use Rattle.bib_store.specs.Meaning.{OfReading}
-use Rattle.edit_spec.specs.Edits.{defines, definitions}
+use Rattle.edit_spec.specs.Edits.{defines, definitions, uses}
 use Rattle.bib_edit.specs.Addressing.{first_item}
+use Rattle.bib_edit.specs.PlacedParts.{have_part}
 use Rattle.bib_edit.specs.declared.fault.EditFault.{EditFault}
 use Rattle.bib_edit.specs.declared.fault.EditFault.TheVariants.{NotFound, Ambiguous}
 
@@ -40,3 +43,21 @@ braced text = open_brace ∷ text ++ close_brace ∷ []
 -- a definition as it is written, with the line's end after it
 abbrev pub definition_text : Text → Text → Text
 definition_text name text = codes "@string{" ++ name ++ codes " = " ++ braced text ++ codes "}\n"
+
+-- ---- whether a name is in use
+
+-- the name is a month's, or defined anywhere
+abbrev pub is_given : Text → List Item → Bool
+is_given name items = is_some (months (folded name)) || list_any (λ item. defines name item.tree) items
+
+-- an item uses the name
+abbrev pub is_used : Text → List Item → Bool
+is_used name items = have_part (uses name) items
+
+-- the new name is a month's, or defined anywhere, or used before item n; a change of case alone is no new name
+abbrev pub is_taken_before : ℕ → Text → Text → List Item → Bool
+is_taken_before n from to items = not (same to from) && (is_given to items || is_used to (take n items))
+
+-- the new name is used in item n or after it
+abbrev pub is_taken_from : ℕ → Text → Text → List Item → Bool
+is_taken_from n from to items = not (same to from) && is_used to (drop n items)

@@ -1,13 +1,13 @@
 -- The parts of a file, each with its place, and those of them that are sought.
-use Rattle.std.specs.Prelude.{ℕ, ◌≡◌, ◌+◌, ◌<◌, ◌^◌, Bool, List, [], ◌∷◌, ◌++◌, if◌then◌else◌, length, map}
-use Rattle.std.specs.List.{AllByRecursion}
+use Rattle.std.specs.Prelude.{ℕ, ◌≡◌, ◌+◌, ◌<◌, ◌^◌, Bool, false, ◌||◌, List, [], ◌∷◌, ◌++◌, if◌then◌else◌, length, map}
+use Rattle.std.specs.List.{AllByRecursion, list_any}
 use Rattle.bib_spec.specs.Bytes.{hash, name_limit}
 use Rattle.bib_spec.specs.Text.{Text}
 use Rattle.bib_spec.specs.Tree.{Part, Link, Value, Row, Tree, CommentTree, DefinitionTree, PreambleTree, EntryTree, part_bytes, link_bytes, row_bytes, opening_bytes}
 use Rattle.bib_spec.specs.Reading.{Item, IsValueWithin, item_bytes}
-use Rattle.bib_spec.specs.Texts.{row_start, bytes_before_value}
+use Rattle.bib_spec.specs.Texts.{row_start, bytes_before_value, parts_of}
 use Rattle.bib_spec.specs.Pieces.{Piece}
-use Rattle.edit_spec.specs.Edits.{uses, holds}
+use Rattle.edit_spec.specs.Edits.{uses, holds, any_part}
 use Rattle.bib_scan.specs.View.{Field}
 use Rattle.bib_value.specs.Raw.{OfValue}
 use Rattle.bib_edit.specs.Addressing.{field_end}
@@ -47,6 +47,7 @@ items_placed at (item ∷ items) = tree_placed at item.tree ++ items_placed (at 
 
 -- the test of the parts that are sought
 abbrev pub test_of : Sought → Part → Bool
+test_of sought.Nothing = λ part. false
 test_of (sought.Uses name) = uses name.now
 test_of (sought.Holds text) = holds text.now
 
@@ -79,6 +80,15 @@ abbrev pub AreFieldTokens : (Part → Bool) → ℕ → List Field → List (ℕ
 AreFieldTokens test start [] old new = new ≡ old
 AreFieldTokens test start (field ∷ fields) old new =
     (more : List (ℕ × Text)) × OfValue field.value (λ v. more ≡ old ++ tokens_of test (value_placed (start + field.value_at) v)) × AreFieldTokens test start fields more new
+
+-- whether a part of these fields passes the test
+abbrev pub IsMetIn : (Part → Bool) → List Field → Bool → Type 0
+IsMetIn test [] met = met ≡ false
+IsMetIn test (field ∷ fields) met = (here rest : Bool) × OfValue field.value (λ v. here ≡ list_any test (parts_of v)) × IsMetIn test fields rest × (met ≡ (here || rest))
+
+-- a part of one of these items passes the test
+abbrev pub have_part : (Part → Bool) → List Item → Bool
+have_part test items = list_any (λ item. any_part test item.tree) items
 
 -- ---- what stands for them
 

@@ -39,7 +39,14 @@ pub(crate) fn inline_macro<L: ItemList>(
     }
     let text = braced_text(alloc, db, name)?;
     let mut tokens = Vec::new(alloc);
-    push_from(alloc, &mut tokens, db, n + 1, Sought::Uses(name))?;
+    push_from(
+        alloc,
+        &mut tokens,
+        db,
+        n + 1,
+        Sought::Uses(name),
+        Sought::Nothing,
+    )?;
     if is_result_too_long(
         db,
         tokens.as_slice(),

@@ -1,11 +1,12 @@
 //! Gives a text a name.
 
-ghost use Rattle.std.specs.Prelude.{◌≡◌, OnOk, IfOk, IfErr};
+ghost use Rattle.std.specs.Prelude.{◌≡◌, ◌||◌, OnOk, IfOk, IfErr};
 ghost use Rattle.bib_edit.specs.Planning.{IsAllowedEdit, ArePiecesOf, IsRefusal};
-ghost use Rattle.bib_edit.specs.Definitions.{definition_text};
+ghost use Rattle.bib_store.specs.Meaning.{OfReading};
+ghost use Rattle.bib_edit.specs.Definitions.{definition_text, is_given};
 ghost use Rattle.bib_data.specs.declared.edit.Edit.TheVariants.{IntroduceMacro};
 
-use crate::defining::is_in_use;
+use crate::defining::is_given;
 use crate::fault::EditFault;
 use crate::new_entry::insertion_of;
 use crate::replacing::{is_result_too_long, push_replaced};
@@ -16,7 +17,8 @@ use bib_store::{Database, ItemList, Piece};
 use std::alloc::{AllocError, Global};
 
 /// The pieces that define the macro as this text before the first item that has it, in braces or in quotes, as a part, and
-/// put its name for each such part, or the first reason against it. It takes time and memory in the length of the file.
+/// put its name for each such part, or the first reason against it. It looks at each field once, but for those of that
+/// item, at which it looks twice, and takes time and memory in the length of the file.
 pub(crate) fn introduce_macro<L: ItemList>(
     alloc: Global,
     db: &Database<L>,
@@ -35,16 +37,19 @@ pub(crate) fn introduce_macro<L: ItemList>(
     if !is_balanced(text) {
         return Err(EditFault::BadValue);
     }
-    let n = match first_with(alloc, db, Sought::Holds(text))? {
-        Some(n) => n,
+    let sought = Sought::Holds(text);
+    let watched = Sought::Uses(name);
+    let first = match first_with(alloc, db, sought, watched)? {
+        Some(first) => first,
         None => return Err(EditFault::NotFound),
     };
-    if is_in_use(alloc, db, name)? {
+    let n = first.n;
+    let mut tokens = Vec::new(alloc);
+    let met = push_from(alloc, &mut tokens, db, n, sought, watched)?;
+    if is_taken(db, name, first.met | met) {
         return Err(EditFault::NameInUse);
     }
     let definition = definition_text(alloc, name, text)?;
-    let mut tokens = Vec::new(alloc);
-    push_from(alloc, &mut tokens, db, n, Sought::Holds(text))?;
     if is_result_too_long(
         db,
         tokens.as_slice(),
@@ -58,6 +63,13 @@ pub(crate) fn introduce_macro<L: ItemList>(
     pieces.push(insertion_of(alloc, db, n, definition))?;
     push_replaced(alloc, &mut pieces, tokens.as_slice(), name)?;
     Ok(Seq::from_vec(pieces))
+}
+
+/// Whether the name is in use, where this says whether it is used.
+fn is_taken<L: ItemList>(db: &Database<L>, name: &[u8], is_used: bool) -> bool
+    ensures { OfReading db.now (λ r. result ≡ (is_used || is_given name.now r.items)) }
+{
+    is_used || is_given(db, name)
 }
 
 /// A definition of the macro as this text, in a line of its own. (dialect)

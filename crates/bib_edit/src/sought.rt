@@ -10,6 +10,8 @@ use bib_scan::{Part, same_folded};
 /// Which parts are sought.
 #[derive(Clone, Copy, Debug)]
 pub(crate) enum Sought<'a> {
+    /// None.
+    Nothing,
     /// The uses of this macro.
     Uses(&'a [u8]),
     /// This text, in braces or in quotes.
@@ -22,6 +24,7 @@ impl<'a> Sought<'a> {
         ensures { result ≡ test_of self.entry (part_view part.entry) }
     {
         match self {
+            Sought::Nothing => false,
             Sought::Uses(name) => is_use(name, part),
             Sought::Holds(text) => is_text(text, part),
         }

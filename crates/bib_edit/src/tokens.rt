@@ -1,9 +1,9 @@
 //! The parts of a file that an edit seeks, each with its place.
 
-ghost use Rattle.std.specs.Prelude.{◌≡◌, ◌+◌, ◌<◌, ◌^◌, ◌++◌, ◌∷◌, [], ℕ, List, nat_lt, drop, length, slice_get, Some, OnOk, IfOk, IfErr};
+ghost use Rattle.std.specs.Prelude.{◌≡◌, ◌+◌, ◌<◌, ◌^◌, ◌++◌, ◌∷◌, [], take, drop, length, slice_get, Some, OnOk, IfOk, IfErr, IfSome};
+ghost use Rattle.std.specs.List.{list_any};
 ghost use Rattle.std.specs.Option.{option_map};
 ghost use Rattle.bib_spec.specs.Bytes.{name_limit};
-ghost use Rattle.bib_spec.specs.Text.{Text as Bytes};
 ghost use Rattle.bib_spec.specs.Tree.{part_bytes};
 ghost use Rattle.bib_spec.specs.Reading.{Item, IsValueWithin};
 ghost use Rattle.edit_spec.specs.Edits.{any_part};
@@ -13,7 +13,7 @@ ghost use Rattle.bib_scan.specs.Layout.{start_of};
 ghost use Rattle.bib_value.specs.Raw.{OfValue};
 ghost use Rattle.bib_store.specs.Meaning.{OfReading, IsItemNumber, IsItemPlace};
 ghost use Rattle.bib_edit.specs.Addressing.{first_item};
-ghost use Rattle.bib_edit.specs.PlacedParts.{value_placed, items_placed, test_of, token_at, tokens_of, token_seen, tokens_seen, ArePlacedFields, AreFieldTokens};
+ghost use Rattle.bib_edit.specs.PlacedParts.{value_placed, items_placed, test_of, token_at, tokens_of, token_seen, tokens_seen, ArePlacedFields, AreFieldTokens, IsMetIn, have_part};
 ghost use Rattle.bib_edit.specs.declared.fault.EditFault.TheVariants.{Memory};
 
 use crate::fault::EditFault;
@@ -78,118 +78,165 @@ fn push_only<'a>(
     Ok(())
 }
 
-/// Adds the sought parts of a value, which stands at this place in the file, to the tokens. Most values have one part, and
-/// are not taken apart.
+/// Adds the sought parts of a value, which stands at this place in the file, to the tokens, and says whether a part of it
+/// is watched for. Most values have one part, and are not taken apart.
 fn push_in_value<'a>(
     alloc: Global,
     tokens: &mut Vec<Token<'a>>,
     at: usize,
     value: &'a [u8],
     sought: Sought<'_>,
-) -> Result<(), EditFault>
+    watched: Sought<'_>,
+) -> Result<bool, EditFault>
     requires value { IsValueWithin name_limit value.now }
     requires place { at + length value.now < 2 ^ 64 }
     ensures tokens { OnOk result (OfValue value.now (λ v. tokens_seen tokens.new.items ≡ tokens_seen tokens.old.items ++ tokens_of (test_of sought.entry) (value_placed at v))) }
+    ensures met { IfOk result (λ met. OfValue value.now (λ v. met ≡ list_any (test_of watched.entry) (parts_of v))) }
     ensures only { IfErr result (λ fault. fault ≡ Memory) }
 {
     if let Some(part) = only_part(value) {
         push_only(tokens, at, value, part, sought)?;
-        return Ok(());
+        return Ok(watched.is_met(part));
     }
     let parts = value_parts(alloc, value)?;
+    let mut met = false;
     'parts: for n in 0..parts.len() {
-        if sought.is_met(parts.part(value, n)) {
+        let part = parts.part(value, n);
+        let here = watched.is_met(part);
+        met |= here;
+        if sought.is_met(part) {
             tokens.push(token_of(at, &parts, value, n))?;
         }
     }
-    Ok(())
+    Ok(met)
 }
 
-/// Adds the sought parts of an item's fields, where the item stands at this place in the file, to the tokens.
+/// Adds the sought parts of an item's fields, where the item stands at this place in the file, to the tokens, and says
+/// whether a part of them is watched for.
 fn push_in_fields<'a>(
     alloc: Global,
     tokens: &mut Vec<Token<'a>>,
     start: usize,
     fields: Fields<'a>,
     sought: Sought<'_>,
-) -> Result<(), EditFault>
+    watched: Sought<'_>,
+) -> Result<bool, EditFault>
     requires { ArePlacedFields start fields }
     ensures tokens { OnOk result (AreFieldTokens (test_of sought.entry) start fields.entry (tokens_seen tokens.old.items) (tokens_seen tokens.new.items)) }
+    ensures met { IfOk result (λ met. IsMetIn (test_of watched.entry) fields.entry met) }
     ensures only { IfErr result (λ fault. fault ≡ Memory) }
 {
     let mut rest = fields;
+    let mut met = false;
     'fields: while let Some(field) = rest.next() {
-        push_in_value(alloc, tokens, start + field.value_at, field.value, sought)?;
+        let at = start + field.value_at;
+        let here = push_in_value(alloc, tokens, at, field.value, sought, watched)?;
+        met |= here;
     }
-    Ok(())
+    Ok(met)
 }
 
-/// Adds the sought parts of item `n` and of those after it to the tokens, in their order. It takes time in the
-/// length of these items.
+/// Adds the sought parts of item `n` and of those after it to the tokens, in their order, and says whether a part of one
+/// is watched for. It looks at each field once, and takes time in the length of these items.
 pub(crate) fn push_from<'a, L: ItemList>(
     alloc: Global,
     tokens: &mut Vec<Token<'a>>,
     db: &'a Database<L>,
     n: usize,
     sought: Sought<'_>,
-) -> Result<(), EditFault>
+    watched: Sought<'_>,
+) -> Result<bool, EditFault>
     requires { IsItemPlace db.now n }
     ensures tokens { OnOk result (OfReading db.now (λ r. tokens_seen tokens.new.items ≡ tokens_seen tokens.old.items ++ tokens_of (test_of sought.entry) (items_placed (start_of r n) (drop n r.items)))) }
+    ensures met { IfOk result (λ met. OfReading db.now (λ r. met ≡ have_part (test_of watched.entry) (drop n r.items))) }
     ensures only { IfErr result (λ fault. fault ≡ Memory) }
 {
     db.opens();
     let mut at = db.item_place(n);
+    let mut met = false;
     'items: for k in n..db.item_count() {
         let view = db.item(k);
-        push_in_fields(alloc, tokens, at, view.fields(), sought)?;
+        let here = push_in_fields(alloc, tokens, at, view.fields(), sought, watched)?;
+        met |= here;
         at += view.body().len() + view.trail().len();
     }
-    Ok(())
+    Ok(met)
 }
 
-/// Whether a part of these fields is sought.
-pub(crate) fn have_sought(
-    alloc: Global,
-    fields: Fields<'_>,
-    sought: Sought<'_>,
-) -> Result<bool, EditFault>
-    requires { ArePlacedFields 0 fields }
-    ensures have { IfOk result (λ have. (tokens : List (ℕ × Bytes)) × AreFieldTokens (test_of sought.entry) 0 fields.entry [] tokens × (have ≡ nat_lt 0 (length tokens))) }
-    ensures only { IfErr result (λ fault. fault ≡ Memory) }
-{
-    let mut tokens = Vec::new(alloc);
-    push_in_fields(alloc, &mut tokens, 0, fields, sought)?;
-    Ok(!tokens.as_slice().is_empty())
+/// What an item has: parts that are sought, and parts that are watched for.
+#[derive(Clone, Copy, Debug)]
+struct Has {
+    sought: bool,
+    watched: bool,
 }
 
-/// Whether a part of item `n` is sought.
-fn has_sought<L: ItemList>(
+/// Whether a part of item `n` is sought, and whether one is watched for.
+fn look_at<L: ItemList>(
     alloc: Global,
     db: &Database<L>,
     n: usize,
     sought: Sought<'_>,
-) -> Result<bool, EditFault>
+    watched: Sought<'_>,
+) -> Result<Has, EditFault>
     requires { IsItemNumber db.now n }
-    ensures has { IfOk result (λ has. OfReading db.now (λ r. (i : Item) → slice_get r.items n ≡ Some i → has ≡ any_part (test_of sought.entry) i.tree)) }
+    ensures sought { IfOk result (λ has. OfReading db.now (λ r. (i : Item) → slice_get r.items n ≡ Some i → has.sought ≡ any_part (test_of sought.entry) i.tree)) }
+    ensures watched { IfOk result (λ has. OfReading db.now (λ r. (i : Item) → slice_get r.items n ≡ Some i → has.watched ≡ any_part (test_of watched.entry) i.tree)) }
     ensures only { IfErr result (λ fault. fault ≡ Memory) }
 {
     db.opens();
-    have_sought(alloc, db.item(n).fields(), sought)
+    let mut tokens = Vec::new(alloc);
+    let met = push_in_fields(alloc, &mut tokens, 0, db.item(n).fields(), sought, watched)?;
+    Ok(Has {
+        sought: !tokens.as_slice().is_empty(),
+        watched: met,
+    })
 }
 
-/// The number of the first item of which a part is sought.
+/// Whether a part of an item before item `n` is watched for. It takes time in the length of these items.
+pub(crate) fn is_met_before<L: ItemList>(
+    alloc: Global,
+    db: &Database<L>,
+    n: usize,
+    watched: Sought<'_>,
+) -> Result<bool, EditFault>
+    requires { IsItemPlace db.now n }
+    ensures met { IfOk result (λ met. OfReading db.now (λ r. met ≡ have_part (test_of watched.entry) (take n r.items))) }
+    ensures only { IfErr result (λ fault. fault ≡ Memory) }
+{
+    'items: for k in 0..n {
+        if look_at(alloc, db, k, Sought::Nothing, watched)?.watched {
+            return Ok(true);
+        }
+    }
+    Ok(false)
+}
+
+/// The first item of which a part is sought: its number, and whether a part of an item before it is watched for.
+#[derive(Clone, Copy, Debug)]
+pub(crate) struct First {
+    pub n: usize,
+    pub met: bool,
+}
+
+/// The first item of which a part is sought, and what was met before it. It takes time in the length of the items up to
+/// it.
 pub(crate) fn first_with<L: ItemList>(
     alloc: Global,
     db: &Database<L>,
     sought: Sought<'_>,
-) -> Result<Option<usize>, EditFault>
-    ensures first { IfOk result (λ n. OfReading db.now (λ r. n ≡ first_item (any_part (test_of sought.entry)) r.items)) }
+    watched: Sought<'_>,
+) -> Result<Option<First>, EditFault>
+    ensures first { IfOk result (λ first. OfReading db.now (λ r. option_map (λ first. first.n) first ≡ first_item (any_part (test_of sought.entry)) r.items)) }
+    ensures met { IfOk result (λ first. IfSome first (λ first. OfReading db.now (λ r. first.met ≡ have_part (test_of watched.entry) (take first.n r.items)))) }
     ensures only { IfErr result (λ fault. fault ≡ Memory) }
 {
+    let mut met = false;
     'items: for n in 0..db.item_count() {
-        if has_sought(alloc, db, n, sought)? {
-            return Ok(Some(n));
+        let has = look_at(alloc, db, n, sought, watched)?;
+        if has.sought {
+            return Ok(Some(First { n, met }));
         }
+        met |= has.watched;
     }
     Ok(None)
 }

@@ -57,6 +57,7 @@ impl<L: ItemList> Database<L> {
     ghost use Rattle.bib_store.specs.Tables.{crossrefs_of};
     ghost use Rattle.bib_spec.specs.Text.{Text as Bytes};
     ghost use Rattle.bib_store.specs.Stored.{IsTaken, AreTablesOfFile};
+    ghost use Rattle.bib_definitions.specs.Definitions.{definition_count, first_definition};
     ghost use Rattle.bib_definitions.specs.MacrosSeen.{macros_seen};
     ghost use Rattle.bib_store.specs.Meaning.{OfReading, IsItemNumber, IsItemPlace, IsEntryNumber, IsPreambleNumber, entry_items, entry_numbers, IsOpenFault};
     ghost use Rattle.bib_items.specs.declared.fault.StoreFault.TheVariants.{Memory, NoSuchEntry};
@@ -283,6 +284,21 @@ impl<L: ItemList> Database<L> {
         let m = self.tables.preambles.get(n);
         let value = preamble_value(&self.item(m));
         short_text(self.alloc, value, &self.macros_at(m))
+    }
+
+    /// How many items define the macro, folded. It takes time in the length of the name.
+    pub fn definition_count(&self, name: &[u8]) -> usize
+        ensures { OfReading self.now (λ db. result ≡ definition_count name.now db.items) }
+    {
+        self.tables.definitions.count(name)
+    }
+
+    /// The number of the first item that defines the macro, folded. It takes time in the length of the name, and in the
+    /// logarithm of the count of definitions.
+    pub fn first_definition(&self, name: &[u8]) -> Option<usize>
+        ensures { OfReading self.now (λ db. result ≡ first_definition name.now db.items) }
+    {
+        self.tables.definitions.first(name)
     }
 
     /// What macros stand for before item `n`, or at the end of the file.

@@ -10,10 +10,11 @@ use Rattle.bib_edit.specs.NewEntries.{insertion_of}
 use Rattle.bib_edit.specs.PlacedParts.{token_seen, tokens_seen, replaced_by}
 use Rattle.bib_edit.proofs.FoundItems.{first-at, first-within}
 use Rattle.bib_edit.proofs.LimitTests.{not_over}
+use Rattle.bib_edit.proofs.NamesInUse.{in-use-told}
 use Rattle.bib_edit.proofs.OpenFiles.{opens-as}
 use Rattle.bib_edit.proofs.PlacedItems.{only-tokens}
 use Rattle.bib_edit.proofs.AskedEdits.{of-introduce_macro}
-use Rattle.bib_edit.proofs.IntroducedMacro.{introduce-unbalanced, introduce-missing, introduce-in_use, introduce-long_file, introduce-accepted, introducing-pieces, introducing-within}
+use Rattle.bib_edit.proofs.IntroducedMacro.{introduce-unbalanced, introduce-missing, introduce-in_use, introduce-long_file, introduce-accepted, introducing-pieces, introducing-within, found-first, found-none, met-first}
 use Rattle.bib_edit.proofs.introduce_macro.introduce_macro.Goals as goal
 
 pub returns-then-not-is_balanced-clause-refused : goal.returns-then-not-is_balanced-clause-refused
@@ -22,61 +23,64 @@ returns-then-not-is_balanced-clause-refused g c db reads = of-introduce_macro c.
 
 pub returns-in-None-clause-refused : goal.returns-in-None-clause-refused
 returns-in-None-clause-refused g c db reads = of-introduce_macro c.args.name.now c.args.text.now _
-    (introduce-missing c.args.name.now c.args.text.now db (sym c.is_name.ensures ∙ c.if-not-is_name.false) (c.is_balanced.ensures.0 c.if-not-is_balanced.false) (sym c.in-None.is ∙ c.in_ok-n.ensures.first db reads))
+    (introduce-missing c.args.name.now c.args.text.now db (sym c.is_name.ensures ∙ c.if-not-is_name.false) (c.is_balanced.ensures.0 c.if-not-is_balanced.false) (found-none (any_part (holds c.args.text.now)) db.items _ c.in-None.is (c.in_ok-first.ensures.first db reads)))
 
-pub returns-then-branch-clause-refused : goal.returns-then-branch-clause-refused
-returns-then-branch-clause-refused g c db reads = of-introduce_macro c.args.name.now c.args.text.now _
-    (introduce-in_use c.args.name.now c.args.text.now db (sym c.is_name.ensures ∙ c.if-not-is_name.false) (c.is_balanced.ensures.0 c.if-not-is_balanced.false) c.in-Some.n (sym (sym c.in-Some.is ∙ c.in_ok-n.ensures.first db reads))
-    (sym (c.in_ok-is_in_use.ensures.used db reads) ∙ c.if-branch.true))
+pub returns-then-is_taken-clause-refused : goal.returns-then-is_taken-clause-refused
+returns-then-is_taken-clause-refused g c db reads = of-introduce_macro c.args.name.now c.args.text.now _
+    (introduce-in_use c.args.name.now c.args.text.now db (sym c.is_name.ensures ∙ c.if-not-is_name.false) (c.is_balanced.ensures.0 c.if-not-is_balanced.false) c.in-Some.first.n (sym (found-first (any_part (holds c.args.text.now)) db.items _ c.in-Some.first c.in-Some.is (c.in_ok-first.ensures.first db reads)))
+    (sym (in-use-told c.args.name.now db.items c.in-Some.first.n c.in-Some.first.met c.in_ok-met.met c.is_taken.result
+    (met-first c.args.name.now c.args.db.now _ c.in-Some.first c.in-Some.is c.in_ok-first.ensures.met db reads) (c.in_ok-met.ensures.met db reads) (c.is_taken.ensures db reads)) ∙ c.if-is_taken.true))
 
 pub push_from-requires : goal.push_from-requires
 push_from-requires g c db reads =
-    let within = first-within (any_part (holds c.args.text.now)) db.items c.in-Some.n (first-at (any_part (holds c.args.text.now)) db.items c.in-Some.n (sym (sym c.in-Some.is ∙ c.in_ok-n.ensures.first db reads))) in omega (arith, within)
+    let within = first-within (any_part (holds c.args.text.now)) db.items c.in-Some.first.n (first-at (any_part (holds c.args.text.now)) db.items c.in-Some.first.n (sym (found-first (any_part (holds c.args.text.now)) db.items _ c.in-Some.first c.in-Some.is (c.in_ok-first.ensures.first db reads)))) in omega (arith, within)
 
 pub insertion_of-requires : goal.insertion_of-requires
 insertion_of-requires g c db reads =
-    let within = first-within (any_part (holds c.args.text.now)) db.items c.in-Some.n (first-at (any_part (holds c.args.text.now)) db.items c.in-Some.n (sym (sym c.in-Some.is ∙ c.in_ok-n.ensures.first db reads))) in omega (arith, within)
+    let within = first-within (any_part (holds c.args.text.now)) db.items c.in-Some.first.n (first-at (any_part (holds c.args.text.now)) db.items c.in-Some.first.n (sym (found-first (any_part (holds c.args.text.now)) db.items _ c.in-Some.first c.in-Some.is (c.in_ok-first.ensures.first db reads)))) in omega (arith, within)
 
 pub is_result_too_long-requires : goal.is_result_too_long-requires
 is_result_too_long-requires g c =
-    let within = introducing-within c.args.db.now c.args.name.now c.args.text.now c.in-Some.n (λ db reads. sym c.in-Some.is ∙ c.in_ok-n.ensures.first db reads) (tokens_seen c.as_slice.result.now)
-    (λ db reads. ap tokens_seen c.as_slice.ensures.value ∙ only-tokens _ _ _ (ap tokens_seen c.new-tokens.ensures.items) (c.in_ok-push_from.ensures.tokens db reads)) c.opens.ensures in
+    let within = introducing-within c.args.db.now c.args.name.now c.args.text.now c.in-Some.first.n (λ db reads. found-first (any_part (holds c.args.text.now)) db.items _ c.in-Some.first c.in-Some.is (c.in_ok-first.ensures.first db reads)) (tokens_seen c.as_slice.result.now)
+    (λ db reads. ap tokens_seen c.as_slice.ensures.value ∙ only-tokens _ _ _ (ap tokens_seen c.new-tokens.ensures.items) (c.in_ok-met.ensures.tokens db reads)) c.opens.ensures in
     record { inside = omega (arith, within) }
 
 pub returns-then-is_result_too_long-clause-refused : goal.returns-then-is_result_too_long-clause-refused
 returns-then-is_result_too_long-clause-refused g c db reads =
     let tokens : List (ℕ × Text) = tokens_seen c.as_slice.result.now in
-    let pieces = introducing-pieces c.args.db.now c.args.name.now c.args.text.now c.in-Some.n (λ db reads. sym c.in-Some.is ∙ c.in_ok-n.ensures.first db reads) tokens
-    (λ db reads. ap tokens_seen c.as_slice.ensures.value ∙ only-tokens _ _ _ (ap tokens_seen c.new-tokens.ensures.items) (c.in_ok-push_from.ensures.tokens db reads)) db reads in
+    let pieces = introducing-pieces c.args.db.now c.args.name.now c.args.text.now c.in-Some.first.n (λ db reads. found-first (any_part (holds c.args.text.now)) db.items _ c.in-Some.first c.in-Some.is (c.in_ok-first.ensures.first db reads)) tokens
+    (λ db reads. ap tokens_seen c.as_slice.ensures.value ∙ only-tokens _ _ _ (ap tokens_seen c.new-tokens.ensures.items) (c.in_ok-met.ensures.tokens db reads)) db reads in
     let told = c.is_result_too_long.ensures.0 c.if-is_result_too_long.true in
     let whole = ap (length {A = ℕ}) reads.bytes in
     let line = ap (length {A = ℕ}) (c.as_slice-2.ensures ∙ c.in_ok-definition.ensures) in
     let product = ap (λ n. n * length c.args.name.now) (length-map c.as_slice.result.now token_seen) in
     of-introduce_macro c.args.name.now c.args.text.now _
-    (introduce-long_file c.args.name.now c.args.text.now db (sym c.is_name.ensures ∙ c.if-not-is_name.false) (c.is_balanced.ensures.0 c.if-not-is_balanced.false) c.in-Some.n (sym (sym c.in-Some.is ∙ c.in_ok-n.ensures.first db reads))
-    (sym (c.in_ok-is_in_use.ensures.used db reads) ∙ c.if-branch.false) tokens pieces (omega (arith, told, whole, line, product)))
+    (introduce-long_file c.args.name.now c.args.text.now db (sym c.is_name.ensures ∙ c.if-not-is_name.false) (c.is_balanced.ensures.0 c.if-not-is_balanced.false) c.in-Some.first.n (sym (found-first (any_part (holds c.args.text.now)) db.items _ c.in-Some.first c.in-Some.is (c.in_ok-first.ensures.first db reads)))
+    (sym (in-use-told c.args.name.now db.items c.in-Some.first.n c.in-Some.first.met c.in_ok-met.met c.is_taken.result
+    (met-first c.args.name.now c.args.db.now _ c.in-Some.first c.in-Some.is c.in_ok-first.ensures.met db reads) (c.in_ok-met.ensures.met db reads) (c.is_taken.ensures db reads)) ∙ c.if-is_taken.false) tokens pieces (omega (arith, told, whole, line, product)))
 
 pub returns-clause-pieces : goal.returns-clause-pieces
 returns-clause-pieces g c db reads =
-    let pieces = introducing-pieces c.args.db.now c.args.name.now c.args.text.now c.in-Some.n (λ db reads. sym c.in-Some.is ∙ c.in_ok-n.ensures.first db reads) (tokens_seen c.as_slice-3.result.now)
-    (λ db reads. ap tokens_seen c.as_slice-3.ensures.value ∙ only-tokens _ _ _ (ap tokens_seen c.new-tokens.ensures.items) (c.in_ok-push_from.ensures.tokens db reads)) db reads in
+    let pieces = introducing-pieces c.args.db.now c.args.name.now c.args.text.now c.in-Some.first.n (λ db reads. found-first (any_part (holds c.args.text.now)) db.items _ c.in-Some.first c.in-Some.is (c.in_ok-first.ensures.first db reads)) (tokens_seen c.as_slice-3.result.now)
+    (λ db reads. ap tokens_seen c.as_slice-3.ensures.value ∙ only-tokens _ _ _ (ap tokens_seen c.new-tokens.ensures.items) (c.in_ok-met.ensures.tokens db reads)) db reads in
     let line = c.in_ok-definition.ensures in
     of-introduce_macro c.args.name.now c.args.text.now (λ e. c.from_vec.result ≡ pieces_of made_base db e)
     (c.from_vec.ensures ∙ c.in_ok-push_replaced.ensures.pieces
     ∙ ap (λ (ps : List Piece). ps ++ map (replaced_by c.args.name.now) (tokens_seen c.as_slice-3.result.now))
-    (c.in_ok-push.ensures.items ∙ ap₂ (λ (ps : List Piece) (p : Piece). ps ++ p ∷ []) c.new-pieces.ensures.items (c.insertion_of.ensures db reads ∙ ap (insertion_of db c.in-Some.n) line))
+    (c.in_ok-push.ensures.items ∙ ap₂ (λ (ps : List Piece) (p : Piece). ps ++ p ∷ []) c.new-pieces.ensures.items (c.insertion_of.ensures db reads ∙ ap (insertion_of db c.in-Some.first.n) line))
     ∙ sym pieces)
 
 pub returns-clause-allowed : goal.returns-clause-allowed
 returns-clause-allowed g c db reads =
     let tokens : List (ℕ × Text) = tokens_seen c.as_slice.result.now in
-    let pieces = introducing-pieces c.args.db.now c.args.name.now c.args.text.now c.in-Some.n (λ db reads. sym c.in-Some.is ∙ c.in_ok-n.ensures.first db reads) tokens
-    (λ db reads. ap tokens_seen c.as_slice.ensures.value ∙ only-tokens _ _ _ (ap tokens_seen c.new-tokens.ensures.items) (c.in_ok-push_from.ensures.tokens db reads)) db reads in
+    let pieces = introducing-pieces c.args.db.now c.args.name.now c.args.text.now c.in-Some.first.n (λ db reads. found-first (any_part (holds c.args.text.now)) db.items _ c.in-Some.first c.in-Some.is (c.in_ok-first.ensures.first db reads)) tokens
+    (λ db reads. ap tokens_seen c.as_slice.ensures.value ∙ only-tokens _ _ _ (ap tokens_seen c.new-tokens.ensures.items) (c.in_ok-met.ensures.tokens db reads)) db reads in
     let told = not_over c.is_result_too_long.result _ _ c.is_result_too_long.ensures.1 c.if-is_result_too_long.false in
     let whole = ap (length {A = ℕ}) reads.bytes in
     let line = ap (length {A = ℕ}) (c.as_slice-2.ensures ∙ c.in_ok-definition.ensures) in
     let product = ap (λ n. n * length c.args.name.now) (length-map c.as_slice.result.now token_seen) in
     of-introduce_macro c.args.name.now c.args.text.now _
-    (introduce-accepted c.args.name.now c.args.text.now db (sym c.is_name.ensures ∙ c.if-not-is_name.false) (c.is_balanced.ensures.0 c.if-not-is_balanced.false) c.in-Some.n (sym (sym c.in-Some.is ∙ c.in_ok-n.ensures.first db reads))
-    (sym (c.in_ok-is_in_use.ensures.used db reads) ∙ c.if-branch.false) tokens pieces
+    (introduce-accepted c.args.name.now c.args.text.now db (sym c.is_name.ensures ∙ c.if-not-is_name.false) (c.is_balanced.ensures.0 c.if-not-is_balanced.false) c.in-Some.first.n (sym (found-first (any_part (holds c.args.text.now)) db.items _ c.in-Some.first c.in-Some.is (c.in_ok-first.ensures.first db reads)))
+    (sym (in-use-told c.args.name.now db.items c.in-Some.first.n c.in-Some.first.met c.in_ok-met.met c.is_taken.result
+    (met-first c.args.name.now c.args.db.now _ c.in-Some.first c.in-Some.is c.in_ok-first.ensures.met db reads) (c.in_ok-met.ensures.met db reads) (c.is_taken.ensures db reads)) ∙ c.if-is_taken.false) tokens pieces
     c.args.db.now (opens-as c.args.db.now db c.one_reading.ensures c.opens.ensures reads) (omega (arith, told, whole, line, product)))

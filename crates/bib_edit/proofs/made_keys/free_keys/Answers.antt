@@ -1,8 +1,7 @@
-use Rattle.std.proofs.Common.{◌∷◌, length, refl, ◌∙◌, ap, subst, arith}
+use Rattle.std.proofs.Common.{length, refl, ◌∙◌, ap, arith}
 use Rattle.std.proofs.lemmas.Option.{slice_get_read}
-use Rattle.bib_spec.specs.Text.{Text}
 use Rattle.bib_spec.specs.MadeKeys.{free_key}
-use Rattle.bib_edit.specs.TakenKeys.{AreTaken, taken_in}
+use Rattle.bib_edit.specs.TakenKeys.{taken_in}
 use Rattle.bib_edit.proofs.MadeKeyLists.{made-more, made-all}
 use Rattle.bib_edit.proofs.made_keys.free_keys.Goals as goal
 
