@@ -3,16 +3,15 @@ use Rattle.std.proofs.Common.{◌≡◌, ◌∙◌, ◌==◌, ◌||◌, length, 
 use Rattle.std.specs.Prelude.{unwrap_or}
 use Rattle.std.specs.List.{find, list_any}
 use Rattle.std.specs.Option.{option_map_or}
-use Rattle.std.specs.Char.{is_ascii_digit}
 use Rattle.std.specs.Str.{bytes_eq}
 use Rattle.std.proofs.lemmas.Bool.{false≢true, cases_Bool, cond-true, cond-false}
 use Rattle.std.proofs.lemmas.Slice.Eq.{bytes_eq-Decides}
 use Rattle.bib_spec.specs.Text.{Text, same}
 use Rattle.bib_spec.specs.Records.{RecordField, missing}
 use Rattle.bib_spec.proofs.Names.{true-same}
-use Rattle.bib_names.specs.Label.{Fields, text_in, listed_names, letters_of_names, first_three, or_anon, last_two, letters_of_fields, label_base}
+use Rattle.bib_names.specs.Label.{Fields, text_in, listed_names, letters_of_names, first_three, or_anon, label_base}
 use Rattle.bib_names.specs.declared.parts.LabelParts.{LabelParts}
-use Rattle.bib_names.specs.LabelParts.{letters_if_any, letters_in, year_digits, parts_of, letters_from, base_from, has_field, given_or, parts_with}
+use Rattle.bib_names.specs.LabelParts.{letters_if_any, letters_in, year_digits, parts_of, base_from, has_field, given_or, parts_with}
 use Rattle.bib_names.proofs.LabelFields.{find_filtered}
 
 -- ---- letters
