@@ -28,7 +28,10 @@ fn journals<'a>(alloc: Global) -> Result<Command<'a>, AllocError>
 fn edits<'a>(alloc: Global) -> Result<Command<'a>, AllocError>
     ensures { IfOk result (Reads bibkeep_edits) }
 {
-    adds(adds(adds(shows(alloc), labels(alloc)), names(alloc)), edit(alloc))
+    adds(
+        adds(adds(shows(alloc), labels(alloc)), names(alloc)),
+        edit(alloc),
+    )
 }
 
 /// With the commands that show what a file says.
