@@ -89,6 +89,14 @@ keeps "$month" 'rename-macro\tjan\tj' a a
 keeps '@string{x={1}}@string{m=x}@string{x={2}}@misc{k,t=m # x}' 'inline\tm' k k
 keeps '@misc{a, t = {x } # "x" # mar}' 'introduce\tm\tx' a a
 
+# Making keys is a change like any other, also where there are none: as many are kept as can be undone.
+given_edit '' ''
+yes regenerate | head -n 65536 >script
+edit; ends_with 1; prints 'applied 65535\n'; says 'bibkeep: line 65536: 41 JournalFull'; leaves ''
+when undo edited.bib; ends_with 0; prints 'undone 1\n'; says_nothing; leaves ''
+given script 'regenerate\n'
+edit; ends_with 0; prints 'applied 1\n'; says_nothing; leaves ''
+
 # Many entries of one base.
 given_edit '' 'regenerate\n'
 { yes '@misc{x}' | head -n 100000; } >edited.bib
