@@ -19,8 +19,7 @@ pub(crate) struct Marks {
 impl Marks {
     ghost use Rattle.bib_answers.specs.Recurring.{is_shared, AreTold, names_of};
 
-    /// The marks of the names of these fields, of which there are so many. It takes a byte for each, and time in the fields'
-    /// length.
+    /// So many marks, for the names of these fields. It takes a byte for each mark, and time in the fields' length.
     pub fn of(alloc: Global, fields: Fields<'_>, count: usize) -> Result<Self, AllocError>
         ensures { IfOk result (λ marks. AreTold (Some marks) [] (names_of fields.entry)) }
     {

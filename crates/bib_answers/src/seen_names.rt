@@ -49,10 +49,12 @@ impl<'a> SeenNames<'a> {
     {
         self.few.clear();
         self.marks = None;
-        self.others = FoldedMap::new(self.alloc);
+        if self.others.len() > 0 {
+            self.others = FoldedMap::new(self.alloc);
+        }
     }
 
-    /// Marks the names of the item, whose fields are these, once more of them were seen than are compared one by one.
+    /// Marks the names of all fields of the item, once as many were seen as are compared one by one.
     pub fn mark(&mut self, item: &ItemView<'_>) -> Result<(), AllocError>
         ensures { OnOk result ((earlier rest : List Text) → IsAt self.old (names_of item.now.fields) earlier rest → IsAt self.new (names_of item.now.fields) earlier rest) }
     {

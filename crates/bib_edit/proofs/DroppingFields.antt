@@ -113,10 +113,9 @@ module _ (file key name : Text) where
         there db reads none =
             let count = fields db reads in let some = some-counted (is_field name) view.fields field (sym found) in omega (arith, none, count, some)
 
-        pub refused-holders : (count : ℕ) → OfReading file (λ db. count ≡ holders key db) → 1 < count → IsRefusal file asked Ambiguous
-        refused-holders count counted many db reads = of-drop_field key name (λ e. IsFirstRefusal made_base db e edits.Ambiguous)
-            (let same_count = counted db reads in
-            first_refusal made_base db (drop db key name) edits.Ambiguous (inl (omega (arith, many, same_count))) (clear_ambiguous db key name valid (there db reads)))
+        pub refused-holders : OfReading file (λ db. 1 < holders key db) → IsRefusal file asked Ambiguous
+        refused-holders many db reads = of-drop_field key name (λ e. IsFirstRefusal made_base db e edits.Ambiguous)
+            (first_refusal made_base db (drop db key name) edits.Ambiguous (inl (many db reads)) (clear_ambiguous db key name valid (there db reads)))
 
         pub refused-twice : 1 < count_by (is_field name) view.fields → IsRefusal file asked Ambiguous
         refused-twice many db reads = of-drop_field key name (λ e. IsFirstRefusal made_base db e edits.Ambiguous)
@@ -161,11 +160,11 @@ module _ (file key name : Text) where
           cut-within : end_of (cut_piece (start_of db n) view.body field) ≤ length (bytes_of db)
           cut-within = within-one_piece made_base db (drop db key name) (cut_piece (start_of db n) view.body field) one_piece
 
-        pub refused-merge : (count : ℕ) → OfReading file (λ db. count ≡ holders key db) → count ≤ 1 → count_by (is_field name) view.fields ≤ 1 → joins_key view field ≡ true → IsRefusal file asked WouldMerge
-        refused-merge count counted once few joins db reads = of-drop_field key name (λ e. IsFirstRefusal made_base db e edits.WouldMerge)
-            (let same_count = counted db reads in let same_fields = fields db reads in
+        pub refused-merge : OfReading file (λ db. holders key db ≤ 1) → count_by (is_field name) view.fields ≤ 1 → joins_key view field ≡ true → IsRefusal file asked WouldMerge
+        refused-merge once few joins db reads = of-drop_field key name (λ e. IsFirstRefusal made_base db e edits.WouldMerge)
+            (let same_fields = fields db reads in
             first_refusal made_base db (drop db key name) edits.WouldMerge (merged db reads joins)
-            (clear_merge db key name valid (there db reads) (omega (arith, once, same_count)) (omega (arith, few, same_fields))))
+            (clear_merge db key name valid (there db reads) (once db reads) (omega (arith, few, same_fields))))
 
         pub pieces-drop_field : (begins : OfReading file (λ db. start ≡ start_of db n)) → ArePiecesOf file asked (cut_piece start view.body field ∷ [])
         pieces-drop_field begins db reads = of-drop_field key name (λ e. (cut_piece start view.body field ∷ []) ≡ pieces_of made_base db e)
@@ -195,11 +194,11 @@ module _ (file key name : Text) where
             too_long-changed key (entry_without_field name) db n (entry db reads).entry (entry db reads).trail (sym (held db reads)) (entry db reads).at opens.texts
             ∙ short-dropped (macros_at months db.items n) name (entry db reads).entry (short-entry db n (entry db reads).entry (entry db reads).trail (entry db reads).at opens.texts)
 
-        pub allowed-drop_field : IsOpenable file → (count : ℕ) → OfReading file (λ db. count ≡ holders key db) → count ≤ 1 → count_by (is_field name) view.fields ≤ 1 → joins_key view field ≡ false → IsAllowedEdit file asked
-        allowed-drop_field is count counted once few apart db reads = of-drop_field key name (λ e. IsAccepted made_base db e)
-            (let same_count = counted db reads in let same_fields = fields db reads in let short = short_file is db reads in
+        pub allowed-drop_field : IsOpenable file → OfReading file (λ db. holders key db ≤ 1) → count_by (is_field name) view.fields ≤ 1 → joins_key view field ≡ false → IsAllowedEdit file asked
+        allowed-drop_field is once few apart db reads = of-drop_field key name (λ e. IsAccepted made_base db e)
+            (let same_fields = fields db reads in let short = short_file is db reads in
             all_clear made_base db (drop db key name)
             (clear_more made_base db (drop db key name) edits.TextTooLong (λ h. false≢true (sym (short_texts is db reads) ∙ h))
             (clear_more made_base db (drop db key name) edits.FileTooLong (λ h. omega (arith, h, short))
             (clear_more made_base db (drop db key name) edits.WouldMerge (λ h. false≢true (sym apart ∙ merges db reads h))
-            (clear_merge db key name valid (there db reads) (omega (arith, once, same_count)) (omega (arith, few, same_fields)))))))
+            (clear_merge db key name valid (there db reads) (once db reads) (omega (arith, few, same_fields)))))))

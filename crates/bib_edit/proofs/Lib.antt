@@ -28,6 +28,7 @@ pub mod LimitTests
 pub mod LongTexts
 pub mod HeldKeys
 -- ---- fields that are set and dropped
+pub mod SoughtFields
 pub mod SettingFields
 pub mod SettingPieces
 pub mod CuttingRows

@@ -1,5 +1,5 @@
 -- When setting a field is refused, and for which reason.
-use Rattle.std.proofs.Common.{◌≡◌, ℕ, ◌+◌, ◌<◌, ◌≤◌, ◌&&◌, nat_lt, Bool, true, false, [], ◌∷◌, is_some, length, count_by, inl, inr, ⊎_elim, true≢false, sym, ◌∙◌, ap, subst, arith}
+use Rattle.std.proofs.Common.{◌≡◌, ℕ, ◌+◌, ◌<◌, ◌≤◌, ◌&&◌, nat_lt, Bool, true, false, [], ◌∷◌, is_some, length, count_by, ◌⊎◌, inl, inr, ⊎_elim, true≢false, sym, ◌∙◌, ap, subst, arith}
 use Rattle.std.proofs.lemmas.Bool.{false≢true}
 use Rattle.std.proofs.lemmas.List.Elements.{All-nil, All-cons, All-head}
 use Rattle.bib_spec.specs.Bytes.{name_limit, file_limit}
@@ -116,22 +116,29 @@ module _ (file key name value : Text) where
       refused-key TextTooLong none = λ db reads. absurd (none db reads)
 
       -- and that the key is one entry's
-      module _ (n : ℕ) (held : OfReading file (λ db. IsHeldAt key db n)) (count : ℕ) (counted : OfItem file n (λ start view. count ≡ count_by (is_field name) view.fields)) where
-        fields : (db : Reading) → Reads file db → fields_named key name db ≡ count
-        fields db reads =
+      module _ (n : ℕ) (held : OfReading file (λ db. IsHeldAt key db n)) where
+        -- what holds of how many of its fields are seen to have the name
+        of_count : (P : ℕ → Type 0) → OfItem file n (λ start view. P (count_by (is_field name) view.fields)) → (db : Reading) → Reads file db → P (fields_named key name db)
+        of_count P of db reads =
             let lone = held db reads in
             let entry = named-entry key db n lone.item in
             let item : Item = item_at (EntryTree entry.entry) entry.trail in
-            fields-seen db key name n item lone.item entry.at ∙ sym (counted db reads item entry.at)
+            subst P (sym (fields-seen db key name n item lone.item entry.at)) (of db reads item entry.at)
 
-        pub refused-twice : 1 < count → IsRefusal file asked Ambiguous
-        refused-twice many db reads = of-set_field key name value (λ e. IsFirstRefusal made_base db e edits.Ambiguous)
-            (λ v s. let lone = held db reads in let same_count = fields db reads in let once = lone.once in
-            first_refusal made_base db (set db key name v) edits.Ambiguous (inr (omega (arith, many, same_count)))
+        refused-twice : OfItem file n (λ start view. 1 < count_by (is_field name) view.fields) → IsRefusal file asked Ambiguous
+        refused-twice twice db reads = of-set_field key name value (λ e. IsFirstRefusal made_base db e edits.Ambiguous)
+            (λ v s. let many = of_count (λ k. 1 < k) twice db reads in let once = (held db reads).once in
+            first_refusal made_base db (set db key name v) edits.Ambiguous (inr many)
             (clear_ambiguous db key name v named (s.value valued) (λ none. omega (arith, none, once))))
 
+        pub refused-piece : (fault : EditFault) → (fault ≡ Ambiguous → OfItem file n (λ start view. 1 < count_by (is_field name) view.fields)) → (fault ≡ Ambiguous) ⊎ (fault ≡ Memory) → IsRefusal file asked fault
+        refused-piece fault twice only = ⊎_elim
+            (λ is. subst (IsRefusal file asked) (sym is) (refused-twice (twice is)))
+            (λ is. subst (IsRefusal file asked) (sym is) tt)
+            only
+
         -- and that it has one such field at most
-        module _ (few : count ≤ 1) (p : Piece) (made : OfItem file n (λ start view. p ≡ set_piece start view name value)) where
+        module _ (once : OfItem file n (λ start view. count_by (is_field name) view.fields ≤ 1)) (p : Piece) (made : OfItem file n (λ start view. p ≡ set_piece start view name value)) where
           pub pieces-set_field : ArePiecesOf file asked (p ∷ [])
           pieces-set_field db reads = of-set_field key name value (λ e. (p ∷ []) ≡ pieces_of made_base db e) (λ v s.
               let lone = held db reads in
@@ -150,8 +157,7 @@ module _ (file key name value : Text) where
 
           clear_file : (db : Reading) → Reads file db → (v : Value) → Spells value v → IsClear made_base db (set db key name v) 10
           clear_file db reads v s =
-              let lone = held db reads in let same_count = fields db reads in
-              clear_long db key name v named (s.value valued) lone.once (omega (arith, few, same_count))
+              clear_long db key name v named (s.value valued) (held db reads).once (of_count (λ k. k ≤ 1) once db reads)
 
           pub refused-file : file_limit + length p.old < length file + length p.new → IsRefusal file asked FileTooLong
           refused-file long db reads = of-set_field key name value (λ e. IsFirstRefusal made_base db e edits.FileTooLong) (λ v s.
@@ -162,8 +168,8 @@ module _ (file key name value : Text) where
           module _ (short : length file + length p.new ≤ file_limit + length p.old) (is : IsOpenable file) (long : Bool) (told : OfReading file (λ db. OfValue value (λ v. long ≡ nat_lt raw_limit (length (raw_text (macros_at months db.items n) v))))) where
             clear_raw : (db : Reading) → Reads file db → (v : Value) → Spells value v → IsClear made_base db (set db key name v) 11
             clear_raw db reads v s =
-                let lone = held db reads in let same_count = fields db reads in let made_lengths = lengths db reads v s in
-                clear_text db key name v named (s.value valued) lone.once (omega (arith, few, same_count)) (λ h. omega (arith, h, short, made_lengths))
+                let made_lengths = lengths db reads v s in
+                clear_text db key name v named (s.value valued) (held db reads).once (of_count (λ k. k ≤ 1) once db reads) (λ h. omega (arith, h, short, made_lengths))
 
             raw : (db : Reading) → Opens file db → (v : Value) → Spells value v → is_some (too_long_at (edits.edited made_base db (set db key name v))) ≡ long
             raw db opens v s =

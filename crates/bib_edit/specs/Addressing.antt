@@ -1,11 +1,13 @@
 -- What an edit addresses: items, fields, and where their bytes lie.
-use Rattle.std.specs.Prelude.{ℕ, suc, ◌≡◌, ◌+◌, ◌<◌, Bool, List, [], ◌∷◌, Option, Some, None, option_map, if◌then◌else◌, length}
+use Rattle.std.specs.Prelude.{ℕ, suc, ◌≡◌, ◌+◌, ◌<◌, nat_lt, Bool, List, [], ◌∷◌, Option, Some, None, option_map, if◌then◌else◌, length, count_by, find}
+use Rattle.std.specs.List.{last_or}
 use Rattle.bib_spec.specs.Text.{Text, same}
 use Rattle.bib_spec.specs.Tree.{Tree}
 use Rattle.bib_spec.specs.Reading.{Item, Reading}
 use Rattle.bib_spec.specs.Records.{entries_of, entry_named}
 use Rattle.edit_spec.specs.Edits.{is_entry, holders}
-use Rattle.bib_scan.specs.View.{Field}
+use Rattle.bib_scan.specs.View.{Field, field_seen}
+use Rattle.bib_edit.specs.declared.address.SoughtFields.{SoughtFields}
 use Rattle.bib_edit.specs.declared.fault.EditFault.{EditFault}
 use Rattle.bib_edit.specs.declared.fault.EditFault.TheVariants.{NotFound, Ambiguous}
 
@@ -37,6 +39,12 @@ IsHolderFault key db other = ⊥
 -- the field has this name
 abbrev pub is_field : Text → Field → Bool
 is_field name field = same field.name name
+
+-- the first of the fields that have this name, whether there is another, and the last field of all
+pub record AreSought (name : Text) (fields : List Field) (sought : SoughtFields) : Type 0 where
+  pub first : option_map field_seen sought.first ≡ find (is_field name) fields
+  pub repeated : sought.is_repeated ≡ nat_lt 1 (count_by (is_field name) fields)
+  pub last : option_map field_seen sought.last ≡ last_or None fields
 
 -- the place after a field's value
 abbrev pub field_end : Field → ℕ

@@ -1,11 +1,11 @@
 //! The entry that a key names, and its fields.
 
-ghost use Rattle.std.specs.Prelude.{◌≡◌, count_by, find, IfOk, IfErr, None};
-ghost use Rattle.std.specs.List.{last_or};
+ghost use Rattle.std.specs.Prelude.{◌≡◌, nat_lt, find, IfOk, IfErr};
 ghost use Rattle.std.specs.Option.{option_map};
 ghost use Rattle.bib_scan.specs.View.{field_seen};
 ghost use Rattle.bib_store.specs.Meaning.{OfReading};
-ghost use Rattle.bib_edit.specs.Addressing.{item_named, IsHeldAt, IsLoneNumber, IsHolderFault, is_field};
+ghost use Rattle.edit_spec.specs.Edits.{holders};
+ghost use Rattle.bib_edit.specs.Addressing.{item_named, IsHeldAt, IsLoneNumber, IsHolderFault, is_field, AreSought};
 
 use crate::fault::EditFault;
 use bib_scan::{FieldView, ItemView, same_folded};
@@ -21,18 +21,26 @@ pub(crate) fn item_named<L: ItemList>(db: &Database<L>, key: &[u8]) -> Option<us
     }
 }
 
+/// Whether several entries have the key. It is looked up only where two had one key once.
+pub(crate) fn is_ambiguous<L: ItemList>(db: &Database<L>, key: &[u8]) -> bool
+    ensures { OfReading db.now (λ r. result ≡ nat_lt 1 (holders key.now r)) }
+{
+    !db.are_keys_apart() && db.holders(key) > 1
+}
+
 /// The number among the entries of the one entry with this key.
 pub(crate) fn lone_number<L: ItemList>(db: &Database<L>, key: &[u8]) -> Result<usize, EditFault>
     ensures lone { IfOk result (λ n. OfReading db.now (λ r. IsLoneNumber key.now r n)) }
     ensures refused { IfErr result (λ fault. OfReading db.now (λ r. IsHolderFault key.now r fault)) }
 {
-    if db.holders(key) > 1 {
+    let n = match db.find(key) {
+        Ok(n) => n,
+        Err(_) => return Err(EditFault::NotFound),
+    };
+    if is_ambiguous(db, key) {
         return Err(EditFault::Ambiguous);
     }
-    match db.find(key) {
-        Ok(n) => Ok(n),
-        Err(_) => Err(EditFault::NotFound),
-    }
+    Ok(n)
 }
 
 /// The number of the item that is the one entry with this key.
@@ -44,11 +52,37 @@ pub(crate) fn lone_entry<L: ItemList>(db: &Database<L>, key: &[u8]) -> Result<us
     Ok(db.entry_item(n))
 }
 
-/// How many fields have this name.
-pub(crate) fn count_named(view: &ItemView<'_>, name: &[u8]) -> usize
-    ensures { result ≡ count_by (is_field name.now) view.now.fields }
+/// The fields of an entry in which those of one name were sought.
+#[derive(Clone, Copy)]
+pub(crate) struct SoughtFields<'a> {
+    /// The first field that has the name.
+    pub(crate) first: Option<FieldView<'a>>,
+    /// Whether another has it too.
+    pub(crate) is_repeated: bool,
+    /// The last field of all.
+    pub(crate) last: Option<FieldView<'a>>,
+}
+
+/// Seeks the fields that have this name, in one walk over all.
+pub(crate) fn sought_fields<'a>(view: &ItemView<'a>, name: &[u8]) -> SoughtFields<'a>
+    ensures { AreSought name.now view.now.fields result }
 {
-    view.fields().filter(|f| same_folded(f.name, name)).count()
+    let mut sought = SoughtFields {
+        first: None,
+        is_repeated: false,
+        last: None,
+    };
+    let mut rest = view.fields();
+    'fields: while let Some(field) = rest.next() {
+        if same_folded(field.name, name) {
+            match sought.first {
+                Some(_) => sought.is_repeated = true,
+                None => sought.first = Some(field),
+            }
+        }
+        sought.last = Some(field);
+    }
+    sought
 }
 
 /// The first field that has this name.
@@ -56,11 +90,4 @@ pub(crate) fn field_named<'a>(view: &ItemView<'a>, name: &[u8]) -> Option<FieldV
     ensures { option_map field_seen result ≡ find (is_field name.now) view.now.fields }
 {
     view.fields().find(|f| same_folded(f.name, name))
-}
-
-/// The last field.
-pub(crate) fn last_field<'a>(view: &ItemView<'a>) -> Option<FieldView<'a>>
-    ensures { option_map field_seen result ≡ last_or None view.now.fields }
-{
-    view.fields().last()
 }

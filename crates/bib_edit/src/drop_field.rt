@@ -9,7 +9,7 @@ ghost use Rattle.bib_edit.specs.FieldPieces.{cut_piece, joins_key};
 ghost use Rattle.bib_data.specs.declared.edit.Edit.TheVariants.{DropField};
 ghost use Rattle.bib_edit.specs.declared.fault.EditFault.TheVariants.{Memory};
 
-use crate::address::{count_named, field_named, item_named};
+use crate::address::{is_ambiguous, item_named, sought_fields};
 use crate::fault::EditFault;
 use crate::pieces::{copied, one_piece};
 use bib_scan::{FieldView, ItemView, Seq, is_name};
@@ -37,14 +37,12 @@ pub(crate) fn drop_field<L: ItemList>(
         None => return Err(EditFault::NotFound),
     };
     let view = db.item(n);
-    let row = match field_named(&view, field) {
+    let sought = sought_fields(&view, field);
+    let row = match sought.first {
         Some(row) => row,
         None => return Err(EditFault::NotFound),
     };
-    if db.holders(key) > 1 {
-        return Err(EditFault::Ambiguous);
-    }
-    if count_named(&view, field) > 1 {
+    if sought.is_repeated || is_ambiguous(db, key) {
         return Err(EditFault::Ambiguous);
     }
     if joins_key(&view, row) {

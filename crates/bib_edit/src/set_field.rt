@@ -1,17 +1,21 @@
 //! Sets a field of an entry.
 
-ghost use Rattle.std.specs.Prelude.{◌≡◌, ◌++◌, ◌<◌, ◌^◌, OnOk, IfOk, IfErr};
+ghost use Rattle.std.specs.Prelude.{◌≡◌, ◌++◌, ◌<◌, ◌≤◌, ◌^◌, ◌⊎◌, None, count_by, OnOk, IfOk, IfErr};
+ghost use Rattle.std.specs.List.{last_or};
+ghost use Rattle.std.specs.Option.{option_map};
+ghost use Rattle.bib_scan.specs.View.{field_seen};
 ghost use Rattle.bib_edit.specs.Planning.{IsAllowedEdit, ArePiecesOf, IsRefusal};
+ghost use Rattle.bib_edit.specs.Addressing.{is_field};
 ghost use Rattle.bib_edit.specs.FieldPieces.{IsNamedItem, OfItem, rows_end, row_text, set_piece};
 ghost use Rattle.bib_data.specs.declared.edit.Edit.TheVariants.{SetField};
-ghost use Rattle.bib_edit.specs.declared.fault.EditFault.TheVariants.{Memory};
+ghost use Rattle.bib_edit.specs.declared.fault.EditFault.TheVariants.{Ambiguous, Memory};
 
-use crate::address::{count_named, field_named, last_field, lone_entry};
+use crate::address::{lone_entry, sought_fields};
 use crate::fault::EditFault;
 use crate::limits::{is_file_too_long, is_text_too_long};
 use crate::pieces::{copied, one_piece};
 use crate::values::value_parts;
-use bib_scan::{ItemView, Seq, Text, is_name};
+use bib_scan::{FieldView, ItemView, Seq, Text, is_name};
 use bib_store::{Database, ItemList, Piece};
 use std::alloc::{AllocError, Global};
 
@@ -33,9 +37,6 @@ pub(crate) fn set_field<L: ItemList>(
     }
     let parts = value_parts(alloc, value)?;
     let n = lone_entry(db, key)?;
-    if count_named(&db.item(n), field) > 1 {
-        return Err(EditFault::Ambiguous);
-    }
     let piece = setting(alloc, db, n, field, value)?;
     if is_file_too_long(db, piece.old.as_slice().len(), piece.new.as_slice().len()) {
         return Err(EditFault::FileTooLong);
@@ -46,7 +47,7 @@ pub(crate) fn set_field<L: ItemList>(
     one_piece(alloc, piece)
 }
 
-/// The piece that gives the field of item `n`, which is an entry, this value.
+/// The piece that gives the field of item `n`, which is an entry, this value. Refused where it has two fields of the name.
 fn setting<L: ItemList>(
     alloc: Global,
     db: &Database<L>,
@@ -56,31 +57,38 @@ fn setting<L: ItemList>(
 ) -> Result<Piece, EditFault>
     requires { IsNamedItem db.now n }
     ensures piece { IfOk result (λ p. OfItem db.now n (λ start view. p ≡ set_piece start view field.now value.now)) }
-    ensures only { IfErr result (λ fault. fault ≡ Memory) }
+    ensures once { OnOk result (OfItem db.now n (λ start view. count_by (is_field field.now) view.fields ≤ 1)) }
+    ensures refused { IfErr result (λ fault. fault ≡ Ambiguous → OfItem db.now n (λ start view. 1 < count_by (is_field field.now) view.fields)) }
+    ensures only { IfErr result (λ fault. (fault ≡ Ambiguous) ⊎ (fault ≡ Memory)) }
 {
     db.opens();
     let view = db.item(n);
+    let sought = sought_fields(&view, field);
+    if sought.is_repeated {
+        return Err(EditFault::Ambiguous);
+    }
     let start = db.item_place(n);
-    match field_named(&view, field) {
+    match sought.first {
         Some(old) => Ok(Piece {
             place: (start + old.value_at) as u64,
             old: copied(alloc, old.value)?,
             new: copied(alloc, value)?,
         }),
         None => Ok(Piece {
-            place: (start + rows_end(&view)) as u64,
+            place: (start + rows_end(&view, sought.last)) as u64,
             old: copied(alloc, b"")?,
             new: row_text(alloc, field, value)?,
         }),
     }
 }
 
-/// The place in the body after the last value, or after the key where there is no field.
-fn rows_end(view: &ItemView<'_>) -> usize
-    requires { rows_end view.now < 2 ^ 64 }
+/// The place in the body after the value of the last field, or after the key where there is none.
+fn rows_end(view: &ItemView<'_>, last: Option<FieldView<'_>>) -> usize
+    requires last { option_map field_seen last ≡ last_or None view.now.fields }
+    requires place { rows_end view.now < 2 ^ 64 }
     ensures { result ≡ rows_end view.now }
 {
-    match last_field(view) {
+    match last {
         Some(last) => last.value_at + last.value.len(),
         None => view.key_at() + view.key().len(),
     }

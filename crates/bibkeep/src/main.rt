@@ -2,9 +2,9 @@
 //! decided here: `bib_command` reads the words, and `bib_run` knows what a command does.
 #![tactic(auto)]
 
-ghost use Rattle.std.specs.Prelude.{◌≡◌, ◌≢◌, ◌↔◌, ◌⊎◌, IfOk, IsTrue, codes, pos};
+ghost use Rattle.std.specs.Prelude.{◌≢◌, IfOk, pos};
 ghost use Rattle.std.specs.Fd.{file_raw_fd};
-ghost use Rattle.bib_words.specs.Command.{IsCommand};
+ghost use Rattle.bib_words.specs.Command.{IsCommand, TakesInput};
 
 mod endings;
 mod storing;
@@ -72,10 +72,10 @@ fn open(
     command: &Command,
     path: &str,
 ) -> io::Result<(File, Option<File>)>
-    ensures apart { (command.now.name ≡ codes "edit") ⊎ (command.now.name ≡ codes "import") → IfOk result (λ opened. file_raw_fd opened.0 ≢ pos 0) }
+    ensures apart { TakesInput command.now → IfOk result (λ opened. file_raw_fd opened.0 ≢ pos 0) }
 {
     let file = File::open(rt, path)?;
-    if reads_input(command) && file.as_raw_fd() == rt.stdin().as_raw_fd() {
+    if command.takes_input() && file.as_raw_fd() == rt.stdin().as_raw_fd() {
         return Err(ErrorKind::InvalidInput.into());
     }
     if !command.reads_journal() {
@@ -87,13 +87,6 @@ fn open(
         Err(error) if error.kind() == ErrorKind::NotFound => Ok((file, None)),
         Err(error) => Err(error),
     }
-}
-
-/// Whether the command reads standard input beside its file.
-fn reads_input(command: &Command) -> bool
-    ensures { IsTrue result ↔ ((command.now.name ≡ codes "edit") ⊎ (command.now.name ≡ codes "import")) }
-{
-    command.is_named(b"edit") || command.is_named(b"import")
 }
 
 /// Says how the run over this file ended, and puts the new file and the new journal in their places, if there are such.
