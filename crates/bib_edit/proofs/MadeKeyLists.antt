@@ -1,5 +1,5 @@
 -- Keys that are made, one after another.
-use Rattle.std.proofs.Common.{◌≡◌, ℕ, zero, suc, ◌+◌, ◌<◌, ◌≤◌, List, [], ◌∷◌, ◌++◌, Some, option_map, slice_get, drop, map, length, refl, sym, ◌∙◌, ap, subst, arith, append_assoc, append-nil, zero-add, add-zero}
+use Rattle.std.proofs.Common.{Result, Ok, Err, IfOk, OnOk, IsOkAnd, ◌≡◌, ℕ, zero, suc, ◌+◌, ◌≤◌, List, [], ◌∷◌, ◌++◌, Some, option_map, slice_get, drop, map, length, refl, sym, ◌∙◌, ap, subst, arith, append_assoc, append-nil, zero-add, add-zero}
 use Rattle.std.specs.List.{enumerate_from, AllByRecursion}
 use Rattle.std.proofs.Math.ListN.{drop_of_length-le}
 use Rattle.std.proofs.lemmas.Option.{none-some, same_Some, slice_get_within}
@@ -12,6 +12,7 @@ use Rattle.bib_spec.specs.MadeKeys.{free_key, made_keys, bases}
 use Rattle.bib_edit.specs.Asking.{made_base}
 use Rattle.bib_edit.specs.TakenKeys.{AreTaken}
 use Rattle.bib_edit.specs.declared.taken_keys.TakenKeys.{TakenKeys}
+use Rattle.bib_edit.specs.declared.fault.EditFault.{EditFault}
 use Rattle.bib_edit.proofs.Walks.{next-of}
 use Rattle.bib_edit.proofs.RekeyedTexts.{AreShort}
 
@@ -36,15 +37,11 @@ pub base-of : (entries : List EntryTexts) (n : ℕ) (r : Record) → expanded de
 base-of entries n r is entry at = ap made_base (same_Some r (record_of default_depth entries n entry) (sym is ∙ ap (option_map (record_of default_depth entries n)) at))
 
 -- the base of entry n is that of its record
-pub base-at : (entries : List EntryTexts) (n : ℕ) (base : Text) → n < length entries →
-    ((entry : EntryTexts) → slice_get entries n ≡ Some entry → base ≡ made_base (record_of default_depth entries n entry)) →
-    slice_get (bases_of entries) n ≡ Some base
-base-at entries n base lt is_base =
-    let entry = next-of entries n lt in
+pub base-at : (entries : List EntryTexts) (n : ℕ) (entry : EntryTexts) → slice_get entries n ≡ Some entry → slice_get (bases_of entries) n ≡ Some (made_base (record_of default_depth entries n entry))
+base-at entries n entry at =
     numbered (λ p. made_base (record_of default_depth entries p.0 p.1)) 0 entries n
-    ∙ ap (λ o. option_map (λ e. made_base (record_of default_depth entries (0 + n) e)) o) entry.1
-    ∙ ap (λ (k : ℕ). Some (made_base (record_of default_depth entries k entry.0))) (zero-add n)
-    ∙ ap Some (sym (is_base entry.0 entry.1))
+    ∙ ap (λ o. option_map (λ e. made_base (record_of default_depth entries (0 + n) e)) o) at
+    ∙ ap (λ (k : ℕ). Some (made_base (record_of default_depth entries k entry))) (zero-add n)
 
 -- ---- the walk over the bases
 
@@ -88,11 +85,29 @@ made-all first bases n t keys to le =
     ∙ sym (ap (λ (l : List Text). keys ++ made_keys to.taken l) (drop_of_length-le bases le))
     ∙ to.made
 
+-- one key more, if it was made
+pub pushed-more : (first bases : List Text) (n : ℕ) (t s : TakenKeys) (keys more : List Text) (base : Text) (made : Result Text EditFault) → AreMadeTo first bases n t keys → slice_get bases n ≡ Some base →
+    IfOk made (λ key. (taken : List Text) → AreTaken taken t → key ≡ free_key taken base) →
+    IfOk made (λ key. (taken : List Text) → AreTaken taken t → AreTaken (key ∷ taken) s) →
+    IsOkAnd made (λ key. more ≡ keys ++ key ∷ []) → AreMadeTo first bases (n + 1) s more
+pushed-more first bases n t s keys more base (Ok key) to at is_key adds pushed = made-more first bases n t s keys more base key to at is_key adds pushed
+pushed-more first bases n t s keys more base (Err fault) to at is_key adds pushed = absurd pushed
+
+-- what holds where a key was made
+pub was-made : {Q : Type 0} (made : Result Text EditFault) (P : Text → Type 0) → IsOkAnd made P → OnOk made Q → Q
+was-made (Ok key) P is q = q
+was-made (Err fault) P is q = absurd is
+
 -- ---- short keys
 
 pub short-more : (keys : List Text) (key : Text) → AllByRecursion (λ k. length k ≤ name_limit) keys → length key ≤ name_limit → AllByRecursion (λ k. length k ≤ name_limit) (keys ++ key ∷ [])
 short-more [] key all short = (short, tt)
 short-more (k ∷ keys) key all short = (all.0, short-more keys key all.1 short)
+
+pub pushed-short : (keys more : List Text) (made : Result Text EditFault) → AllByRecursion (λ k. length k ≤ name_limit) keys → IfOk made (λ key. length key ≤ name_limit) →
+    IsOkAnd made (λ key. more ≡ keys ++ key ∷ []) → AllByRecursion (λ k. length k ≤ name_limit) more
+pushed-short keys more (Ok key) all short pushed = subst (AllByRecursion (λ k. length k ≤ name_limit)) (sym pushed) (short-more keys key all short)
+pushed-short keys more (Err fault) all short pushed = absurd pushed
 
 pub short-at : (keys : List Text) → AllByRecursion (λ k. length k ≤ name_limit) keys → AreShort (slice_get keys)
 short-at [] all n key e = absurd (none-some key e)

@@ -1,8 +1,9 @@
 //! Keys that are made for entries.
 
-ghost use Rattle.std.specs.Prelude.{◌≡◌, ◌≤◌, ◌+◌, ◌*◌, ◌++◌, length, map, slice_get, Some, IfOk, IfErr, OnOk};
+ghost use Rattle.std.specs.Prelude.{◌≡◌, ◌≤◌, ◌<◌, ◌+◌, ◌*◌, ◌^◌, ◌++◌, List, [], ◌∷◌, length, map, slice_get, Some, IfOk, IfErr, OnOk, IsOkAnd};
 ghost use Rattle.std.specs.List.{AllByRecursion};
 ghost use Rattle.bib_spec.specs.Bytes.{name_limit, file_limit};
+ghost use Rattle.bib_spec.specs.Text.{Text as Bytes};
 ghost use Rattle.bib_spec.specs.Records.{EntryTexts, entries_of, missing, record_of, default_depth};
 ghost use Rattle.bib_spec.specs.MadeKeys.{free_key, made_keys, new_keys, base_limit};
 ghost use Rattle.bib_store.specs.Meaning.{OfReading, IsEntryNumber};
@@ -64,6 +65,40 @@ fn base_with(
     }
 }
 
+/// The key that is made for entry `n`, the first candidate of its base that is not taken, which then is.
+fn make_key<L: ItemList>(
+    alloc: Global,
+    db: &Database<L>,
+    n: usize,
+    names: &[&[u8]],
+    taken: &mut TakenKeys,
+    last: &mut LastParent,
+) -> Result<Text, EditFault>
+    requires number { IsEntryNumber db.now n }
+    requires names { map (λ name. name.now) names.now ≡ label_names }
+    requires last { IsLastParent db.now last.old }
+    requires count { taken.old.count + 1 < 2 ^ 64 }
+    ensures last { OnOk result (IsLastParent db.now last.new) }
+    ensures key { IfOk result (λ key. OfReading db.now (λ r. (entry : EntryTexts) → slice_get (entries_of r) n ≡ Some entry → (keys : List Bytes) → AreTaken keys taken.old → key ≡ free_key keys (made_base (record_of default_depth (entries_of r) n entry)))) }
+    ensures taken { IfOk result (λ key. (keys : List Bytes) → AreTaken keys taken.old → AreTaken (key ∷ keys) taken.new) }
+    ensures count { OnOk result (taken.new.count ≡ taken.old.count + 1) }
+    ensures short { IfOk result (λ key. length key ≤ name_limit) }
+    ensures only { IfErr result (λ fault. fault ≡ Memory) }
+{
+    let base = base_of(alloc, db, n, names, last)?;
+    Ok(taken.take_free(base.as_slice())?)
+}
+
+/// Puts the key that was made, if it was, after the others.
+fn push_made(keys: &mut Vec<Text>, made: Result<Text, EditFault>) -> Result<(), EditFault>
+    requires { IfErr made (λ fault. fault ≡ Memory) }
+    ensures pushed { OnOk result (IsOkAnd made (λ key. keys.new.items ≡ keys.old.items ++ key ∷ [])) }
+    ensures only { IfErr result (λ fault. fault ≡ Memory) }
+{
+    keys.push(made?)?;
+    Ok(())
+}
+
 /// The made keys of all entries: for each in turn the first candidate of its base that is neither an earlier entry's made
 /// key nor the text of a dangling crossref. It takes time in the number of entries and in their bytes, those of a parent
 /// once for each run of its children, which only a child of another parent ends, and memory for the keys.
@@ -83,8 +118,10 @@ pub(crate) fn made_keys<L: ItemList>(
     let mut last = LastParent::none(alloc);
     let mut keys = Vec::new(alloc);
     'entries: for n in 0..db.entry_count() {
-        let base = base_of(alloc, db, n, names, &mut last)?;
-        keys.push(taken.take_free(base.as_slice())?)?;
+        push_made(
+            &mut keys,
+            make_key(alloc, db, n, names, &mut taken, &mut last),
+        )?;
     }
     Ok(Seq::from_vec(keys))
 }

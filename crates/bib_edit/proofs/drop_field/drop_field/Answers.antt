@@ -32,12 +32,12 @@ returns-in-None-first-clause-refused g c =
 
 pub returns-then-sought-clause-refused : goal.returns-then-sought-clause-refused
 returns-then-sought-clause-refused g c = elim c.then-sought.branch [
-  then-sought-via-then-sought w ↦ refused-twice c.args.db.now c.args.key.now c.args.field.now (sym c.is_name.ensures ∙ c.if-not-is_name.false) c.in-Some.n c.in-Some.ensures 0 c.item-view.result
-    (λ db reads item at. c.item-view.ensures db reads item at) (field_seen c.in-Some-first.row) (sym (ap (option_map field_seen) c.in-Some-first.is) ∙ c.sought_fields-sought.ensures.first)
-    (ltb-true 1 (count_by (is_field c.args.field.now) c.item-view.result.fields) (sym c.sought_fields-sought.ensures.repeated ∙ w.if-sought.true))
+  | then-sought-via-then-sought w ↦ refused-twice c.args.db.now c.args.key.now c.args.field.now (sym c.is_name.ensures ∙ c.if-not-is_name.false) c.in-Some.n c.in-Some.ensures 0 c.item-view.result
+      (λ db reads item at. c.item-view.ensures db reads item at) (field_seen c.in-Some-first.row) (sym (ap (option_map field_seen) c.in-Some-first.is) ∙ c.sought_fields-sought.ensures.first)
+      (ltb-true 1 (count_by (is_field c.args.field.now) c.item-view.result.fields) (sym c.sought_fields-sought.ensures.repeated ∙ w.if-sought.true))
   | then-sought-via-else-sought+then-is_ambiguous w ↦ refused-holders c.args.db.now c.args.key.now c.args.field.now (sym c.is_name.ensures ∙ c.if-not-is_name.false) c.in-Some.n c.in-Some.ensures 0 c.item-view.result
-    (λ db reads item at. c.item-view.ensures db reads item at) (field_seen c.in-Some-first.row) (sym (ap (option_map field_seen) c.in-Some-first.is) ∙ c.sought_fields-sought.ensures.first)
-    (λ db reads. ltb-true 1 (holders c.args.key.now db) (sym (w.is_ambiguous.ensures db reads) ∙ w.if-is_ambiguous.true))
+      (λ db reads item at. c.item-view.ensures db reads item at) (field_seen c.in-Some-first.row) (sym (ap (option_map field_seen) c.in-Some-first.is) ∙ c.sought_fields-sought.ensures.first)
+      (λ db reads. ltb-true 1 (holders c.args.key.now db) (sym (w.is_ambiguous.ensures db reads) ∙ w.if-is_ambiguous.true))
 ]
 
 pub joins_key-requires-clause-end : goal.joins_key-requires-clause-end

@@ -1,13 +1,15 @@
 use Rattle.std.proofs.Common.{rules, ◌≤◌, ◌<◌, List, [], length, sym, ◌∙◌, ap, subst, arith, append-nil}
 use Rattle.std.specs.List.{AllByRecursion}
+use Rattle.std.proofs.lemmas.Result.{IfOk-weaker}
 use Rattle.bib_spec.specs.Bytes.{name_limit}
 use Rattle.bib_spec.specs.Text.{Text}
 use Rattle.bib_spec.specs.Reading.{Reading, Reads}
-use Rattle.bib_spec.specs.Records.{entries_of, dangling_texts}
-use Rattle.bib_spec.specs.MadeKeys.{free_key}
+use Rattle.bib_spec.specs.Records.{entries_of, dangling_texts, record_of, default_depth}
+use Rattle.bib_edit.specs.Asking.{made_base}
 use Rattle.bib_edit.specs.TakenKeys.{AreTaken}
 use Rattle.bib_edit.proofs.EntryCounts.{few-entries}
-use Rattle.bib_edit.proofs.MadeKeyLists.{bases_of, length-bases, base-at, made-none, made-more, made-all, short-more}
+use Rattle.bib_edit.proofs.MadeKeyLists.{bases_of, length-bases, base-at, made-none, made-all, pushed-more, pushed-short, was-made}
+use Rattle.bib_edit.proofs.Walks.{next-of}
 use Rattle.bib_edit.proofs.made_keys.made_keys.Goals as goal
 
 pub add_dangling-requires : goal.add_dangling-requires
@@ -27,8 +29,8 @@ entries-init g c = (
   search rules,
 )
 
-pub take_free-requires-clause-count : goal.take_free-requires-clause-count
-take_free-requires-clause-count g c =
+pub make_key-requires-clause-count : goal.make_key-requires-clause-count
+make_key-requires-clause-count g c =
     let db : Reading = c.opens.ensures.0 in
     let reads : Reads c.args.db.now db = c.opens.ensures.1.reads in
     let few = few-entries db in
@@ -45,17 +47,19 @@ entries-preserved g c = (
       let count = c.entry_count-n-end.ensures db reads in
       let test = c.entries-test.true in
       let lt : c.entries.n < length (entries_of db) = omega (arith, count, test) in
-      made-more (dangling_texts (entries_of db)) (bases_of (entries_of db)) c.entries.n c.entries.taken c.take_free.new.self c.entries.keys.items c.push.new.self.items c.in_ok-base.base c.in_ok-take_free.field-0
-      (c.entries.invariant.0 db reads) (base-at (entries_of db) c.entries.n c.in_ok-base.base lt (c.in_ok-base.ensures.base db reads))
-      (λ taken are. c.in_ok-take_free.ensures.key taken are ∙ ap (free_key taken) c.as_slice.ensures)
-      c.in_ok-take_free.ensures.taken
-      c.in_ok-push.ensures.items,
-  subst (AllByRecursion (λ key. length key ≤ name_limit)) (sym c.in_ok-push.ensures.items) (short-more c.entries.keys.items c.in_ok-take_free.field-0 c.entries.invariant.1 c.in_ok-take_free.ensures.short),
+      let entry = next-of (entries_of db) c.entries.n lt in
+      pushed-more (dangling_texts (entries_of db)) (bases_of (entries_of db)) c.entries.n c.entries.taken c.make_key.new.taken c.entries.keys.items c.push_made.new.keys.items
+      (made_base (record_of default_depth (entries_of db) c.entries.n entry.0)) c.make_key.result
+      (c.entries.invariant.0 db reads) (base-at (entries_of db) c.entries.n entry.0 entry.1)
+      (IfOk-weaker c.make_key.result _ _ (λ key h taken are. h db reads entry.0 entry.1 taken are) c.make_key.ensures.key)
+      c.make_key.ensures.taken
+      c.in_ok-push_made.ensures.pushed,
+  pushed-short c.entries.keys.items c.push_made.new.keys.items c.make_key.result c.entries.invariant.1 c.make_key.ensures.short c.in_ok-push_made.ensures.pushed,
   λ db reads.
       let taken = c.entries.invariant.2 db reads in
-      let more = c.in_ok-take_free.ensures.count in
+      let more = was-made c.make_key.result _ c.in_ok-push_made.ensures.pushed c.make_key.ensures.count in
       omega (arith, taken, more),
-  c.in_ok-base.ensures.last,
+  was-made c.make_key.result _ c.in_ok-push_made.ensures.pushed c.make_key.ensures.last,
 )
 
 pub returns-clause-keys : goal.returns-clause-keys
