@@ -111,8 +111,7 @@ pub(crate) fn made_keys<L: ItemList>(
     ensures only { IfErr result (λ fault. fault ≡ Memory) }
 {
     db.opens();
-    let mut taken = TakenKeys::none(alloc);
-    taken.add_dangling(db)?;
+    let mut taken = TakenKeys::of_dangling(alloc, db)?;
     let label_names = label_names(alloc)?;
     let names = label_names.as_slice();
     let mut last = LastParent::none(alloc);
@@ -136,8 +135,7 @@ fn taken_in<L: ItemList>(
     ensures count { IfOk result (λ taken. taken.count ≤ 2 * file_limit + length others.now) }
 {
     db.opens();
-    let mut taken = TakenKeys::none(alloc);
-    taken.add_dangling(db)?;
+    let mut taken = TakenKeys::of_dangling(alloc, db)?;
     taken.add_all(others)?;
     taken.add_entries(db)?;
     Ok(taken)

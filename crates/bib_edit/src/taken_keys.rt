@@ -116,6 +116,20 @@ impl TakenKeys {
         Ok(())
     }
 
+    /// The texts of dangling crossrefs are taken, and nothing else.
+    pub(crate) fn of_dangling<L: ItemList>(
+        alloc: Global,
+        db: &Database<L>,
+    ) -> Result<Self, AllocError>
+        ensures taken { IfOk result (λ taken. OfReading db.now (λ r. AreTaken (dangling_texts (entries_of r)) taken)) }
+        ensures count { IfOk result (λ taken. OfReading db.now (λ r. taken.count ≤ length (entries_of r))) }
+    {
+        db.opens();
+        let mut taken = TakenKeys::none(alloc);
+        taken.add_dangling(db)?;
+        Ok(taken)
+    }
+
     /// Takes the first candidate of the base that is not taken.
     pub(crate) fn take_free(&mut self, base: &[u8]) -> Result<Text, AllocError>
         requires short { length base.now ≤ base_limit }
@@ -170,7 +184,7 @@ impl TakenKeys {
     }
 
     /// Takes the texts of all dangling crossrefs.
-    pub(crate) fn add_dangling<L: ItemList>(&mut self, db: &Database<L>) -> Result<(), AllocError>
+    fn add_dangling<L: ItemList>(&mut self, db: &Database<L>) -> Result<(), AllocError>
         requires { OfReading db.now (λ r. self.old.count + length (entries_of r) < 2 ^ 64) }
         ensures taken { OnOk result (OfReading db.now (λ r. (others : List Bytes) → AreTaken others self.old → AreTaken (dangling_texts (entries_of r) ++ others) self.new)) }
         ensures count { OnOk result (OfReading db.now (λ r. self.new.count ≤ self.old.count + length (entries_of r))) }

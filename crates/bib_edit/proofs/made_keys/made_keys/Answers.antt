@@ -1,31 +1,20 @@
-use Rattle.std.proofs.Common.{rules, ◌≤◌, ◌<◌, List, [], length, sym, ◌∙◌, ap, subst, arith, append-nil}
+use Rattle.std.proofs.Common.{rules, ◌≤◌, ◌<◌, length, sym, ◌∙◌, ap, subst, arith}
 use Rattle.std.specs.List.{AllByRecursion}
 use Rattle.std.proofs.lemmas.Result.{IfOk-weaker}
 use Rattle.bib_spec.specs.Bytes.{name_limit}
-use Rattle.bib_spec.specs.Text.{Text}
 use Rattle.bib_spec.specs.Reading.{Reading, Reads}
 use Rattle.bib_spec.specs.Records.{entries_of, dangling_texts, record_of, default_depth}
 use Rattle.bib_edit.specs.Asking.{made_base}
-use Rattle.bib_edit.specs.TakenKeys.{AreTaken}
 use Rattle.bib_edit.proofs.EntryCounts.{few-entries}
 use Rattle.bib_edit.proofs.MadeKeyLists.{bases_of, length-bases, base-at, made-none, made-all, pushed-more, pushed-short, was-made}
 use Rattle.bib_edit.proofs.Walks.{next-of}
 use Rattle.bib_edit.proofs.made_keys.made_keys.Goals as goal
 
-pub add_dangling-requires : goal.add_dangling-requires
-add_dangling-requires g c db reads =
-    let none = c.none-taken.ensures.count in
-    let few = few-entries db in
-    let bytes = ap length reads.bytes in
-    let short = c.opens.ensures.1.short in
-    omega (arith, none, few, bytes, short)
-
 pub entries-init : goal.entries-init
 entries-init g c = (
-  λ db reads. made-none (dangling_texts (entries_of db)) (bases_of (entries_of db)) c.add_dangling.new.self c.new-keys.result.items
-      (subst (λ (l : List Text). AreTaken l c.add_dangling.new.self) (append-nil (dangling_texts (entries_of db))) (c.in_ok-add_dangling.ensures.taken db reads [] c.none-taken.ensures)) c.new-keys.ensures.items,
+  λ db reads. made-none (dangling_texts (entries_of db)) (bases_of (entries_of db)) c.in_ok-taken.taken c.new-keys.result.items (c.in_ok-taken.ensures.taken db reads) c.new-keys.ensures.items,
   subst (AllByRecursion (λ key. length key ≤ name_limit)) (sym c.new-keys.ensures.items) tt,
-  λ db reads. let none = c.none-taken.ensures.count in let dangling = c.in_ok-add_dangling.ensures.count db reads in omega (arith, none, dangling),
+  λ db reads. let dangling = c.in_ok-taken.ensures.count db reads in omega (arith, dangling),
   search rules,
 )
 
