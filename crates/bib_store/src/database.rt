@@ -44,7 +44,7 @@ impl<L: ItemList> Model for Database<L> {
 }
 
 impl<L: ItemList> Database<L> {
-    ghost use Rattle.std.specs.Prelude.{◌≡◌, ◌≤◌, [], Some, None, length, slice_get, option_and_then, count_by, IsTrue, IfOk, IfErr, IfSome, OnOk};
+    ghost use Rattle.std.specs.Prelude.{◌≡◌, ◌≤◌, [], Some, None, Err, length, slice_get, option_and_then, count_by, IsTrue, IfOk, IfErr, IfSome, OnOk};
     ghost use Rattle.std.specs.Option.{option_copied};
     ghost use Rattle.bib_spec.specs.Bytes.{name_limit};
     ghost use Rattle.bib_spec.specs.Texts.{IsOpenable};
@@ -72,8 +72,7 @@ impl<L: ItemList> Database<L> {
         ensures fault { IfErr result (λ fault. IsOpenFault bytes.now fault.kind fault.place) }
     {
         let (tables, layout) = Tables::read(alloc, bytes)?;
-        let (front, items, notes) = take_in(alloc, layout, bytes, empty)?;
-        Ok(Database::of_items(alloc, front, items, notes, tables))
+        Database::of_taken(alloc, take_in(alloc, layout, bytes, empty), tables)
     }
 
     /// The same. The list may keep the file's memory in place of copies of its items.
@@ -84,8 +83,24 @@ impl<L: ItemList> Database<L> {
         ensures fault { IfErr result (λ fault. IsOpenFault file.items fault.kind fault.place) }
     {
         let (tables, layout) = Tables::read(alloc, file.as_slice())?;
-        let (front, items, notes) = take_file(alloc, layout, file, empty)?;
-        Ok(Database::of_items(alloc, front, items, notes, tables))
+        Database::of_taken(alloc, take_file(alloc, layout, file, empty), tables)
+    }
+
+    /// The file of which this was taken in, if it was, and whose tables these are.
+    fn of_taken(
+        alloc: Global,
+        taken: Result<(Text, L, Seq<Note>), ReadFault>,
+        tables: Tables,
+    ) -> Result<Database<L>, ReadFault>
+        requires { (bytes : Bytes) × IfOk taken (λ kept. IsTaken bytes kept.0 (L.items kept.1) kept.2) × AreTablesOfFile bytes tables }
+        ensures opened { (bytes : Bytes) → IfOk taken (λ kept. IsTaken bytes kept.0 (L.items kept.1) kept.2) → IfOk result (λ db. db ≡ bytes) }
+        ensures file { (bytes : Bytes) → IfOk taken (λ kept. IsTaken bytes kept.0 (L.items kept.1) kept.2) → AreTablesOfFile bytes tables → OnOk result (IsOpenable bytes) }
+        ensures fault { IfErr result (λ fault. taken ≡ Err fault) }
+    {
+        match taken {
+            Ok((front, items, notes)) => Ok(Database::of_items(alloc, front, items, notes, tables)),
+            Err(fault) => Err(fault),
+        }
     }
 
     /// The file that a front and the items after it are, of which this was noted and these are the tables.
