@@ -6,7 +6,7 @@ ghost use Rattle.bib_data.specs.declared.edit.Edit.TheVariants.{InlineMacro};
 
 use crate::defining::{braced_text, lone_definition};
 use crate::fault::EditFault;
-use crate::replacing::{is_result_too_long, push_replaced};
+use crate::replacing::{is_result_too_long, replaced_after};
 use crate::sought::Sought;
 use crate::taking_out::{body_of, joins_cleanly, removal_of};
 use crate::tokens::push_from;
@@ -56,8 +56,6 @@ pub(crate) fn inline_macro<L: ItemList>(
     ) {
         return Err(EditFault::FileTooLong);
     }
-    let mut pieces = Vec::new(alloc);
-    pieces.push(removal_of(alloc, db, n)?)?;
-    push_replaced(alloc, &mut pieces, tokens.as_slice(), text.as_slice())?;
-    Ok(Seq::from_vec(pieces))
+    let removal = removal_of(alloc, db, n)?;
+    replaced_after(alloc, removal, tokens.as_slice(), text.as_slice())
 }

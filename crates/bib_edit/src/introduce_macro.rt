@@ -9,7 +9,7 @@ ghost use Rattle.bib_data.specs.declared.edit.Edit.TheVariants.{IntroduceMacro};
 use crate::defining::is_given;
 use crate::fault::EditFault;
 use crate::new_entry::insertion_of;
-use crate::replacing::{is_result_too_long, push_replaced};
+use crate::replacing::{is_result_too_long, replaced_after};
 use crate::sought::Sought;
 use crate::tokens::{first_with, push_from};
 use bib_scan::{Seq, Text, is_balanced, is_name, one_reading};
@@ -59,10 +59,8 @@ pub(crate) fn introduce_macro<L: ItemList>(
     ) {
         return Err(EditFault::FileTooLong);
     }
-    let mut pieces = Vec::new(alloc);
-    pieces.push(insertion_of(alloc, db, n, definition))?;
-    push_replaced(alloc, &mut pieces, tokens.as_slice(), name)?;
-    Ok(Seq::from_vec(pieces))
+    let insertion = insertion_of(alloc, db, n, definition);
+    replaced_after(alloc, insertion, tokens.as_slice(), name)
 }
 
 /// Whether the name is in use, where this says whether it is used.

@@ -1,6 +1,6 @@
 //! Bytes that stand for many tokens.
 
-ghost use Rattle.std.specs.Prelude.{◌≡◌, ◌↔◌, ◌+◌, ◌*◌, ◌<◌, ◌≤◌, ◌^◌, ◌++◌, length, map, IsTrue, OnOk, IfErr};
+ghost use Rattle.std.specs.Prelude.{◌≡◌, ◌↔◌, ◌+◌, ◌*◌, ◌<◌, ◌≤◌, ◌^◌, ◌++◌, ◌∷◌, length, map, IsTrue, IfOk, OnOk, IfErr};
 ghost use Rattle.bib_spec.specs.Bytes.{file_limit};
 ghost use Rattle.bib_edit.specs.PlacedParts.{tokens_seen, replaced_by, covered};
 ghost use Rattle.bib_edit.specs.declared.fault.EditFault.TheVariants.{Memory};
@@ -9,6 +9,7 @@ use crate::fault::EditFault;
 use crate::limits::is_file_too_long;
 use crate::pieces::copied;
 use crate::tokens::Token;
+use bib_scan::Seq;
 use bib_store::{Database, ItemList, Piece};
 use std::alloc::Global;
 
@@ -31,6 +32,22 @@ pub(crate) fn push_replaced(
         })?;
     }
     Ok(())
+}
+
+/// This piece, and after it one for each token, for which the new bytes stand.
+pub(crate) fn replaced_after(
+    alloc: Global,
+    first: Piece,
+    tokens: &[Token<'_>],
+    new: &[u8],
+) -> Result<Seq<Piece>, EditFault>
+    ensures pieces { IfOk result (λ pieces. pieces ≡ first ∷ map (replaced_by new.now) (tokens_seen tokens.now)) }
+    ensures only { IfErr result (λ fault. fault ≡ Memory) }
+{
+    let mut pieces = Vec::new(alloc);
+    pieces.push(first)?;
+    push_replaced(alloc, &mut pieces, tokens, new)?;
+    Ok(Seq::from_vec(pieces))
 }
 
 /// How many bytes the tokens have together.

@@ -1,11 +1,14 @@
-use Rattle.std.proofs.Common.{◌≡◌, ◌++◌, ◌∷◌, [], ◌*◌, length, map, sym, ◌∙◌, ap, ap₂, arith, ℕ, List}
+use Rattle.std.proofs.Common.{◌≡◌, ◌∷◌, ◌*◌, length, map, sym, ◌∙◌, ap, ap₂, arith, ℕ, List}
 use Rattle.std.proofs.lemmas.Bool.{both_ways}
-use Rattle.std.proofs.lemmas.Result.{err_from_is_err_and}
+use Rattle.std.proofs.lemmas.Result.{err_from_is_err_and, IfOk-weaker}
+use Rattle.bib_spec.proofs.Results.{ok_always}
 use Rattle.std.proofs.lemmas.List.{length-map}
 use Rattle.bib_spec.specs.Text.{Text}
 use Rattle.edit_spec.specs.Edits.{defines}
 use Rattle.bib_spec.specs.Pieces.{Piece}
 use Rattle.edit_spec.specs.EditChunks.{pieces_of}
+use Rattle.bib_data.specs.declared.edit.Edit.TheVariants.{InlineMacro}
+use Rattle.bib_edit.specs.Planning.{ArePiecesOf}
 use Rattle.bib_edit.specs.Asking.{made_base}
 use Rattle.bib_edit.specs.PlacedParts.{token_seen, tokens_seen, replaced_by}
 use Rattle.bib_edit.proofs.FoundItems.{first-at, first-within}
@@ -72,18 +75,16 @@ returns-then-is_result_too_long-clause-refused g c db reads =
     ((c.in_ok-joins_cleanly.ensures.clean db reads).0 c.if-not-branch.false) tokens pieces (omega (arith, told, whole, body, product)))
 
 pub returns-clause-pieces : goal.returns-clause-pieces
-returns-clause-pieces g c db reads =
+returns-clause-pieces g c = IfOk-weaker c.replaced_after.result _ (ArePiecesOf c.args.db.now (InlineMacro c.args.name.now)) (λ result is db reads.
     let pieces = inlining-pieces c.args.db.now c.args.name.now c.in_ok-n.n c.in_ok-n.ensures.lone (tokens_seen c.as_slice-3.result.now)
     (λ db reads. ap tokens_seen c.as_slice-3.ensures.value ∙ only-tokens _ _ _ (ap tokens_seen c.new-tokens.ensures.items) (c.in_ok-push_from.ensures.tokens db reads)) db reads in
     let text = c.as_slice-4.ensures ∙ c.in_ok-text.ensures db reads in
-    of-inline_macro c.args.name.now (λ e. c.from_vec.result ≡ pieces_of made_base db e)
-    (c.from_vec.ensures ∙ c.in_ok-push_replaced.ensures.pieces
-    ∙ ap₂ (λ (ps : List Piece) (t : Text). ps ++ map (replaced_by t) (tokens_seen c.as_slice-3.result.now))
-    (c.in_ok-push.ensures.items ∙ ap₂ (λ (ps : List Piece) (p : Piece). ps ++ p ∷ []) c.new-pieces.ensures.items (c.in_ok-removal_of.ensures.removal db reads)) text
-    ∙ sym pieces)
+    of-inline_macro c.args.name.now (λ e. result ≡ pieces_of made_base db e)
+    (is ∙ ap₂ (λ (p : Piece) (t : Text). p ∷ map (replaced_by t) (tokens_seen c.as_slice-3.result.now)) (c.in_ok-removal.ensures.removal db reads) text ∙ sym pieces))
+    c.replaced_after.ensures.pieces
 
 pub returns-clause-allowed : goal.returns-clause-allowed
-returns-clause-allowed g c db reads =
+returns-clause-allowed g c = ok_always c.replaced_after.result (λ db reads.
     let tokens : List (ℕ × Text) = tokens_seen c.as_slice.result.now in
     let pieces = inlining-pieces c.args.db.now c.args.name.now c.in_ok-n.n c.in_ok-n.ensures.lone tokens
     (λ db reads. ap tokens_seen c.as_slice.ensures.value ∙ only-tokens _ _ _ (ap tokens_seen c.new-tokens.ensures.items) (c.in_ok-push_from.ensures.tokens db reads)) db reads in
@@ -94,4 +95,4 @@ returns-clause-allowed g c db reads =
     let product = ap₂ (λ (m k : ℕ). m * k) (length-map c.as_slice.result.now token_seen) (ap (length {A = ℕ}) (sym text)) in
     of-inline_macro c.args.name.now _
     (inline-accepted c.args.name.now db (sym c.is_name.ensures ∙ c.if-not-is_name.false) c.in_ok-n.n (c.in_ok-n.ensures.lone db reads) c.args.db.now (opens-as c.args.db.now db c.one_reading.ensures c.opens.ensures reads)
-    ((c.in_ok-joins_cleanly.ensures.clean db reads).0 c.if-not-branch.false) tokens pieces (omega (arith, told, whole, body, product)))
+    ((c.in_ok-joins_cleanly.ensures.clean db reads).0 c.if-not-branch.false) tokens pieces (omega (arith, told, whole, body, product))))

@@ -1,9 +1,13 @@
-use Rattle.std.proofs.Common.{◌≡◌, ◌++◌, ◌∷◌, [], ◌*◌, length, map, sym, ◌∙◌, ap, ap₂, arith, ℕ, List}
+use Rattle.std.proofs.Common.{◌≡◌, ◌∷◌, ◌*◌, length, map, sym, ◌∙◌, ap, arith, ℕ, List}
 use Rattle.std.proofs.lemmas.Bool.{both_ways}
+use Rattle.std.proofs.lemmas.Result.{IfOk-weaker}
 use Rattle.std.proofs.lemmas.List.{length-map}
 use Rattle.bib_spec.specs.Text.{Text}
 use Rattle.edit_spec.specs.Edits.{holds, any_part}
 use Rattle.bib_spec.specs.Pieces.{Piece}
+use Rattle.bib_spec.proofs.Results.{ok_always}
+use Rattle.bib_data.specs.declared.edit.Edit.TheVariants.{IntroduceMacro}
+use Rattle.bib_edit.specs.Planning.{ArePiecesOf}
 use Rattle.edit_spec.specs.EditChunks.{pieces_of}
 use Rattle.bib_edit.specs.Asking.{made_base}
 use Rattle.bib_edit.specs.NewEntries.{insertion_of}
@@ -35,8 +39,8 @@ pub push_from-requires : goal.push_from-requires
 push_from-requires g c db reads =
     let within = first-within (any_part (holds c.args.text.now)) db.items c.in-Some.first.n (first-at (any_part (holds c.args.text.now)) db.items c.in-Some.first.n (sym (found-first (any_part (holds c.args.text.now)) db.items _ c.in-Some.first c.in-Some.is (c.in_ok-first.ensures.first db reads)))) in omega (arith, within)
 
-pub insertion_of-requires : goal.insertion_of-requires
-insertion_of-requires g c db reads =
+pub insertion_of-insertion-requires : goal.insertion_of-insertion-requires
+insertion_of-insertion-requires g c db reads =
     let within = first-within (any_part (holds c.args.text.now)) db.items c.in-Some.first.n (first-at (any_part (holds c.args.text.now)) db.items c.in-Some.first.n (sym (found-first (any_part (holds c.args.text.now)) db.items _ c.in-Some.first c.in-Some.is (c.in_ok-first.ensures.first db reads)))) in omega (arith, within)
 
 pub is_result_too_long-requires : goal.is_result_too_long-requires
@@ -60,18 +64,17 @@ returns-then-is_result_too_long-clause-refused g c db reads =
     (met-first c.args.name.now c.args.db.now _ c.in-Some.first c.in-Some.is c.in_ok-first.ensures.met db reads) (c.in_ok-met.ensures.met db reads) (c.is_taken.ensures db reads)) ∙ c.if-is_taken.false) tokens pieces (omega (arith, told, whole, line, product)))
 
 pub returns-clause-pieces : goal.returns-clause-pieces
-returns-clause-pieces g c db reads =
+returns-clause-pieces g c = IfOk-weaker c.replaced_after.result _ (ArePiecesOf c.args.db.now (IntroduceMacro c.args.name.now c.args.text.now)) (λ result is db reads.
     let pieces = introducing-pieces c.args.db.now c.args.name.now c.args.text.now c.in-Some.first.n (λ db reads. found-first (any_part (holds c.args.text.now)) db.items _ c.in-Some.first c.in-Some.is (c.in_ok-first.ensures.first db reads)) (tokens_seen c.as_slice-3.result.now)
     (λ db reads. ap tokens_seen c.as_slice-3.ensures.value ∙ only-tokens _ _ _ (ap tokens_seen c.new-tokens.ensures.items) (c.in_ok-met.ensures.tokens db reads)) db reads in
-    let line = c.in_ok-definition.ensures in
-    of-introduce_macro c.args.name.now c.args.text.now (λ e. c.from_vec.result ≡ pieces_of made_base db e)
-    (c.from_vec.ensures ∙ c.in_ok-push_replaced.ensures.pieces
-    ∙ ap (λ (ps : List Piece). ps ++ map (replaced_by c.args.name.now) (tokens_seen c.as_slice-3.result.now))
-    (c.in_ok-push.ensures.items ∙ ap₂ (λ (ps : List Piece) (p : Piece). ps ++ p ∷ []) c.new-pieces.ensures.items (c.insertion_of.ensures db reads ∙ ap (insertion_of db c.in-Some.first.n) line))
-    ∙ sym pieces)
+    of-introduce_macro c.args.name.now c.args.text.now (λ e. result ≡ pieces_of made_base db e)
+    (is
+    ∙ ap (λ (p : Piece). p ∷ map (replaced_by c.args.name.now) (tokens_seen c.as_slice-3.result.now)) (c.insertion_of-insertion.ensures db reads ∙ ap (insertion_of db c.in-Some.first.n) c.in_ok-definition.ensures)
+    ∙ sym pieces))
+    c.replaced_after.ensures.pieces
 
 pub returns-clause-allowed : goal.returns-clause-allowed
-returns-clause-allowed g c db reads =
+returns-clause-allowed g c = ok_always c.replaced_after.result (λ db reads.
     let tokens : List (ℕ × Text) = tokens_seen c.as_slice.result.now in
     let pieces = introducing-pieces c.args.db.now c.args.name.now c.args.text.now c.in-Some.first.n (λ db reads. found-first (any_part (holds c.args.text.now)) db.items _ c.in-Some.first c.in-Some.is (c.in_ok-first.ensures.first db reads)) tokens
     (λ db reads. ap tokens_seen c.as_slice.ensures.value ∙ only-tokens _ _ _ (ap tokens_seen c.new-tokens.ensures.items) (c.in_ok-met.ensures.tokens db reads)) db reads in
@@ -83,4 +86,4 @@ returns-clause-allowed g c db reads =
     (introduce-accepted c.args.name.now c.args.text.now db (sym c.is_name.ensures ∙ c.if-not-is_name.false) (c.is_balanced.ensures.0 c.if-not-is_balanced.false) c.in-Some.first.n (sym (found-first (any_part (holds c.args.text.now)) db.items _ c.in-Some.first c.in-Some.is (c.in_ok-first.ensures.first db reads)))
     (sym (in-use-told c.args.name.now db.items c.in-Some.first.n c.in-Some.first.met c.in_ok-met.met c.is_taken.result
     (met-first c.args.name.now c.args.db.now _ c.in-Some.first c.in-Some.is c.in_ok-first.ensures.met db reads) (c.in_ok-met.ensures.met db reads) (c.is_taken.ensures db reads)) ∙ c.if-is_taken.false) tokens pieces
-    c.args.db.now (opens-as c.args.db.now db c.one_reading.ensures c.opens.ensures reads) (omega (arith, told, whole, line, product)))
+    c.args.db.now (opens-as c.args.db.now db c.one_reading.ensures c.opens.ensures reads) (omega (arith, told, whole, line, product))))
