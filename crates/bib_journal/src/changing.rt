@@ -10,6 +10,7 @@ ghost use Rattle.bib_journal.specs.Session.{Opens, RefusesStart, RefusesLoad, Re
 ghost use Rattle.bib_journal.specs.Turns.{Turns, HasTurned};
 ghost use Rattle.bib_journal.specs.declared.fault.SessionFault.TheVariants.{NothingToUndo, Memory};
 
+use crate::closing::close;
 use crate::fault::{SessionFault, unopened};
 use crate::loading::said_with;
 use crate::performing::{Performed, repeat};
@@ -64,10 +65,13 @@ fn no_changes<L: ItemList>(alloc: Global, file: Vec<u8>, empty: L) -> Result<Cha
     ensures refused { IfErr result (λ fault. RefusesStart fault file.items) }
 {
     match Database::open_file(alloc, file, empty) {
-        Ok(_) => Ok(Changes {
-            past: Seq::from_vec(Vec::new(alloc)),
-            future: Seq::from_vec(Vec::new(alloc)),
-        }),
+        Ok(db) => {
+            close(db);
+            Ok(Changes {
+                past: Seq::from_vec(Vec::new(alloc)),
+                future: Seq::from_vec(Vec::new(alloc)),
+            })
+        }
         Err(fault) => Err(unopened(fault)),
     }
 }
@@ -85,7 +89,11 @@ fn changes_in<L: ItemList>(
 {
     let digest = digest(alloc, file.as_slice())?;
     match Database::open_file(alloc, file, empty) {
-        Ok(mut db) => changes_of(alloc, &mut db, digest.as_slice(), journal),
+        Ok(mut db) => {
+            let changes = changes_of(alloc, &mut db, digest.as_slice(), journal);
+            close(db);
+            changes
+        }
         Err(fault) => Err(unopened(fault)),
     }
 }
@@ -178,7 +186,11 @@ fn turn_opened<L: ItemList>(
     ensures refused { IfErr result (λ fault. RefusesOpen fault file.items (option_map (λ text. text.now) journal.entry)) }
 {
     match Session::open_file(alloc, file, journal, empty) {
-        Ok(mut session) => turn(&mut session, request, n),
+        Ok(mut session) => {
+            let turned = turn(&mut session, request, n);
+            session.close();
+            turned
+        }
         Err(fault) => Err(fault),
     }
 }
@@ -214,7 +226,11 @@ fn undo_in<L: ItemList>(
 {
     let digest = digest(alloc, file.as_slice())?;
     match Database::open_file(alloc, file, empty) {
-        Ok(mut db) => undo_of(alloc, &mut db, digest.as_slice(), journal, n),
+        Ok(mut db) => {
+            let turned = undo_of(alloc, &mut db, digest.as_slice(), journal, n);
+            close(db);
+            turned
+        }
         Err(fault) => Err(unopened(fault)),
     }
 }

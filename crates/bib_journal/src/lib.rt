@@ -4,6 +4,7 @@
 #![tactic(auto)]
 
 mod changing;
+mod closing;
 mod fault;
 mod laws;
 mod loading;

@@ -8,6 +8,7 @@ ghost use Rattle.journal_format.specs.Faults.{IsJournalOf};
 ghost use Rattle.bib_journal.specs.Loading.{Loads, Saves, FitFile, contents_of};
 ghost use Rattle.bib_journal.specs.Session.{started, MakesEdit, Opens, RefusesStart, RefusesLoad, RefusesOpen, RefusesEdit, RefusesUndo, RefusesRedo, TakesBack, MakesAgain};
 
+use crate::closing::close;
 use crate::fault::{SessionFault, refused, unopened};
 use crate::loading::said_of;
 use crate::saving::{Saved, journal_of};
@@ -75,8 +76,13 @@ fn loaded<L: ItemList>(
     ensures refused { IfErr result (λ fault. RefusesLoad fault database journal.now) }
 {
     let mut database = database;
-    let said = said_of(alloc, &mut database, digest, journal)?;
-    Ok(with_steps(alloc, database, said))
+    match said_of(alloc, &mut database, digest, journal) {
+        Ok(said) => Ok(with_steps(alloc, database, said)),
+        Err(fault) => {
+            close(database);
+            Err(fault)
+        }
+    }
 }
 
 impl<L: ItemList> Session<L> {
@@ -94,6 +100,18 @@ impl<L: ItemList> Session<L> {
             }
             Err(fault) => Err(unopened(fault)),
         }
+    }
+
+    /// Closes the file, and forgets its steps.
+    pub(crate) fn close(self) {
+        let Session {
+            alloc: _,
+            database,
+            past: _past,
+            undone: _undone,
+            past_len: _,
+        } = self;
+        close(database);
     }
 
     /// The session of an open file, to which nothing was done yet.
@@ -140,10 +158,13 @@ impl<L: ItemList> Session<L> {
         ensures refused { IfErr result (λ fault. RefusesLoad fault bytes.now journal.now) }
     {
         match Database::open_bytes(alloc, bytes, empty) {
-            Ok(database) => {
-                let digest = digest(alloc, bytes)?;
-                loaded(alloc, database, digest.as_slice(), journal)
-            }
+            Ok(database) => match digest(alloc, bytes) {
+                Ok(digest) => loaded(alloc, database, digest.as_slice(), journal),
+                Err(fault) => {
+                    close(database);
+                    Err(fault.into())
+                }
+            },
             Err(fault) => Err(unopened(fault)),
         }
     }

@@ -1,5 +1,5 @@
 -- The ways in which a run ends.
-use Rattle.std.proofs.Common.{◌≡◌, ◌+◌, Bool, true, false, [], length, take, Option, refl, subst, sym, arith}
+use Rattle.std.proofs.Common.{◌≡◌, ◌+◌, Bool, true, false, [], length, take, Option, None, refl, ap, subst, sym, arith}
 use Rattle.std.proofs.lemmas.List.{take_all}
 use Rattle.std.specs.Io.KnownBytes.{Appends}
 use Rattle.bib_spec.specs.Bytes.{file_limit}
@@ -22,6 +22,15 @@ input_bytes command old new v (front named reads sound) =
     let from = source_bytes (file_limit + 1) old.bytes new.bytes v reads in
     record { bytes = from.bytes; has = read named (record { read = from.has; sound = sound }); start = from.front }
 input_bytes command old new v (nothing named same none) = record { bytes = []; has = unread named same refl; start = sym none }
+
+-- stands for a tap of which nothing is asked
+pub no_tap : TapView
+no_tap = record { bytes = None; failed = false }
+
+-- no call on the input's tap failed, whether it was read or not
+pub input_sound : (command : Command) (old new : TapView) (v : Text) → ReadsInput command old new v → new.failed ≡ old.failed
+input_sound command old new v (front named reads sound) = sound
+input_sound command old new v (nothing named same none) = ap (λ (tap : TapView). tap.failed) same
 
 -- the answer to what was read
 pub has_answer : (command : Command) (old new : TapsView) (v : Text) (journal : Option Text) (w : Text) (answer : Answer) → ReadsUpTo (file_limit + 1) old.file.bytes new.file.bytes v

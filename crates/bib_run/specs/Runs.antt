@@ -62,6 +62,13 @@ pub data ReadsInput (command : Command) (old new : TapView) (input : Text) : Typ
   front : TakesInput command → ReadsUpTo (file_limit + 1) old.bytes new.bytes input → new.failed ≡ old.failed → ReadsInput command old new input
   nothing : ¬ TakesInput command → new ≡ old → input ≡ [] → ReadsInput command old new input
 
+-- so much was read of its sources by a command
+pub record HasSources (command : Command) (old new : TapsView) (file : Text) (journal : Option Text) (input : Text) : Type 0 where
+  pub file_read : ReadsUpTo (file_limit + 1) old.file.bytes new.file.bytes file
+  pub sound : new.file.failed ≡ old.file.failed
+  pub journal_read : HasJournal command old.journal new.journal journal
+  pub input_read : ReadsInput command old.input new.input input
+
 -- the file was read, and the input where the command reads it, and the command has this answer to them
 pub record HasAnswer (command : Command) (old new : TapsView) (answer : Answer) : Type 0 where
   pub file : Text

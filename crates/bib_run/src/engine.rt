@@ -1,11 +1,12 @@
 //! One run of a command: all sources are read, then the answer is made, then it is written.
 
-ghost use Rattle.std.specs.Prelude.{◌≡◌, ◌≢◌, true, IfOk, OnErr, Err, option_map};
+ghost use Rattle.std.specs.Prelude.{◌≡◌, ◌≢◌, ◌⊎◌, true, Option, IfOk, OnErr, Err, option_map};
 ghost use Rattle.bib_words.specs.Command.{IsCommand, ReadsJournal, TakesInput};
 ghost use Rattle.bib_run.specs.Answers.{IsAnswer};
 ghost use Rattle.bib_answers.specs.Outcome.{outcome_of};
 ghost use Rattle.bib_run.specs.Lent.{held_before, held_after};
-ghost use Rattle.bib_run.specs.Runs.{IsRun, HasJournal, ReadsInput, taps, view_of, held, has_any_failed};
+ghost use Rattle.bib_run.specs.Runs.{TapView, IsRun, HasAnswer, HasSources, HasJournal, ReadsInput, taps, view_of, held, has_any_failed};
+ghost use Rattle.bib_run.specs.Messages.{write_fault_line};
 ghost use Rattle.bib_taps.specs.Taps.{has_failed};
 ghost use Rattle.bib_run.specs.declared.source.SourceFault.TheVariants.{Failed, OutOfMemory};
 
@@ -107,28 +108,99 @@ fn try_perform<F: Read, J: Read, I: Read, W: Write>(
     ensures unread { ¬ ReadsJournal command.now → journal.new ≡ journal.old }
     ensures input { ¬ TakesInput command.now → input.new ≡ input.old }
 {
-    let read_fault = fault(alloc, READ_FAULT)?;
-    let write_fault = fault(alloc, WRITE_FAULT)?;
-    let bytes = match read_up_to(alloc, file, FILE_LIMIT + 1) {
-        Ok(bytes) => bytes,
-        Err(SourceFault::Failed) => return Ok(read_fault),
-        Err(SourceFault::OutOfMemory) => return Err(AllocError),
-    };
-    let history = match read_journal(alloc, command, has_journal, journal) {
-        Ok(history) => history,
-        Err(SourceFault::Failed) => return Ok(read_fault),
-        Err(SourceFault::OutOfMemory) => return Err(AllocError),
-    };
-    let script = match read_input(alloc, command, input) {
-        Ok(script) => script,
-        Err(SourceFault::Failed) => return Ok(read_fault),
-        Err(SourceFault::OutOfMemory) => return Err(AllocError),
-    };
-    let answer = answer_of(alloc, command, bytes, history.as_deref(), script.as_slice())?;
-    if !write_whole(out, answer.output.as_slice()) {
-        return Ok(write_fault);
+    let read_fault = line(alloc, READ_FAULT)?;
+    let write_fault = line(alloc, WRITE_FAULT)?;
+    match read_sources(alloc, command, file, has_journal, journal, input) {
+        Ok(sources) => answer_sources(alloc, command, sources, write_fault, out),
+        Err(SourceFault::Failed) => Ok(outcome_of(read_fault, status::FAULT)),
+        Err(SourceFault::OutOfMemory) => Err(AllocError),
     }
-    Ok(answer.outcome)
+}
+
+/// Writes what the command answers to its sources.
+fn answer_sources<W: Write>(
+    alloc: Global,
+    command: &Command,
+    sources: Sources,
+    write_fault: Text,
+    out: &mut Tap<W>,
+) -> Result<Outcome, AllocError>
+    requires command { IsCommand command.now }
+    requires fault { write_fault ≡ write_fault_line }
+    ensures ran { IfOk result (λ outcome. (file file' : TapView) (journal journal' : Option TapView) (input input' : TapView)
+        → HasSources command.now (taps file journal input (view_of W.contents out.old)) (taps file' journal' input' (view_of W.contents out.new))
+        sources.file.items (option_map (λ bytes. bytes.items) sources.journal) sources.input.items
+        → IsRun command.now (taps file journal input (view_of W.contents out.old)) (taps file' journal' input' (view_of W.contents out.new)) outcome) }
+    ensures silent { OnErr result (out.new ≡ out.old) }
+{
+    let Sources {
+        file,
+        journal,
+        input,
+    } = sources;
+    let answer = answer_of(alloc, command, file, journal.as_deref(), input.as_slice())?;
+    Ok(write_answer(answer, write_fault, out))
+}
+
+/// Writes an answer's output. The outcome is the answer's, or that of a write fault.
+fn write_answer<W: Write>(answer: Answer, write_fault: Text, out: &mut Tap<W>) -> Outcome
+    requires { write_fault ≡ write_fault_line }
+    ensures { (command : Command) (file file' : TapView) (journal journal' : Option TapView) (input input' : TapView)
+        → HasAnswer command (taps file journal input (view_of W.contents out.old)) (taps file' journal' input' (view_of W.contents out.new)) answer
+        → IsRun command (taps file journal input (view_of W.contents out.old)) (taps file' journal' input' (view_of W.contents out.new)) result }
+{
+    if !write_whole(out, answer.output.as_slice()) {
+        return outcome_of(write_fault, status::FAULT);
+    }
+    answer.outcome
+}
+
+/// What was read of a command's file, of its journal, if it has one and reads it, and of its input, if it reads that.
+#[derive(Drop)]
+struct Sources {
+    file: Vec<u8>,
+    journal: Option<Vec<u8>>,
+    input: Vec<u8>,
+}
+
+/// Reads the sources of a command in order, up to the first that cannot be read.
+fn read_sources<F: Read, J: Read, I: Read>(
+    alloc: Global,
+    command: &Command,
+    file: &mut Tap<F>,
+    has_journal: bool,
+    journal: &mut Tap<J>,
+    input: &mut Tap<I>,
+) -> Result<Sources, SourceFault>
+    ensures ok { IfOk result (λ sources. (before after : TapView) → HasSources command.now
+        (taps (view_of F.remaining file.old) (held has_journal (view_of J.remaining journal.old)) (view_of I.remaining input.old) before)
+        (taps (view_of F.remaining file.new) (held has_journal (view_of J.remaining journal.new)) (view_of I.remaining input.new) after)
+        sources.file.items (option_map (λ bytes. bytes.items) sources.journal) sources.input.items) }
+    ensures failed { result ≡ Err Failed → (has_failed file.new ≡ true)
+        ⊎ ((has_any_failed (held has_journal (view_of J.remaining journal.new)) ≡ true) ⊎ (has_failed input.new ≡ true)) }
+    ensures file { result ≡ Err OutOfMemory → has_failed file.new ≡ has_failed file.old }
+    ensures journal { result ≢ Err Failed → has_failed journal.new ≡ has_failed journal.old }
+    ensures memory { result ≡ Err OutOfMemory → has_failed input.new ≡ has_failed input.old }
+    ensures unread { ¬ ReadsJournal command.now → journal.new ≡ journal.old }
+    ensures input { ¬ TakesInput command.now → input.new ≡ input.old }
+{
+    let file = match read_up_to(alloc, file, FILE_LIMIT + 1) {
+        Ok(file) => file,
+        Err(fault) => return Err(fault),
+    };
+    let journal = match read_journal(alloc, command, has_journal, journal) {
+        Ok(journal) => journal,
+        Err(fault) => return Err(fault),
+    };
+    let input = match read_input(alloc, command, input) {
+        Ok(input) => input,
+        Err(fault) => return Err(fault),
+    };
+    Ok(Sources {
+        file,
+        journal,
+        input,
+    })
 }
 
 /// The journal of a command, if it has one and reads it.
@@ -176,11 +248,11 @@ fn read_input<I: Read>(
     Ok(Vec::new(alloc))
 }
 
-/// The outcome of a read or write fault.
-fn fault(alloc: Global, line: &[u8]) -> Result<Outcome, AllocError>
-    ensures { IfOk result (λ outcome. outcome ≡ outcome_of line.now 3) }
+/// The line of a read or write fault.
+fn line(alloc: Global, line: &[u8]) -> Result<Text, AllocError>
+    ensures { IfOk result (λ text. text ≡ line.now) }
 {
-    Ok(outcome_of(Text::from_vec(Vec::from_slice(alloc, line)?), status::FAULT))
+    Ok(Text::from_vec(Vec::from_slice(alloc, line)?))
 }
 
 /// The command's answer to the bytes of its file, of its journal and of its input.

@@ -10,7 +10,7 @@ ghost use Rattle.bib_answers.specs.Outcome.{answer_of};
 ghost use Rattle.bib_run.specs.Sessions.{fault_line};
 ghost use Rattle.bib_run.specs.ImportAnswer.{added_line, unread_line, import_fault_line, HasAdded, HasImported, IsImportAnswer};
 
-use crate::sessions::{fault_line, outcome_left, unopened};
+use crate::sessions::{close, fault_line, outcome_left, unopened};
 use bib_answers::{Answer, placed_line, refused, too_long};
 use bib_data::{Edit, NewEntry};
 use bib_journal::{Session, SessionFault};
@@ -33,7 +33,11 @@ pub fn answer_import(
     ensures { IfOk result (IsImportAnswer file.items (option_map (λ text. text.now) journal.entry) input.now) }
 {
     match Session::open_file(alloc, file, journal, Paged::new(alloc)) {
-        Ok(mut session) => answer_records(alloc, &mut session, input),
+        Ok(mut session) => {
+            let answer = answer_records(alloc, &mut session, input);
+            close(session);
+            answer
+        }
         Err(fault) => unopened(alloc, fault),
     }
 }

@@ -7,9 +7,9 @@ use Rattle.bib_journal.proofs.changing.changes_in.Goals as goal
 
 pub returns-in-Ok-clause-loaded : goal.returns-in-Ok-clause-loaded
 returns-in-Ok-clause-loaded g c =
-    subst (λ (file : Text). IfOk c.changes_of.result (λ changes. Loads file c.args.journal.now (kept changes.past file changes.future)))
-    c.in-Ok.ensures.opened c.changes_of.ensures.loaded
+    subst (λ (file : Text). IfOk c.changes_of-changes.result (λ changes. Loads file c.args.journal.now (kept changes.past file changes.future)))
+    c.in-Ok.ensures.opened c.changes_of-changes.ensures.loaded
 
 pub returns-in-Ok-clause-refused : goal.returns-in-Ok-clause-refused
 returns-in-Ok-clause-refused g c =
-    subst (λ (file : Text). IfErr c.changes_of.result (λ fault. RefusesLoad fault file c.args.journal.now)) c.in-Ok.ensures.opened c.changes_of.ensures.refused
+    subst (λ (file : Text). IfErr c.changes_of-changes.result (λ fault. RefusesLoad fault file c.args.journal.now)) c.in-Ok.ensures.opened c.changes_of-changes.ensures.refused

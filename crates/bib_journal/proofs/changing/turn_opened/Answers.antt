@@ -3,10 +3,10 @@ use Rattle.bib_journal.proofs.LoadLemmas.{memory_refuses}
 use Rattle.bib_journal.proofs.changing.turn_opened.Goals as goal
 
 pub returns-in-Ok-clause-refused : goal.returns-in-Ok-clause-refused
-returns-in-Ok-clause-refused g c = IfErr-weaker c.turn.result _ _ (λ fault is. memory_refuses fault _ _ is) c.turn.ensures.only
+returns-in-Ok-clause-refused g c = IfErr-weaker c.turn-turned.result _ _ (λ fault is. memory_refuses fault _ _ is) c.turn-turned.ensures.only
 
 pub returns-in-Ok-clause-turned : goal.returns-in-Ok-clause-turned
 returns-in-Ok-clause-turned g c =
-    IfOk-weaker c.turn.result _ _
+    IfOk-weaker c.turn-turned.result _ _
     (λ turned has. record { opened = c.in-Ok.session; opens = c.in-Ok.ensures.opened; has_turned = has })
-    c.turn.ensures.turned
+    c.turn-turned.ensures.turned

@@ -2,4 +2,4 @@ use Rattle.std.proofs.lemmas.Result.{IfOk-weaker}
 use Rattle.bib_run.proofs.commands.edit.answer_edit.Goals as goal
 
 pub returns-in-Ok : goal.returns-in-Ok
-returns-in-Ok c = IfOk-weaker c.answer_script.result _ _ (λ answer h. h _ _ c.in-Ok.ensures.opened) c.answer_script.ensures
+returns-in-Ok c = IfOk-weaker c.answer_script-answer.result _ _ (λ answer h. h _ _ c.in-Ok.ensures.opened) c.answer_script-answer.ensures
