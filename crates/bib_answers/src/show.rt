@@ -7,8 +7,8 @@ ghost use Rattle.bib_store.specs.Meaning.{OfReading, IsEntryNumber};
 ghost use Rattle.bib_answers.specs.Opened.{AnswersFile};
 ghost use Rattle.bib_answers.specs.Show.{head_line, shown_field, record_lines, shown, show_answer};
 
-use crate::answers::{Answer, done, no_such_entry, unread};
-use crate::opening::open;
+use crate::answers::{Answer, done, no_such_entry};
+use crate::opening::answer_file;
 use bib_scan::Text;
 use bib_store::{Database, Paged, Record};
 use std::alloc::{AllocError, Global};
@@ -17,10 +17,7 @@ use std::alloc::{AllocError, Global};
 pub fn answer_show(alloc: Global, file: Vec<u8>, key: &[u8]) -> Result<Answer, AllocError>
     ensures { IfOk result (AnswersFile (show_answer key.now) file.items) }
 {
-    match open(alloc, file) {
-        Ok(db) => show(alloc, &db, key),
-        Err(fault) => unread(alloc, fault),
-    }
+    answer_file(alloc, file, |db| show(alloc, db, key))
 }
 
 fn show(alloc: Global, db: &Database<Paged>, key: &[u8]) -> Result<Answer, AllocError>
