@@ -4,7 +4,8 @@ use Rattle.std.proofs.lemmas.Bool.{cond-true, cond-false}
 use Rattle.std.proofs.lemmas.List.{map-append}
 use Rattle.bib_spec.specs.Text.{Text}
 use Rattle.ris_format.specs.Lines.{has_bytes}
-use Rattle.ris_format.proofs.LoopSteps.{kept_more, passed, made_all}
+use Rattle.bib_names.proofs.LoopSteps.{made_all}
+use Rattle.ris_format.proofs.LoopSteps.{kept_more, passed}
 use Rattle.ris_format.proofs.keywords.filled.Goals as goal
 use Rattle.ris_format.proofs.keywords.filled.Goals.{then-has_bytes+in_ok-push, else-has_bytes}
 

@@ -2,7 +2,7 @@ use Rattle.std.proofs.Common.{map, Bor, List, refl}
 use Rattle.std.specs.List.{flat_map}
 use Rattle.bib_spec.specs.Text.{Text}
 use Rattle.ris_format.specs.Lines.{line}
-use Rattle.ris_format.proofs.LoopSteps.{made_more, made_all}
+use Rattle.bib_names.proofs.LoopSteps.{made_more, made_all}
 use Rattle.ris_format.proofs.keywords.push_keywords.Goals as goal
 
 pub loop-word-preserved : goal.loop-word-preserved

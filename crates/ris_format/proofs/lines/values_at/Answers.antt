@@ -4,7 +4,8 @@ use Rattle.std.proofs.lemmas.List.{map-append}
 use Rattle.bib_spec.specs.Text.{Text}
 use Rattle.ris_text.specs.declared.records.RisLine.{RisLine}
 use Rattle.ris_format.specs.Lines.{values_at}
-use Rattle.ris_format.proofs.LoopSteps.{kept_more, passed, made_all}
+use Rattle.bib_names.proofs.LoopSteps.{made_all}
+use Rattle.ris_format.proofs.LoopSteps.{kept_more, passed}
 use Rattle.ris_format.proofs.lines.values_at.Goals as goal
 use Rattle.ris_format.proofs.lines.values_at.Goals.{then-has_tag+in_ok-push, else-has_tag}
 

@@ -2,7 +2,8 @@ use Rattle.std.proofs.Common.{◌∙◌, ◌++◌, map, Bor, List, refl}
 use Rattle.std.specs.List.{flat_map}
 use Rattle.std.proofs.lemmas.List.{append_assoc}
 use Rattle.bib_spec.specs.Text.{Text}
-use Rattle.ris_format.proofs.LoopSteps.{joined_first, made_more, made_all}
+use Rattle.bib_names.proofs.LoopSteps.{made_more, made_all}
+use Rattle.ris_format.proofs.LoopSteps.{joined_first}
 use Rattle.ris_format.proofs.text.join.Goals as goal
 
 abbrev on : Text → List (Bor Text) → Text
