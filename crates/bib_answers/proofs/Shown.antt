@@ -1,11 +1,25 @@
 -- An entry as `show` writes it.
-use Rattle.std.proofs.Common.{◌≡◌, ℕ, List, ◌++◌, Some, refl}
+use Rattle.std.proofs.Common.{◌≡◌, ℕ, List, ◌++◌, Option, Some, None, refl, sym, subst}
+use Rattle.std.specs.Option.{IfSome}
 use Rattle.bib_spec.specs.Text.{Text}
-use Rattle.bib_spec.specs.Records.{EntryTexts, Record, crossref, parent, default_depth, expanded}
+use Rattle.bib_spec.specs.Records.{EntryTexts, Record, crossref, entries_of, parent, default_depth, expanded}
+use Rattle.bib_spec.proofs.Parents.{parent_within}
+use Rattle.bib_store.specs.Meaning.{OfReading, IsEntryNumber}
 use Rattle.bib_answers.specs.Entries.{key_at}
-use Rattle.bib_answers.specs.Show.{record_lines, shown_field, shown}
+use Rattle.bib_answers.specs.Show.{record_lines, shown_field, parent_line, shown}
 
--- with a parent that has this key
-pub shown_with : (entries : List EntryTexts) (n m : ℕ) (rec : Record) (key : Text) → expanded default_depth entries n ≡ Some rec
-    → parent entries n ≡ Some m → key ≡ key_at entries m → record_lines rec ++ shown_field (crossref, key) ≡ shown entries n
-shown_with entries n m rec key is has named = rw (is, has, named) refl
+-- a parent is an entry
+pub parent_number : (file : Text) (n : ℕ) (p : Option ℕ) → OfReading file (λ r. p ≡ parent (entries_of r) n) → IfSome p (IsEntryNumber file)
+parent_number file n (Some m) is = λ r reads. parent_within (entries_of r) n m (sym (is r reads))
+parent_number file n None is = tt
+
+pub number_is : (file : Text) (p : Option ℕ) (m : ℕ) → p ≡ Some m → IfSome p (IsEntryNumber file) → IsEntryNumber file m
+number_is file p m is within = subst (λ (o : Option ℕ). IfSome o (IsEntryNumber file)) is within
+
+-- the line of a parent that has this key
+pub parent_line_with : (entries : List EntryTexts) (p : Option ℕ) (m : ℕ) (key : Text) → p ≡ Some m → key ≡ key_at entries m → shown_field (crossref, key) ≡ parent_line entries p
+parent_line_with entries p m key has named = rw (has, named) refl
+
+pub shown_with : (entries : List EntryTexts) (n : ℕ) (rec : Record) (p : Option ℕ) → expanded default_depth entries n ≡ Some rec → p ≡ parent entries n
+    → record_lines rec ++ parent_line entries p ≡ shown entries n
+shown_with entries n rec p is has = rw (is, has) refl

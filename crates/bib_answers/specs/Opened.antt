@@ -1,9 +1,11 @@
 -- Answers to a file that can be opened.
-use Rattle.std.specs.Prelude.{◌≡◌, ◌≢◌, ℕ, []}
+use Rattle.std.specs.Prelude.{◌≡◌, ◌≢◌, ℕ, [], Result, IfOk}
+use Rattle.std.specs.Borrow.{Bor}
+use Rattle.std.specs.Fn.{Once, FnOnceReturns}
 use Rattle.bib_spec.specs.Text.{Text}
 use Rattle.bib_spec.specs.Reading.{Reading}
 use Rattle.bib_spec.specs.Texts.{Opens}
-use Rattle.bib_store.specs.Meaning.{IsOpenFault}
+use Rattle.bib_store.specs.Meaning.{IsOpenFault, OfReading}
 use Rattle.bib_answers.specs.declared.answers.Answer.{Answer}
 use Rattle.bib_answers.specs.Messages.{refusal_line}
 use Rattle.bib_answers.specs.Outcome.{answer_of}
@@ -13,3 +15,8 @@ pub data AnswersFile (answers : Reading → Answer) (file : Text) (answer : Answ
   opened : (db : Reading) → Opens file db → answer ≡ answers db → AnswersFile answers file answer
   refused : (kind place : ℕ) → kind ≢ 10 → IsOpenFault file kind place → answer ≡ answer_of [] (refusal_line kind place) 1
       → AnswersFile answers file answer
+
+-- what the function answers to a file that is open is this of what the file says
+abbrev pub AnswersReading : {F E : Type 0} → Once F (Bor Text × Unit {0}) (Result Answer E) → F → (Reading → Answer) → Type 0
+AnswersReading {F} {E} calls f answers =
+    (file : Bor Text) (given : Result Answer E) → FnOnceReturns calls f (file, tt) given → IfOk given (λ answer. OfReading file.now (λ r. answer ≡ answers r))

@@ -7,9 +7,9 @@ ghost use Rattle.bib_answers.specs.Opened.{AnswersFile};
 ghost use Rattle.bib_definitions.specs.Definitions.{is_definition_tree};
 ghost use Rattle.bib_answers.specs.Check.{count_items, count_lines, all_reports, check_answer};
 
-use crate::answers::{Answer, done, unread};
+use crate::answers::{Answer, done};
 use crate::kinds::is_same_kind;
-use crate::opening::open;
+use crate::opening::answer_file;
 use crate::reporting::add_item_reports;
 use crate::seen_names::SeenNames;
 use bib_scan::{Kind, Text};
@@ -23,10 +23,7 @@ const REPORT_LEN: usize = 32;
 pub fn answer_check(alloc: Global, file: Vec<u8>) -> Result<Answer, AllocError>
     ensures { IfOk result (AnswersFile check_answer file.items) }
 {
-    match open(alloc, file) {
-        Ok(db) => check(alloc, &db),
-        Err(fault) => unread(alloc, fault),
-    }
+    answer_file(alloc, file, |db| check(alloc, db))
 }
 
 fn check(alloc: Global, db: &Database<Paged>) -> Result<Answer, AllocError>

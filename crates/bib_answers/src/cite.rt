@@ -9,9 +9,9 @@ ghost use Rattle.bib_answers.specs.Opened.{AnswersFile};
 ghost use Rattle.bib_answers.specs.Cite.{IsKeyed, parent_bytes, line_bytes, with_listed, listed_line, listed_lines, unknown_line, cite_answer};
 ghost use Rattle.bib_answers.specs.Marks.{AreMarks, AreEntryNumbers, ArePlaces};
 
-use crate::answers::{Answer, done, unread};
+use crate::answers::{Answer, done};
 use crate::listing::{Keyed, Line, Listing};
-use crate::opening::open;
+use crate::opening::answer_file;
 use bib_scan::Text;
 use bib_store::{Database, Paged};
 use std::alloc::{AllocError, Global};
@@ -26,10 +26,7 @@ pub fn answer_cite(
     requires { 1 ≤ min }
     ensures { IfOk result (AnswersFile (cite_answer keys.now min) file.items) }
 {
-    match open(alloc, file) {
-        Ok(db) => cite(alloc, &db, keys, min),
-        Err(fault) => unread(alloc, fault),
-    }
+    answer_file(alloc, file, |db| cite(alloc, db, keys, min))
 }
 
 fn cite(alloc: Global, db: &Database<Paged>, keys: &[Text], min: u32) -> Result<Answer, AllocError>

@@ -9,9 +9,9 @@ ghost use Rattle.bib_names.specs.Label.{label_base, labels_of};
 ghost use Rattle.bib_answers.specs.Labels.{label_lines, chosen_at, keyed_line, AreToldOf, labels_answer};
 ghost use Rattle.bib_answers.specs.Marks.{AreEntryNumbers};
 
-use crate::answers::{Answer, done, no_such_entry, unread};
+use crate::answers::{Answer, done, no_such_entry};
 use crate::citing::all_cited;
-use crate::opening::open;
+use crate::opening::answer_file;
 use bib_names::{label_base, label_names, labels_of};
 use bib_scan::Text;
 use bib_store::{Database, Paged, Record};
@@ -21,10 +21,7 @@ use std::alloc::{AllocError, Global};
 pub fn answer_labels(alloc: Global, file: Vec<u8>, keys: &[Text]) -> Result<Answer, AllocError>
     ensures { IfOk result (AnswersFile (labels_answer keys.now) file.items) }
 {
-    match open(alloc, file) {
-        Ok(db) => label(alloc, &db, keys),
-        Err(fault) => unread(alloc, fault),
-    }
+    answer_file(alloc, file, |db| label(alloc, db, keys))
 }
 
 fn label(alloc: Global, db: &Database<Paged>, keys: &[Text]) -> Result<Answer, AllocError>

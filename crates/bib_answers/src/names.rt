@@ -9,8 +9,8 @@ ghost use Rattle.bib_answers.specs.Messages.{no_such_entry_line};
 ghost use Rattle.bib_answers.specs.Outcome.{answer_of};
 ghost use Rattle.bib_answers.specs.Names.{name_fault_name, name_fault_line, listed_in, persons, parts_in, name_line, name_lines, lines_of, lines_answer, record_answer, names_answer, Spells, IsNamesAnswer};
 
-use crate::answers::{Answer, done, no_such_entry, refused, unread};
-use crate::opening::open;
+use crate::answers::{Answer, done, no_such_entry, refused};
+use crate::opening::answer_file;
 use bib_names::{Name, NameFault, Template, split_name, split_names, text_in};
 use bib_scan::{Seq, Text};
 use bib_store::{Database, Paged, Record};
@@ -26,10 +26,7 @@ pub fn answer_names(
     ensures { IfOk result (IsNamesAnswer key.now template.now file.items) }
 {
     let template = spelled(alloc, template)?;
-    match open(alloc, file) {
-        Ok(db) => names(alloc, &db, key, &template),
-        Err(fault) => unread(alloc, fault),
-    }
+    answer_file(alloc, file, |db| names(alloc, db, key, &template))
 }
 
 /// The template that the bytes spell, if they spell one.

@@ -1,14 +1,14 @@
 //! `show`: an entry as a style is given it.
 
-ghost use Rattle.std.specs.Prelude.{◌≡◌, ◌++◌, [], IfOk, OnOk};
+ghost use Rattle.std.specs.Prelude.{◌≡◌, ◌++◌, [], IfOk, IfSome, OnOk};
 ghost use Rattle.std.specs.List.{flat_map};
 ghost use Rattle.bib_spec.specs.Records.{entries_of};
 ghost use Rattle.bib_store.specs.Meaning.{OfReading, IsEntryNumber};
 ghost use Rattle.bib_answers.specs.Opened.{AnswersFile};
-ghost use Rattle.bib_answers.specs.Show.{head_line, shown_field, record_lines, shown, show_answer};
+ghost use Rattle.bib_answers.specs.Show.{head_line, shown_field, record_lines, parent_line, shown, show_answer};
 
-use crate::answers::{Answer, done, no_such_entry, unread};
-use crate::opening::open;
+use crate::answers::{Answer, done, no_such_entry};
+use crate::opening::answer_file;
 use bib_scan::Text;
 use bib_store::{Database, Paged, Record};
 use std::alloc::{AllocError, Global};
@@ -17,10 +17,7 @@ use std::alloc::{AllocError, Global};
 pub fn answer_show(alloc: Global, file: Vec<u8>, key: &[u8]) -> Result<Answer, AllocError>
     ensures { IfOk result (AnswersFile (show_answer key.now) file.items) }
 {
-    match open(alloc, file) {
-        Ok(db) => show(alloc, &db, key),
-        Err(fault) => unread(alloc, fault),
-    }
+    answer_file(alloc, file, |db| show(alloc, db, key))
 }
 
 fn show(alloc: Global, db: &Database<Paged>, key: &[u8]) -> Result<Answer, AllocError>
@@ -40,13 +37,38 @@ fn entry_text(alloc: Global, db: &Database<Paged>, n: usize) -> Result<Vec<u8>, 
     let Ok(expanded) = db.expanded(n) else {
         return Err(AllocError);
     };
+    expanded_text(alloc, db, &expanded.rec, expanded.parent)
+}
+
+/// A record, and the parent of its entry.
+fn expanded_text(
+    alloc: Global,
+    db: &Database<Paged>,
+    rec: &Record,
+    parent: Option<usize>,
+) -> Result<Vec<u8>, AllocError>
+    requires { IfSome parent (IsEntryNumber db.now) }
+    ensures { IfOk result (λ text. OfReading db.now (λ r. text.items ≡ record_lines rec.now ++ parent_line (entries_of r) parent)) }
+{
     let mut out = Vec::new(alloc);
-    add_record(&mut out, &expanded.rec)?;
-    let Some(parent) = expanded.parent else {
-        return Ok(out);
-    };
-    add_field(&mut out, b"crossref", db.entry(parent).key())?;
+    add_record(&mut out, rec)?;
+    add_parent(&mut out, db, parent)?;
     Ok(out)
+}
+
+fn add_parent(
+    out: &mut Vec<u8>,
+    db: &Database<Paged>,
+    parent: Option<usize>,
+) -> Result<(), AllocError>
+    requires { IfSome parent (IsEntryNumber db.now) }
+    ensures { OnOk result (OfReading db.now (λ r. out.new.items ≡ out.old.items ++ parent_line (entries_of r) parent)) }
+{
+    let Some(parent) = parent else {
+        return Ok(());
+    };
+    add_field(out, b"crossref", db.entry(parent).key())?;
+    Ok(())
 }
 
 fn add_record(out: &mut Vec<u8>, rec: &Record) -> Result<(), AllocError>

@@ -1,5 +1,6 @@
 -- ---- tests, places and braces
 pub mod BoolLemmas
+pub mod LoopSteps
 pub mod PlaceLemmas
 pub mod BraceLemmas
 pub mod BalanceLaws

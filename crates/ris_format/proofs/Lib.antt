@@ -4,6 +4,7 @@ pub mod Trims
 pub mod Values
 pub mod Levels
 pub mod SliceLemmas
+pub mod LoopSteps
 pub mod ListLaws
 pub mod OrderLaws
 -- ---- dates, keywords and pages

@@ -1,9 +1,6 @@
-use Rattle.std.proofs.lemmas.Result.{IfOk-weaker}
-use Rattle.bib_answers.proofs.Refusals.{file_refused, file_answered}
+use Rattle.std.proofs.Common.{rules}
+use Rattle.bib_answers.specs.Cite.{cite_answer}
 use Rattle.bib_answers.proofs.cite.answer_cite.Goals as goal
 
-pub returns-in-Err : goal.returns-in-Err
-returns-in-Err c = IfOk-weaker c.unread.result _ _ (λ answer h. file_refused _ c.args.file.items _ _ answer c.in-Err.ensures.fault h) c.unread.ensures
-
-pub returns-in-Ok : goal.returns-in-Ok
-returns-in-Ok c = IfOk-weaker c.cite.result _ _ (λ answer h. file_answered _ c.args.file.items _ answer c.in-Ok.ensures.opened c.in-Ok.ensures.file h) c.cite.ensures
+pub returns : goal.returns
+returns c = c.answer_file.ensures (cite_answer c.args.keys.now c.args.min) (λ file given called. search rules)

@@ -1,16 +1,14 @@
-use Rattle.std.proofs.Common.{◌≡◌, Some, sym, ◌∙◌}
-use Rattle.bib_spec.specs.Records.{entries_of, parent}
-use Rattle.bib_spec.proofs.Parents.{parent_within}
-use Rattle.bib_answers.proofs.EntryNumbers.{entry_key}
-use Rattle.bib_answers.proofs.Shown.{shown_with}
+use Rattle.std.proofs.Common.{◌∙◌}
+use Rattle.std.proofs.lemmas.Result.{IfOk-weaker}
+use Rattle.bib_spec.specs.Records.{entries_of}
+use Rattle.bib_answers.proofs.Shown.{parent_number, shown_with}
 use Rattle.bib_answers.proofs.show.entry_text.Goals as goal
 
-pub entry-requires : goal.entry-requires
-entry-requires c r reads = parent_within (entries_of r) c.args.n c.in-Some.parent (sym (c.in-Ok.ensures.parent r reads) ∙ c.in-Some.is)
+pub expanded_text-requires : goal.expanded_text-requires
+expanded_text-requires c = parent_number _ c.args.n c.in-Ok.expanded.parent c.in-Ok.ensures.parent
 
 pub returns : goal.returns
-returns c r reads =
-    let parent_is : parent (entries_of r) c.args.n ≡ Some c.in-Some.parent = sym (c.in-Ok.ensures.parent r reads) ∙ c.in-Some.is in
-    let key_is = c.key.ensures ∙ entry_key r c.in-Some.parent c.entry.result (parent_within (entries_of r) c.args.n c.in-Some.parent parent_is) (c.entry.ensures r reads) in
-    rw (c.in_ok-add_field.ensures, c.in_ok-add_record.ensures, c.new-out.ensures.items)
-    (shown_with (entries_of r) c.args.n c.in-Some.parent c.in-Ok.expanded.rec c.key.result.now (c.in-Ok.ensures.rec r reads) parent_is key_is)
+returns c =
+    IfOk-weaker c.expanded_text.result _ _
+    (λ text h r reads. h r reads ∙ shown_with (entries_of r) c.args.n c.in-Ok.expanded.rec c.in-Ok.expanded.parent (c.in-Ok.ensures.rec r reads) (c.in-Ok.ensures.parent r reads))
+    c.expanded_text.ensures
