@@ -1,13 +1,12 @@
 //! What an open file answers.
 
-ghost use Rattle.std.specs.Prelude.{◌≡◌, []};
-
+use crate::examples::{Example, all_hold};
 use crate::renames::{CROSSED, MADE};
-use crate::rows::{Stop, told};
+use crate::rows::Stop;
 use crate::splicing::{Change, pieces_of};
 use bib_edit::free_key;
 use bib_scan::{Seq, Text};
-use bib_store::{Database, Flat, ItemList, Paged};
+use bib_store::{Database, ItemList};
 use std::alloc::{AllocError, Global};
 use std::test::Fail;
 
@@ -393,30 +392,21 @@ fn change<L: ItemList>(
     Ok(())
 }
 
-/// Whether the open file answers as the example says, once it is changed.
-fn answers<L: ItemList>(alloc: Global, db: &mut Database<L>, asked: &Asked) -> Result<bool, Stop> {
-    change(alloc, db, asked.changes)?;
-    let said = answer_of(alloc, db, &asked.question)?;
-    Ok(is_said(&said, &asked.answer))
-}
-
-/// Whether the example comes out as it says where its file is kept in this list.
-fn holds_in<L: ItemList>(alloc: Global, asked: &Asked, items: L) -> Result<bool, Stop>
-    requires { L.items items ≡ [] }
-{
-    let mut db = Database::open_bytes(alloc, asked.file, items)?;
-    answers(alloc, &mut db, asked)
-}
-
-fn holds(alloc: Global, asked: &Asked) -> Result<bool, Stop> {
-    Ok(holds_in(alloc, asked, Flat::new(alloc))? && holds_in(alloc, asked, Paged::new(alloc))?)
-}
-
-fn all_hold(alloc: Global, all: &[Asked]) -> Result<(), Fail> {
-    for asked in all {
-        told(asked.name, holds(alloc, asked))?;
+impl Example for Asked {
+    fn name(&self) -> &str {
+        self.name
     }
-    Ok(())
+
+    fn file(&self) -> &[u8] {
+        self.file
+    }
+
+    /// Whether the open file answers as the example says, once it is changed.
+    fn comes_out<L: ItemList>(&self, alloc: Global, db: &mut Database<L>) -> Result<bool, Stop> {
+        change(alloc, db, self.changes)?;
+        let said = answer_of(alloc, db, &self.question)?;
+        Ok(is_said(&said, &self.answer))
+    }
 }
 
 #[test]

@@ -6,6 +6,8 @@ mod additions;
 #[cfg(test)]
 mod answers;
 #[cfg(test)]
+mod examples;
+#[cfg(test)]
 mod lengths;
 #[cfg(test)]
 mod lists;

@@ -1,13 +1,13 @@
 //! The pieces of edits.
 
+use crate::examples::{Example, all_hold};
 use crate::renames::CROSSED;
-use crate::rows::{Stop, told};
+use crate::rows::Stop;
 use crate::splicing::Change;
 use crate::turns::{Turn, requests_of};
-use bib_edit::{Edit, plan};
+use bib_edit::plan;
 use bib_journal::Request;
-use bib_scan::Seq;
-use bib_store::{Database, Flat, Piece};
+use bib_store::{Database, ItemList, Piece};
 use std::alloc::Global;
 use std::test::Fail;
 
@@ -62,15 +62,6 @@ const EDITS: &[Planned] = &[
     },
 ];
 
-fn plan_of(alloc: Global, db: &Database<Flat>, edit: &Edit) -> Result<Seq<Piece>, Stop> {
-    Ok(plan(alloc, db, edit)?)
-}
-
-fn pieces_of(alloc: Global, file: &[u8], edit: &Edit) -> Result<Seq<Piece>, Stop> {
-    let db = Database::open_bytes(alloc, file, Flat::new(alloc))?;
-    plan_of(alloc, &db, edit)
-}
-
 fn are_pieces(pieces: &[Piece], changes: &[Change]) -> bool {
     pieces.len() == changes.len()
         && pieces.iter().zip(changes).all(|(piece, (place, old, new))| {
@@ -78,20 +69,36 @@ fn are_pieces(pieces: &[Piece], changes: &[Change]) -> bool {
         })
 }
 
-fn holds(alloc: Global, planned: &Planned) -> Result<bool, Stop> {
-    match requests_of(alloc, &planned.turn)?.as_slice() {
-        [Request::Edit(edit)] => {
-            let pieces = pieces_of(alloc, planned.file, edit)?;
-            Ok(are_pieces(pieces.as_slice(), planned.pieces))
-        }
+/// Whether these are the pieces of the one edit that is asked for.
+fn is_planned<L: ItemList>(
+    alloc: Global,
+    db: &Database<L>,
+    requests: &[Request],
+    pieces: &[Change],
+) -> Result<bool, Stop> {
+    match requests {
+        [Request::Edit(edit)] => Ok(are_pieces(plan(alloc, db, edit)?.as_slice(), pieces)),
         _ => Ok(false),
+    }
+}
+
+impl Example for Planned {
+    fn name(&self) -> &str {
+        self.name
+    }
+
+    fn file(&self) -> &[u8] {
+        self.file
+    }
+
+    /// Whether the edit of the turn has these pieces.
+    fn comes_out<L: ItemList>(&self, alloc: Global, db: &mut Database<L>) -> Result<bool, Stop> {
+        let requests = requests_of(alloc, &self.turn)?;
+        is_planned(alloc, db, requests.as_slice(), self.pieces)
     }
 }
 
 #[test]
 fn an_edit_is_these_pieces(rt: HostRuntime) -> Result<(), Fail> {
-    for planned in EDITS {
-        told(planned.name, holds(rt.alloc(), planned))?;
-    }
-    Ok(())
+    all_hold(rt.alloc(), EDITS)
 }

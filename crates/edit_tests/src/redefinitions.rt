@@ -1,10 +1,9 @@
 //! Macros that are renamed by pieces at several places at once, and back.
 
-ghost use Rattle.std.specs.Prelude.{◌≡◌, []};
-
-use crate::rows::{Stop, told};
+use crate::examples::{Example, all_hold};
+use crate::rows::Stop;
 use crate::splicing::{Change, pieces_of};
-use bib_store::{Database, Flat, ItemList, Paged};
+use bib_store::{Database, ItemList};
 use std::alloc::Global;
 use std::test::Fail;
 
@@ -58,46 +57,29 @@ fn is_only<L: ItemList>(db: &Database<L>, name: &[u8], other: &[u8]) -> Result<b
     Ok(is_a && db.macro_text(n, other)?.is_none())
 }
 
-/// Whether the macro is renamed unless it is refused, and then back.
-fn goes_there_and_back<L: ItemList>(
-    alloc: Global,
-    db: &mut Database<L>,
-    renaming: &Renaming,
-) -> Result<bool, Stop> {
-    let is_refused = db
-        .splice(pieces_of(alloc, renaming.changes)?.as_slice())
-        .is_err();
-    let is_renamed = is_refused || is_only(db, b"q", b"p")?;
-    db.splice(pieces_of(alloc, renaming.back)?.as_slice())?;
-    let is_back = is_only(db, b"p", b"q")?;
-    let file = db.bytes()?;
-    Ok(
-        is_refused == renaming.is_refused
-            && is_renamed
-            && is_back
-            && file.as_slice() == renaming.file,
-    )
-}
+impl Example for Renaming {
+    fn name(&self) -> &str {
+        self.name
+    }
 
-/// Whether it does where its file is kept in this list.
-fn holds_in<L: ItemList>(alloc: Global, renaming: &Renaming, items: L) -> Result<bool, Stop>
-    requires { L.items items ≡ [] }
-{
-    let mut db = Database::open_bytes(alloc, renaming.file, items)?;
-    goes_there_and_back(alloc, &mut db, renaming)
-}
+    fn file(&self) -> &[u8] {
+        self.file
+    }
 
-fn holds(alloc: Global, renaming: &Renaming) -> Result<bool, Stop> {
-    Ok(
-        holds_in(alloc, renaming, Flat::new(alloc))?
-            && holds_in(alloc, renaming, Paged::new(alloc))?,
-    )
+    /// Whether the macro is renamed unless it is refused, and then back.
+    fn comes_out<L: ItemList>(&self, alloc: Global, db: &mut Database<L>) -> Result<bool, Stop> {
+        let is_refused = db
+            .splice(pieces_of(alloc, self.changes)?.as_slice())
+            .is_err();
+        let is_renamed = is_refused || is_only(db, b"q", b"p")?;
+        db.splice(pieces_of(alloc, self.back)?.as_slice())?;
+        let is_back = is_only(db, b"p", b"q")?;
+        let file = db.bytes()?;
+        Ok(is_refused == self.is_refused && is_renamed && is_back && file.as_slice() == self.file)
+    }
 }
 
 #[test]
 fn a_macro_is_renamed_and_back(rt: HostRuntime) -> Result<(), Fail> {
-    for renaming in RENAMINGS {
-        told(renaming.name, holds(rt.alloc(), renaming))?;
-    }
-    Ok(())
+    all_hold(rt.alloc(), RENAMINGS)
 }

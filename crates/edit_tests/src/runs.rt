@@ -5,9 +5,7 @@ ghost use Rattle.std.specs.Prelude.{◌≡◌, []};
 use crate::rows::{Step, Stop, is_left, told};
 use crate::turns::{Asked, Left, Turn, asked_of, is_same, left_after};
 use bib_data::Request;
-use bib_journal::{
-    Saved, Session, SessionFault, Turned, read_changes, redo_changes, repeat, undo_changes,
-};
+use bib_journal::{Saved, Session, SessionFault, Turned, read_changes, redo_changes, undo_changes};
 use bib_store::{Flat, ItemList, Paged};
 use std::alloc::{AllocError, Global};
 use std::test::Fail;
@@ -314,35 +312,32 @@ fn runs_hold(alloc: Global, runs: &Runs) -> Result<bool, Stop> {
     Ok(true)
 }
 
+/// The number and the place of the fault at which the file is not opened with this journal, or 0.
+fn fault_of(alloc: Global, file: &[u8], journal: &[u8]) -> (u16, Option<usize>) {
+    match Session::load(alloc, file, journal, Flat::new(alloc)) {
+        Ok(_) => (0, None),
+        Err(fault) => (fault.number(), fault.place()),
+    }
+}
+
 fn loaded_holds(alloc: Global, loaded: &Loaded) -> Result<bool, Stop> {
     let journal = journal_of(alloc, loaded.journal)?;
-    match Session::load(alloc, loaded.file, journal.as_slice(), Flat::new(alloc)) {
-        Ok(_) => Ok(loaded.fault == (0, None)),
-        Err(fault) => Ok(loaded.fault == (fault.number(), fault.place())),
+    Ok(loaded.fault == fault_of(alloc, loaded.file, journal.as_slice()))
+}
+
+/// So many turns of this kind.
+fn turn_of(request: &Request, n: usize) -> Turn {
+    match request {
+        Request::Redo => Turn::Redo(n),
+        _ => Turn::Undo(n),
     }
 }
 
 /// What a session leaves that stays open, of the file `abc`.
-fn left_of<L: ItemList>(
-    alloc: Global,
-    journal: &[u8],
-    items: L,
-    request: &Request,
-    n: usize,
-) -> Result<Saved, SessionFault>
-    requires { L.items items ≡ [] }
-{
-    let mut session = Session::open(alloc, b"abc", Some(journal), items)?;
-    turned_and_saved(&mut session, request, n)
-}
-
-fn turned_and_saved<L: ItemList>(
-    session: &mut Session<L>,
-    request: &Request,
-    n: usize,
-) -> Result<Saved, SessionFault> {
-    repeat(session, request, n);
-    session.saved()
+fn left_of(alloc: Global, journal: &[u8], request: &Request, n: usize) -> Result<Saved, Stop> {
+    let asked = asked_of(alloc, &turn_of(request, n))?;
+    let (_, saved) = ran_in(alloc, b"abc", Some(journal), Flat::new(alloc), &asked)?;
+    Ok(saved)
 }
 
 /// What is left of the file `abc` where no session stays open.
@@ -364,7 +359,7 @@ fn turns_hold(alloc: Global, request: &Request, turns: &[Turns]) -> Result<bool,
     let journal = journal_of(alloc, TURNED)?;
     for it in turns {
         let turned = turned_of(alloc, journal.as_slice(), request, it.n)?;
-        let saved = left_of(alloc, journal.as_slice(), Flat::new(alloc), request, it.n)?;
+        let saved = left_of(alloc, journal.as_slice(), request, it.n)?;
         let is_so = turned.performed.done == it.done
             && turned.performed.fault == it.fault
             && turned.saved.file.as_slice() == it.file;

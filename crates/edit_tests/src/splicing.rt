@@ -1,10 +1,9 @@
 //! Pieces put into a file.
 
-ghost use Rattle.std.specs.Prelude.{◌≡◌, []};
-
-use crate::rows::{Stop, told};
+use crate::examples::{Example, all_hold};
+use crate::rows::Stop;
 use bib_scan::{Seq, Text};
-use bib_store::{Database, Flat, ItemList, Paged, Piece};
+use bib_store::{Database, ItemList, Piece};
 use std::alloc::{AllocError, Global};
 use std::test::Fail;
 
@@ -222,64 +221,47 @@ pub fn pieces_of(alloc: Global, changes: &[Change]) -> Result<Seq<Piece>, AllocE
     Ok(Seq::from_vec(pieces))
 }
 
-/// Whether these pieces leave what the example says.
-fn comes_out<L: ItemList>(
-    db: &mut Database<L>,
-    splice: &Splice,
-    pieces: &[Piece],
-) -> Result<bool, Stop> {
-    let refusal = match db.splice(pieces) {
-        Ok(()) => 0,
-        Err(fault) => fault.number(),
-    };
-    let file = db.bytes()?;
-    Ok(refusal == splice.refusal && file.as_slice() == splice.left)
-}
-
-/// Whether the example comes out as it says where its file is kept in this list.
-fn holds_in<L: ItemList>(alloc: Global, splice: &Splice, items: L) -> Result<bool, Stop>
-    requires { L.items items ≡ [] }
-{
-    let pieces = pieces_of(alloc, splice.changes)?;
-    let mut db = Database::open_bytes(alloc, splice.file, items)?;
-    comes_out(&mut db, splice, pieces.as_slice())
-}
-
-fn holds(alloc: Global, splice: &Splice) -> Result<bool, Stop> {
-    Ok(holds_in(alloc, splice, Flat::new(alloc))? && holds_in(alloc, splice, Paged::new(alloc))?)
-}
-
-fn all_hold(alloc: Global, splices: &[Splice]) -> Result<(), Fail> {
-    for splice in splices {
-        told(splice.name, holds(alloc, splice))?;
+impl Example for Splice {
+    fn name(&self) -> &str {
+        self.name
     }
-    Ok(())
-}
 
-/// How many bytes were read once the file was opened and the pieces were put into it.
-fn scanned<L: ItemList>(alloc: Global, scan: &Scan, items: L) -> Result<usize, Stop>
-    requires { L.items items ≡ [] }
-{
-    let pieces = pieces_of(alloc, scan.changes)?;
-    let mut db = Database::open_bytes(alloc, scan.file, items)?;
-    if !scan.changes.is_empty() {
-        let _ = db.splice(pieces.as_slice());
+    fn file(&self) -> &[u8] {
+        self.file
     }
-    Ok(db.last_scan())
+
+    /// Whether the pieces leave what the example says.
+    fn comes_out<L: ItemList>(&self, alloc: Global, db: &mut Database<L>) -> Result<bool, Stop> {
+        let refusal = match db.splice(pieces_of(alloc, self.changes)?.as_slice()) {
+            Ok(()) => 0,
+            Err(fault) => fault.number(),
+        };
+        let file = db.bytes()?;
+        Ok(refusal == self.refusal && file.as_slice() == self.left)
+    }
 }
 
-fn is_scanned(alloc: Global, scan: &Scan) -> Result<bool, Stop> {
-    let flat = scanned(alloc, scan, Flat::new(alloc))?;
-    let paged = scanned(alloc, scan, Paged::new(alloc))?;
-    Ok(flat == scan.scanned && paged == scan.scanned)
+impl Example for Scan {
+    fn name(&self) -> &str {
+        self.name
+    }
+
+    fn file(&self) -> &[u8] {
+        self.file
+    }
+
+    /// Whether so many bytes were read once the file was opened and the pieces were put into it.
+    fn comes_out<L: ItemList>(&self, alloc: Global, db: &mut Database<L>) -> Result<bool, Stop> {
+        if !self.changes.is_empty() {
+            let _ = db.splice(pieces_of(alloc, self.changes)?.as_slice());
+        }
+        Ok(db.last_scan() == self.scanned)
+    }
 }
 
 #[test]
 fn few_bytes_are_read_again(rt: HostRuntime) -> Result<(), Fail> {
-    for scan in SCANS {
-        told(scan.name, is_scanned(rt.alloc(), scan))?;
-    }
-    Ok(())
+    all_hold(rt.alloc(), SCANS)
 }
 
 #[test]

@@ -3,7 +3,7 @@
 ghost use Rattle.std.specs.Prelude.{◌≡◌, []};
 
 use bib_edit::Edit;
-use bib_journal::{Request, Session, SessionFault, perform};
+use bib_journal::{Performed, Request, Session, SessionFault, perform, repeat};
 use bib_scan::{Seq, Text};
 use bib_script::read_script;
 use bib_store::ItemList;
@@ -108,8 +108,19 @@ pub fn asked_of(alloc: Global, turn: &Turn) -> Result<Asked, AllocError> {
     })
 }
 
+/// How many requests were made, and the number of the refusal, or 0.
+fn told_of(performed: &Performed) -> (usize, u16) {
+    match &performed.fault {
+        Some(fault) => (performed.done, fault.number()),
+        None => (performed.done, 0),
+    }
+}
+
 /// Makes the requests up to the first refusal: how many are made, and the number of the refusal, or 0.
 fn performed<L: ItemList>(session: &mut Session<L>, asked: &Asked) -> (usize, u16) {
+    if let [request] = asked.requests.as_slice() {
+        return told_of(&repeat(session, request, asked.times));
+    }
     let mut done: usize = 0;
     for _ in 0..asked.times {
         let performed = perform(session, asked.requests.as_slice());
