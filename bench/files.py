@@ -87,6 +87,11 @@ def one_macro(count):
     return b"@string{m = {text}}\n" + b"".join(b"@misc{k%d, t = m}\n" % n for n in range(count))
 
 
+def one_macro_among_words(count):
+    """One macro, and so many entries that use it, with some words each: 40 bytes."""
+    return b"@string{m = {text}}\n" + b"".join(b"@misc{k%06d, t = m, n = {some words}}\n" % n for n in range(count))
+
+
 def articles_of_one_journal(count):
     """So many articles, in each of which one and the same macro stands for the journal."""
     return b"@string{m = {Annals of Examples}}\n" + b"".join(
@@ -266,6 +271,7 @@ CONTENTS = {
     "library 8": lambda: library(8000000),
     "library 16": lambda: library(16000000),
     "use 100": lambda: one_macro(100000),
+    "use 100 in 4": lambda: one_macro_among_words(100000),
     "journal 100": lambda: articles_of_one_journal(100000),
     "base 50": lambda: one_base(50000),
     "base 100": lambda: one_base(100000),
