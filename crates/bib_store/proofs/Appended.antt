@@ -25,7 +25,7 @@ use Rattle.bib_store.specs.Beside.{AreTablesOf}
 use Rattle.bib_entries.specs.Numbers.{numbered, numbers}
 use Rattle.bib_store.proofs.RowTexts.{cons_parts}
 use Rattle.bib_store.proofs.OneItemMore.{raw_texts-append, first-append}
-use Rattle.bib_store.proofs.Amended.{first_of, first_kept, none_both, fit_parts, fit_joined}
+use Rattle.bib_store.proofs.Placed.{first_of, first_kept, none_both, fit_parts, fit_joined}
 
 -- ---- items that differ in their trails alone
 

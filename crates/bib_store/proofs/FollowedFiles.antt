@@ -24,7 +24,7 @@ use Rattle.bib_store.specs.Windows.{IsLead, ArePut, joined}
 use Rattle.bib_store.specs.Following.{bodies_between, AreItemsOf, AreOthersOf, DefineNothing, DefineNothingBetween, HaveShortTexts}
 use Rattle.bib_store.proofs.KeptItems.{count_kept}
 use Rattle.bib_store.proofs.OneItemMore.{raw_texts-append, first-append}
-use Rattle.bib_store.proofs.Amended.{none_both, fit_parts, fit_joined}
+use Rattle.bib_store.proofs.Placed.{none_both, fit_parts, fit_joined}
 use Rattle.bib_store.proofs.Appended.{trees, trees_of, trees_between, tables_alike, fit_alike}
 use Rattle.bib_definitions.proofs.MacrosAfter.{macros_in_front}
 

@@ -18,6 +18,7 @@ pub mod SplicedFiles
 -- ---- rows and values: what they say, and how long that is
 pub mod ReadableFields
 pub mod RowTexts
+pub mod SaidTexts
 pub mod ShortValues
 pub mod Glances
 pub mod FirstCrossrefs
@@ -40,9 +41,9 @@ pub mod OpenedFiles
 pub mod Followed
 pub mod FollowedFiles
 pub mod Appended
-pub mod Amended
-pub mod AmendedFiles
-pub mod Renewed
+pub mod Placed
+pub mod PlacedItems
+pub mod PlacedFiles
 -- ---- tables that follow runs of pieces
 pub mod KeptRuns
 pub mod BroughtIn

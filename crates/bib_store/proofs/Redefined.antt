@@ -27,7 +27,7 @@ use Rattle.bib_store.specs.ItemTexts.{first_too_long, own_text}
 use Rattle.bib_store.specs.Bounds.{IsSettled, AreBounded, Admits}
 use Rattle.bib_store.specs.Beside.{AreTablesOf, item_with}
 use Rattle.bib_store.specs.Redefining.{IsRedefinition, with_former}
-use Rattle.bib_store.proofs.Amended.{numbers_same}
+use Rattle.bib_store.proofs.Placed.{numbers_same}
 use Rattle.bib_store.proofs.BoundedItems.{bounded_with, bounded_without, bounded_after, settled_definition}
 use Rattle.bib_store.proofs.FollowedFiles.{trees_good}
 use Rattle.bib_store.proofs.RowTexts.{cons_parts}
@@ -76,6 +76,15 @@ short_bodies b k (i ∷ items) few are =
     let body = are.0.body in
     let most = mul-le-mul_right k body in
     (omega (arith, most, few), short_bodies b k items few are.1)
+
+-- where the longest item can't say a text that is too long, none does
+pub tables_short : (t : Tables) (longest : ℕ) → ((n : ℕ) → AreAtMost longest (texts_at t.definitions n)) → t.bounds.longest_body * max longest 1 ≤ raw_limit
+    → (items : List Item) → All (IsItem name_limit) items → AreTablesOf items t → first_too_long (raw_texts_from 0 months items) ≡ None
+tables_short t longest most few items good are =
+    let k : ℕ = max longest 1 in
+    let some : 0 < k = omega arith in
+    let within : (j : ℕ) → AreAtMost k (macros_at months items j) = λ j. subst (AreAtMost k) (are.definitions.texts j) (λ name s is. let low = most j name s is in omega (arith, low)) in
+    all_short k some 0 months items within (trees_good items good) (short_bodies t.bounds k items few are.bounds)
 
 -- ---- two definitions
 
@@ -204,12 +213,8 @@ module _ (n : ℕ) (old new : View) (field : Field) (rest : List Field) (t now :
 
     pub redefined_texts : All (IsItem name_limit) (before ++ y ∷ after) → first_too_long (raw_texts_from 0 months (before ++ y ∷ after)) ≡ None
     redefined_texts good =
-        let k : ℕ = max longest 1 in
-        let some : 0 < k = omega arith in
-        let within : (j : ℕ) → AreAtMost k (macros_at months (before ++ y ∷ after) j)
-        = λ j. subst (AreAtMost k) (ap (λ d. texts_at d j) (sym definitions) ∙ new_definitions.texts j) (λ name s is. let low = r.longest_is (rank_in j t.definitions.numbers) name s is in omega (arith, low)) in
-        all_short k some 0 months (before ++ y ∷ after) within (trees_good (before ++ y ∷ after) good)
-        (short_bodies now.bounds k (before ++ y ∷ after) (subst (λ (b : Bounds). b.longest_body * k ≤ raw_limit) (sym bounds_are) r.short) new_bounds)
+        tables_short now longest (λ j. subst (λ d. AreAtMost longest (texts_at d j)) (sym definitions) (r.longest_is (rank_in j t.definitions.numbers)))
+        (subst (λ (b : Bounds). b.longest_body * max longest 1 ≤ raw_limit) (sym bounds_are) r.short) (before ++ y ∷ after) good redefined_tables
 
     -- with the names and bounds that there were, the tables are those of the old one again
     pub redefined_back : (former : Former) → former.names ≡ t.definitions.names → former.bounds ≡ t.bounds → (left : Tables) → AreTablesOf (before ++ y ∷ after) left → AreTablesOf (before ++ x ∷ after) (with_former (Some former) left)
@@ -224,7 +229,9 @@ module _ (n : ℕ) (old new : View) (field : Field) (rest : List Field) (t now :
 
   pub redefined_all : (former : Former) → former.names ≡ t.definitions.names → former.bounds ≡ t.bounds → IsRedefinition n old new t now former
   redefined_all former names_were bounds_were = record {
-    tables = λ before after x y count x_tree y_tree x_seen y_seen are. redefined_tables before after x y count y_tree x_seen y_seen are;
-    texts = λ before after x y count x_tree y_tree x_seen y_seen good are. redefined_texts before after x y count y_tree x_seen y_seen are good;
-    back = λ before after x y count x_tree y_tree x_seen y_seen are left were. redefined_back before after x y count y_tree x_seen y_seen are former names_were bounds_were left were;
+    place = record {
+      tables = λ before after x y seen are. redefined_tables before after x y seen.count seen.new_tree seen.old_seen seen.new_seen are;
+      texts = λ before after x y seen are good fits. redefined_texts before after x y seen.count seen.new_tree seen.old_seen seen.new_seen are good;
+    };
+    back = λ before after x y seen are left were. redefined_back before after x y seen.count seen.new_tree seen.old_seen seen.new_seen are former names_were bounds_were left were;
   }

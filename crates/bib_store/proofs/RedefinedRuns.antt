@@ -1,5 +1,5 @@
 -- A run in which a definition gives way to another: what the tables follow, and how they come back.
-use Rattle.std.proofs.Common.{◌≡◌, ℕ, ◌+◌, ◌-◌, List, [], ◌∷◌, ◌++◌, length, map, take, drop, Some, sym, subst, ◌∙◌, ap, ap₂, arith, append_assoc, All}
+use Rattle.std.proofs.Common.{◌≡◌, ℕ, ◌+◌, ◌-◌, List, [], ◌∷◌, ◌++◌, length, map, take, drop, Some, None, sym, subst, ◌∙◌, ap, ap₂, arith, append_assoc, All}
 use Rattle.std.specs.List.{between}
 use Rattle.std.proofs.lemmas.List.{map-append}
 use Rattle.std.proofs.lemmas.List.Elements.{All-append, All-head}
@@ -8,18 +8,20 @@ use Rattle.bib_spec.specs.Text.{Text}
 use Rattle.bib_spec.specs.Tree.{Tree, IsTree, tree_bytes}
 use Rattle.bib_spec.specs.Reading as reading
 use Rattle.bib_spec.specs.Reading.{Reading, Reads, IsItem}
+use Rattle.bib_spec.specs.Texts.{months, raw_texts_from}
 use Rattle.bib_scan.specs.View.{View, view_of}
 use Rattle.bib_items.specs.declared.list.Item.{Item}
 use Rattle.bib_items.specs.Items.{stored, all_stored}
 use Rattle.bib_store.specs.declared.change.Change.{Change}
 use Rattle.bib_store.specs.declared.redefining.Former.{Former}
 use Rattle.bib_store.specs.declared.tables.Tables.{Tables}
-use Rattle.bib_store.specs.Beside.{AreTablesOf, item_with}
+use Rattle.bib_store.specs.Beside.{AreTablesOf, AreSeen, item_with}
 use Rattle.bib_store.specs.Following.{bodies_between, DefineNothing, DefineNothingBetween}
+use Rattle.bib_store.specs.ItemTexts.{first_too_long}
 use Rattle.bib_store.specs.Redefining.{IsRedefinition, with_former}
 use Rattle.bib_store.specs.Runs.{AreFollowed}
 use Rattle.bib_store.specs.Windows.{ArePut, HasLead}
-use Rattle.bib_store.proofs.AmendedFiles.{only_one}
+use Rattle.bib_store.proofs.PlacedFiles.{only_one}
 use Rattle.bib_store.proofs.Appended.{trees, trees_of, tables_alike}
 use Rattle.bib_store.proofs.BroughtIn.{again_put, stay_put, long_stay, long_before, split_old}
 use Rattle.bib_store.proofs.Followed.{counted_items}
@@ -110,6 +112,9 @@ module _ (c : Change) (old now : List Item) (p : ArePut c old now 1) (has : HasL
     count : length a.first ≡ from
     count = sym (length-stored a.first) ∙ ap (length {A = Item}) a.first_is ∙ long_before c old now 1 1 p has inner reads
 
+    seen : AreSeen c.window.from old_view new_view a.first x y
+    seen = record { count = count; old_tree = x_tree; new_tree = y_tree; old_seen = x_sees; new_seen = y_sees }
+
     old_tables : AreTablesOf (a.first ++ x ∷ b.last) t
     old_tables = subst (λ (l : List reading.Item). AreTablesOf l t) whole f.tables
 
@@ -129,8 +134,8 @@ module _ (c : Change) (old now : List Item) (p : ArePut c old now 1) (has : HasL
       all = a.first ++ y ∷ b.last;
       good = new_good;
       same = (simp append_assoc) ∙ sym new_stored;
-      tables = r.tables a.first b.last x y count x_tree y_tree x_sees y_sees old_tables;
-      texts = r.texts a.first b.last x y count x_tree y_tree x_sees y_sees new_good old_tables;
+      tables = r.place.tables a.first b.last x y seen old_tables;
+      texts = r.place.texts a.first b.last x y seen old_tables new_good (subst (λ (l : List reading.Item). first_too_long (raw_texts_from 0 months l) ≡ None) whole f.texts);
     }
 
     pub redefined_comes : (left : Tables) → AreFollowed ((take from old ++ take 1 new) ++ (gone ++ rest)) left → AreFollowed (take c.window.to old ++ rest) (with_former (Some former) left)
@@ -145,6 +150,6 @@ module _ (c : Change) (old now : List Item) (p : ArePut c old now 1) (has : HasL
           good = f.good;
           same = f.same;
           tables = subst (λ (l : List reading.Item). AreTablesOf l (with_former (Some former) left)) (sym whole)
-              (r.back a.first b.last x y count x_tree y_tree x_sees y_sees old_tables left (tables_alike g.all (a.first ++ y ∷ b.last) left same g.tables));
+              (r.back a.first b.last x y seen old_tables left (tables_alike g.all (a.first ++ y ∷ b.last) left same g.tables));
           texts = f.texts;
         }

@@ -19,7 +19,7 @@ use Rattle.bib_store.specs.Meaning.{is_entry_tree}
 use Rattle.bib_value.specs.Raw.{OfValue}
 use Rattle.bib_store.specs.Bounds.{is_literal, AreLiteral, IsSettled}
 use Rattle.bib_store.specs.ItemTexts.{crossref_in, OfRows}
-use Rattle.bib_store.proofs.AmendedFiles.{entry_says}
+use Rattle.bib_store.proofs.SaidTexts.{entry_says}
 use Rattle.bib_store.proofs.EntryItems.{entry_tree}
 use Rattle.bib_store.proofs.FirstCrossrefs.{row_is_other, row_is_first}
 use Rattle.bib_store.proofs.RowTexts.{cons_parts}

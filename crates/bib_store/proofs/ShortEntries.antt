@@ -19,7 +19,7 @@ use Rattle.bib_store.specs.Meaning.{is_entry_tree}
 use Rattle.bib_store.specs.ItemTexts.{first_too_long, placed_texts, row_texts}
 use Rattle.bib_store.proofs.EntryItems.{entry_tree}
 use Rattle.bib_store.proofs.RowTexts.{first_fits}
-use Rattle.bib_store.proofs.Amended.{fit_joined}
+use Rattle.bib_store.proofs.Placed.{fit_joined}
 
 module _ (m : Macros) (k : ℕ) (within : AreAtMost k m) (some : 0 < k) where
   wide : (a b : ℕ) → a ≤ b → a ≤ b * k

@@ -5,7 +5,7 @@ use Rattle.bib_spec.specs.Text.{Text}
 use Rattle.bib_spec.specs.Tree.{Tree, IsTree}
 use Rattle.bib_spec.specs.Reading as reading
 use Rattle.bib_spec.specs.Reading.{Reading, bytes_of, IsItem}
-use Rattle.bib_spec.specs.Texts.{months, gathered}
+use Rattle.bib_spec.specs.Texts.{months, gathered, raw_texts_from}
 use Rattle.bib_spec.specs.Records.{entry_in, keys_of, crossref_text}
 use Rattle.bib_scan.specs.View.{View, view_of, kind_of}
 use Rattle.bib_scan.specs.Note.{note_of, IsNoteOf}
@@ -68,6 +68,20 @@ pub record IsInsertion (n : ℕ) (tree : Tree) (old new : Tables) : Type 0 where
 -- item n goes
 abbrev pub IsRemoval : ℕ → Tree → Tables → Tables → Type 0
 IsRemoval n tree old new = (before after : List reading.Item) (trail : Text) → length before ≡ n → n + length after < 2 ^ 64 → AreTablesOf (before ++ item_with tree trail ∷ after) old → AreTablesOf (before ++ after) new
+
+-- x stands as item n after these and is seen so, and y is seen so
+pub record AreSeen (n : ℕ) (old_view new_view : View) (before : List reading.Item) (x y : reading.Item) : Type 0 where
+  pub count : length before ≡ n
+  pub old_tree : IsTree name_limit x.tree
+  pub new_tree : IsTree name_limit y.tree
+  pub old_seen : old_view ≡ view_of (item_with x.tree [])
+  pub new_seen : new_view ≡ view_of (item_with y.tree [])
+
+-- item n gives way to another: the tables say what holds then, and where no raw text was too long, none is
+pub record TakesPlace (n : ℕ) (old_view new_view : View) (old new : Tables) : Type 0 where
+  pub tables : (before after : List reading.Item) (x y : reading.Item) → AreSeen n old_view new_view before x y → AreTablesOf (before ++ x ∷ after) old → AreTablesOf (before ++ y ∷ after) new
+  pub texts : (before after : List reading.Item) (x y : reading.Item) → AreSeen n old_view new_view before x y → AreTablesOf (before ++ x ∷ after) old → All (IsItem name_limit) (before ++ y ∷ after)
+      → first_too_long (raw_texts_from 0 months (before ++ x ∷ after)) ≡ None → first_too_long (raw_texts_from 0 months (before ++ y ∷ after)) ≡ None
 
 -- item n stands after those whose tables these were, and no raw text in it is too long
 pub record IsStep (n : ℕ) (tree : Tree) (old new : Tables) : Type 0 where

@@ -10,8 +10,8 @@ pub mod ItemTexts
 pub mod Bounds
 pub mod Beside
 pub mod Stored
-pub mod Amending
 pub mod Following
 pub mod Redefining
+pub mod InPlace
 pub mod Runs
 pub mod Glancing

@@ -12,9 +12,9 @@ ghost use Rattle.bib_items.specs.declared.list.Item.{Item};
 ghost use Rattle.bib_store.specs.Windows.{IsWindow, IsLead, ArePut, OfJoined, exchanged};
 ghost use Rattle.bib_items.specs.declared.fault.StoreFault.TheVariants.{Memory, BadSplice};
 
-use crate::amending::{amend, amended};
 use crate::change::Change;
 use crate::following::{are_others, forget, learn};
+use crate::in_place::{put_in_place, take_back};
 use crate::tables::Tables;
 use crate::window::Window;
 use bib_items::{ItemList, StoreFault};
@@ -24,8 +24,9 @@ use std::alloc::Global;
 /// for more of them it costs less to make the tables again.
 pub(crate) const FOLLOWED_LIMIT: usize = 64;
 
-/// Puts the items of a change in place of those in its window, and lets the tables say what holds of all items then. It
-/// is refused where memory runs out, or where a raw text is too long; nothing has changed then.
+/// Puts the items of a change in place of those in its window, and lets the tables say what holds of all items then. Where
+/// each takes the place of one of its kind, with its key and crossref, the tables stay but for a definition. It is refused
+/// where memory runs out, or where a raw text is too long; nothing has changed then.
 pub(crate) fn exchange<L: ItemList>(
     alloc: Global,
     front_len: usize,
@@ -42,10 +43,54 @@ pub(crate) fn exchange<L: ItemList>(
     ensures only { IfErr result (λ fault. (fault ≡ BadSplice) ⊎ (fault ≡ Memory)) }
     ensures err { OnErr result ((L.items items.new ≡ L.items items.old) × SayTheSameOf (L.items items.old) tables.old tables.new) }
 {
-    if let Some(m) = amended(&*items, &tables.entries, change) {
-        return amend(alloc, items, tables, change, m);
+    match put_in_place(alloc, tables, &*items, change) {
+        Some(kept) => match exchange_items(items, change) {
+            Ok(()) => {
+                tables.file_len = change.file_len;
+                Ok(())
+            }
+            Err(fault) => {
+                take_back(tables, kept);
+                Err(fault)
+            }
+        },
+        None => exchange_all(alloc, front_len, items, tables, change),
     }
-    exchange_all(alloc, front_len, items, tables, change)
+}
+
+/// Puts the items of a change in place of those in its window. Where memory is refused, the list is as it was.
+fn exchange_items<L: ItemList>(items: &mut L, change: &Change) -> Result<(), StoreFault>
+    requires window { IsWindow (L.items items.old) change.now.window }
+    requires layout { IsLayoutOf change.now.text change.now.layout }
+    ensures items { OnOk result ((inner : Reading) → Reads change.now.text inner → L.items items.new ≡ exchanged change.now.window inner.items (L.items items.old)) }
+    ensures only { IfErr result (λ fault. fault ≡ Memory) }
+    ensures err { OnErr result (L.items items.new ≡ L.items items.old) }
+{
+    let window = change.window;
+    if window.to - window.from == 1 && change.layout.len() == 1 {
+        return exchange_one(items, change);
+    }
+    let old_count = items.count();
+    items.insert_all(window.from, change.text.as_slice(), &change.layout)?;
+    let count = items.count() - old_count;
+    items.remove_range(window.from + count, window.to + count);
+    Ok(())
+}
+
+/// Puts the one item of a change in place of the one in its window. Where memory is refused, the list is as it was.
+fn exchange_one<L: ItemList>(items: &mut L, change: &Change) -> Result<(), StoreFault>
+    requires window { IsWindow (L.items items.old) change.now.window }
+    requires layout { IsLayoutOf change.now.text change.now.layout }
+    requires one_goes { change.now.window.to ≡ change.now.window.from + 1 }
+    requires one_comes { length change.now.layout.items ≡ 1 }
+    ensures items { OnOk result ((inner : Reading) → Reads change.now.text inner → L.items items.new ≡ exchanged change.now.window inner.items (L.items items.old)) }
+    ensures only { IfErr result (λ fault. fault ≡ Memory) }
+    ensures err { OnErr result (L.items items.new ≡ L.items items.old) }
+{
+    let text = change.text.as_slice();
+    let body = change.layout.body(text, 0);
+    let trail = change.layout.trail(text, 0);
+    items.replace(change.window.from, body, trail)
 }
 
 /// Puts the items of a change in place of those in its window, and lets the tables say what holds of all items then. It

@@ -3,7 +3,6 @@
 //! the reading of the new bytes.
 #![tactic(auto)]
 
-mod amending;
 mod applying;
 mod bounds;
 mod change;
@@ -18,6 +17,7 @@ mod following;
 mod following_runs;
 mod gathering;
 mod glancing;
+mod in_place;
 mod item_fault;
 mod joining;
 mod keeping;

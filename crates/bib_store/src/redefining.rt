@@ -1,6 +1,6 @@
 //! Definitions that give way to others, where nothing but what macros stand for rests on them.
 
-ghost use Rattle.std.specs.Prelude.{◌≡◌, ◌∷◌, true, List, IsTrue, IfSome, IfOk, OnErr};
+ghost use Rattle.std.specs.Prelude.{◌≡◌, ◌∷◌, true, List, Some, IsTrue, IfSome, IfOk, OnErr};
 ghost use Rattle.bib_spec.specs.Text.{Text as Bytes};
 ghost use Rattle.bib_spec.specs.Texts.{Macros, raw_text};
 ghost use Rattle.bib_scan.specs.View.{Field, field_seen};
@@ -62,6 +62,7 @@ pub(crate) fn redefine(
     new: &ItemView<'_>,
 ) -> Result<Former, StoreFault>
     ensures redefined { IfOk result (IsRedefinition n old.now new.now tables.old tables.new) }
+    ensures kept { IfOk result (λ former. with_former (Some former) tables.new ≡ tables.old) }
     ensures len { tables.new.file_len ≡ tables.old.file_len }
     ensures err { OnErr result (tables.new ≡ tables.old) }
 {

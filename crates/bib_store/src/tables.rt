@@ -374,7 +374,7 @@ impl Tables {
     }
 
     /// Refuses the preamble that is item `n` if its raw text is too long.
-    fn measure_preamble(
+    pub(crate) fn measure_preamble(
         &self,
         alloc: Global,
         n: usize,

@@ -1,4 +1,4 @@
-use Rattle.bib_store.proofs.AmendedFiles.{entry_exceeds}
+use Rattle.bib_store.proofs.SaidTexts.{entry_exceeds}
 use Rattle.bib_store.proofs.crossrefs.entry_crossref.Goals as goal
 
 pub returns-clause-too_long : goal.returns-clause-too_long

@@ -1,10 +1,16 @@
+use Rattle.std.proofs.Common.{◌≡◌, None, OnOk, refl, subst}
 use Rattle.bib_spec.specs.Texts.{too_long_at}
-use Rattle.std.proofs.Common.{◌≡◌, None}
+use Rattle.bib_store.specs.declared.tables.Tables.{Tables}
 use Rattle.bib_store.specs.Beside.{AreTables}
 use Rattle.bib_store.specs.Windows.{OfJoined}
-use Rattle.bib_store.proofs.AmendedFiles.{at_number}
+use Rattle.bib_store.proofs.PlacedFiles.{placed_file}
 use Rattle.bib_store.proofs.exchanging.exchange.Goals as goal
 
-pub returns-in-Some-clause-tables : goal.returns-in-Some-clause-tables
-returns-in-Some-clause-tables g c =
-    at_number c.amend.result (λ n. OfJoined c.args.change.now n (g.L.ItemList.items c.args.items.now) c.args.tables.now (λ db. AreTables db c.amend.new.tables × (too_long_at db ≡ None))) c.args.front_len c.amend.ensures.tables
+pub returns-in-Ok-clause-tables : goal.returns-in-Ok-clause-tables
+returns-in-Ok-clause-tables g c =
+    placed_file c.args.change.now (g.L.ItemList.items c.args.items.now) c.requires.window c.args.tables.now c.put_in_place.new.tables c.in-Some.ensures.placed c.args.front_len
+
+pub returns-in-None-clause-tables : goal.returns-in-None-clause-tables
+returns-in-None-clause-tables g c =
+    subst (λ (t : Tables). OnOk c.exchange_all.result (OfJoined c.args.change.now c.args.front_len (g.L.ItemList.items c.args.items.now) t (λ db. AreTables db c.exchange_all.new.tables × (too_long_at db ≡ None))))
+    (c.in-None.ensures.none refl) c.exchange_all.ensures.tables

@@ -1,4 +1,4 @@
--- An entry gives way to another with the same key: what is said of the items stays, but for its crossref and its texts.
+-- An item takes the place of another of its kind: what is said of the items stays, but for its texts.
 use Rattle.std.proofs.Common.{◌≡◌, ℕ, zero, suc, ◌+◌, ◌<◌, ◌≤◌, cond, Bool, true, false, List, [], ◌∷◌, ◌++◌, length, map, set, slice_get, Option, Some, None, option_map, refl, sym, ◌∙◌, ap, ap₂, subst, arith}
 use Rattle.std.proofs.Math.Seq.{set-append_seam}
 use Rattle.std.specs.List.{zip, flat_map}
@@ -20,6 +20,8 @@ use Rattle.bib_store.specs.Bounds.{IsBounded, AreBounded}
 use Rattle.bib_store.proofs.BoundedItems.{bounded_with, bounded_without}
 use Rattle.bib_store.specs.ItemTexts.{first_too_long, placed_texts}
 use Rattle.bib_store.specs.Beside.{AreTablesOf}
+use Rattle.bib_store.specs.InPlace.{with_bounds}
+use Rattle.bib_store.specs.declared.bounds.Bounds.{Bounds}
 use Rattle.bib_entries.specs.Numbers.{numbered, numbers}
 use Rattle.bib_store.proofs.TableSteps.{entries_counted}
 use Rattle.bib_definitions.proofs.MacrosAfter.{gathered-append}
@@ -34,17 +36,6 @@ pub first_kept : (b : Bool) (p q : ℕ × Item) (ps qs : List (ℕ × Item)) →
 first_kept true p q ps qs e h = ap₂ (λ (n : ℕ) (ns : List ℕ). n ∷ ns) e h
 first_kept false p q ps qs e h = h
 
-first_from : (b : Bool) (k n j : ℕ) (p : ℕ × Item) (ps : List (ℕ × Item)) → p.0 ≡ k → ((j : ℕ) → slice_get (first_of ps) j ≡ Some n → k + 1 ≤ n) → slice_get (first_of (cond b (p ∷ ps) ps)) j ≡ Some n → k ≤ n
-first_from true k n zero p ps e rest at = omega (arith, e, same_Some p.0 n at)
-first_from true k n (suc j) p ps e rest at = omega (arith, rest j at)
-first_from false k n j p ps e rest at = omega (arith, rest j at)
-
-first_behind : (b : Bool) (k n m : ℕ) (p : ℕ × Item) (all some : List (ℕ × Item)) → p.0 ≡ k → k < n → ((j : ℕ) → slice_get (first_of all) j ≡ Some n → j ≡ length (first_of some))
-    → slice_get (first_of (cond b (p ∷ all) all)) m ≡ Some n → m ≡ length (first_of (cond b (p ∷ some) some))
-first_behind true k n zero p all some e h rest at = absurd (omega (arith, e, h, same_Some p.0 n at))
-first_behind true k n (suc j) p all some e h rest at = ap suc (rest j at)
-first_behind false k n m p all some e h rest at = rest m at
-
 module _ (test : Tree → Bool) where
   -- an item in the place of another of its kind changes no number
   pub numbers_same : (k : ℕ) (before behind : List Item) (x y : Item) → test x.tree ≡ test y.tree → numbers test k (before ++ x ∷ behind) ≡ numbers test k (before ++ y ∷ behind)
@@ -54,23 +45,9 @@ module _ (test : Tree → Bool) where
   numbers_same k (z ∷ before) behind x y e =
       first_kept (test z.tree) (k, z) (k, z) (numbered test (k + 1) (before ++ x ∷ behind)) (numbered test (k + 1) (before ++ y ∷ behind)) refl (numbers_same (k + 1) before behind x y e)
 
-  number_from : (k : ℕ) (items : List Item) (n j : ℕ) → slice_get (numbers test k items) j ≡ Some n → k ≤ n
-  number_from k [] n j at = absurd (none-some n at)
-  number_from k (x ∷ items) n j at = first_from (test x.tree) k n j (k, x) (numbered test (k + 1) items) refl (λ i. number_from (k + 1) items n i) at
-
-  -- an item of the kind, whose number is the m-th of those listed, has m of the kind before it
-  listed_behind : (k : ℕ) (before behind : List Item) (x : Item) (n m : ℕ) → test x.tree ≡ true → n ≡ k + length before → slice_get (numbers test k (before ++ x ∷ behind)) m ≡ Some n → m ≡ length (numbers test k before)
-  listed_behind k [] behind x n zero t is at = refl
-  listed_behind k [] behind x n (suc m) t is at =
-      let rest : List (ℕ × Item) = numbered test (k + 1) behind in
-      absurd (omega (arith, is, number_from (k + 1) behind n m (ap (λ (b : Bool). slice_get (first_of (cond b ((k, x) ∷ rest) rest)) (suc m)) (sym t) ∙ at)))
-  listed_behind k (z ∷ before) behind x n m t is at =
-      first_behind (test z.tree) k n m (k, z) (numbered test (k + 1) (before ++ x ∷ behind)) (numbered test (k + 1) before) refl (omega (arith, is))
-      (λ i e. listed_behind (k + 1) before behind x n i t (omega (arith, is)) e) at
-
 -- ---- macros
 
-macros_same : (m : Macros) (before behind : List Item) (x y : Item) → ((m : Macros) → macros_after m x.tree ≡ macros_after m y.tree) → (k : ℕ) → macros_at m (before ++ x ∷ behind) k ≡ macros_at m (before ++ y ∷ behind) k
+pub macros_same : (m : Macros) (before behind : List Item) (x y : Item) → ((m : Macros) → macros_after m x.tree ≡ macros_after m y.tree) → (k : ℕ) → macros_at m (before ++ x ∷ behind) k ≡ macros_at m (before ++ y ∷ behind) k
 macros_same m [] behind x y same zero = refl
 macros_same m [] behind x y same (suc k) = ap (λ (n : Macros). macros_at n behind k) (same m)
 macros_same m (z ∷ before) behind x y same zero = refl
@@ -115,11 +92,23 @@ fit_elsewhere at there m (item ∷ items) e =
     let parts = fit_parts at m item items e in
     fit_joined there m item items parts.0 (fit_elsewhere (at + length (item_bytes item)) (there + length (item_bytes item)) (macros_after m item.tree) items parts.1)
 
--- ---- an entry in the place of another
+-- one item in the place of another after which macros stand for the same: the others are no longer than before
+pub still_fits : (before behind : List Item) (x y : Item) → ((m : Macros) → macros_after m x.tree ≡ macros_after m y.tree) → (at there : ℕ) → first_too_long (raw_texts_from at months (before ++ x ∷ behind)) ≡ None
+    → first_too_long (placed_texts (macros_at months before (length before)) y.tree) ≡ None → first_too_long (raw_texts_from there months (before ++ y ∷ behind)) ≡ None
+still_fits before behind x y after_same at there fits fit =
+    let here : Macros = macros_at months before (length before) in
+    let start : ℕ = at + length (flat_map item_bytes before) in
+    let new_start : ℕ = there + length (flat_map item_bytes before) in
+    let parts = none_both (first_too_long (raw_texts_from at months before)) (first_too_long (raw_texts_from start here (x ∷ behind)))
+    (sym (first-append (raw_texts_from at months before) (raw_texts_from start here (x ∷ behind))) ∙ sym (ap first_too_long (raw_texts-append at months before (x ∷ behind))) ∙ fits) in
+    let later = (fit_parts start here x behind parts.1).1 in
+    let elsewhere = fit_elsewhere (start + length (item_bytes x)) (new_start + length (item_bytes y)) (macros_after here x.tree) behind later in
+    let behind_fits = subst (λ (m : Macros). first_too_long (raw_texts_from (new_start + length (item_bytes y)) m behind) ≡ None) (after_same here) elsewhere in
+    ap first_too_long (raw_texts-append there months before (y ∷ behind))
+    ∙ first-append (raw_texts_from there months before) (raw_texts_from new_start here (y ∷ behind))
+    ∙ ap₂ option_or (fit_elsewhere at there months before parts.0) (fit_joined new_start here y behind fit behind_fits)
 
-stands_at : {X : Type 0} (xs : List X) (x : X) (ys : List X) → slice_get (xs ++ x ∷ ys) (length xs) ≡ Some x
-stands_at [] x ys = refl
-stands_at (y ∷ xs) x ys = stands_at xs x ys
+-- ---- an entry in the place of another
 
 module _ (before behind : List Item) (x y : Item) (e f : Entry) (x_is : x.tree ≡ EntryTree e) (y_is : y.tree ≡ EntryTree f) where
   abbrev here : Macros
@@ -146,61 +135,26 @@ module _ (before behind : List Item) (x y : Item) (e f : Entry) (x_is : x.tree �
   defined_told : (i : Item) (g : Entry) → i.tree ≡ EntryTree g → definitions_in (before ++ i ∷ behind) ≡ definitions_in before ++ gathered defined_by here behind
   defined_told i g is = gathered-append defined_by months before (i ∷ behind) ∙ ap (λ (t : Tree). definitions_in before ++ (defined_by here t ++ gathered defined_by (macros_after here t) behind)) is
 
-  -- only the crossref of the one changes
-  pub amended_tables : (t new : Tables) (m n : ℕ) (text : Option Text) → e.key ≡ f.key → AreTablesOf (before ++ x ∷ behind) t → n ≡ length before → slice_get t.entries m ≡ Some n
-      → new.entries ≡ t.entries → new.preambles ≡ t.preambles → new.definitions ≡ t.definitions
-      → ((keys : List Text) (crossrefs : List (Option Text)) → slice_get keys m ≡ Some f.key → IsTableOf keys crossrefs t.named → IsTableOf keys (set crossrefs m text) new.named)
-      → ((items : List Item) → AreBounded t.bounds items → AreBounded new.bounds items) → IsBounded new.bounds y.tree
-      → text ≡ crossref_text (texts_of here f) → AreTablesOf (before ++ y ∷ behind) new
-  amended_tables t new m n text key are count listed entries preambles definitions named admits one says =
+  -- the key and what the crossref says are the same
+  pub amended_tables : (t : Tables) (bounds : Bounds) → e.key ≡ f.key → crossref_text (texts_of here e) ≡ crossref_text (texts_of here f) → AreTablesOf (before ++ x ∷ behind) t
+      → ((items : List Item) → AreBounded t.bounds items → AreBounded bounds items) → IsBounded bounds y.tree → AreTablesOf (before ++ y ∷ behind) (with_bounds bounds t)
+  amended_tables t bounds key says are admits one =
       let kind : is_entry_tree x.tree ≡ is_entry_tree y.tree = ap is_entry_tree x_is ∙ sym (ap is_entry_tree y_is) in
       let third : is_definition_tree x.tree ≡ is_definition_tree y.tree = ap is_definition_tree x_is ∙ sym (ap is_definition_tree y_is) in
       let other : is_preamble_tree x.tree ≡ is_preamble_tree y.tree = ap is_preamble_tree x_is ∙ sym (ap is_preamble_tree y_is) in
-      let at : slice_get (entry_numbers (before ++ x ∷ behind)) m ≡ Some n = ap (λ (ns : List ℕ). slice_get ns m) (sym are.entries) ∙ listed in
-      let place : m ≡ length first = listed_behind is_entry_tree 0 before behind x n m (ap is_entry_tree x_is) (omega (arith, count)) at ∙ entries_counted 0 months before in
       let same_keys : keys_of (gathered entry_in months (before ++ x ∷ behind)) ≡ keys_of (gathered entry_in months (before ++ y ∷ behind))
       = keys_told x e x_is ∙ ap (λ (k : Text). keys_of first ++ k ∷ keys_of others) key ∙ sym (keys_told y f y_is) in
-      let set_crossref : set (map crossref_text (gathered entry_in months (before ++ x ∷ behind))) m text ≡ map crossref_text (gathered entry_in months (before ++ y ∷ behind))
-      = ap₂ (λ (texts : List (Option Text)) (k : ℕ). set texts k text) (crossrefs_told x e x_is) (place ∙ sym (length-map first crossref_text))
-      ∙ set-append_seam (map crossref_text first) (crossref_text (texts_of here e)) (map crossref_text others) text
-      ∙ ap (λ (o : Option Text). map crossref_text first ++ o ∷ map crossref_text others) says
-      ∙ sym (crossrefs_told y f y_is) in
-      let stands : slice_get (keys_of (gathered entry_in months (before ++ y ∷ behind))) m ≡ Some f.key
-      = ap₂ (λ (keys : List Text) (k : ℕ). slice_get keys k) (keys_told y f y_is) (place ∙ sym (length-map first (λ (entry : EntryTexts). entry.key)))
-      ∙ stands_at (keys_of first) f.key (keys_of others) in
+      let same_crossrefs : map crossref_text (gathered entry_in months (before ++ x ∷ behind)) ≡ map crossref_text (gathered entry_in months (before ++ y ∷ behind))
+      = crossrefs_told x e x_is ∙ ap (λ (o : Option Text). map crossref_text first ++ o ∷ map crossref_text others) says ∙ sym (crossrefs_told y f y_is) in
       record {
-        entries = entries ∙ are.entries ∙ numbers_same is_entry_tree 0 before behind x y kind;
-        preambles = preambles ∙ are.preambles ∙ numbers_same is_preamble_tree 0 before behind x y other;
-        definitions = subst (AreDefinitionsOf (before ++ y ∷ behind)) (sym definitions) (record {
+        entries = are.entries ∙ numbers_same is_entry_tree 0 before behind x y kind;
+        preambles = are.preambles ∙ numbers_same is_preamble_tree 0 before behind x y other;
+        definitions = record {
           numbers = are.definitions.numbers ∙ numbers_same is_definition_tree 0 before behind x y third;
           all = subst (AreAllOf t.definitions.names) (defined_told x e x_is ∙ sym (defined_told y f y_is)) are.definitions.all;
           texts = λ k. are.definitions.texts k ∙ macros_same months before behind x y after_same k;
-        });
-        bounds = bounded_with new.bounds before behind y (admits (before ++ behind) (bounded_without t.bounds before behind x are.bounds)) one;
-        named = subst (λ (cs : List (Option Text)). IsTableOf (keys_of (gathered entry_in months (before ++ y ∷ behind))) cs new.named) set_crossref
-            (named (keys_of (gathered entry_in months (before ++ y ∷ behind))) (map crossref_text (gathered entry_in months (before ++ x ∷ behind))) stands
-            (subst (λ (ks : List Text). IsTableOf ks (map crossref_text (gathered entry_in months (before ++ x ∷ behind))) t.named) same_keys are.named));
+        };
+        bounds = bounded_with bounds before behind y (admits (before ++ behind) (bounded_without t.bounds before behind x are.bounds)) one;
+        named = subst (λ (ks : List Text). IsTableOf ks (map crossref_text (gathered entry_in months (before ++ y ∷ behind))) t.named) same_keys
+            (subst (λ (cs : List (Option Text)). IsTableOf (keys_of (gathered entry_in months (before ++ x ∷ behind))) cs t.named) same_crossrefs are.named);
       }
-
-  -- the others are no longer than before
-  pub amended_fits : (at there : ℕ) → first_too_long (raw_texts_from at months (before ++ x ∷ behind)) ≡ None → first_too_long (placed_texts here y.tree) ≡ None
-      → first_too_long (raw_texts_from there months (before ++ y ∷ behind)) ≡ None
-  amended_fits at there fits fit =
-      let start : ℕ = at + length (flat_map item_bytes before) in
-      let new_start : ℕ = there + length (flat_map item_bytes before) in
-      let parts = none_both (first_too_long (raw_texts_from at months before)) (first_too_long (raw_texts_from start here (x ∷ behind)))
-      (sym (first-append (raw_texts_from at months before) (raw_texts_from start here (x ∷ behind))) ∙ sym (ap first_too_long (raw_texts-append at months before (x ∷ behind))) ∙ fits) in
-      let later = (fit_parts start here x behind parts.1).1 in
-      let elsewhere = fit_elsewhere (start + length (item_bytes x)) (new_start + length (item_bytes y)) (macros_after here x.tree) behind later in
-      let behind_fits = subst (λ (m : Macros). first_too_long (raw_texts_from (new_start + length (item_bytes y)) m behind) ≡ None) (after_same here) elsewhere in
-      ap first_too_long (raw_texts-append there months before (y ∷ behind))
-      ∙ first-append (raw_texts_from there months before) (raw_texts_from new_start here (y ∷ behind))
-      ∙ ap₂ option_or (fit_elsewhere at there months before parts.0) (fit_joined new_start here y behind fit behind_fits)
-
-  -- a text of the new one that is too long is too long for the file
-  pub amended_over : (there place : ℕ) → first_too_long (placed_texts here y.tree) ≡ Some place → first_too_long (raw_texts_from there months (before ++ y ∷ behind)) ≡ None → ⊥
-  amended_over there place over fits =
-      let new_start : ℕ = there + length (flat_map item_bytes before) in
-      let parts = none_both (first_too_long (raw_texts_from there months before)) (first_too_long (raw_texts_from new_start here (y ∷ behind)))
-      (sym (first-append (raw_texts_from there months before) (raw_texts_from new_start here (y ∷ behind))) ∙ sym (ap first_too_long (raw_texts-append there months before (y ∷ behind))) ∙ fits) in
-      none-some place (sym (fit_parts new_start here y behind parts.1).0 ∙ over)

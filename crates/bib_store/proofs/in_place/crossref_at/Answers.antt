@@ -3,7 +3,10 @@ use Rattle.bib_spec.specs.Texts.{Macros}
 use Rattle.bib_spec.specs.Records.{entry_in, crossref_text}
 use Rattle.bib_definitions.specs.Definitions.{AreAtMost}
 use Rattle.bib_store.specs.ItemTexts.{first_too_long, placed_texts}
-use Rattle.bib_store.proofs.amending.coming_crossref.Goals as goal
+use Rattle.bib_store.proofs.in_place.crossref_at.Goals as goal
+
+pub crossref_within-requires-clause-longest : goal.crossref_within-requires-clause-longest
+crossref_within-requires-clause-longest c = subst (AreAtMost c.longest.result) (sym c.at.ensures) (c.longest.ensures c.args.n)
 
 pub returns-in-Ok-clause-text : goal.returns-in-Ok-clause-text
 returns-in-Ok-clause-text c = λ i tree entry seen.
@@ -12,13 +15,3 @@ returns-in-Ok-clause-text c = λ i tree entry seen.
 pub returns-in-Ok-clause-short : goal.returns-in-Ok-clause-short
 returns-in-Ok-clause-short c = λ i tree entry seen.
     ap (λ (m : Macros). first_too_long (placed_texts m i.tree)) (sym c.at.ensures) ∙ c.in-Ok.ensures.short i tree entry seen
-
-pub returns-in-Err-TooLong-clause-too_long : goal.returns-in-Err-TooLong-clause-too_long
-returns-in-Err-TooLong-clause-too_long c = λ _ i tree entry seen. (
-  c.in-Err-TooLong.field-0-0,
-  ap (λ (m : Macros). first_too_long (placed_texts m i.tree)) (sym c.at.ensures)
-      ∙ c.in-Err-TooLong.ensures.too_long c.in-Err-TooLong.field-0-0 c.in-Err-TooLong.field-0-is i tree entry seen,
-)
-
-pub crossref_within-requires-clause-longest : goal.crossref_within-requires-clause-longest
-crossref_within-requires-clause-longest c = subst (AreAtMost c.longest.result) (sym c.at.ensures) (c.longest.ensures c.args.n)

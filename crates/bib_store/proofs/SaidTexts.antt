@@ -1,0 +1,65 @@
+-- What an entry says, and which of its texts is too long, by its rows.
+use Rattle.std.proofs.Common.{◌≡◌, ℕ, ◌+◌, ◌-◌, ◌<◌, ◌≤◌, Bool, true, false, List, [], ◌∷◌, ◌++◌, length, take, drop, map, set, slice_get, get_or, Option, Some, None, refl, sym, ◌∙◌, ap, ap₂, subst, arith, take-append-drop, append_assoc}
+use Rattle.std.proofs.lemmas.Option.{slice_get-get_or, slice_get_within, get_or_from_slice_get}
+use Rattle.std.proofs.lemmas.List.{drop_more, take-set, drop-set, length-take-le}
+use Rattle.std.specs.Prelude.{Result, Ok, Err, IfErr, OnOk}
+use Rattle.bib_spec.specs.Bytes.{name_limit}
+use Rattle.bib_spec.specs.Text.{Text}
+use Rattle.bib_spec.specs.Tree.{Tree, CommentTree, DefinitionTree, PreambleTree, EntryTree, Entry, IsTree, tree_bytes, opening_bytes}
+use Rattle.bib_spec.specs.Reading as reading
+use Rattle.bib_spec.specs.Reading.{Reading, Reads, IsItem}
+use Rattle.bib_spec.specs.Texts.{Macros, months, macros_at, raw_texts_from, too_long_at}
+use Rattle.bib_spec.specs.Records.{entry_in, crossref_text, texts_of}
+use Rattle.bib_scan.specs.Layout.{IsLayoutOf, places_of}
+use Rattle.bib_scan.specs.View.{View, Field, view_of, key_of, kind_of, fields_of}
+use Rattle.bib_scan.specs.declared.view.Kind.TheVariants as kind
+use Rattle.bib_scan.proofs.OneReading.{one_reading}
+use Rattle.bib_scan.proofs.LayoutLaws.{length-places}
+use Rattle.bib_items.specs.declared.list.Item.{Item}
+use Rattle.bib_store.specs.declared.change.Change.{Change}
+use Rattle.bib_entries.specs.EntryTable.{IsTableOf}
+use Rattle.bib_store.specs.declared.tables.Tables.{Tables}
+use Rattle.bib_store.specs.declared.item_fault.ItemFault.{ItemFault}
+use Rattle.bib_store.specs.declared.item_fault.ItemFault.TheVariants.{TooLong}
+use Rattle.bib_store.specs.Meaning.{is_entry_tree}
+use Rattle.bib_items.specs.Items.{item, item_at, stored, all_stored}
+use Rattle.bib_definitions.specs.Definitions.{texts_at}
+use Rattle.bib_store.specs.ItemTexts.{first_too_long, placed_texts, row_texts, crossref_in, OfRows}
+use Rattle.bib_store.specs.Bounds.{IsSettled, Admits}
+use Rattle.bib_store.specs.Beside.{AreTables, AreTablesOf, SayTheSame}
+use Rattle.bib_store.specs.Stored.{IsKeptAs, SayTheSameOf}
+use Rattle.bib_store.specs.Windows.{IsWindow, OfJoined, exchanged, joined}
+use Rattle.bib_store.proofs.TableSteps.{other_kind, named_kept}
+use Rattle.bib_definitions.proofs.MacrosAfter.{macros_taken}
+use Rattle.bib_store.proofs.RowTexts.{cons_parts}
+use Rattle.bib_store.proofs.EntryItems.{entry_tree}
+use Rattle.bib_store.proofs.KeptItems.{item_in, stored_at, count_kept}
+
+pub entry_says : (m : Macros) (v : View) (text : Option Text) → OfRows v.fields (λ before rows. text ≡ crossref_in m rows) → (i : reading.Item) → IsTree name_limit i.tree → is_entry_tree i.tree ≡ true → v ≡ view_of i
+    → map crossref_text (entry_in m i.tree) ≡ text ∷ []
+entry_says m v text says i is entry seen = there i.tree (entry_tree i.tree entry) is (ap (λ (w : View). w.fields) seen)
+  where
+    there : (t : Tree) → (e : Entry) × (t ≡ EntryTree e) → IsTree name_limit t → v.fields ≡ fields_of t → map crossref_text (entry_in m t) ≡ text ∷ []
+    there t (e, e_is) is_tree fields =
+        ap (λ (x : Tree). map crossref_text (entry_in m x)) e_is
+        ∙ ap (λ (o : Option Text). o ∷ []) (sym (says (opening_bytes e.opening ++ e.key ++ e.space_behind_key) e.rows (subst (IsTree name_limit) e_is is_tree).rows (fields ∙ ap fields_of e_is)))
+
+entry_texts : (m : Macros) (v : View) (o : Option ℕ) → OfRows v.fields (λ before rows. first_too_long (row_texts (length before) m rows) ≡ o) → (i : reading.Item) → IsTree name_limit i.tree → is_entry_tree i.tree ≡ true → v ≡ view_of i
+    → first_too_long (placed_texts m i.tree) ≡ o
+entry_texts m v o says i is entry seen = there i.tree (entry_tree i.tree entry) is (ap (λ (w : View). w.fields) seen)
+  where
+    there : (t : Tree) → (e : Entry) × (t ≡ EntryTree e) → IsTree name_limit t → v.fields ≡ fields_of t → first_too_long (placed_texts m t) ≡ o
+    there t (e, e_is) is_tree fields =
+        ap (λ (x : Tree). first_too_long (placed_texts m x)) e_is
+        ∙ ap (λ (k : ℕ). first_too_long (row_texts k m e.rows)) (ap (λ (t : Text). length t) (sym (append_assoc (opening_bytes e.opening) e.key e.space_behind_key)))
+        ∙ says (opening_bytes e.opening ++ e.key ++ e.space_behind_key) e.rows (subst (IsTree name_limit) e_is is_tree).rows (fields ∙ ap fields_of e_is)
+
+pub entry_fits : (m : Macros) (v : View) → OfRows v.fields (λ before rows. first_too_long (row_texts (length before) m rows) ≡ None) → (i : reading.Item) → IsTree name_limit i.tree → is_entry_tree i.tree ≡ true → v ≡ view_of i
+    → first_too_long (placed_texts m i.tree) ≡ None
+entry_fits m v says i is entry seen = entry_texts m v None says i is entry seen
+
+pub entry_exceeds : (m : Macros) (v : View) (fields : List Field) (r : Result (Option Text) ItemFault) → fields ≡ v.fields
+    → IfErr r (λ fault. (n : ℕ) → fault ≡ TooLong n → OfRows fields (λ before rows. first_too_long (row_texts (length before) m rows) ≡ Some n))
+    → IfErr r (λ fault. (n : ℕ) → fault ≡ TooLong n → (i : reading.Item) → IsTree name_limit i.tree → is_entry_tree i.tree ≡ true → v ≡ view_of i → first_too_long (placed_texts m i.tree) ≡ Some n)
+entry_exceeds m v fields (Ok text) same long = tt
+entry_exceeds m v fields (Err fault) same long = λ n is i tree entry seen. entry_texts m v (Some n) (λ before rows are e. long n is before rows are (same ∙ e)) i tree entry seen

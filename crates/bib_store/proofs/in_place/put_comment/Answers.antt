@@ -1,0 +1,10 @@
+use Rattle.std.proofs.Common.{length, true, refl, subst}
+use Rattle.bib_spec.specs.Text.{Text}
+use Rattle.bib_store.specs.Bounds.{Admits}
+use Rattle.bib_store.proofs.PlacedItems.{comment_in_place}
+use Rattle.bib_store.proofs.in_place.put_comment.Goals as goal
+
+pub returns-clause-placed : goal.returns-clause-placed
+returns-clause-placed c = λ _ n.
+    comment_in_place n c.args.old.now c.args.new.now c.args.tables.now c.admit.new.self (c.if-not-are_both.ensures.old refl) (c.if-not-are_both.ensures.new refl)
+    (subst (λ (b : Text). Admits (length b) true c.args.tables.now.bounds c.admit.new.self) c.body.ensures c.admit.ensures)

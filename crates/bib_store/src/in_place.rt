@@ -1,0 +1,267 @@
+//! Items that each take the place of one of their kind, in tables that stay as they are but for one definition.
+
+ghost use Rattle.std.specs.Prelude.{◌≡◌, ◌+◌, ◌∷◌, [], ℕ, true, Option, None, map, length, IsTrue, IfSome, IfOk, OnOk};
+ghost use Rattle.bib_spec.specs.Bytes.{name_limit};
+ghost use Rattle.bib_spec.specs.Tree.{IsTree};
+ghost use Rattle.bib_spec.specs.Reading.{Reading, Reads, Item};
+ghost use Rattle.bib_spec.specs.Records.{entry_in, crossref_text};
+ghost use Rattle.bib_scan.specs.Layout.{IsLayoutOf};
+ghost use Rattle.bib_scan.specs.View.{view_of};
+ghost use Rattle.bib_definitions.specs.Definitions.{texts_at};
+ghost use Rattle.bib_store.specs.Beside.{TakesPlace};
+ghost use Rattle.bib_store.specs.Bounds.{IsSettledEntry};
+ghost use Rattle.bib_store.specs.Following.{bodies_between};
+ghost use Rattle.bib_store.specs.InPlace.{HaveOneKey, TakePlaces, StayKept, with_bounds, with_kept};
+ghost use Rattle.bib_store.specs.ItemTexts.{first_too_long, placed_texts};
+ghost use Rattle.bib_store.specs.Meaning.{is_entry_tree};
+ghost use Rattle.bib_store.specs.Windows.{IsWindow};
+
+use crate::bounds::Bounds;
+use crate::change::Change;
+use crate::crossrefs::{Said, crossref_within};
+use crate::item_fault::ItemFault;
+use crate::redefining::{Former, give_back, redefine};
+use crate::tables::Tables;
+use bib_definitions::Definitions;
+use bib_items::ItemList;
+use bib_scan::{ItemView, Kind, Text};
+use std::alloc::Global;
+
+/// What the tables kept before items took the places of others.
+#[derive(Drop)]
+pub(crate) struct Kept {
+    former: Option<Former>,
+    bounds: Bounds,
+}
+
+/// Whether both are of this kind.
+fn are_both(kind: Kind, old: &ItemView<'_>, new: &ItemView<'_>) -> bool
+    ensures old { IsTrue result → old.now.kind ≡ kind }
+    ensures new { IsTrue result → new.now.kind ≡ kind }
+{
+    old.kind() == kind && new.kind() == kind
+}
+
+/// Whether both are entries, with the same key.
+fn have_one_key(old: &ItemView<'_>, new: &ItemView<'_>) -> bool
+    ensures { IsTrue result → (i j : Item) → old.now ≡ view_of i → new.now ≡ view_of j → HaveOneKey i.tree j.tree }
+{
+    are_both(Kind::Entry, old, new) && old.key() == new.key()
+}
+
+/// What the crossref of an entry says that is item `n`, or comes in its place.
+fn crossref_at(
+    alloc: Global,
+    entry: &ItemView<'_>,
+    n: usize,
+    definitions: &Definitions,
+) -> Result<Said, ItemFault>
+    ensures text { IfOk result (λ said. (i : Item) → IsTree name_limit i.tree → is_entry_tree i.tree ≡ true → entry.now ≡ view_of i → map crossref_text (entry_in (texts_at definitions.now n) i.tree) ≡ said.text ∷ []) }
+    ensures settled { IfOk result (λ said. said.settled ≡ true → IsSettledEntry entry.now said.text) }
+    ensures short { OnOk result ((i : Item) → IsTree name_limit i.tree → is_entry_tree i.tree ≡ true → entry.now ≡ view_of i → first_too_long (placed_texts (texts_at definitions.now n) i.tree) ≡ None) }
+{
+    match crossref_within(
+        alloc,
+        entry,
+        &definitions.at(n),
+        definitions.longest(),
+        None,
+    ) {
+        Ok(said) => Ok(said),
+        Err(fault) => Err(fault),
+    }
+}
+
+/// Whether both crossrefs say the same, or there is none.
+fn say_the_same(old: &Option<Text>, new: &Option<Text>) -> bool
+    ensures { IsTrue result → old.now ≡ new.now }
+{
+    match (old, new) {
+        (Some(old), Some(new)) => old.as_slice() == new.as_slice(),
+        (None, None) => true,
+        _ => false,
+    }
+}
+
+/// Lets an entry take the place of item `n`. Gives whether it could: it can't where the key is another, or where what the
+/// crossref says is another.
+fn put_entry(
+    alloc: Global,
+    tables: &mut Tables,
+    n: usize,
+    old: &ItemView<'_>,
+    new: &ItemView<'_>,
+) -> bool
+    ensures placed { IsTrue result → TakesPlace n old.now new.now tables.old tables.new }
+    ensures rest { tables.new ≡ with_bounds tables.new.bounds tables.old }
+{
+    if !have_one_key(old, new) {
+        return false;
+    }
+    let Ok(was) = crossref_at(alloc, old, n, &tables.definitions) else {
+        return false;
+    };
+    let Ok(said) = crossref_at(alloc, new, n, &tables.definitions) else {
+        return false;
+    };
+    if !say_the_same(&was.text, &said.text) {
+        return false;
+    }
+    tables.bounds.admit(new.body().len(), said.settled);
+    true
+}
+
+/// Lets a preamble take the place of another, which is item `n`. Gives whether it could: it can't where one of them is none,
+/// or where its raw text is too long.
+fn put_preamble(
+    alloc: Global,
+    tables: &mut Tables,
+    n: usize,
+    old: &ItemView<'_>,
+    new: &ItemView<'_>,
+) -> bool
+    ensures placed { IsTrue result → TakesPlace n old.now new.now tables.old tables.new }
+    ensures rest { tables.new ≡ with_bounds tables.new.bounds tables.old }
+{
+    if !are_both(Kind::Preamble, old, new) {
+        return false;
+    }
+    match tables.measure_preamble(alloc, n, new) {
+        Ok(()) => {
+            tables.bounds.admit(new.body().len(), true);
+            true
+        }
+        Err(_) => false,
+    }
+}
+
+/// Lets a comment take the place of another. Gives whether both are comments.
+fn put_comment(tables: &mut Tables, old: &ItemView<'_>, new: &ItemView<'_>) -> bool
+    ensures placed { IsTrue result → (n : ℕ) → TakesPlace n old.now new.now tables.old tables.new }
+    ensures rest { tables.new ≡ with_bounds tables.new.bounds tables.old }
+{
+    if !are_both(Kind::Comment, old, new) {
+        return false;
+    }
+    tables.bounds.admit(new.body().len(), true);
+    true
+}
+
+/// Lets a definition take the place of another, which is item `n`, where none did before. Gives whether it could. What the
+/// tables kept before is kept.
+fn put_definition(
+    alloc: Global,
+    tables: &mut Tables,
+    n: usize,
+    old: &ItemView<'_>,
+    new: &ItemView<'_>,
+    former: &mut Option<Former>,
+) -> bool
+    ensures placed { IsTrue result → TakesPlace n old.now new.now tables.old tables.new }
+    ensures kept { StayKept former.old tables.old former.new tables.new }
+    ensures len { tables.new.file_len ≡ tables.old.file_len }
+{
+    if former.is_some() {
+        return false;
+    }
+    match redefine(alloc, tables, n, old, new) {
+        Ok(was) => {
+            *former = Some(was);
+            true
+        }
+        Err(_) => false,
+    }
+}
+
+/// Lets an item take the place of item `n`. Gives whether it could.
+fn put(
+    alloc: Global,
+    tables: &mut Tables,
+    n: usize,
+    old: &ItemView<'_>,
+    new: &ItemView<'_>,
+    former: &mut Option<Former>,
+) -> bool
+    ensures placed { IsTrue result → TakesPlace n old.now new.now tables.old tables.new }
+    ensures kept { StayKept former.old tables.old former.new tables.new }
+    ensures len { tables.new.file_len ≡ tables.old.file_len }
+{
+    if old.body() == new.body() {
+        return true;
+    }
+    match new.kind() {
+        Kind::Entry => put_entry(alloc, tables, n, old, new),
+        Kind::Macro => put_definition(alloc, tables, n, old, new, former),
+        Kind::Preamble => put_preamble(alloc, tables, n, old, new),
+        Kind::Comment => put_comment(tables, old, new),
+    }
+}
+
+/// Lets the items of a change each take the place of one in its window, of which there are as many. Gives whether all could.
+fn put_each<L: ItemList>(
+    alloc: Global,
+    tables: &mut Tables,
+    items: &L,
+    change: &Change,
+    former: &mut Option<Former>,
+) -> bool
+    requires window { IsWindow (L.items items.now) change.now.window }
+    requires layout { IsLayoutOf change.now.text change.now.layout }
+    requires one_for_one { change.now.window.from + length change.now.layout.items ≡ change.now.window.to }
+    ensures placed { IsTrue result → (inner : Reading) → Reads change.now.text inner → TakePlaces change.now.window.from (bodies_between change.now.window.from change.now.window.to (L.items items.now)) inner.items tables.old tables.new }
+    ensures kept { StayKept former.old tables.old former.new tables.new }
+    ensures len { tables.new.file_len ≡ tables.old.file_len }
+{
+    // so many items fit
+    let _ = items.count();
+    'each: for k in 0..change.layout.len() {
+        let n = change.window.from + k;
+        let old = ItemView::of(items.body(n), b"");
+        let new = ItemView::of(change.layout.body(change.text.as_slice(), k), b"");
+        if !put(alloc, tables, n, &old, &new, former) {
+            return false;
+        }
+    }
+    true
+}
+
+/// Lets the items of a change each take the place of one in its window, in the tables alone. Gives what these kept before,
+/// or nothing where they can't: where there are more or fewer, where one is of another kind, where a key or what a crossref
+/// says is another, where a raw text is too long, or where more than one definition changes, or one on which something may
+/// rest. The tables then stay as they are. It takes time in the length of these items, and where a definition changes in
+/// that of all definitions.
+pub(crate) fn put_in_place<L: ItemList>(
+    alloc: Global,
+    tables: &mut Tables,
+    items: &L,
+    change: &Change,
+) -> Option<Kept>
+    requires window { IsWindow (L.items items.now) change.now.window }
+    requires layout { IsLayoutOf change.now.text change.now.layout }
+    ensures placed { IfSome result (λ kept. (inner : Reading) → Reads change.now.text inner → TakePlaces change.now.window.from (bodies_between change.now.window.from change.now.window.to (L.items items.now)) inner.items tables.old tables.new) }
+    ensures kept { IfSome result (λ kept. with_kept kept tables.new ≡ tables.old) }
+    ensures none { result ≡ None → tables.new ≡ tables.old }
+    ensures len { tables.new.file_len ≡ tables.old.file_len }
+{
+    if change.window.to - change.window.from != change.layout.len() {
+        return None;
+    }
+    let mut kept = Kept {
+        former: None,
+        bounds: tables.bounds,
+    };
+    if put_each(alloc, tables, items, change, &mut kept.former) {
+        return Some(kept);
+    }
+    take_back(tables, kept);
+    None
+}
+
+/// Gives the tables back what they kept. It asks for no memory.
+pub(crate) fn take_back(tables: &mut Tables, kept: Kept)
+    ensures back { tables.new ≡ with_kept kept tables.old }
+    ensures len { tables.new.file_len ≡ tables.old.file_len }
+{
+    give_back(tables, kept.former);
+    tables.bounds = kept.bounds;
+}
