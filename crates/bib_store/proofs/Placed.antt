@@ -1,21 +1,20 @@
 -- An item takes the place of another of its kind: what is said of the items stays, but for its texts.
-use Rattle.std.proofs.Common.{◌≡◌, ℕ, zero, suc, ◌+◌, ◌<◌, ◌≤◌, cond, Bool, true, false, List, [], ◌∷◌, ◌++◌, length, map, set, slice_get, Option, Some, None, option_map, refl, sym, ◌∙◌, ap, ap₂, subst, arith}
-use Rattle.std.proofs.Math.Seq.{set-append_seam}
+use Rattle.std.proofs.Common.{◌≡◌, ℕ, zero, suc, ◌+◌, cond, Bool, true, false, List, [], ◌∷◌, ◌++◌, length, map, Option, Some, None, option_map, refl, sym, ◌∙◌, ap, ap₂, subst}
 use Rattle.std.specs.List.{zip, flat_map}
 use Rattle.std.specs.Option.{option_or}
-use Rattle.std.proofs.lemmas.Option.{none-some, same_Some}
-use Rattle.std.proofs.lemmas.List.{map-append, length-map}
+use Rattle.std.proofs.lemmas.Option.{none-some}
+use Rattle.std.proofs.lemmas.List.{map-append}
 use Rattle.bib_spec.specs.Text.{Text}
 use Rattle.bib_spec.specs.Tree.{Tree, Entry, EntryTree}
 use Rattle.bib_spec.specs.Reading.{Item, item_bytes}
 use Rattle.bib_spec.specs.Texts.{Macros, months, macros_after, macros_at, gathered, raw_texts_from, raw_texts_in, value_places}
 use Rattle.bib_spec.specs.Records.{EntryTexts, texts_of, entry_in, keys_of, crossref_text}
 use Rattle.bib_store.specs.declared.tables.Tables.{Tables}
-use Rattle.bib_store.specs.Meaning.{is_entry_tree, entry_numbers}
+use Rattle.bib_store.specs.Meaning.{is_entry_tree}
 use Rattle.bib_store.specs.Tables.{is_preamble_tree}
 use Rattle.bib_entries.specs.EntryTable.{IsTableOf}
 use Rattle.bib_definitions.specs.ByName.{AreAllOf}
-use Rattle.bib_definitions.specs.Definitions.{is_definition_tree, defined_by, definitions_in, AreDefinitionsOf}
+use Rattle.bib_definitions.specs.Definitions.{is_definition_tree, defined_by, definitions_in}
 use Rattle.bib_store.specs.Bounds.{IsBounded, AreBounded}
 use Rattle.bib_store.proofs.BoundedItems.{bounded_with, bounded_without}
 use Rattle.bib_store.specs.ItemTexts.{first_too_long, placed_texts}
@@ -23,7 +22,6 @@ use Rattle.bib_store.specs.Beside.{AreTablesOf}
 use Rattle.bib_store.specs.InPlace.{with_bounds}
 use Rattle.bib_store.specs.declared.bounds.Bounds.{Bounds}
 use Rattle.bib_entries.specs.Numbers.{numbered, numbers}
-use Rattle.bib_store.proofs.TableSteps.{entries_counted}
 use Rattle.bib_definitions.proofs.MacrosAfter.{gathered-append}
 use Rattle.bib_store.proofs.OneItemMore.{raw_texts-append, first-append, first-shift}
 
@@ -136,9 +134,9 @@ module _ (before behind : List Item) (x y : Item) (e f : Entry) (x_is : x.tree �
   defined_told i g is = gathered-append defined_by months before (i ∷ behind) ∙ ap (λ (t : Tree). definitions_in before ++ (defined_by here t ++ gathered defined_by (macros_after here t) behind)) is
 
   -- the key and what the crossref says are the same
-  pub amended_tables : (t : Tables) (bounds : Bounds) → e.key ≡ f.key → crossref_text (texts_of here e) ≡ crossref_text (texts_of here f) → AreTablesOf (before ++ x ∷ behind) t
+  pub placed_tables : (t : Tables) (bounds : Bounds) → e.key ≡ f.key → crossref_text (texts_of here e) ≡ crossref_text (texts_of here f) → AreTablesOf (before ++ x ∷ behind) t
       → ((items : List Item) → AreBounded t.bounds items → AreBounded bounds items) → IsBounded bounds y.tree → AreTablesOf (before ++ y ∷ behind) (with_bounds bounds t)
-  amended_tables t bounds key says are admits one =
+  placed_tables t bounds key says are admits one =
       let kind : is_entry_tree x.tree ≡ is_entry_tree y.tree = ap is_entry_tree x_is ∙ sym (ap is_entry_tree y_is) in
       let third : is_definition_tree x.tree ≡ is_definition_tree y.tree = ap is_definition_tree x_is ∙ sym (ap is_definition_tree y_is) in
       let other : is_preamble_tree x.tree ≡ is_preamble_tree y.tree = ap is_preamble_tree x_is ∙ sym (ap is_preamble_tree y_is) in

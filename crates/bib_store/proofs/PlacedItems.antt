@@ -10,7 +10,6 @@ use Rattle.bib_spec.specs.Reading.{Item, IsItem}
 use Rattle.bib_spec.specs.Texts.{Macros, months, macros_after, macros_at, gathered, raw_texts_from}
 use Rattle.bib_spec.specs.Records.{EntryTexts, texts_of, entry_in, keys_of, crossref_text}
 use Rattle.bib_scan.specs.View.{View, view_of, key_of, kind_of}
-use Rattle.bib_scan.specs.declared.view.Kind.{Kind}
 use Rattle.bib_scan.specs.declared.view.Kind.TheVariants as kind
 use Rattle.bib_scan.proofs.OneReading.{tree_unique}
 use Rattle.bib_entries.specs.EntryTable.{IsTableOf}
@@ -22,13 +21,11 @@ use Rattle.bib_store.specs.declared.tables.Tables.{Tables}
 use Rattle.bib_store.specs.Beside.{AreTablesOf, AreSeen, TakesPlace, OfView, item_with}
 use Rattle.bib_store.specs.Bounds.{IsSettled, IsSettledEntry, Admits}
 use Rattle.bib_store.specs.Following.{AreItemsOf}
-use Rattle.bib_store.specs.InPlace.{HaveOneKey, TakePlaces, StayKept, with_bounds}
+use Rattle.bib_store.specs.InPlace.{HaveOneKey, TakePlaces, with_bounds}
 use Rattle.bib_store.specs.ItemTexts.{first_too_long, placed_texts}
 use Rattle.bib_store.specs.Meaning.{is_entry_tree}
-use Rattle.bib_store.specs.Redefining.{with_former}
-use Rattle.bib_store.specs.declared.redefining.Former.{Former}
 use Rattle.bib_store.specs.Tables.{is_preamble_tree}
-use Rattle.bib_store.proofs.Placed.{amended_tables, numbers_same, macros_same, still_fits}
+use Rattle.bib_store.proofs.Placed.{placed_tables, numbers_same, macros_same, still_fits}
 use Rattle.bib_store.proofs.Appended.{trees, trees_between, tables_alike, fit_alike}
 use Rattle.bib_store.proofs.BoundedItems.{bounded_with, bounded_without, settled_preamble, settled_comment}
 use Rattle.bib_store.proofs.EntryItems.{entry_tree}
@@ -60,19 +57,6 @@ same_in_place n old new t same = record {
         trees_between before (x ∷ []) (y ∷ []) after (ap (λ (tree : Tree). tree ∷ []) one.0)
 
 -- ---- an entry
-
-entry_kind : (t : Tree) → kind_of t ≡ kind.Entry → is_entry_tree t ≡ true
-entry_kind (EntryTree e) is = refl
-entry_kind (CommentTree h) is = other_kind kind.Entry kind.Comment (sym is) (omega arith)
-entry_kind (DefinitionTree d) is = other_kind kind.Entry kind.Macro (sym is) (omega arith)
-entry_kind (PreambleTree p) is = other_kind kind.Entry kind.Preamble (sym is) (omega arith)
-
-pub one_key_seen : (old new : View) (i j : Item) → old.kind ≡ kind.Entry → new.kind ≡ kind.Entry → old.key ≡ new.key → old ≡ view_of i → new ≡ view_of j → HaveOneKey i.tree j.tree
-one_key_seen old new i j old_kind new_kind key old_is new_is = record {
-  old_is = entry_kind i.tree (ap (λ (v : View). v.kind) (sym old_is) ∙ old_kind);
-  new_is = entry_kind j.tree (ap (λ (v : View). v.kind) (sym new_is) ∙ new_kind);
-  key = ap (λ (v : View). v.key) (sym old_is) ∙ key ∙ ap (λ (v : View). v.key) new_is;
-}
 
 module _ (n : ℕ) (old new : View) (t : Tables) (bounds : Bounds) (was said : Option Text) (settled : Bool)
     (one : (i j : Item) → old ≡ view_of i → new ≡ view_of j → HaveOneKey i.tree j.tree)
@@ -111,7 +95,7 @@ module _ (n : ℕ) (old new : View) (t : Tables) (bounds : Bounds) (was said : O
         let f = new_entry.0 in
         let says : crossref_text (texts_of seen_here e) ≡ crossref_text (texts_of seen_here f)
         = crossref_told x.tree e was old_entry.1 (old_says (item_with x.tree []) seen.old_tree both.old_is seen.old_seen) ∙ same ∙ sym (crossref_told y.tree f said new_entry.1 told) in
-        amended_tables before after x y e f old_entry.1 new_entry.1 t bounds (sym (ap key_of old_entry.1) ∙ both.key ∙ ap key_of new_entry.1)
+        placed_tables before after x y e f old_entry.1 new_entry.1 t bounds (sym (ap key_of old_entry.1) ∙ both.key ∙ ap key_of new_entry.1)
         (subst (λ (m : Macros). crossref_text (texts_of m e) ≡ crossref_text (texts_of m f)) sees says) are admits.all
         (admits.one y.tree (sym (ap (λ (v : View). length v.body) seen.new_seen)) (λ s. is_settled s seen_here (item_with y.tree []) seen.new_tree both.new_is seen.new_seen told))
 
@@ -308,10 +292,3 @@ placed_all k n bodies new t now old_few new_few placed = record {
     parts : (before old after : List Item) → AreItemsOf bodies old → before ++ (take k new ++ (drop k old ++ after)) ≡ before ++ (new ++ after)
     parts before old after are =
         ap₂ (λ (l m : List Item). before ++ (l ++ (m ++ after))) (take_all k new new_few) (drop_all k old (omega (arith, old_few, counted_items bodies old are)))
-
--- ---- what is kept
-
--- bounds are kept beside what is kept
-pub kept_beside : (former : Option Former) (t now : Tables) → now ≡ with_bounds now.bounds t → StayKept former t former now
-kept_beside None t now is first back = ap (with_bounds first.bounds) is ∙ back
-kept_beside (Some f) t now is first back = ap (λ (u : Tables). with_bounds first.bounds (with_former (Some f) u)) is ∙ back

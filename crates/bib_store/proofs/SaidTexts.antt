@@ -1,39 +1,19 @@
 -- What an entry says, and which of its texts is too long, by its rows.
-use Rattle.std.proofs.Common.{◌≡◌, ℕ, ◌+◌, ◌-◌, ◌<◌, ◌≤◌, Bool, true, false, List, [], ◌∷◌, ◌++◌, length, take, drop, map, set, slice_get, get_or, Option, Some, None, refl, sym, ◌∙◌, ap, ap₂, subst, arith, take-append-drop, append_assoc}
-use Rattle.std.proofs.lemmas.Option.{slice_get-get_or, slice_get_within, get_or_from_slice_get}
-use Rattle.std.proofs.lemmas.List.{drop_more, take-set, drop-set, length-take-le}
-use Rattle.std.specs.Prelude.{Result, Ok, Err, IfErr, OnOk}
+use Rattle.std.proofs.Common.{◌≡◌, ℕ, true, List, [], ◌∷◌, ◌++◌, length, map, Option, Some, None, sym, ◌∙◌, ap, subst, append_assoc}
+use Rattle.std.specs.Prelude.{Result, Ok, Err, IfErr}
 use Rattle.bib_spec.specs.Bytes.{name_limit}
 use Rattle.bib_spec.specs.Text.{Text}
-use Rattle.bib_spec.specs.Tree.{Tree, CommentTree, DefinitionTree, PreambleTree, EntryTree, Entry, IsTree, tree_bytes, opening_bytes}
+use Rattle.bib_spec.specs.Tree.{Tree, EntryTree, Entry, IsTree, opening_bytes}
 use Rattle.bib_spec.specs.Reading as reading
 use Rattle.bib_spec.specs.Reading.{Reading, Reads, IsItem}
-use Rattle.bib_spec.specs.Texts.{Macros, months, macros_at, raw_texts_from, too_long_at}
-use Rattle.bib_spec.specs.Records.{entry_in, crossref_text, texts_of}
-use Rattle.bib_scan.specs.Layout.{IsLayoutOf, places_of}
-use Rattle.bib_scan.specs.View.{View, Field, view_of, key_of, kind_of, fields_of}
-use Rattle.bib_scan.specs.declared.view.Kind.TheVariants as kind
-use Rattle.bib_scan.proofs.OneReading.{one_reading}
-use Rattle.bib_scan.proofs.LayoutLaws.{length-places}
-use Rattle.bib_items.specs.declared.list.Item.{Item}
-use Rattle.bib_store.specs.declared.change.Change.{Change}
-use Rattle.bib_entries.specs.EntryTable.{IsTableOf}
-use Rattle.bib_store.specs.declared.tables.Tables.{Tables}
+use Rattle.bib_spec.specs.Texts.{Macros}
+use Rattle.bib_spec.specs.Records.{entry_in, crossref_text}
+use Rattle.bib_scan.specs.View.{View, Field, view_of, fields_of}
 use Rattle.bib_store.specs.declared.item_fault.ItemFault.{ItemFault}
 use Rattle.bib_store.specs.declared.item_fault.ItemFault.TheVariants.{TooLong}
 use Rattle.bib_store.specs.Meaning.{is_entry_tree}
-use Rattle.bib_items.specs.Items.{item, item_at, stored, all_stored}
-use Rattle.bib_definitions.specs.Definitions.{texts_at}
 use Rattle.bib_store.specs.ItemTexts.{first_too_long, placed_texts, row_texts, crossref_in, OfRows}
-use Rattle.bib_store.specs.Bounds.{IsSettled, Admits}
-use Rattle.bib_store.specs.Beside.{AreTables, AreTablesOf, SayTheSame}
-use Rattle.bib_store.specs.Stored.{IsKeptAs, SayTheSameOf}
-use Rattle.bib_store.specs.Windows.{IsWindow, OfJoined, exchanged, joined}
-use Rattle.bib_store.proofs.TableSteps.{other_kind, named_kept}
-use Rattle.bib_definitions.proofs.MacrosAfter.{macros_taken}
-use Rattle.bib_store.proofs.RowTexts.{cons_parts}
 use Rattle.bib_store.proofs.EntryItems.{entry_tree}
-use Rattle.bib_store.proofs.KeptItems.{item_in, stored_at, count_kept}
 
 pub entry_says : (m : Macros) (v : View) (text : Option Text) → OfRows v.fields (λ before rows. text ≡ crossref_in m rows) → (i : reading.Item) → IsTree name_limit i.tree → is_entry_tree i.tree ≡ true → v ≡ view_of i
     → map crossref_text (entry_in m i.tree) ≡ text ∷ []
