@@ -24,9 +24,11 @@ impl<L: ItemList> Database<L> {
     /// the first to the last; and where that shows no file, the whole file. It takes time in the length of what is read,
     /// and for each item that comes or goes a few steps for each page of items, entries, preambles and definitions; and
     /// memory in the length of what is read. Where a definition gives way to another in a run of its own, it takes time
-    /// and memory in the length of all definitions too. Where all is read in one run of which more than 64 items come or
-    /// go, or one defines a macro, the tables of all items are made again: it takes time in the file's length, and memory
-    /// as opening it. A first item of which only the trail changes neither comes nor goes.
+    /// and memory in the length of all definitions too. Where all is read in one run, the tables stay as they are if each
+    /// item takes the place of one of its kind, with its key and what its crossref says, of definitions one alone changes,
+    /// and no crossref and no definition is made of macros where it does. Else, where more than 64 items come or go, or one
+    /// defines a macro, the tables of all items are made again: it takes time in the file's length, and memory as opening
+    /// it. A first item of which only the trail changes neither comes nor goes.
     pub fn splice(&mut self, pieces: &[Piece]) -> Result<(), StoreFault>
         ensures fit { OnOk result (Fit pieces.now self.old) }
         ensures spliced { OnOk result (self.new ≡ applied pieces.now self.old) }
