@@ -19,7 +19,7 @@ use Rattle.bib_spec.proofs.Counts.{count-yes, count-no}
 use Rattle.bib_scan.specs.View.{Field, View, view_of}
 use Rattle.bib_scan.specs.Layout.{start_of}
 use Rattle.bib_scan.proofs.OneReading.{one_reading}
-use Rattle.bib_store.specs.Meaning.{OfReading}
+use Rattle.bib_store.specs.Meaning.{OfReading, entry_numbers}
 use Rattle.bib_data.specs.declared.edit.Edit.{Edit}
 use Rattle.bib_data.specs.declared.edit.Edit.TheVariants.{DropField}
 use Rattle.bib_edit.specs.declared.fault.EditFault.TheVariants.{BadName, NotFound, Ambiguous, WouldMerge}
@@ -28,7 +28,7 @@ use Rattle.bib_edit.specs.Planning.{IsAllowedEdit, ArePiecesOf, IsRefusal}
 use Rattle.bib_edit.specs.Addressing.{item_named, is_field, field_end}
 use Rattle.bib_edit.specs.FieldPieces.{cut_piece, joins_key, OfItem}
 use Rattle.bib_edit.proofs.Ranks.{IsClear, clear_none, clear_more, first_refusal, all_clear}
-use Rattle.bib_edit.proofs.NamedEntries.{IsNamedEntry, named-entry, no-entry}
+use Rattle.bib_edit.proofs.NamedEntries.{IsNamedEntry, named-entry, held-item}
 use Rattle.bib_edit.proofs.PieceLists.{length-one_piece, within-one_piece}
 use Rattle.bib_edit.proofs.SettingPieces.{item_at, fields-seen}
 use Rattle.bib_edit.proofs.LongTexts.{too_long-changed, short-entry, short-dropped}
@@ -89,19 +89,23 @@ module _ (file key name : Text) where
 
   -- what is known once the name is one
   module _ (valid : is_name name ≡ true) where
-    pub refused-key : OfReading file (λ db. None ≡ item_named key db) → IsRefusal file asked NotFound
+    pub refused-key : OfReading file (λ db. None ≡ entry_named (entries_of db) key) → IsRefusal file asked NotFound
     refused-key none db reads = of-drop_field key name (λ e. IsFirstRefusal made_base db e edits.NotFound)
         (first_refusal made_base db (drop db key name) edits.NotFound
-        (ap (λ o. option_map_or (λ entry. count_by (has_name name) entry.fields) (option_and_then (slice_get (entries_of db)) o) 0) (no-entry key db (sym (none db reads))))
+        (ap (λ o. option_map_or (λ entry. count_by (has_name name) entry.fields) (option_and_then (slice_get (entries_of db)) o) 0) (sym (none db reads)))
         (clear_field db key name valid))
 
-    -- and that the key names the item, of which this is seen
-    module _ (n : ℕ) (held : OfReading file (λ db. Some n ≡ item_named key db)) (start : ℕ) (view : View) (seen : OfItem file n (λ s v. view ≡ v)) where
+    -- and that the key names the entry, which is this item, of which this is seen
+    module _ (first n : ℕ) (named : OfReading file (λ db. Some first ≡ entry_named (entries_of db) key)) (at : OfReading file (λ db. slice_get (entry_numbers db.items) first ≡ Some n))
+        (start : ℕ) (view : View) (seen : OfItem file n (λ s v. view ≡ v)) where
+      held : OfReading file (λ db. item_named key db ≡ Some n)
+      held = held-item key file first n named at
+
       fields : (db : Reading) → Reads file db → fields_named key name db ≡ count_by (is_field name) view.fields
       fields db reads =
-          let entry = named-entry key db n (sym (held db reads)) in
+          let entry = named-entry key db n (held db reads) in
           let item : Item = item_at (EntryTree entry.entry) entry.trail in
-          fields-seen db key name n item (sym (held db reads)) entry.at ∙ sym (ap (λ v. count_by (is_field name) v.fields) (seen db reads item entry.at))
+          fields-seen db key name n item (held db reads) entry.at ∙ sym (ap (λ v. count_by (is_field name) v.fields) (seen db reads item entry.at))
 
       pub refused-field : None ≡ find (is_field name) view.fields → IsRefusal file asked NotFound
       refused-field none db reads = of-drop_field key name (λ e. IsFirstRefusal made_base db e edits.NotFound)
@@ -124,7 +128,7 @@ module _ (file key name : Text) where
 
         -- the entry, in the file
         abbrev entry : (db : Reading) → Reads file db → IsNamedEntry key (option_and_then (slice_get (entries_of db)) (entry_named (entries_of db) key)) db.items n
-        entry db reads = named-entry key db n (sym (held db reads))
+        entry db reads = named-entry key db n (held db reads)
 
         module _ (db : Reading) (reads : Reads file db) where
           its_view : view ≡ view_of (item_at (EntryTree (entry db reads).entry) (entry db reads).trail)
@@ -135,17 +139,17 @@ module _ (file key name : Text) where
 
           one_piece : pieces_of made_base db (drop db key name) ≡ cut_piece (start_of db n) view.body field ∷ []
           one_piece =
-              drop-one_piece name (entry db reads).entry (entry db reads).trail field found_in db key n (sym (held db reads)) (entry db reads).at made_base
+              drop-one_piece name (entry db reads).entry (entry db reads).trail field found_in db key n (held db reads) (entry db reads).at made_base
               ∙ sym (ap (λ v. cut_piece (start_of db n) v.body field ∷ []) its_view)
 
           merges : edits.MergesText db (drop db key name) → joins_key view field ≡ true
           merges h =
               ap (λ v. joins_key v field) its_view
-              ∙ sym (joins-found name (entry db reads).entry (entry db reads).trail field found_in db key n (sym (held db reads)) (entry db reads).at (entry db reads).named) ∙ h
+              ∙ sym (joins-found name (entry db reads).entry (entry db reads).trail field found_in db key n (held db reads) (entry db reads).at (entry db reads).named) ∙ h
 
           merged : joins_key view field ≡ true → edits.MergesText db (drop db key name)
           merged h =
-              joins-found name (entry db reads).entry (entry db reads).trail field found_in db key n (sym (held db reads)) (entry db reads).at (entry db reads).named
+              joins-found name (entry db reads).entry (entry db reads).trail field found_in db key n (held db reads) (entry db reads).at (entry db reads).named
               ∙ sym (ap (λ v. joins_key v field) its_view) ∙ h
 
           pub field-end : field_end field ≤ length view.body
@@ -191,7 +195,7 @@ module _ (file key name : Text) where
         short_texts : IsOpenable file → (db : Reading) → Reads file db → is_some (too_long_at (edits.edited made_base db (drop db key name))) ≡ false
         short_texts is db reads =
             let opens = opens_as is db reads in
-            too_long-changed key (entry_without_field name) db n (entry db reads).entry (entry db reads).trail (sym (held db reads)) (entry db reads).at opens.texts
+            too_long-changed key (entry_without_field name) db n (entry db reads).entry (entry db reads).trail (held db reads) (entry db reads).at opens.texts
             ∙ short-dropped (macros_at months db.items n) name (entry db reads).entry (short-entry db n (entry db reads).entry (entry db reads).trail (entry db reads).at opens.texts)
 
         pub allowed-drop_field : IsOpenable file → OfReading file (λ db. holders key db ≤ 1) → count_by (is_field name) view.fields ≤ 1 → joins_key view field ≡ false → IsAllowedEdit file asked

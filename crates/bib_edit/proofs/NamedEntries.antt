@@ -1,5 +1,5 @@
--- The entry that a key names, as an item: its number, how many have the key, and its fields.
-use Rattle.std.proofs.Common.{◌≡◌, ℕ, zero, suc, ◌+◌, ◌<◌, ◌≤◌, true, List, [], ◌∷◌, Option, Some, None, option_map, option_and_then, slice_get, length, map, filter, count_by, ⊎_elim, refl, sym, ◌∙◌, ap, subst, arith}
+-- The entry that a key names, as an item: its number, and its fields.
+use Rattle.std.proofs.Common.{◌≡◌, ℕ, zero, suc, ◌+◌, ◌<◌, true, List, [], ◌∷◌, Option, Some, None, option_map, option_and_then, slice_get, length, map, filter, ⊎_elim, refl, sym, ◌∙◌, ap, subst, arith}
 use Rattle.std.specs.List.{enumerate_from}
 use Rattle.std.proofs.lemmas.Bool.{cases_Bool, cond-true, cond-false}
 use Rattle.std.proofs.lemmas.Option.{none-some, same_Some}
@@ -8,11 +8,10 @@ use Rattle.bib_spec.specs.Tree.{Entry, Tree, CommentTree, DefinitionTree, Preamb
 use Rattle.bib_spec.specs.Reading.{Item, Reading}
 use Rattle.bib_spec.specs.Texts.{Macros, months, macros_after, gathered}
 use Rattle.bib_spec.specs.Records.{EntryTexts, entry_in, entries_of, texts_of, is_named, keys_of, first_named, entry_named}
-use Rattle.edit_spec.specs.Edits.{is_entry, holders}
+use Rattle.edit_spec.specs.Edits.{is_entry}
 use Rattle.bib_spec.proofs.Places.{suc_some}
-use Rattle.bib_spec.proofs.Counts.{count-yes, count-no}
 use Rattle.edit_spec.proofs.OneMore.{length-keys}
-use Rattle.bib_store.specs.Meaning.{is_entry_tree, entry_numbers}
+use Rattle.bib_store.specs.Meaning.{OfReading, is_entry_tree, entry_numbers}
 use Rattle.bib_edit.specs.Addressing.{first_item, item_named}
 
 -- the numbers of the entries among items, of which the first has this number
@@ -57,6 +56,10 @@ module _ (key : Text) where
   pub named-item : (db : Reading) (n k : ℕ) → entry_named (entries_of db) key ≡ Some n → slice_get (entry_numbers db.items) n ≡ Some k → item_named key db ≡ Some k
   named-item db n k e s = let found = numbered months 0 db.items n k e s in found.1 ∙ ap Some (omega (arith, found.2))
 
+  -- the same of the file that is open
+  pub held-item : (file : Text) (n k : ℕ) → OfReading file (λ db. Some n ≡ entry_named (entries_of db) key) → OfReading file (λ db. slice_get (entry_numbers db.items) n ≡ Some k) → OfReading file (λ db. item_named key db ≡ Some k)
+  held-item file n k named at db reads = named-item db n k (sym (named db reads)) (at db reads)
+
   pub named-within : (db : Reading) (n : ℕ) → entry_named (entries_of db) key ≡ Some n → n < length (entries_of db)
   named-within db n e = subst (λ (l : ℕ). n < l) (length-keys (entries_of db)) (found (keys_of (entries_of db)) n e)
     where
@@ -67,66 +70,6 @@ module _ (key : Text) where
           (λ t. let later = suc_some (first_named key ks) n (sym (cond-false (is_named key k) (Some zero) (option_map suc (first_named key ks)) t) ∙ e) in
           let rest = found ks later.0 later.1 in omega (arith, rest, later.2))
           (cases_Bool (is_named key k))
-
-  -- ---- how many have the key
-
-  abbrev IsCounted : Macros → List Item → Type 0
-  IsCounted m items = (first_item (is_entry key) items ≡ None → (entry_number m items ≡ None) × (count_by (is_named key) (keys_of (entries m items)) ≡ 0))
-      × ((j : ℕ) → first_item (is_entry key) items ≡ Some j → 1 ≤ count_by (is_named key) (keys_of (entries m items)))
-
-  none_beyond : (o : Option ℕ) → option_map suc o ≡ None → o ≡ None
-  none_beyond None e = refl
-  none_beyond (Some n) e = absurd (none-some (suc n) (sym e))
-
-  counted_behind : (m : Macros) (tree : Tree) (trail : Text) (items : List Item) → IsCounted (macros_after m tree) items → IsCounted m (item_at tree trail ∷ items)
-  counted_behind m (CommentTree h) trail items rest = (λ e. rest.0 (none_beyond _ e), λ j e. let later = suc_some (first_item (is_entry key) items) j e in rest.1 later.0 later.1)
-  counted_behind m (DefinitionTree d) trail items rest = (λ e. rest.0 (none_beyond _ e), λ j e. let later = suc_some (first_item (is_entry key) items) j e in rest.1 later.0 later.1)
-  counted_behind m (PreambleTree p) trail items rest = (λ e. rest.0 (none_beyond _ e), λ j e. let later = suc_some (first_item (is_entry key) items) j e in rest.1 later.0 later.1)
-  counted_behind m (EntryTree x) trail items rest = ⊎_elim
-      (λ t. (
-        λ e. absurd (none-some zero (sym e ∙ cond-true (is_named key x.key) (Some zero) (option_map suc (first_item (is_entry key) items)) t)),
-        λ j e. let more = count-yes (is_named key) x.key (keys_of (entries m items)) t in omega (arith, more),
-      ))
-      (λ t.
-      let less = count-no (is_named key) x.key (keys_of (entries m items)) t in (
-        λ e. let none = rest.0 (none_beyond _ (sym (cond-false (is_named key x.key) (Some zero) (option_map suc (first_item (is_entry key) items)) t) ∙ e)) in
-            (cond-false (is_named key x.key) (Some zero) (option_map suc (entry_number m items)) t ∙ ap (option_map suc) none.0, less ∙ none.1),
-        λ j e. let later = suc_some (first_item (is_entry key) items) j (sym (cond-false (is_named key x.key) (Some zero) (option_map suc (first_item (is_entry key) items)) t) ∙ e) in
-            let some = rest.1 later.0 later.1 in omega (arith, some, less),
-      ))
-      (cases_Bool (is_named key x.key))
-
-  counted : (m : Macros) (items : List Item) → IsCounted m items
-  counted m [] = (λ e. (refl, refl), λ j e. absurd (none-some j e))
-  counted m (item ∷ items) = counted_behind m item.tree item.trail items (counted (macros_after m item.tree) items)
-
-  pub no-holder : (db : Reading) → item_named key db ≡ None → holders key db ≡ 0
-  no-holder db e = ((counted months db.items).0 e).1
-
-  pub no-entry : (db : Reading) → item_named key db ≡ None → entry_named (entries_of db) key ≡ None
-  no-entry db e = ((counted months db.items).0 e).0
-
-  pub some-holder : (db : Reading) (n : ℕ) → item_named key db ≡ Some n → 1 ≤ holders key db
-  some-holder db n e = (counted months db.items).1 n e
-
-  -- no entry has the key, so no item has
-  unnumbered_behind : (m : Macros) (tree : Tree) (trail : Text) (items : List Item) → (entry_number (macros_after m tree) items ≡ None → first_item (is_entry key) items ≡ None) →
-      entry_number m (item_at tree trail ∷ items) ≡ None → first_item (is_entry key) (item_at tree trail ∷ items) ≡ None
-  unnumbered_behind m (CommentTree h) trail items rest e = ap (option_map suc) (rest e)
-  unnumbered_behind m (DefinitionTree d) trail items rest e = ap (option_map suc) (rest e)
-  unnumbered_behind m (PreambleTree p) trail items rest e = ap (option_map suc) (rest e)
-  unnumbered_behind m (EntryTree x) trail items rest e = ⊎_elim
-      (λ t. absurd (none-some zero (sym e ∙ cond-true (is_named key x.key) (Some zero) (option_map suc (entry_number m items)) t)))
-      (λ t. cond-false (is_named key x.key) (Some zero) (option_map suc (first_item (is_entry key) items)) t
-      ∙ ap (option_map suc) (rest (none_beyond _ (sym (cond-false (is_named key x.key) (Some zero) (option_map suc (entry_number m items)) t) ∙ e))))
-      (cases_Bool (is_named key x.key))
-
-  unnumbered : (m : Macros) (items : List Item) → entry_number m items ≡ None → first_item (is_entry key) items ≡ None
-  unnumbered m [] e = refl
-  unnumbered m (item ∷ items) e = unnumbered_behind m item.tree item.trail items (unnumbered (macros_after m item.tree) items) e
-
-  pub unnamed-item : (db : Reading) → entry_named (entries_of db) key ≡ None → item_named key db ≡ None
-  unnamed-item db e = unnumbered months db.items e
 
   -- ---- its fields
 

@@ -1,46 +1,25 @@
 //! The entry that a key names, and its fields.
 
-ghost use Rattle.std.specs.Prelude.{◌≡◌, nat_lt, find, IfOk, IfErr};
+ghost use Rattle.std.specs.Prelude.{◌≡◌, find, IfOk, IfErr};
 ghost use Rattle.std.specs.Option.{option_map};
 ghost use Rattle.bib_scan.specs.View.{field_seen};
 ghost use Rattle.bib_store.specs.Meaning.{OfReading};
-ghost use Rattle.edit_spec.specs.Edits.{holders};
-ghost use Rattle.bib_edit.specs.Addressing.{item_named, IsHeldAt, IsLoneNumber, IsHolderFault, is_field, AreSought};
+ghost use Rattle.bib_edit.specs.Addressing.{IsHeldAt, IsLoneNumber, IsHolderFault, is_field, AreSought};
 
 use crate::fault::EditFault;
 use bib_scan::{FieldView, ItemView, same_folded};
 use bib_store::{Database, ItemList};
-
-/// The number of the item that the key names: the first entry that has it.
-pub(crate) fn item_named<L: ItemList>(db: &Database<L>, key: &[u8]) -> Option<usize>
-    ensures { OfReading db.now (λ r. result ≡ item_named key.now r) }
-{
-    match db.find(key) {
-        Ok(n) => Some(db.entry_item(n)),
-        Err(_) => None,
-    }
-}
-
-/// Whether several entries have the key. It is looked up only where two had one key once.
-pub(crate) fn is_ambiguous<L: ItemList>(db: &Database<L>, key: &[u8]) -> bool
-    ensures { OfReading db.now (λ r. result ≡ nat_lt 1 (holders key.now r)) }
-{
-    !db.are_keys_apart() && db.holders(key) > 1
-}
 
 /// The number among the entries of the one entry with this key.
 pub(crate) fn lone_number<L: ItemList>(db: &Database<L>, key: &[u8]) -> Result<usize, EditFault>
     ensures lone { IfOk result (λ n. OfReading db.now (λ r. IsLoneNumber key.now r n)) }
     ensures refused { IfErr result (λ fault. OfReading db.now (λ r. IsHolderFault key.now r fault)) }
 {
-    let n = match db.find(key) {
-        Ok(n) => n,
-        Err(_) => return Err(EditFault::NotFound),
-    };
-    if is_ambiguous(db, key) {
-        return Err(EditFault::Ambiguous);
+    match db.holders_of(key) {
+        Some(held) if held.count > 1 => Err(EditFault::Ambiguous),
+        Some(held) => Ok(held.first),
+        None => Err(EditFault::NotFound),
     }
-    Ok(n)
 }
 
 /// The number of the item that is the one entry with this key.

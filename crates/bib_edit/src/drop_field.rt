@@ -9,7 +9,7 @@ ghost use Rattle.bib_edit.specs.FieldPieces.{cut_piece, joins_key};
 ghost use Rattle.bib_data.specs.declared.edit.Edit.TheVariants.{DropField};
 ghost use Rattle.bib_edit.specs.declared.fault.EditFault.TheVariants.{Memory};
 
-use crate::address::{is_ambiguous, item_named, sought_fields};
+use crate::address::sought_fields;
 use crate::fault::EditFault;
 use crate::pieces::{copied, one_piece};
 use bib_scan::{FieldView, ItemView, Seq, is_name};
@@ -32,17 +32,18 @@ pub(crate) fn drop_field<L: ItemList>(
     if !is_name(field) {
         return Err(EditFault::BadName);
     }
-    let n = match item_named(db, key) {
-        Some(n) => n,
+    let held = match db.holders_of(key) {
+        Some(held) => held,
         None => return Err(EditFault::NotFound),
     };
+    let n = db.entry_item(held.first);
     let view = db.item(n);
     let sought = sought_fields(&view, field);
     let row = match sought.first {
         Some(row) => row,
         None => return Err(EditFault::NotFound),
     };
-    if sought.is_repeated || is_ambiguous(db, key) {
+    if sought.is_repeated || held.count > 1 {
         return Err(EditFault::Ambiguous);
     }
     if joins_key(&view, row) {

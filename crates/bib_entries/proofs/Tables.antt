@@ -325,7 +325,7 @@ passes_named key (Some text) short = ⊎_elim
     named (c ∷ cs) [] = refl
     named (c ∷ cs) (b ∷ bs) = refl
 
-pub tests_keys : (names : ℕ → Option Text) (text : Text) (ids : List ℕ) (keys : List Text) → map names ids ≡ map name_of keys → map (has_text names (folded text)) ids ≡ map (is_named text) keys
+tests_keys : (names : ℕ → Option Text) (text : Text) (ids : List ℕ) (keys : List Text) → map names ids ≡ map name_of keys → map (has_text names (folded text)) ids ≡ map (is_named text) keys
 tests_keys names text [] [] e = refl
 tests_keys names text [] (k ∷ keys) e = absurd (omega (arith, ap (length {A = _}) e))
 tests_keys names text (x ∷ ids) [] e = absurd (omega (arith, ap (length {A = _}) e))
@@ -408,7 +408,7 @@ module _ {X : Type 0} (test : ℕ → Bool) (passes : X → Bool) where
   position_found ids xs k None id e d held at none = absurd (lacks_at (holders test ids) k id id (lacks_holders ids id none) held refl)
   position_found ids xs k (Some n) id e d held at none = ap Some (sym (zero-add n)) ∙ sym (number_found 0 ids xs k n id e d at held)
 
-  pub all_counted : (ids : List ℕ) (xs : List X) → map test ids ≡ map passes xs → length (holders test ids) ≡ count_by passes xs
+  all_counted : (ids : List ℕ) (xs : List X) → map test ids ≡ map passes xs → length (holders test ids) ≡ count_by passes xs
   all_counted [] [] e = refl
   all_counted [] (x ∷ xs) e = absurd (omega (arith, ap (length {A = _}) e))
   all_counted (y ∷ ids) [] e = absurd (omega (arith, ap (length {A = _}) e))
@@ -424,7 +424,7 @@ module _ {X : Type 0} (test : ℕ → Bool) (passes : X → Bool) where
       one_more n = omega arith
 
 -- the first key that a text names is the first of those that it names
-pub first_numbered : (text : Text) (keys : List Text) → slice_get (numbers_from (is_named text) 0 keys) 0 ≡ first_named text keys
+first_numbered : (text : Text) (keys : List Text) → slice_get (numbers_from (is_named text) 0 keys) 0 ≡ first_named text keys
 first_numbered text keys = at 0 keys ∙ shifted_none (first_named text keys)
   where
     shifted_none : (o : Option ℕ) → option_map (λ n. 0 + n) o ≡ o
@@ -449,6 +449,28 @@ first_numbered text keys = at 0 keys ∙ shifted_none (first_named text keys)
       where
         zeroth : (b : ℕ) → b ≡ b + 0
         zeroth b = omega arith
+
+-- the entries that a key names, by their ids
+module _ (key : Text) (keys : List Text) (crossrefs : List (Option Text)) (t : Kept) (is : IsTableOf keys crossrefs t) where
+  abbrev has_key : ℕ → Bool
+  has_key = has_text is.keyed.names (folded key)
+
+  tests : map has_key t.ids ≡ map (is_named key) keys
+  tests = let keyed = is.keyed in tests_keys keyed.names key t.ids keys keyed.named
+
+  at_first : slice_get (ids_in t.keys (folded key)) 0 ≡ slice_get (holders has_key t.ids) 0
+  at_first = let keyed = is.keyed in ap (λ (ids : List ℕ). slice_get ids 0) (keyed.index (folded key))
+
+  pub first_found : (id : ℕ) (found : Option ℕ) → IsDistinct t.ids → slice_get (ids_in t.keys (folded key)) 0 ≡ Some id
+      → IfSome found (λ n. slice_get t.ids n ≡ Some id) → IfNone found (Lacks t.ids id) → found ≡ first_named key keys
+  first_found id found distinct first at none =
+      position_found has_key (is_named key) t.ids keys 0 found id tests distinct (sym at_first ∙ first) at none ∙ first_numbered key keys
+
+  pub none_first : slice_get (ids_in t.keys (folded key)) 0 ≡ None → None ≡ first_named key keys
+  none_first none = sym (none_found has_key (is_named key) 0 t.ids keys 0 tests (sym at_first ∙ none)) ∙ first_numbered key keys
+
+  pub holders_counted : length (ids_in t.keys (folded key)) ≡ count_by (is_named key) keys
+  holders_counted = let keyed = is.keyed in ap (length {A = ℕ}) (keyed.index (folded key)) ∙ all_counted has_key (is_named key) t.ids keys tests
 
 pub same_count : (keys : List Text) (crossrefs : List (Option Text)) (t : Kept) → IsTableOf keys crossrefs t → length t.ids ≡ length keys
 same_count keys crossrefs t is = let keyed = is.keyed in sym (length-map t.ids keyed.names) ∙ ap (length {A = _}) keyed.named ∙ length-map keys name_of

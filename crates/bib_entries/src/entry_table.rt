@@ -31,6 +31,13 @@ pub struct EntryTable {
     awaited: usize,
 }
 
+/// The first entry that has a key, by its number, and how many have it.
+#[derive(Clone, Copy, Debug, PartialEq, Eq)]
+pub struct Holders {
+    pub first: usize,
+    pub count: usize,
+}
+
 /// Gives an id of the order its key, where it has none. Where memory is refused, each key has the ids that it had.
 fn add_key(keys: &mut KeyIndex, order: &Order, key: &[u8], id: usize) -> Result<(), AllocError>
     requires { length key.now ≤ name_limit }
@@ -112,7 +119,7 @@ impl Model for EntryTable {
 
 impl EntryTable {
     ghost use Rattle.std.specs.Prelude.{◌≡◌, ◌≤◌, ℕ, List, [], Option, None, length, insert, remove, slice_get, count_by, IsTrue, OnOk, OnErr};
-    ghost use Rattle.std.specs.Option.{option_copied, option_flatten};
+    ghost use Rattle.std.specs.Option.{option_copied, option_flatten, option_map, IfSome};
     ghost use Rattle.bib_spec.specs.Bytes.{name_limit};
     ghost use Rattle.bib_spec.specs.Text.{Text as Bytes};
     ghost use Rattle.bib_spec.specs.Records.{is_named, first_named};
@@ -178,6 +185,22 @@ impl EntryTable {
         ensures { (keys : List Bytes) (crossrefs : List (Option Bytes)) → IsTableOf keys crossrefs self.now → result ≡ count_by (is_named key.now) keys }
     {
         self.keys.count(key)
+    }
+
+    /// The first entry that has this key, folded, and how many have it, if any has. It takes time in the key's length.
+    pub fn holders_of(&self, key: &[u8]) -> Option<Holders>
+        ensures first { (keys : List Bytes) (crossrefs : List (Option Bytes)) → IsTableOf keys crossrefs self.now → option_map (λ h. h.first) result ≡ first_named key.now keys }
+        ensures count { IfSome result (λ h. (keys : List Bytes) (crossrefs : List (Option Bytes)) → IsTableOf keys crossrefs self.now → h.count ≡ count_by (is_named key.now) keys) }
+    {
+        // the ids of an order are distinct
+        let _ = self.order.count();
+        let ids = self.keys.holders(key);
+        let id = ids.first()?;
+        let first = self.order.position_of(*id)?;
+        Some(Holders {
+            first,
+            count: ids.len(),
+        })
     }
 
     /// Whether it is known that no two entries have one key, folded. Where two had one once, it is not known any more.

@@ -12,5 +12,5 @@ mod numbers;
 mod paged;
 mod starts;
 
-pub use entry_table::EntryTable;
+pub use entry_table::{EntryTable, Holders};
 pub use numbers::Numbers;

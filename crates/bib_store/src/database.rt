@@ -8,6 +8,7 @@ use crate::measuring::short_text;
 use crate::preambles::preamble_value;
 use crate::tables::Tables;
 use bib_definitions::MacrosAt;
+use bib_entries::Holders;
 use bib_items::{ItemList, StoreFault};
 use bib_scan::{ItemView, Note, ReadFault, Seq, Text};
 use bib_value::MacroTable;
@@ -45,7 +46,7 @@ impl<L: ItemList> Model for Database<L> {
 
 impl<L: ItemList> Database<L> {
     ghost use Rattle.std.specs.Prelude.{◌≡◌, ◌≤◌, [], Some, None, Err, length, slice_get, option_and_then, count_by, IsTrue, IfOk, IfErr, IfSome, OnOk};
-    ghost use Rattle.std.specs.Option.{option_copied};
+    ghost use Rattle.std.specs.Option.{option_copied, option_map};
     ghost use Rattle.bib_spec.specs.Bytes.{name_limit};
     ghost use Rattle.bib_spec.specs.Texts.{IsOpenable};
     ghost use Rattle.bib_spec.specs.Reading.{Item};
@@ -239,6 +240,14 @@ impl<L: ItemList> Database<L> {
         ensures { OfReading self.now (λ db. result ≡ count_by (is_named key.now) (keys_of (entries_of db))) }
     {
         self.tables.named.holders(key)
+    }
+
+    /// The first entry that has this key, folded, and how many have it, if any has. It takes time in the key's length.
+    pub fn holders_of(&self, key: &[u8]) -> Option<Holders>
+        ensures first { OfReading self.now (λ db. option_map (λ h. h.first) result ≡ entry_named (entries_of db) key.now) }
+        ensures count { IfSome result (λ h. OfReading self.now (λ db. h.count ≡ count_by (is_named key.now) (keys_of (entries_of db)))) }
+    {
+        self.tables.named.holders_of(key)
     }
 
     /// Whether it is known that no two entries have one key, folded. It takes a step. Where two had one once, it is not

@@ -34,6 +34,7 @@ mod window;
 
 pub use bib_data::{Piece, Record};
 pub use bib_definitions::MacrosAt;
+pub use bib_entries::Holders;
 pub use bib_items::{Flat, Item, ItemList, Paged, StoreFault};
 pub use database::Database;
 pub use record::{Cited, Expanded};

@@ -6,7 +6,7 @@ use crate::rows::Stop;
 use crate::splicing::{Change, pieces_of};
 use bib_edit::free_key;
 use bib_scan::{Seq, Text};
-use bib_store::{Database, ItemList};
+use bib_store::{Database, Holders, ItemList};
 use std::alloc::{AllocError, Global};
 use std::test::Fail;
 
@@ -19,6 +19,7 @@ enum Question {
     Parent(usize),
     IsRepeated(usize),
     Holders(&'static [u8]),
+    HoldersOf(&'static [u8]),
     PreambleCount,
     ByteCount,
     /// The first free key of the base `x`, where this one is taken too.
@@ -31,6 +32,8 @@ enum Answer {
     Text(&'static [u8]),
     Number(usize),
     Truth(bool),
+    /// The first of the entries, and how many there are.
+    Holders(usize, usize),
 }
 
 /// A file, changes that are made one after another, a question, and its answer then.
@@ -182,6 +185,34 @@ const OF_ENTRIES: &[Asked] = &[
         answer: Answer::Number(2),
     },
     Asked {
+        name: "a key has a first holder of two",
+        file: THREE,
+        changes: &[],
+        question: Question::HoldersOf(b"A"),
+        answer: Answer::Holders(0, 2),
+    },
+    Asked {
+        name: "a key has one holder",
+        file: THREE,
+        changes: &[],
+        question: Question::HoldersOf(b"B"),
+        answer: Answer::Holders(1, 1),
+    },
+    Asked {
+        name: "a key has no holder",
+        file: THREE,
+        changes: &[],
+        question: Question::HoldersOf(b"none"),
+        answer: Answer::Nothing,
+    },
+    Asked {
+        name: "a key has its second holder once the first has another key",
+        file: THREE,
+        changes: &[(6, b"a", b"c")],
+        question: Question::HoldersOf(b"a"),
+        answer: Answer::Holders(2, 1),
+    },
+    Asked {
         name: "the first holder repeats none",
         file: THREE,
         changes: &[],
@@ -277,6 +308,7 @@ enum Said {
     Text(Text),
     Number(usize),
     Truth(bool),
+    Holders(Holders),
 }
 
 impl From<Option<Text>> for Said {
@@ -297,12 +329,24 @@ impl From<Option<usize>> for Said {
     }
 }
 
+impl From<Option<Holders>> for Said {
+    fn from(held: Option<Holders>) -> Said {
+        match held {
+            Some(held) => Said::Holders(held),
+            None => Said::Nothing,
+        }
+    }
+}
+
 fn is_said(said: &Said, answer: &Answer) -> bool {
     match (said, answer) {
         (Said::Nothing, Answer::Nothing) => true,
         (Said::Text(text), Answer::Text(other)) => text.as_slice() == *other,
         (Said::Number(number), Answer::Number(other)) => number == other,
         (Said::Truth(truth), Answer::Truth(other)) => truth == other,
+        (Said::Holders(held), Answer::Holders(first, count)) => {
+            held.first == *first && held.count == *count
+        }
         _ => false,
     }
 }
@@ -374,6 +418,7 @@ fn answer_of<L: ItemList>(
         Question::Parent(n) => parent(db, *n),
         Question::IsRepeated(n) => Ok(is_repeated(db, *n)),
         Question::Holders(key) => Ok(Said::Number(db.holders(key))),
+        Question::HoldersOf(key) => Ok(Said::from(db.holders_of(key))),
         Question::PreambleCount => Ok(Said::Number(db.preamble_count())),
         Question::ByteCount => Ok(Said::Number(db.byte_count())),
         Question::FreeKey(taken) => free(alloc, db, taken),

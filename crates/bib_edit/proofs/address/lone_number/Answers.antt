@@ -1,16 +1,11 @@
-use Rattle.std.proofs.Common.{sym, ◌∙◌}
-use Rattle.std.proofs.lemmas.Bool.{ltb-true, ltb-false}
-use Rattle.edit_spec.specs.Edits.{holders}
+use Rattle.std.proofs.Common.{sym, arith}
 use Rattle.bib_edit.proofs.LoneNumbers.{lone-number, no-number}
 use Rattle.bib_edit.proofs.address.lone_number.Goals as goal
 
-pub returns-clause-lone : goal.returns-clause-lone
-returns-clause-lone g c db reads =
-    lone-number c.args.key.now db c.in-Ok.n (c.in-Ok.ensures.found db reads) (ltb-false 1 (holders c.args.key.now db) (sym (c.is_ambiguous.ensures db reads) ∙ c.if-is_ambiguous.false))
+pub returns-in-Some-2-clause-lone : goal.returns-in-Some-2-clause-lone
+returns-in-Some-2-clause-lone g c db reads =
+    let count = c.in-Some.ensures.count db reads in let few = c.if-held-gt1.false in
+    lone-number c.args.key.now db c.in-Some.held.first (sym (c.in-Some.ensures.first db reads)) (omega (arith, count, few))
 
-pub returns-then-is_ambiguous-clause-refused : goal.returns-then-is_ambiguous-clause-refused
-returns-then-is_ambiguous-clause-refused g c db reads =
-    ltb-true 1 (holders c.args.key.now db) (sym (c.is_ambiguous.ensures db reads) ∙ c.if-is_ambiguous.true)
-
-pub returns-in-Err-clause-refused : goal.returns-in-Err-clause-refused
-returns-in-Err-clause-refused g c db reads = no-number c.args.key.now db (c.in-Err.ensures.none.1 db reads)
+pub returns-in-None-clause-refused : goal.returns-in-None-clause-refused
+returns-in-None-clause-refused g c db reads = no-number c.args.key.now db (sym (c.in-None.ensures.first db reads))
