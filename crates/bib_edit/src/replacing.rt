@@ -24,6 +24,7 @@ pub(crate) fn push_replaced(
     ensures pieces { OnOk result (pieces.new.items ≡ pieces.old.items ++ map (replaced_by new.now) (tokens_seen tokens.now)) }
     ensures only { IfErr result (λ fault. fault ≡ Memory) }
 {
+    pieces.reserve(tokens.len())?;
     for token in tokens {
         pieces.push(Piece {
             place: token.place as u64,
