@@ -228,8 +228,8 @@ fn put_each<L: ItemList>(
 /// Lets the items of a change each take the place of one in its window, in the tables alone. Gives what these kept before,
 /// or nothing where they can't: where there are more or fewer, where one is of another kind, where a key or what a crossref
 /// says is another, where a raw text is too long, or where more than one definition changes, or one on which something may
-/// rest. The tables then stay as they are. It takes time in the length of these items, and where a definition changes in
-/// that of all definitions.
+/// rest. The tables then stay as they are; only time rests on whether they can. It takes time in the length of these items,
+/// and where a definition changes in that of all definitions.
 pub(crate) fn put_in_place<L: ItemList>(
     alloc: Global,
     tables: &mut Tables,
