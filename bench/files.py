@@ -99,6 +99,15 @@ def articles_of_one_journal(count):
         for n in range(count))
 
 
+def articles_of_one_publisher(count):
+    """So many articles, in each of which one and the same macro stands nine times, as long as those of a database are."""
+    uses = " # ".join(["m"] * 8)
+    return b"@string{m = {Examples}}\n" + b"".join(
+        ("@article{key%d,\n  author = {%s},\n  title = {%s},\n  publisher = m,\n  note = %s,\n  abstract = {%s},\n  year = %d\n}\n\n"
+         % (n, people_of(n), text_of(n, 9), uses, text_of(n + 3, 16), 1950 + n % 75)).encode()
+        for n in range(count))
+
+
 def chained_macros(count):
     """So many macros, each defined by the one before, and an entry that uses the last."""
     links = b"".join(b"@string{m%d = m%d}\n" % (n, n - 1) for n in range(1, count))
@@ -273,6 +282,7 @@ CONTENTS = {
     "use 100": lambda: one_macro(100000),
     "use 100 in 4": lambda: one_macro_among_words(100000),
     "journal 100": lambda: articles_of_one_journal(100000),
+    "publisher 11": lambda: articles_of_one_publisher(11112),
     "base 50": lambda: one_base(50000),
     "base 100": lambda: one_base(100000),
     "long parent 5": lambda: children_of_long(5000),
