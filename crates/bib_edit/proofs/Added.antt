@@ -12,7 +12,8 @@ use Rattle.edit_spec.specs.Edits as edits
 use Rattle.edit_spec.specs.Edits.{Edit, EditFault, BadKey, BadName, BadValue, BadPosition, NotFound, Ambiguous, KeyInUse, NameInUse, Referred, WouldMerge, FileTooLong, TextTooLong, rank, Refuses, has_same, field_names, field_values, entry_of, item_of, edited, IsAccepted, IsFirstRefusal}
 use Rattle.edit_spec.specs.EditChunks.{pieces_of}
 use Rattle.edit_spec.proofs.RenameKey.{new_key_parts}
-use Rattle.bib_edit.specs.Asking.{made_base, SpellsEntry}
+use Rattle.bib_keys.specs.MadeBase.{made_base}
+use Rattle.bib_edit.specs.Asking.{SpellsEntry}
 use Rattle.bib_data.specs.declared.edit.NewEntry.{NewEntry}
 use Rattle.bib_data.specs.declared.edit.Edit.TheVariants as asked
 use Rattle.bib_edit.specs.declared.fault.EditFault.{EditFault as Fault}

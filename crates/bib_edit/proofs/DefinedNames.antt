@@ -1,7 +1,5 @@
 -- The name that a definition gives a text.
-use Rattle.std.proofs.Common.{◌≡◌, ℕ, ◌+◌, ◌<◌, ◌^◌, true, List, [], ◌∷◌, ◌++◌, Option, Some, None, is_some, slice_get, length, refl, sym, ◌∙◌, ap, arith, length-append}
-use Rattle.std.specs.Option.{option_copied}
-use Rattle.std.specs.Borrow.{Bor}
+use Rattle.std.proofs.Common.{◌≡◌, ℕ, ◌+◌, ◌<◌, ◌^◌, true, List, [], ◌∷◌, ◌++◌, Some, slice_get, length, refl, sym, ◌∙◌, ap, arith, length-append}
 use Rattle.bib_spec.specs.Text.{Text, same}
 use Rattle.bib_spec.specs.Tree.{Definition, Tree, CommentTree, DefinitionTree, PreambleTree, EntryTree, opening_bytes, definition_bytes, assignment_bytes, close_byte}
 use Rattle.bib_spec.specs.Reading.{Item, Reading, Reads}
@@ -15,10 +13,6 @@ use Rattle.bib_edit.specs.Addressing.{first_item}
 use Rattle.bib_edit.specs.Definitions.{IsDefinitionAt, IsDefinitionNumber}
 use Rattle.bib_edit.proofs.FirstItems.{IsFirstItem, found_first, item-first}
 use Rattle.bib_edit.proofs.PlacedItems.{item-ends}
-
-pub some-copied : {X : Type 0} (o : Option (Bor X)) → is_some (option_copied o) ≡ is_some o
-some-copied None = refl
-some-copied (Some x) = refl
 
 abbrev pub definition_item : Definition → Text → Item
 definition_item d trail = record { tree = DefinitionTree d; trail = trail }

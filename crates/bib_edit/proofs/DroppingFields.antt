@@ -23,7 +23,7 @@ use Rattle.bib_store.specs.Meaning.{OfReading, entry_numbers}
 use Rattle.bib_data.specs.declared.edit.Edit.{Edit}
 use Rattle.bib_data.specs.declared.edit.Edit.TheVariants.{DropField}
 use Rattle.bib_edit.specs.declared.fault.EditFault.TheVariants.{BadName, NotFound, Ambiguous, WouldMerge}
-use Rattle.bib_edit.specs.Asking.{made_base}
+use Rattle.bib_keys.specs.MadeBase.{made_base}
 use Rattle.bib_edit.specs.Planning.{IsAllowedEdit, ArePiecesOf, IsRefusal}
 use Rattle.bib_edit.specs.Addressing.{item_named, is_field, field_end}
 use Rattle.bib_edit.specs.FieldPieces.{cut_piece, joins_key, OfItem}

@@ -12,7 +12,7 @@ use Rattle.edit_spec.specs.Edits.{InlineMacro, BadKey, BadName, BadValue, BadPos
 use Rattle.edit_spec.specs.EditChunks.{pieces_of}
 use Rattle.bib_scan.specs.Layout.{start_of}
 use Rattle.bib_store.specs.Meaning.{OfReading}
-use Rattle.bib_edit.specs.Asking.{made_base}
+use Rattle.bib_keys.specs.MadeBase.{made_base}
 use Rattle.bib_data.specs.declared.edit.Edit.TheVariants as asked
 use Rattle.bib_edit.specs.declared.fault.EditFault.{EditFault as Fault}
 use Rattle.bib_edit.specs.declared.fault.EditFault.TheVariants as code

@@ -18,7 +18,7 @@ use Rattle.edit_spec.proofs.InUse.{InItems_none}
 use Rattle.edit_spec.proofs.IntroduceMacro.{IsUnused, IsOther}
 use Rattle.bib_scan.specs.Layout.{start_of}
 use Rattle.bib_store.specs.Meaning.{OfReading}
-use Rattle.bib_edit.specs.Asking.{made_base}
+use Rattle.bib_keys.specs.MadeBase.{made_base}
 use Rattle.bib_edit.specs.Addressing.{first_item}
 use Rattle.bib_edit.specs.Definitions.{definition_text, is_used}
 use Rattle.bib_edit.specs.declared.tokens.First.{First}

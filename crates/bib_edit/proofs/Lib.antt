@@ -11,14 +11,12 @@ pub mod NamesInUse
 pub mod PlacedFields
 pub mod PlacedValues
 pub mod PlacedTexts
-pub mod EntryCounts
 pub mod Ranks
 -- ---- pieces, in order and within the file
 pub mod PieceLists
 pub mod PiecePlaces
 pub mod PieceLengths
 pub mod JoinedTexts
-pub mod Walks
 -- ---- what an edit asks for, and its limits
 pub mod AskedEdits
 pub mod GivenNames
@@ -51,17 +49,13 @@ pub mod Moved
 -- ---- keys that change
 pub mod LoneNumbers
 pub mod NamedEntries
-pub mod DanglingTexts
+pub mod KeysInUse
 pub mod KeyPieces
 pub mod RekeyedTexts
 pub mod RenamedKeys
 -- ---- keys that are made
 pub mod KeyBases
 pub mod BracedTexts
-pub mod CandidateLengths
-pub mod FirstFree
-pub mod TakenLists
-pub mod MadeKeyLists
 pub mod Regenerated
 -- ---- macros that change
 pub mod DefinedNames

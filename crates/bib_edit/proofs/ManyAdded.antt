@@ -17,7 +17,8 @@ use Rattle.bib_data.specs.declared.edit.NewEntry.{NewEntry}
 use Rattle.bib_data.specs.declared.edit.Edit.TheVariants as asked
 use Rattle.bib_edit.specs.declared.fault.EditFault.{EditFault as Fault}
 use Rattle.bib_edit.specs.declared.fault.EditFault.TheVariants as code
-use Rattle.bib_edit.specs.Asking.{made_base, SpellEntries}
+use Rattle.bib_keys.specs.MadeBase.{made_base}
+use Rattle.bib_edit.specs.Asking.{SpellEntries}
 use Rattle.bib_edit.specs.Planning.{IsRefusal}
 use Rattle.bib_edit.specs.Limits.{olds_len, news_len}
 use Rattle.bib_edit.specs.NewEntries.{insertion_of}

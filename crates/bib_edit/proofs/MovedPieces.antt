@@ -9,7 +9,7 @@ use Rattle.bib_spec.specs.Reading.{Item, Reading, item_bytes}
 use Rattle.bib_spec.specs.Pieces.{Piece, Chunk, Kept, Replaced, pieces_from}
 use Rattle.edit_spec.specs.Edits.{MoveEntry, is_entry, in_line, line_end}
 use Rattle.edit_spec.specs.EditChunks.{kept_item, kept_items, groups_without, moved, pieces_of}
-use Rattle.bib_edit.specs.Asking.{made_base}
+use Rattle.bib_keys.specs.MadeBase.{made_base}
 use Rattle.bib_edit.specs.Removal.{IsFirstAt, body_at, removal_of}
 use Rattle.bib_edit.specs.NewEntries.{insertion_of}
 use Rattle.bib_edit.specs.Moving.{line_of, moved_pieces}

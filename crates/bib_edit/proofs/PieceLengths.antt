@@ -9,7 +9,7 @@ use Rattle.edit_spec.specs.Edits.{Edit}
 use Rattle.edit_spec.specs.EditChunks.{chunks, pieces_of}
 use Rattle.edit_spec.proofs.EditFiles.{chunks-are-files}
 use Rattle.bib_edit.specs.Limits.{olds_len, news_len}
-use Rattle.bib_edit.proofs.Walks.{next-read}
+use Rattle.bib_keys.proofs.Walks.{next-read}
 
 olds-within : (at : ℕ) (chunks : List Chunk) → olds_len (pieces_from at chunks) ≤ length (old_of chunks)
 olds-within at [] = omega arith

@@ -1,8 +1,9 @@
 -- When making all keys anew is refused, and for which reason.
-use Rattle.std.proofs.Common.{◌≡◌, ℕ, ◌+◌, ◌-◌, ◌<◌, ◌≤◌, nat_lt, List, ◌∷◌, Option, None, slice_get, length, true≢false, sym, ◌∙◌, ap, ap₂, subst, arith}
+use Rattle.std.proofs.Common.{◌≡◌, ℕ, zero, suc, ◌+◌, ◌-◌, ◌<◌, ◌≤◌, nat_lt, List, [], ◌∷◌, Option, None, slice_get, length, true≢false, sym, ◌∙◌, ap, ap₂, subst, arith}
 use Rattle.std.specs.List.{AllByRecursion}
 use Rattle.std.proofs.Math.Path.{fun_ext}
 use Rattle.std.proofs.lemmas.Bool.{cond-false, false≢true, le-ltb}
+use Rattle.std.proofs.lemmas.Option.{none-some, same_Some}
 use Rattle.std.proofs.lemmas.List.Elements.{All-nil}
 use Rattle.bib_spec.specs.Bytes.{name_limit, file_limit}
 use Rattle.bib_spec.specs.Text.{Text}
@@ -15,15 +16,14 @@ use Rattle.bib_spec.specs.MadeKeys.{new_keys}
 use Rattle.edit_spec.specs.Edits as edits
 use Rattle.edit_spec.specs.Edits.{IsAccepted, IsFirstRefusal}
 use Rattle.edit_spec.specs.EditChunks.{key_chunks, pieces_of}
-use Rattle.bib_edit.specs.Asking.{made_base}
+use Rattle.bib_keys.specs.MadeBase.{made_base}
 use Rattle.bib_edit.specs.Limits.{olds_len, news_len}
 use Rattle.bib_edit.specs.NewKeys.{key_of, rekeying}
 use Rattle.bib_edit.specs.declared.new_keys.NewKeys.{NewKeys}
 use Rattle.bib_edit.proofs.PieceLists.{lengths-edited}
 use Rattle.bib_edit.proofs.PieceLengths.{olds-edited}
 use Rattle.bib_edit.proofs.Ranks.{IsClear, clear_none, clear_more, first_refusal, all_clear}
-use Rattle.bib_edit.proofs.RekeyedTexts.{too_long-rekeyed}
-use Rattle.bib_edit.proofs.MadeKeyLists.{short-at}
+use Rattle.bib_edit.proofs.RekeyedTexts.{AreShort, too_long-rekeyed}
 
 abbrev pub making : edits.Edit
 making = edits.RegenerateKeys default_depth
@@ -35,6 +35,12 @@ every_key keys n =
   where
     less : (n : ℕ) → n - 0 ≡ n
     less n = omega arith
+
+-- keys that are short, by their numbers
+short-at : (keys : List Text) → AllByRecursion (λ k. length k ≤ name_limit) keys → AreShort (slice_get keys)
+short-at [] all n key e = absurd (none-some key e)
+short-at (k ∷ keys) all zero key e = subst (λ (t : Text). length t ≤ name_limit) (same_Some k key e) all.0
+short-at (k ∷ keys) all (suc n) key e = short-at keys all.1 n key e
 
 module _ (file : Text) (db : Reading) (reads : Reads file db) (new : NewKeys) (first : new.first ≡ 0) (keys : new.keys ≡ new_keys made_base default_depth (entries_of db)) where
   news : key_of new ≡ slice_get (new_keys made_base default_depth (entries_of db))

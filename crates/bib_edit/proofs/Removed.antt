@@ -10,7 +10,7 @@ use Rattle.bib_spec.specs.Texts.{months, Opens}
 use Rattle.bib_spec.specs.Records.{entries_of}
 use Rattle.edit_spec.specs.Edits.{RemoveEntry, BadKey, BadName, BadValue, BadPosition, NotFound, Ambiguous, KeyInUse, NameInUse, Referred, WouldMerge, FileTooLong, TextTooLong, holders, is_entry, remove_entry, EditFault, rank, Refuses, IsReferred, IsAccepted, IsFirstRefusal}
 use Rattle.edit_spec.specs.EditChunks.{pieces_of}
-use Rattle.bib_edit.specs.Asking.{made_base}
+use Rattle.bib_keys.specs.MadeBase.{made_base}
 use Rattle.bib_data.specs.declared.edit.Edit.TheVariants as asked
 use Rattle.bib_edit.specs.declared.fault.EditFault.{EditFault as Fault}
 use Rattle.bib_edit.specs.declared.fault.EditFault.TheVariants as code

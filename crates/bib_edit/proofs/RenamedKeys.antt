@@ -16,7 +16,7 @@ use Rattle.edit_spec.specs.Edits.{holders, key_for, Refuses, IsAccepted, IsFirst
 use Rattle.edit_spec.specs.EditChunks.{key_chunks, pieces_of}
 use Rattle.edit_spec.proofs.WrittenRows.{new_key-length}
 use Rattle.bib_store.specs.Meaning.{OfReading}
-use Rattle.bib_edit.specs.Asking.{made_base}
+use Rattle.bib_keys.specs.MadeBase.{made_base}
 use Rattle.bib_edit.specs.Planning.{IsRefusal}
 use Rattle.bib_edit.specs.Addressing.{IsLoneNumber, IsHolderFault}
 use Rattle.bib_edit.specs.Dangling.{is_in_use}

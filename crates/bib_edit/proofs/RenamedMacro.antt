@@ -13,7 +13,7 @@ use Rattle.edit_spec.proofs.MacroLaws.{all_free}
 use Rattle.bib_spec.specs.Texts.{IsOpenable}
 use Rattle.bib_scan.specs.Layout.{start_of}
 use Rattle.bib_edit.proofs.DefinedNames.{first-definition}
-use Rattle.bib_edit.specs.Asking.{made_base}
+use Rattle.bib_keys.specs.MadeBase.{made_base}
 use Rattle.bib_data.specs.declared.edit.Edit.TheVariants as asked
 use Rattle.bib_edit.specs.declared.fault.EditFault.{EditFault as Fault}
 use Rattle.bib_edit.specs.declared.fault.EditFault.TheVariants as code

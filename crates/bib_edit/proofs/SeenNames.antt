@@ -1,9 +1,7 @@
 -- Names that are seen one after another, until one is seen a second time.
-use Rattle.std.proofs.Common.{◌≡◌, ℕ, ◌+◌, ◌<◌, ◌≤◌, Bool, true, false, ◌||◌, List, [], ◌∷◌, ◌++◌, Some, None, is_some, get_or, length, map, take, drop, Option, ⊎_elim, refl, sym, ◌∙◌, ap, ap₂, take-append-drop}
+use Rattle.std.proofs.Common.{◌≡◌, ℕ, ◌+◌, ◌<◌, ◌≤◌, Bool, true, false, ◌||◌, List, [], ◌∷◌, ◌++◌, Some, None, is_some, get_or, length, map, take, drop, ⊎_elim, refl, sym, ◌∙◌, ap, ap₂, take-append-drop}
 use Rattle.std.specs.List.{list_any}
 use Rattle.std.specs.Str.{bytes_eq}
-use Rattle.std.specs.Borrow.{Bor}
-use Rattle.std.specs.Option.{option_copied}
 use Rattle.std.proofs.lemmas.Bool.{cases_Bool, cond-true, cond-false}
 use Rattle.std.proofs.lemmas.List.{take_more, take_all, map-append}
 use Rattle.bib_spec.specs.Text.{Text, folded, same}
@@ -94,8 +92,3 @@ module _ {X : Type 0} (name_of : X → Text) where
 
   pub seen-all : (xs : List X) (i : ℕ) (seen : List (Text × Bool)) → SeenTo xs i seen → length xs ≤ i → has_same (map name_of xs) ≡ false
   seen-all xs i seen to le = ap (λ l. has_same (map name_of l)) (sym (take_all i xs le)) ∙ to.none
-
--- whether a look-up found something
-pub copied-some : {V : Type 0} (o : Option (Bor V)) → is_some (option_copied o) ≡ is_some o
-copied-some None = refl
-copied-some (Some b) = refl

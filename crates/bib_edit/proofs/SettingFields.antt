@@ -20,7 +20,8 @@ use Rattle.bib_data.specs.declared.edit.Edit.{Edit}
 use Rattle.bib_data.specs.declared.edit.Edit.TheVariants.{SetField}
 use Rattle.bib_edit.specs.declared.fault.EditFault.{EditFault}
 use Rattle.bib_edit.specs.declared.fault.EditFault.TheVariants.{BadKey, BadName, BadValue, BadPosition, NotFound, Ambiguous, KeyInUse, NameInUse, Referred, WouldMerge, FileTooLong, TextTooLong, Memory}
-use Rattle.bib_edit.specs.Asking.{made_base, AsksFor, set_field}
+use Rattle.bib_keys.specs.MadeBase.{made_base}
+use Rattle.bib_edit.specs.Asking.{AsksFor, set_field}
 use Rattle.bib_scan.proofs.OneReading.{one_reading}
 use Rattle.bib_edit.specs.Planning.{IsAllowedEdit, ArePiecesOf, IsRefusal}
 use Rattle.bib_edit.specs.Addressing.{IsHeldAt, IsHolderFault, is_field}

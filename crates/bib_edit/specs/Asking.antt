@@ -2,17 +2,12 @@
 use Rattle.std.specs.Prelude.{ℕ, List, [], ◌∷◌, ◌≡◌}
 use Rattle.bib_spec.specs.Text.{Text}
 use Rattle.bib_spec.specs.Tree.{Value}
-use Rattle.bib_spec.specs.Records.{Record, default_depth}
+use Rattle.bib_spec.specs.Records.{default_depth}
 use Rattle.edit_spec.specs.Edits as edits
 use Rattle.edit_spec.specs.Edits.{Spells}
-use Rattle.bib_names.specs.Label.{key_base}
 use Rattle.bib_data.specs.declared.edit.Edit.{Edit}
 use Rattle.bib_data.specs.declared.edit.Edit.TheVariants.{SetField, DropField, AddEntry, AddMany, RemoveEntry, MoveEntry, RenameKey, RegenerateKeys, RenameMacro, InlineMacro, IntroduceMacro}
 use Rattle.bib_data.specs.declared.edit.NewEntry.{NewEntry}
-
--- the base of a made key, which is that of the record's label
-abbrev pub made_base : Record → Text
-made_base r = key_base r.fields
 
 -- the values are what the bytes of the fields say
 abbrev pub SpellFields : List (Text × Text) → List (Text × Value) → Type 0

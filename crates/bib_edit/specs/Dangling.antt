@@ -1,12 +1,8 @@
--- Crossrefs that name no entry, and keys that they wait for.
-use Rattle.std.specs.Prelude.{ℕ, Bool, ◌&&◌, ◌||◌, not, List, Option, option_and_then, slice_get}
+-- Keys that dangling crossrefs wait for, and keys in use.
+use Rattle.std.specs.Prelude.{Bool, ◌&&◌, ◌||◌, not, List}
 use Rattle.std.specs.List.{list_any}
 use Rattle.bib_spec.specs.Text.{Text, same}
-use Rattle.bib_spec.specs.Records.{EntryTexts, keys_of, is_named, dangling_text, dangling_texts}
-
--- the crossref text of entry n, if it names no entry
-abbrev pub dangling_at : List EntryTexts → ℕ → Option Text
-dangling_at entries n = option_and_then (dangling_text entries) (slice_get entries n)
+use Rattle.bib_spec.specs.Records.{EntryTexts, keys_of, is_named, dangling_texts}
 
 -- a dangling crossref waits for the key
 abbrev pub is_awaited : Text → List EntryTexts → Bool

@@ -11,8 +11,6 @@ pub mod FieldPieces
 pub mod Limits
 pub mod Dangling
 pub mod NewKeys
-pub mod TakenKeys
-pub mod LastParent
 pub mod PlacedParts
 pub mod Definitions
 pub mod Laws

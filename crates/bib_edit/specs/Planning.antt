@@ -7,7 +7,8 @@ use Rattle.edit_spec.specs.EditChunks.{pieces_of}
 use Rattle.bib_store.specs.Meaning.{OfReading}
 use Rattle.bib_data.specs.declared.edit.Edit.{Edit}
 use Rattle.bib_edit.specs.declared.fault.EditFault.{EditFault}
-use Rattle.bib_edit.specs.Asking.{OfEdit, made_base}
+use Rattle.bib_keys.specs.MadeBase.{made_base}
+use Rattle.bib_edit.specs.Asking.{OfEdit}
 use Rattle.bib_edit.specs.Faults.{reason_of}
 
 -- no reason refuses the edit

@@ -1,145 +1,16 @@
-//! Keys that are made for entries.
+//! Keys that are free in a file.
 
-ghost use Rattle.std.specs.Prelude.{◌≡◌, ◌≤◌, ◌<◌, ◌+◌, ◌*◌, ◌^◌, ◌++◌, List, [], ◌∷◌, length, map, slice_get, Some, IfOk, IfErr, OnOk, IsOkAnd};
+ghost use Rattle.std.specs.Prelude.{◌≡◌, ◌≤◌, length, IfOk, IfErr};
 ghost use Rattle.std.specs.List.{AllByRecursion};
-ghost use Rattle.bib_spec.specs.Bytes.{name_limit, file_limit};
-ghost use Rattle.bib_spec.specs.Text.{Text as Bytes};
-ghost use Rattle.bib_spec.specs.Records.{EntryTexts, entries_of, missing, record_of, default_depth};
-ghost use Rattle.bib_spec.specs.MadeKeys.{free_key, made_keys, new_keys, base_limit};
-ghost use Rattle.bib_store.specs.Meaning.{OfReading, IsEntryNumber};
-ghost use Rattle.bib_names.specs.Label.{Fields, label_names, key_base};
-ghost use Rattle.bib_names.specs.LabelParts.{parts_of};
-ghost use Rattle.bib_edit.specs.Asking.{made_base};
-ghost use Rattle.bib_edit.specs.LastParent.{IsLastParent};
-ghost use Rattle.bib_edit.specs.TakenKeys.{AreTaken, taken_in};
+ghost use Rattle.bib_spec.specs.MadeKeys.{free_key, made_keys, base_limit};
+ghost use Rattle.bib_store.specs.Meaning.{OfReading};
+ghost use Rattle.bib_keys.specs.TakenKeys.{taken_in};
 ghost use Rattle.bib_edit.specs.declared.fault.EditFault.TheVariants.{Memory};
 
 use crate::fault::EditFault;
-use crate::last_parents::LastParent;
-use crate::taken_keys::TakenKeys;
-use bib_names::{LabelParts, key_base_with, label_names};
 use bib_scan::{Seq, Text};
 use bib_store::{Database, ItemList};
-use std::alloc::{AllocError, Global};
-
-/// The base of the key that is made for entry `n`: that of its record. No other fields are gathered than those of these
-/// names, which are all that a base is made of, and those of its parent are not read again where it is the last.
-fn base_of<L: ItemList>(
-    alloc: Global,
-    db: &Database<L>,
-    n: usize,
-    names: &[&[u8]],
-    last: &mut LastParent,
-) -> Result<Text, EditFault>
-    requires number { IsEntryNumber db.now n }
-    requires names { map (λ name. name.now) names.now ≡ label_names }
-    requires last { IsLastParent db.now last.old }
-    ensures last { OnOk result (IsLastParent db.now last.new) }
-    ensures base { IfOk result (λ base. OfReading db.now (λ r. (entry : EntryTexts) → slice_get (entries_of r) n ≡ Some entry → base ≡ made_base (record_of default_depth (entries_of r) n entry))) }
-    ensures short { IfOk result (λ base. length base ≤ base_limit) }
-    ensures only { IfErr result (λ fault. fault ≡ Memory) }
-{
-    let Ok(fields) = db.own_fields_with(n, names) else {
-        return Err(EditFault::Memory);
-    };
-    let Some(parent) = db.parent(n) else {
-        return base_with(alloc, fields.as_slice(), &LabelParts::none(alloc));
-    };
-    last.turn_to(alloc, db, parent, names)?;
-    base_with(alloc, fields.as_slice(), last.parts())
-}
-
-/// The base of the key that is made of these fields, and of what is inherited.
-fn base_with(
-    alloc: Global,
-    fields: &[(Text, Text)],
-    inherited: &LabelParts,
-) -> Result<Text, EditFault>
-    ensures base { IfOk result (λ base. (others : Fields) → inherited.now ≡ parts_of others → base ≡ key_base (fields.now ++ missing fields.now others)) }
-    ensures short { IfOk result (λ base. length base ≤ base_limit) }
-    ensures only { IfErr result (λ fault. fault ≡ Memory) }
-{
-    match key_base_with(alloc, fields, inherited) {
-        Ok(base) => Ok(base),
-        Err(_) => Err(EditFault::Memory),
-    }
-}
-
-/// The key that is made for entry `n`, the first candidate of its base that is not taken, which then is.
-fn make_key<L: ItemList>(
-    alloc: Global,
-    db: &Database<L>,
-    n: usize,
-    names: &[&[u8]],
-    taken: &mut TakenKeys,
-    last: &mut LastParent,
-) -> Result<Text, EditFault>
-    requires number { IsEntryNumber db.now n }
-    requires names { map (λ name. name.now) names.now ≡ label_names }
-    requires last { IsLastParent db.now last.old }
-    requires count { taken.old.count + 1 < 2 ^ 64 }
-    ensures last { OnOk result (IsLastParent db.now last.new) }
-    ensures key { IfOk result (λ key. OfReading db.now (λ r. (entry : EntryTexts) → slice_get (entries_of r) n ≡ Some entry → (keys : List Bytes) → AreTaken keys taken.old → key ≡ free_key keys (made_base (record_of default_depth (entries_of r) n entry)))) }
-    ensures taken { IfOk result (λ key. (keys : List Bytes) → AreTaken keys taken.old → AreTaken (key ∷ keys) taken.new) }
-    ensures count { OnOk result (taken.new.count ≡ taken.old.count + 1) }
-    ensures short { IfOk result (λ key. length key ≤ name_limit) }
-    ensures only { IfErr result (λ fault. fault ≡ Memory) }
-{
-    let base = base_of(alloc, db, n, names, last)?;
-    Ok(taken.take_free(base.as_slice())?)
-}
-
-/// Puts the key that was made, if it was, after the others.
-fn push_made(keys: &mut Vec<Text>, made: Result<Text, EditFault>) -> Result<(), EditFault>
-    requires { IfErr made (λ fault. fault ≡ Memory) }
-    ensures pushed { OnOk result (IsOkAnd made (λ key. keys.new.items ≡ keys.old.items ++ key ∷ [])) }
-    ensures only { IfErr result (λ fault. fault ≡ Memory) }
-{
-    keys.push(made?)?;
-    Ok(())
-}
-
-/// The made keys of all entries: for each in turn the first candidate of its base that is neither an earlier entry's made
-/// key nor the text of a dangling crossref. It takes time in the number of entries and in their bytes, those of a parent
-/// once for each run of its children, which only a child of another parent ends, and memory for the keys.
-pub(crate) fn made_keys<L: ItemList>(
-    alloc: Global,
-    db: &Database<L>,
-) -> Result<Seq<Text>, EditFault>
-    ensures keys { IfOk result (λ keys. OfReading db.now (λ r. keys ≡ new_keys made_base default_depth (entries_of r))) }
-    ensures short { IfOk result (AllByRecursion (λ key. length key ≤ name_limit)) }
-    ensures only { IfErr result (λ fault. fault ≡ Memory) }
-{
-    db.opens();
-    let mut taken = TakenKeys::of_dangling(alloc, db)?;
-    let label_names = label_names(alloc)?;
-    let names = label_names.as_slice();
-    let mut last = LastParent::none(alloc);
-    let mut keys = Vec::new(alloc);
-    'entries: for n in 0..db.entry_count() {
-        push_made(
-            &mut keys,
-            make_key(alloc, db, n, names, &mut taken, &mut last),
-        )?;
-    }
-    Ok(Seq::from_vec(keys))
-}
-
-/// What no free key is: the keys of the file, these others, and the texts of dangling crossrefs.
-fn taken_in<L: ItemList>(
-    alloc: Global,
-    db: &Database<L>,
-    others: &[Text],
-) -> Result<TakenKeys, AllocError>
-    ensures taken { IfOk result (λ taken. OfReading db.now (λ r. AreTaken (taken_in r others.now) taken)) }
-    ensures count { IfOk result (λ taken. taken.count ≤ 2 * file_limit + length others.now) }
-{
-    db.opens();
-    let mut taken = TakenKeys::of_dangling(alloc, db)?;
-    taken.add_all(others)?;
-    taken.add_entries(db)?;
-    Ok(taken)
-}
+use std::alloc::Global;
 
 /// The first of a base, the base with `a`, .. with `z`, with `aa` and so on that is, without regard to ASCII case, no key
 /// of the file, no text of a dangling crossref, and none of these. It takes time in the number of entries and of the
@@ -154,8 +25,7 @@ pub fn free_key<L: ItemList>(
     ensures key { IfOk result (λ key. OfReading db.now (λ r. key ≡ free_key (taken_in r taken.now) base.now)) }
     ensures only { IfErr result (λ fault. fault ≡ Memory) }
 {
-    let mut known = taken_in(alloc, db, taken)?;
-    Ok(known.take_free(base)?)
+    Ok(bib_keys::free_key(alloc, db, base, taken)?)
 }
 
 /// A free key for each of these bases in turn, as `free_key` finds one, which then is taken too. It takes time in the
@@ -171,10 +41,5 @@ pub fn free_keys<L: ItemList>(
     ensures keys { IfOk result (λ keys. OfReading db.now (λ r. keys ≡ made_keys (taken_in r taken.now) bases.now)) }
     ensures only { IfErr result (λ fault. fault ≡ Memory) }
 {
-    let mut known = taken_in(alloc, db, taken)?;
-    let mut keys = Vec::new(alloc);
-    'bases: for base in bases {
-        keys.push(known.take_free(base.as_slice())?)?;
-    }
-    Ok(Seq::from_vec(keys))
+    Ok(bib_keys::free_keys(alloc, db, bases, taken)?)
 }

@@ -6,9 +6,9 @@ ghost use Rattle.bib_data.specs.declared.edit.Edit.TheVariants.{RegenerateKeys};
 
 use crate::fault::EditFault;
 use crate::limits::are_too_long;
-use crate::made_keys::made_keys;
 use crate::new_keys::NewKeys;
 use crate::rekeying::rekeying;
+use bib_keys::made_keys;
 use bib_scan::{Seq, one_reading};
 use bib_store::{Database, ItemList, Piece};
 use std::alloc::Global;

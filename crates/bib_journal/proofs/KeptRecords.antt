@@ -21,7 +21,8 @@ use Rattle.bib_data.specs.declared.request.Request.{Request}
 use Rattle.bib_data.specs.declared.request.Request.TheVariants as request
 use Rattle.bib_edit.specs.declared.fault.EditFault.{EditFault}
 use Rattle.bib_edit.specs.declared.fault.EditFault.TheVariants as edit_fault
-use Rattle.bib_edit.specs.Asking.{AsksFor, OfEdit, made_base, rename_key, regenerate_keys, rename_macro, inline_macro, introduce_macro}
+use Rattle.bib_keys.specs.MadeBase.{made_base}
+use Rattle.bib_edit.specs.Asking.{AsksFor, OfEdit, rename_key, regenerate_keys, rename_macro, inline_macro, introduce_macro}
 use Rattle.bib_edit.specs.Planning.{IsRefusal}
 use Rattle.bib_edit.proofs.AskedEdits.{asked_for}
 use Rattle.bib_edit.proofs.KeyBases.{has_key_base}

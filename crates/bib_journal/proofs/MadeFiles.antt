@@ -9,7 +9,8 @@ use Rattle.edit_spec.specs.Edits.{edited, IsAccepted}
 use Rattle.edit_spec.specs.Steps.{KeptSteps}
 use Rattle.edit_spec.proofs.EditedReads.{edited-reads}
 use Rattle.bib_data.specs.declared.edit.Edit.{Edit}
-use Rattle.bib_edit.specs.Asking.{AsksFor, OfEdit, made_base}
+use Rattle.bib_keys.specs.MadeBase.{made_base}
+use Rattle.bib_edit.specs.Asking.{AsksFor, OfEdit}
 use Rattle.bib_edit.proofs.KeyBases.{has_key_base}
 use Rattle.bib_journal.specs.Session.{MakesEdit}
 use Rattle.bib_journal.specs.Renaming.{OfReadings}

@@ -17,7 +17,8 @@ use Rattle.edit_spec.proofs.StepLemmas.{lead_to_pop, adding-edits, going-back-un
 use Rattle.edit_spec.proofs.EditFiles.{pieces-lead}
 use Rattle.edit_spec.proofs.EditedReads.{applied-opens}
 use Rattle.bib_data.specs.declared.edit.Edit.{Edit}
-use Rattle.bib_edit.specs.Asking.{AsksFor, made_base}
+use Rattle.bib_keys.specs.MadeBase.{made_base}
+use Rattle.bib_edit.specs.Asking.{AsksFor}
 use Rattle.bib_edit.specs.Planning.{IsAllowedEdit, ArePiecesOf}
 use Rattle.bib_edit.proofs.AskedEdits.{asked_for}
 use Rattle.bib_edit.proofs.KeyBases.{has_key_base}

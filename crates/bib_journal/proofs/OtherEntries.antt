@@ -10,7 +10,8 @@ use Rattle.edit_spec.proofs.OtherEntries.{add_entry-keeps_others, remove_entry-k
 use Rattle.edit_spec.proofs.AddedAfter.{add_many-keeps_others}
 use Rattle.bib_data.specs.declared.edit.Edit.{Edit}
 use Rattle.bib_data.specs.declared.edit.Edit.TheVariants.{SetField, DropField, AddEntry, AddMany, RemoveEntry, MoveEntry, RenameKey, RegenerateKeys, RenameMacro, InlineMacro, IntroduceMacro}
-use Rattle.bib_edit.specs.Asking.{OfEdit, made_base, add_entry, add_many, remove_entry}
+use Rattle.bib_keys.specs.MadeBase.{made_base}
+use Rattle.bib_edit.specs.Asking.{OfEdit, add_entry, add_many, remove_entry}
 use Rattle.bib_edit.proofs.AskedEdits.{spelled_entry, spelled_entries}
 use Rattle.bib_edit.proofs.SpelledLists.{keys-spelled}
 use Rattle.bib_journal.specs.OtherEntries.{NoneWaits, KeepsOtherEntries, others_are_kept}

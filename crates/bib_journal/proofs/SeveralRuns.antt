@@ -15,7 +15,8 @@ use Rattle.journal_format.proofs.JournalLaws.{one-contents}
 use Rattle.bib_data.specs.declared.edit.Edit.{Edit}
 use Rattle.bib_data.specs.declared.request.Request.{Request}
 use Rattle.bib_data.specs.declared.request.Request.TheVariants as request
-use Rattle.bib_edit.specs.Asking.{AsksFor, made_base}
+use Rattle.bib_keys.specs.MadeBase.{made_base}
+use Rattle.bib_edit.specs.Asking.{AsksFor}
 use Rattle.bib_edit.specs.Planning.{ArePiecesOf}
 use Rattle.bib_edit.proofs.AskedEdits.{asked_for}
 use Rattle.bib_journal.specs.declared.saving.Saved.{Saved}

@@ -14,7 +14,7 @@ use Rattle.bib_data.specs.declared.edit.Edit.TheVariants.{RenameKey, RegenerateK
 use Rattle.bib_data.specs.declared.request.Request.{Request}
 use Rattle.bib_data.specs.declared.request.Request.TheVariants as request
 use Rattle.bib_edit.specs.declared.fault.EditFault.{EditFault}
-use Rattle.bib_edit.specs.Asking.{made_base}
+use Rattle.bib_keys.specs.MadeBase.{made_base}
 use Rattle.bib_journal.specs.declared.fault.SessionFault.{SessionFault}
 use Rattle.bib_journal.specs.declared.fault.SessionFault.TheVariants.{Refused}
 use Rattle.bib_journal.specs.Session.{MakesEdit, RefusesEdit, Performs}

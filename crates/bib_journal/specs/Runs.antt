@@ -9,7 +9,8 @@ use Rattle.edit_spec.specs.Edits.{edited}
 use Rattle.bib_store.specs.Meaning.{OfReading}
 use Rattle.bib_data.specs.declared.request.Request.{Request}
 use Rattle.bib_data.specs.declared.request.Request.TheVariants as request
-use Rattle.bib_edit.specs.Asking.{OfEdit, made_base}
+use Rattle.bib_keys.specs.MadeBase.{made_base}
+use Rattle.bib_edit.specs.Asking.{OfEdit}
 use Rattle.bib_journal.specs.declared.saving.Saved.{Saved}
 use Rattle.bib_journal.specs.Loading.{Saves}
 use Rattle.bib_journal.specs.Session.{Opens, DoesAll}

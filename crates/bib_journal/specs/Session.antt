@@ -10,7 +10,8 @@ use Rattle.edit_spec.specs.EditChunks.{pieces_of}
 use Rattle.bib_store.specs.Meaning.{OfReading, IsOpenFault}
 use Rattle.bib_data.specs.declared.edit.Edit.{Edit}
 use Rattle.bib_edit.specs.declared.fault.EditFault.TheVariants as edit_fault
-use Rattle.bib_edit.specs.Asking.{OfEdit, made_base}
+use Rattle.bib_keys.specs.MadeBase.{made_base}
+use Rattle.bib_edit.specs.Asking.{OfEdit}
 use Rattle.bib_edit.specs.Planning.{IsAllowedEdit, IsRefusal}
 use Rattle.journal_format.specs.Faults.{IsNoJournal}
 use Rattle.bib_journal.specs.Loading.{Loads, IsMismatch}

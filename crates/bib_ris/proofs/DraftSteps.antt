@@ -11,7 +11,7 @@ use Rattle.bib_spec.specs.Text.{Text, is_new_key}
 use Rattle.bib_spec.specs.Records.{Record}
 use Rattle.bib_spec.specs.MadeKeys.{base_limit}
 use Rattle.bib_data.specs.declared.edit.NewEntry.{NewEntry}
-use Rattle.bib_edit.specs.Asking.{made_base}
+use Rattle.bib_keys.specs.MadeBase.{made_base}
 use Rattle.ris_text.specs.declared.records.RisRecord.{RisRecord}
 use Rattle.ris_text.specs.declared.records.RisFile.{RisFile}
 use Rattle.ris_text.specs.declared.fault.RisFault.{RisFault}

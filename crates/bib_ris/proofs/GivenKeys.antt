@@ -6,7 +6,7 @@ use Rattle.std.proofs.Math.Seq.{take-suc-set}
 use Rattle.std.proofs.Math.ListN.{drop_of_length-le}
 use Rattle.bib_spec.specs.Text.{Text, is_new_key}
 use Rattle.bib_data.specs.declared.edit.NewEntry.{NewEntry}
-use Rattle.bib_edit.proofs.Walks.{next-read}
+use Rattle.bib_keys.proofs.Walks.{next-read}
 use Rattle.bib_ris.specs.Drafts.{with_keys}
 
 with-none : (keys : List Text) → with_keys keys [] ≡ []

@@ -6,7 +6,7 @@ use Rattle.bib_spec.specs.Text.{Text, is_new_key}
 use Rattle.bib_spec.specs.Records.{Record}
 use Rattle.bib_spec.specs.MadeKeys.{free_key, made_keys}
 use Rattle.bib_data.specs.declared.edit.NewEntry.{NewEntry}
-use Rattle.bib_edit.specs.Asking.{made_base}
+use Rattle.bib_keys.specs.MadeBase.{made_base}
 use Rattle.ris_format.specs.Entry.{entry_of}
 use Rattle.bib_ris.specs.Import.{usable_ids, with_key, keyed}
 use Rattle.bib_ris.specs.Drafts.{bases_of, usable_keys, with_keys}

@@ -6,7 +6,7 @@ ghost use Rattle.bib_spec.specs.Text.{is_new_key};
 ghost use Rattle.bib_spec.specs.Records.{Record as EntryRecord};
 ghost use Rattle.bib_data.specs.declared.edit.NewEntry.{NewEntry as EntryAdded};
 ghost use Rattle.bib_spec.specs.MadeKeys.{base_limit};
-ghost use Rattle.bib_edit.specs.Asking.{made_base};
+ghost use Rattle.bib_keys.specs.MadeBase.{made_base};
 ghost use Rattle.ris_text.specs.declared.records.RisFile.{RisFile};
 ghost use Rattle.ris_text.specs.declared.fault.RisFault.TheVariants.{Memory as TextMemory};
 ghost use Rattle.ris_format.specs.Mapping.{back};

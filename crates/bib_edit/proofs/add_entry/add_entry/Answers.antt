@@ -5,7 +5,7 @@ use Rattle.bib_spec.specs.Bytes.{file_limit}
 use Rattle.bib_spec.specs.Text.{Text}
 use Rattle.edit_spec.specs.Edits.{has_same, holders}
 use Rattle.edit_spec.specs.EditChunks.{pieces_of}
-use Rattle.bib_edit.specs.Asking.{made_base}
+use Rattle.bib_keys.specs.MadeBase.{made_base}
 use Rattle.bib_edit.specs.NewEntries.{names_of, IsAnyLong, entry_text, insertion_of}
 use Rattle.bib_edit.proofs.OpenFiles.{opens-as, none-long}
 use Rattle.bib_edit.proofs.AskedEdits.{of-add_entry}

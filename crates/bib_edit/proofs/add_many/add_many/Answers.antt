@@ -7,7 +7,7 @@ use Rattle.bib_spec.specs.Pieces.{Piece}
 use Rattle.edit_spec.specs.EditChunks.{pieces_of}
 use Rattle.bib_store.specs.Meaning.{OfReading}
 use Rattle.bib_data.specs.declared.edit.Edit.TheVariants as asked
-use Rattle.bib_edit.specs.Asking.{made_base}
+use Rattle.bib_keys.specs.MadeBase.{made_base}
 use Rattle.bib_edit.specs.Planning.{ArePiecesOf, IsAllowedEdit}
 use Rattle.bib_edit.specs.ManyEntries.{AreAnyLong, entries_text, appended}
 use Rattle.bib_edit.proofs.OpenFiles.{opens-as, none-long}

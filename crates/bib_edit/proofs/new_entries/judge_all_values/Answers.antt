@@ -2,7 +2,7 @@ use Rattle.std.proofs.Common.{◌↔◌, List, subst}
 use Rattle.bib_data.specs.declared.edit.NewEntry.{NewEntry}
 use Rattle.bib_edit.specs.ManyEntries.{AllHaveValues}
 use Rattle.bib_edit.specs.NewEntries.{HaveValues}
-use Rattle.bib_edit.proofs.Walks.{next-read}
+use Rattle.bib_keys.proofs.Walks.{next-read}
 use Rattle.bib_edit.proofs.new_entries.judge_all_values.Goals as goal
 
 pub entries-preserved : goal.entries-preserved

@@ -3,7 +3,7 @@ use Rattle.bib_spec.specs.Text.{same}
 use Rattle.bib_spec.specs.Records.{entries_of, keys_of, is_named}
 use Rattle.edit_spec.proofs.RenameKey.{new_key_parts}
 use Rattle.bib_edit.specs.Dangling.{is_awaited}
-use Rattle.bib_edit.proofs.DanglingTexts.{in-use}
+use Rattle.bib_edit.proofs.KeysInUse.{in-use}
 use Rattle.bib_edit.proofs.rename_key.is_in_use.Goals as goal
 use Rattle.bib_edit.proofs.rename_key.is_in_use.Goals.{then-not-same_folded, else-not-same_folded}
 

@@ -2,7 +2,7 @@ use Rattle.std.proofs.Common.{◌∙◌, List, ap}
 use Rattle.bib_spec.specs.Text.{Text}
 use Rattle.bib_spec.specs.MadeKeys.{made_keys}
 use Rattle.bib_data.specs.declared.edit.NewEntry.{NewEntry}
-use Rattle.bib_edit.specs.TakenKeys.{taken_in}
+use Rattle.bib_keys.specs.TakenKeys.{taken_in}
 use Rattle.bib_ris.specs.Import.{usable_ids}
 use Rattle.bib_ris.specs.Drafts.{bases_of, usable_keys, with_keys}
 use Rattle.bib_ris.proofs.KeyedRecords.{usable-entries, keyed-with}

@@ -1,8 +1,0 @@
-use Rattle.std.proofs.Common.{◌≡◌, ◌+◌, ◌++◌, List, drop}
-use Rattle.bib_spec.specs.Text.{Text}
-use Rattle.bib_edit.specs.TakenKeys.{AreTaken}
-use Rattle.bib_edit.proofs.TakenLists.{AreTakenBut}
-use Rattle.bib_edit.proofs.taken_keys.TakenKeys.add_all.Given as goal
-
-abbrev pub invariant-loop-key : goal.invariant-loop-key
-invariant-loop-key l = ((others : List Text) → AreTaken others l.initial.self → AreTakenBut (drop l.key-index l.keys) (l.keys ++ others) l.self) × (l.self.count ≡ l.initial.self.count + l.key-index)

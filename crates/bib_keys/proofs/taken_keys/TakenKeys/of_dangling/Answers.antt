@@ -1,0 +1,24 @@
+use Rattle.std.proofs.Common.{[], List, length, ap, arith, append-nil, subst}
+use Rattle.bib_spec.specs.Text.{Text}
+use Rattle.bib_spec.specs.Records.{entries_of, dangling_texts}
+use Rattle.bib_keys.specs.TakenKeys.{AreTaken}
+use Rattle.bib_keys.proofs.EntryCounts.{few-entries}
+use Rattle.bib_keys.proofs.taken_keys.TakenKeys.of_dangling.Goals as goal
+
+pub add_dangling-requires : goal.add_dangling-requires
+add_dangling-requires g c db reads =
+    let none = c.none-taken.ensures.count in
+    let few = few-entries db in
+    let bytes = ap length reads.bytes in
+    let short = c.opens.ensures.1.short in
+    omega (arith, none, few, bytes, short)
+
+pub returns-clause-taken : goal.returns-clause-taken
+returns-clause-taken g c db reads =
+    subst (λ (l : List Text). AreTaken l c.add_dangling.new.self) (append-nil (dangling_texts (entries_of db))) (c.in_ok-add_dangling.ensures.taken db reads [] c.none-taken.ensures)
+
+pub returns-clause-count : goal.returns-clause-count
+returns-clause-count g c db reads =
+    let none = c.none-taken.ensures.count in
+    let dangling = c.in_ok-add_dangling.ensures.count db reads in
+    omega (arith, none, dangling)

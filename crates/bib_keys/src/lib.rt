@@ -1,0 +1,11 @@
+//! Makes keys for the entries of a file, and finds keys that are free in it. It knows the keys that a file has and those
+//! that its dangling crossrefs wait for; it knows no edits, and changes nothing. It promises the keys of the definitions,
+//! or the one refusal, which is want of memory.
+#![tactic(auto)]
+
+mod dangling;
+mod last_parents;
+mod making;
+mod taken_keys;
+
+pub use making::{free_key, free_keys, made_keys};
