@@ -18,11 +18,13 @@ use Rattle.edit_spec.specs.EditChunks.{kept_rows, entry_chunks, field_dropped, p
 use Rattle.edit_spec.proofs.TreeChunks.{row-parts}
 use Rattle.bib_scan.specs.View.{Field, field_behind, fields_behind, view_of}
 use Rattle.bib_scan.specs.Layout.{start_of}
-use Rattle.bib_edit.specs.Addressing.{is_field, field_end, item_named}
+use Rattle.bib_tokens.specs.PlacedParts.{field_end}
+use Rattle.bib_edit.specs.Addressing.{is_field, item_named}
 use Rattle.bib_edit.specs.FieldPieces.{cut_piece, joins_key}
 use Rattle.bib_edit.proofs.FirstItems.{found-again}
 use Rattle.bib_edit.proofs.PieceLists.{pieces-entry, pieces-kept_rows}
-use Rattle.bib_edit.proofs.SettingPieces.{item_at, value-place, before-next, length-to_value, pieces-entry_as}
+use Rattle.bib_tokens.proofs.PlacedFields.{value-place}
+use Rattle.bib_edit.proofs.SettingPieces.{item_at, before-next, length-to_value, pieces-entry_as}
 
 abbrev rows_bytes : List Row → Text
 rows_bytes rows = flat_map row_bytes rows

@@ -9,10 +9,10 @@ use Rattle.std.proofs.lemmas.Bool.{false≢true}
 use Rattle.bib_scan.specs.View.{Field, View, view_of}
 use Rattle.bib_scan.specs.Layout.{start_of}
 use Rattle.bib_store.specs.Meaning.{OfReading}
-use Rattle.bib_edit.specs.Addressing.{first_item}
+use Rattle.bib_tokens.specs.FirstItem.{first_item}
 use Rattle.bib_edit.specs.Definitions.{IsDefinitionAt, IsDefinitionNumber}
 use Rattle.bib_edit.proofs.FirstItems.{IsFirstItem, found_first, item-first}
-use Rattle.bib_edit.proofs.PlacedItems.{item-ends}
+use Rattle.bib_tokens.proofs.PlacedItems.{item-ends}
 
 abbrev pub definition_item : Definition → Text → Item
 definition_item d trail = record { tree = DefinitionTree d; trail = trail }

@@ -25,7 +25,8 @@ use Rattle.bib_data.specs.declared.edit.Edit.TheVariants.{DropField}
 use Rattle.bib_edit.specs.declared.fault.EditFault.TheVariants.{BadName, NotFound, Ambiguous, WouldMerge}
 use Rattle.bib_keys.specs.MadeBase.{made_base}
 use Rattle.bib_edit.specs.Planning.{IsAllowedEdit, ArePiecesOf, IsRefusal}
-use Rattle.bib_edit.specs.Addressing.{item_named, is_field, field_end}
+use Rattle.bib_tokens.specs.PlacedParts.{field_end}
+use Rattle.bib_edit.specs.Addressing.{item_named, is_field}
 use Rattle.bib_edit.specs.FieldPieces.{cut_piece, joins_key, OfItem}
 use Rattle.bib_edit.proofs.Ranks.{IsClear, clear_none, clear_more, first_refusal, all_clear}
 use Rattle.bib_edit.proofs.NamedEntries.{IsNamedEntry, named-entry, held-item}

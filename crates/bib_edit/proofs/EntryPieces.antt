@@ -23,7 +23,7 @@ use Rattle.bib_store.proofs.EntryItems.{length-entry_items, length-entry_numbers
 use Rattle.bib_edit.specs.NewKeys.{key_of, new_target, key_piece, crossref_piece, IsEntrySeen, rekeying, entry_pieces, pieces_at, pieces_behind, RefersAt, ArePassed, AreQuiet, HavePieces}
 use Rattle.bib_edit.specs.declared.new_keys.NewKeys.{NewKeys}
 use Rattle.bib_edit.proofs.KeyPieces.{keyed_chunks, pieces-other, pieces-more, entry-is}
-use Rattle.bib_edit.proofs.PlacedItems.{item-ends}
+use Rattle.bib_tokens.proofs.PlacedItems.{item-ends}
 use Rattle.bib_edit.proofs.Referrers.{numbers-ascend, none-after, target-referrer}
 
 -- ---- the number of an entry

@@ -10,7 +10,7 @@ use Rattle.edit_spec.specs.Edits.{from_first, with_first_tree}
 use Rattle.edit_spec.specs.EditChunks.{kept_item, kept_items, chunks_from_first}
 use Rattle.bib_spec.proofs.Places.{suc_some}
 use Rattle.bib_scan.specs.Layout.{start_of}
-use Rattle.bib_edit.specs.Addressing.{first_item}
+use Rattle.bib_tokens.specs.FirstItem.{first_item}
 
 module _ (test : Tree → Bool) where
   -- item n is the first that passes the test

@@ -5,7 +5,7 @@ use Rattle.std.proofs.lemmas.Option.{none-some, same_Some}
 use Rattle.bib_spec.specs.Tree.{Tree}
 use Rattle.bib_spec.specs.Reading.{Item}
 use Rattle.bib_spec.proofs.Places.{suc_some}
-use Rattle.bib_edit.specs.Addressing.{first_item}
+use Rattle.bib_tokens.specs.FirstItem.{first_item}
 use Rattle.bib_edit.specs.Removal.{IsFirstAt}
 
 pub first-within : (test : Tree → Bool) (items : List Item) (n : ℕ) → IsFirstAt test items n → n < length items

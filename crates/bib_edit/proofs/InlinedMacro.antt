@@ -18,7 +18,8 @@ use Rattle.bib_edit.specs.declared.fault.EditFault.{EditFault as Fault}
 use Rattle.bib_edit.specs.declared.fault.EditFault.TheVariants as code
 use Rattle.bib_edit.specs.Planning.{IsRefusal}
 use Rattle.bib_edit.specs.Definitions.{IsDefinedAt, IsDefinitionFault, braced}
-use Rattle.bib_edit.specs.PlacedParts.{items_placed, tokens_of, replaced_by, covered}
+use Rattle.bib_tokens.specs.PlacedParts.{items_placed, tokens_of}
+use Rattle.bib_edit.specs.Replacing.{replaced_by, covered}
 use Rattle.bib_edit.specs.Removal.{JoinsCleanly, body_at, removal_of}
 use Rattle.bib_edit.specs.Limits.{olds_len, news_len}
 use Rattle.bib_edit.proofs.PieceLists.{lengths-edited}

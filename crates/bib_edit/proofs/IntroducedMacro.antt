@@ -19,14 +19,15 @@ use Rattle.edit_spec.proofs.IntroduceMacro.{IsUnused, IsOther}
 use Rattle.bib_scan.specs.Layout.{start_of}
 use Rattle.bib_store.specs.Meaning.{OfReading}
 use Rattle.bib_keys.specs.MadeBase.{made_base}
-use Rattle.bib_edit.specs.Addressing.{first_item}
+use Rattle.bib_tokens.specs.FirstItem.{first_item}
 use Rattle.bib_edit.specs.Definitions.{definition_text, is_used}
-use Rattle.bib_edit.specs.declared.tokens.First.{First}
+use Rattle.bib_tokens.specs.declared.tokens.First.{First}
 use Rattle.bib_edit.specs.NewEntries.{insertion_of}
-use Rattle.bib_edit.specs.PlacedParts.{items_placed, tokens_of, replaced_by, covered}
+use Rattle.bib_tokens.specs.PlacedParts.{items_placed, tokens_of}
+use Rattle.bib_edit.specs.Replacing.{replaced_by, covered}
 use Rattle.bib_edit.specs.Limits.{olds_len, news_len}
 use Rattle.bib_edit.proofs.PieceLists.{lengths-edited}
-use Rattle.bib_edit.proofs.FirstFound.{first-any}
+use Rattle.bib_tokens.proofs.FirstFound.{first-any}
 use Rattle.bib_edit.proofs.MacroPieces.{introduced-pieces, olds-tokens, news-tokens}
 use Rattle.bib_edit.proofs.PieceLengths.{olds-edited}
 use Rattle.bib_edit.proofs.MacroTexts.{long-introduced}

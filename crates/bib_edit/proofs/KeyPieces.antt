@@ -18,7 +18,7 @@ use Rattle.bib_edit.specs.Addressing.{is_field}
 use Rattle.bib_edit.specs.Definitions.{braced}
 use Rattle.bib_edit.specs.NewKeys.{key_piece, value_piece, crossref_piece, entry_item, IsEntrySeen}
 use Rattle.bib_edit.proofs.PieceLists.{pieces-append, pieces-kept_rows}
-use Rattle.bib_edit.proofs.SettingPieces.{value-place}
+use Rattle.bib_tokens.proofs.PlacedFields.{value-place}
 
 -- ---- rows
 

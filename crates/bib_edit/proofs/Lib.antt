@@ -1,15 +1,10 @@
 -- ---- items, fields and values by their places
-pub mod FirstFound
 pub mod TabledDefinitions
 pub mod FirstItems
 pub mod FoundItems
 pub mod SeenItems
 pub mod SeenNames
-pub mod PlacedItems
-pub mod MetParts
 pub mod NamesInUse
-pub mod PlacedFields
-pub mod PlacedValues
 pub mod PlacedTexts
 pub mod Ranks
 -- ---- pieces, in order and within the file

@@ -9,7 +9,7 @@ use Rattle.bib_spec.specs.Reading.{Item, Reading, item_bytes}
 use Rattle.bib_spec.specs.Texts.{Macros, months, raw_text, raw_limit, macros_after, macros_at, raw_texts_in, raw_texts_from, value_places, row_places, too_long_at}
 use Rattle.edit_spec.specs.Edits.{is_entry, from_first, with_first_tree, of_entry, with_entry, row_before, row_to, with_field, without_field, entry_with_field, entry_without_field}
 use Rattle.bib_spec.proofs.Places.{suc_some}
-use Rattle.bib_edit.specs.Addressing.{first_item}
+use Rattle.bib_tokens.specs.FirstItem.{first_item}
 
 abbrev pub is_long : Text → Bool
 is_long t = nat_lt raw_limit (length t)

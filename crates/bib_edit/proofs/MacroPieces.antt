@@ -15,9 +15,10 @@ use Rattle.bib_spec.proofs.Counts.{count-yes, count-no}
 use Rattle.bib_scan.specs.Layout.{start_of}
 use Rattle.std.specs.Option.{option_map_or}
 use Rattle.bib_scan.proofs.ReadingLaws.{start_more}
-use Rattle.bib_edit.specs.Addressing.{first_item}
+use Rattle.bib_tokens.specs.FirstItem.{first_item}
 use Rattle.bib_edit.specs.Definitions.{IsDefinitionAt, name_token, braced, definition_text}
-use Rattle.bib_edit.specs.PlacedParts.{items_placed, tokens_of, replaced_by, covered}
+use Rattle.bib_tokens.specs.PlacedParts.{items_placed, tokens_of}
+use Rattle.bib_edit.specs.Replacing.{replaced_by, covered}
 use Rattle.bib_edit.specs.Removal.{removal_of}
 use Rattle.bib_edit.specs.NewEntries.{insertion_of}
 use Rattle.bib_edit.specs.Limits.{olds_len, news_len}

@@ -12,7 +12,8 @@ use Rattle.edit_spec.specs.Edits.{is_entry}
 use Rattle.bib_spec.proofs.Places.{suc_some}
 use Rattle.edit_spec.proofs.OneMore.{length-keys}
 use Rattle.bib_store.specs.Meaning.{OfReading, is_entry_tree, entry_numbers}
-use Rattle.bib_edit.specs.Addressing.{first_item, item_named}
+use Rattle.bib_tokens.specs.FirstItem.{first_item}
+use Rattle.bib_edit.specs.Addressing.{item_named}
 
 -- the numbers of the entries among items, of which the first has this number
 abbrev numbers_from : ℕ → List Item → List ℕ

@@ -6,9 +6,9 @@ use Rattle.bib_spec.specs.Text.{Text, folded, same}
 use Rattle.bib_spec.specs.Texts.{months}
 use Rattle.bib_spec.specs.Reading.{Item}
 use Rattle.edit_spec.specs.Edits.{defines, uses, any_part, is_in_use}
-use Rattle.bib_edit.specs.PlacedParts.{have_part}
+use Rattle.bib_tokens.specs.PlacedParts.{have_part}
 use Rattle.bib_edit.specs.Definitions.{is_given, is_used, is_taken_before, is_taken_from}
-use Rattle.bib_edit.proofs.PlacedTexts.{any-append}
+use Rattle.std.proofs.lemmas.List.Folds.{list_any-append}
 
 or_swap : (a b c d : Bool) → ((a || b) || (c || d)) ≡ ((a || c) || (b || d))
 or_swap true b c d = refl
@@ -29,7 +29,7 @@ module _ (name : Text) (items : List Item) where
 
   -- before item n, or from it on
   used-parts : (n : ℕ) → is_used name items ≡ (is_used name (take n items) || is_used name (drop n items))
-  used-parts n = ap (have_part (uses name)) (sym (take-append-drop n items)) ∙ any-append (λ (item : Item). any_part (uses name) item.tree) (take n items) (drop n items)
+  used-parts n = ap (have_part (uses name)) (sym (take-append-drop n items)) ∙ list_any-append (λ (item : Item). any_part (uses name) item.tree) (take n items) (drop n items)
 
   pub in-use-before : (n : ℕ) → is_in_use name items ≡ ((is_given name items || is_used name (take n items)) || is_used name (drop n items))
   in-use-before n =

@@ -1,5 +1,5 @@
 -- What a removal, an insertion and new entries at the end make of the raw texts that are too long.
-use Rattle.std.proofs.Common.{◌≡◌, ℕ, zero, suc, Bool, true, false, ◌||◌, List, [], ◌∷◌, ◌++◌, insert, length, map, ⊎_elim, refl, sym, ◌∙◌, ap}
+use Rattle.std.proofs.Common.{◌≡◌, ℕ, zero, suc, Bool, true, false, ◌||◌, List, [], ◌∷◌, ◌++◌, insert, length, map, ⊎_elim, refl, ◌∙◌, ap}
 use Rattle.std.specs.List.{list_any}
 use Rattle.std.proofs.lemmas.Bool.{cases_Bool, cond-true, cond-false, or_parts, or_from}
 use Rattle.bib_spec.specs.Text.{Text}
@@ -12,13 +12,6 @@ use Rattle.bib_edit.proofs.LongTexts.{is_long, any_long}
 -- some raw text of the item is too long, where these macros stand before it
 abbrev pub is_long_in : Macros → Tree → Bool
 is_long_in m tree = list_any is_long (raw_texts_in m tree)
-
-pub any-append : {X : Type 0} (p : X → Bool) (xs ys : List X) → list_any p (xs ++ ys) ≡ (list_any p xs || list_any p ys)
-any-append p [] ys = refl
-any-append p (x ∷ xs) ys = ⊎_elim
-    (λ t. ap (λ b. b || list_any p (xs ++ ys)) t ∙ sym (ap (λ b. (b || list_any p xs) || list_any p ys) t))
-    (λ t. ap (λ b. b || list_any p (xs ++ ys)) t ∙ any-append p xs ys ∙ sym (ap (λ b. (b || list_any p xs) || list_any p ys) t))
-    (cases_Bool (p x))
 
 -- ---- a removal
 

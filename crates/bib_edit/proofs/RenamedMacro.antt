@@ -20,7 +20,8 @@ use Rattle.bib_edit.specs.declared.fault.EditFault.TheVariants as code
 use Rattle.bib_store.specs.Meaning.{OfReading}
 use Rattle.bib_edit.specs.Planning.{IsRefusal}
 use Rattle.bib_edit.specs.Definitions.{IsDefinedAt, IsDefinitionAt, IsDefinitionFault, name_token}
-use Rattle.bib_edit.specs.PlacedParts.{items_placed, tokens_of, replaced_by, covered}
+use Rattle.bib_tokens.specs.PlacedParts.{items_placed, tokens_of}
+use Rattle.bib_edit.specs.Replacing.{replaced_by, covered}
 use Rattle.bib_edit.specs.Limits.{olds_len, news_len}
 use Rattle.bib_edit.proofs.PieceLists.{lengths-edited}
 use Rattle.bib_edit.proofs.MacroPieces.{renamed-pieces, olds-tokens, news-tokens}

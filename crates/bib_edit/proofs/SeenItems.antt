@@ -1,17 +1,13 @@
 -- What is seen of item n, and what of that goes.
-use Rattle.std.proofs.Common.{◌≡◌, ◌↔◌, ℕ, zero, suc, ◌<◌, ◌++◌, Bool, IsTrue, List, [], ◌∷◌, Some, slice_get, length, refl, sym, ◌∙◌, ap, subst, not-suc-le-zero, le_of_suc-le-suc}
+use Rattle.std.proofs.Common.{◌≡◌, ◌↔◌, ℕ, ◌<◌, ◌++◌, Bool, IsTrue, List, [], Some, slice_get, length, sym, ◌∙◌, ap, subst}
 use Rattle.std.specs.Option.{option_map_or}
 use Rattle.bib_spec.specs.Text.{Text}
 use Rattle.bib_spec.specs.Tree.{tree_bytes}
 use Rattle.bib_spec.specs.Clean.{IsCleanTrail}
 use Rattle.bib_spec.specs.Reading.{Item, Reading}
 use Rattle.bib_scan.specs.View.{View, view_of}
+use Rattle.bib_tokens.proofs.Elements.{slice_get-within}
 use Rattle.bib_edit.specs.Removal.{body_at, trail_at, is_behind_comment, text_before, JoinsCleanly}
-
-pub slice_get-within : {X : Type 0} (xs : List X) (n : ℕ) → n < length xs → (x : X) × (slice_get xs n ≡ Some x)
-slice_get-within [] n lt = absurd (not-suc-le-zero lt)
-slice_get-within (x ∷ xs) zero lt = (x, refl)
-slice_get-within (x ∷ xs) (suc n) lt = slice_get-within xs n (le_of_suc-le-suc lt)
 
 module _ (items : List Item) (n : ℕ) (view : View) (lt : n < length items) (seen : (i : Item) → slice_get items n ≡ Some i → view ≡ view_of i) where
   pub body-seen : view.body ≡ body_at items n

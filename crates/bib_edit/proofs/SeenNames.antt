@@ -8,7 +8,7 @@ use Rattle.bib_spec.specs.Text.{Text, folded, same}
 use Rattle.edit_spec.specs.Edits.{has_same}
 use Rattle.bib_spec.proofs.Names.{same_comm}
 use Rattle.bib_value.specs.FoldedMap.{value_at, IsWith}
-use Rattle.bib_edit.proofs.PlacedTexts.{any-append}
+use Rattle.std.proofs.lemmas.List.Folds.{list_any-append}
 
 pub take-read : {X : Type 0} (xs : List X) (i : ℕ) (x : X) → i < length xs → x ≡ get_or xs i x → take (i + 1) xs ≡ take i xs ++ x ∷ []
 take-read xs i x lt e = take_more xs i x lt ∙ ap (λ y. take i xs ++ y ∷ []) (sym e)
@@ -22,7 +22,7 @@ regroup false false c d = refl
 has_same-last : (names : List Text) (name : Text) → has_same (names ++ name ∷ []) ≡ (has_same names || list_any (same name) names)
 has_same-last [] name = refl
 has_same-last (first ∷ names) name =
-    ap₂ ◌||◌ (any-append (same first) names (name ∷ [])) (has_same-last names name)
+    ap₂ ◌||◌ (list_any-append (same first) names (name ∷ [])) (has_same-last names name)
     ∙ regroup (list_any (same first) names) (same first name) (has_same names) (list_any (same name) names)
     ∙ ap (λ b. (list_any (same first) names || has_same names) || (b || list_any (same name) names)) (same_comm first name)
 
@@ -33,7 +33,7 @@ or_true false = refl
 has_same-front : (names more : List Text) → has_same names ≡ true → has_same (names ++ more) ≡ true
 has_same-front [] more h = cc
 has_same-front (first ∷ names) more h = ⊎_elim
-    (λ t. ap (λ b. b || has_same (names ++ more)) (any-append (same first) names more ∙ ap (λ b. b || list_any (same first) more) t))
+    (λ t. ap (λ b. b || has_same (names ++ more)) (list_any-append (same first) names more ∙ ap (λ b. b || list_any (same first) more) t))
     (λ t. ap (λ b. list_any (same first) (names ++ more) || b) (has_same-front names more (sym (ap (λ b. b || has_same names) t) ∙ h)) ∙ or_true (list_any (same first) (names ++ more)))
     (cases_Bool (list_any (same first) names))
 
@@ -80,7 +80,7 @@ module _ {X : Type 0} (name_of : X → Text) where
         table : (t : Text) → is_some (value_at new t) ≡ list_any (λ name. bytes_eq t (folded name)) (names_to xs (i + 1))
         table t =
             let test : Text → Bool = λ name. bytes_eq t (folded name) in
-            let after : list_any test (names_to xs (i + 1)) ≡ (list_any test earlier || (test name || false)) = ap (list_any test) one_more ∙ any-append test earlier (name ∷ []) in
+            let after : list_any test (names_to xs (i + 1)) ≡ (list_any test earlier || (test name || false)) = ap (list_any test) one_more ∙ list_any-append test earlier (name ∷ []) in
             ap is_some (is t) ∙ ⊎_elim
             (λ e. ap is_some (cond-true (bytes_eq t (folded name)) (Some value) (value_at seen t) e) ∙ sym (after ∙ ap (λ b. list_any test earlier || (b || false)) e ∙ or_true (list_any test earlier)))
             (λ e. ap is_some (cond-false (bytes_eq t (folded name)) (Some value) (value_at seen t) e) ∙ to.table t ∙ sym (after ∙ ap (λ b. list_any test earlier || (b || false)) e ∙ or_false (list_any test earlier)))

@@ -20,20 +20,13 @@ use Rattle.edit_spec.proofs.TreeChunks.{row-parts}
 use Rattle.bib_spec.proofs.Counts.{count-yes, count-no}
 use Rattle.bib_scan.specs.View.{Field, field_behind, fields_behind, View, view_of}
 use Rattle.bib_scan.specs.Layout.{start_of}
-use Rattle.bib_edit.specs.Addressing.{is_field, field_end, fields_end, item_named}
+use Rattle.bib_tokens.specs.PlacedParts.{field_end}
+use Rattle.bib_tokens.proofs.PlacedFields.{value-place}
+use Rattle.bib_edit.specs.Addressing.{is_field, fields_end, item_named}
 use Rattle.bib_edit.specs.FieldPieces.{row_text, rows_end, set_at, set_piece, IsNamedItem, OfItem}
 use Rattle.bib_edit.proofs.NamedEntries.{named-entry}
 use Rattle.bib_edit.proofs.FirstItems.{IsFirstItem, found_first, chunks-first, item-first, start-first}
 use Rattle.bib_edit.proofs.PieceLists.{pieces-after_items, pieces-before_items, pieces-entry, pieces-kept_rows, within-one_piece}
-
-value_after : (b c n x y : Text) → (((b ++ c) ++ n) ++ x) ++ y ≡ b ++ (c ++ (n ++ (x ++ y)))
-value_after b c n x y = simp append_assoc
-
--- a value stands after the text before its row, and what the row begins with
-pub value-place : (before : Text) (row : Row) → (let f : Field = field_behind (length before) (before ++ comma ∷ row.space_before_name) row.assignment in f.value_at) ≡ length before + length (row_start row)
-value-place before row =
-    ap length (value_after before (comma ∷ row.space_before_name) row.assignment.name row.assignment.space_before_equals (equals_sign ∷ row.assignment.space_before_value))
-    ∙ length-append before (row_start row)
 
 row_regroup : (b s v e : Text) → ((b ++ s) ++ v) ++ e ≡ b ++ (s ++ (v ++ e))
 row_regroup b s v e = simp append_assoc

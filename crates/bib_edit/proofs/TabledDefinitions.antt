@@ -5,7 +5,7 @@ use Rattle.bib_spec.specs.Tree.{Tree, CommentTree, DefinitionTree, PreambleTree,
 use Rattle.bib_spec.specs.Reading.{Item, Reading}
 use Rattle.bib_definitions.specs.Definitions.{is_definition_of, definition_count, first_definition}
 use Rattle.edit_spec.specs.Edits.{defines, definitions}
-use Rattle.bib_edit.specs.Addressing.{first_item}
+use Rattle.bib_tokens.specs.FirstItem.{first_item}
 
 module _ (name : Text) where
   same_test : (tree : Tree) → is_definition_of name tree ≡ defines name tree

@@ -12,9 +12,10 @@ use Rattle.bib_spec.specs.Pieces.{Piece, Chunk, Kept, pieces_from, pieces_of_chu
 use Rattle.edit_spec.specs.Edits.{leaving}
 use Rattle.edit_spec.specs.EditChunks.{token, part_token, link_chunks, value_chunks, assignment_chunks, row_chunks, behind_rows, tree_chunks, item_chunks, items_chunks, chunks_from_first, kept_items}
 use Rattle.bib_scan.specs.Layout.{start_of}
-use Rattle.bib_edit.specs.PlacedParts.{links_placed, value_placed, rows_placed, tree_placed, items_placed, tokens_of, replaced_by}
-use Rattle.bib_edit.proofs.PlacedValues.{tokens-met, tokens-unmet}
-use Rattle.bib_edit.proofs.PlacedFields.{tokens-append}
+use Rattle.bib_tokens.specs.PlacedParts.{links_placed, value_placed, rows_placed, tree_placed, items_placed, tokens_of}
+use Rattle.bib_edit.specs.Replacing.{replaced_by}
+use Rattle.bib_tokens.proofs.PlacedValues.{tokens-met, tokens-unmet}
+use Rattle.bib_tokens.proofs.PlacedFields.{tokens-append}
 use Rattle.bib_edit.proofs.PieceLists.{pieces-after_items}
 use Rattle.bib_edit.proofs.FirstItems.{IsFirstItem, chunks-first, start-first}
 

@@ -1,20 +1,16 @@
 -- What an edit addresses: items, fields, and where their bytes lie.
-use Rattle.std.specs.Prelude.{ℕ, suc, ◌≡◌, ◌+◌, ◌<◌, nat_lt, Bool, List, [], ◌∷◌, Option, Some, None, option_map, if◌then◌else◌, length, count_by, find}
+use Rattle.std.specs.Prelude.{ℕ, ◌≡◌, ◌<◌, nat_lt, Bool, List, [], ◌∷◌, Option, Some, None, option_map, count_by, find}
 use Rattle.std.specs.List.{last_or}
 use Rattle.bib_spec.specs.Text.{Text, same}
-use Rattle.bib_spec.specs.Tree.{Tree}
-use Rattle.bib_spec.specs.Reading.{Item, Reading}
+use Rattle.bib_spec.specs.Reading.{Reading}
 use Rattle.bib_spec.specs.Records.{entries_of, entry_named}
 use Rattle.edit_spec.specs.Edits.{is_entry, holders}
 use Rattle.bib_scan.specs.View.{Field, field_seen}
+use Rattle.bib_tokens.specs.FirstItem.{first_item}
+use Rattle.bib_tokens.specs.PlacedParts.{field_end}
 use Rattle.bib_edit.specs.declared.address.SoughtFields.{SoughtFields}
 use Rattle.bib_edit.specs.declared.fault.EditFault.{EditFault}
 use Rattle.bib_edit.specs.declared.fault.EditFault.TheVariants.{NotFound, Ambiguous}
-
--- the number of the first item that passes the test
-abbrev pub first_item : (Tree → Bool) → List Item → Option ℕ
-first_item test [] = None
-first_item test (item ∷ items) = if test item.tree then Some 0 else option_map suc (first_item test items)
 
 -- the number of the item that the key names
 abbrev pub item_named : Text → Reading → Option ℕ
@@ -45,10 +41,6 @@ pub record AreSought (name : Text) (fields : List Field) (sought : SoughtFields)
   pub first : option_map field_seen sought.first ≡ find (is_field name) fields
   pub repeated : sought.is_repeated ≡ nat_lt 1 (count_by (is_field name) fields)
   pub last : option_map field_seen sought.last ≡ last_or None fields
-
--- the place after a field's value
-abbrev pub field_end : Field → ℕ
-field_end field = field.value_at + length field.value
 
 -- the place after the last value, or, where there is none, this one
 abbrev pub fields_end : ℕ → List Field → ℕ

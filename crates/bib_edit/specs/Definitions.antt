@@ -8,8 +8,8 @@ use Rattle.bib_spec.specs.Reading.{Item, Reading}
 use Rattle.bib_spec.specs.Texts.{months}
 use Rattle.bib_store.specs.Meaning.{OfReading}
 use Rattle.edit_spec.specs.Edits.{defines, definitions, uses}
-use Rattle.bib_edit.specs.Addressing.{first_item}
-use Rattle.bib_edit.specs.PlacedParts.{have_part}
+use Rattle.bib_tokens.specs.FirstItem.{first_item}
+use Rattle.bib_tokens.specs.PlacedParts.{have_part}
 use Rattle.bib_edit.specs.declared.fault.EditFault.{EditFault}
 use Rattle.bib_edit.specs.declared.fault.EditFault.TheVariants.{NotFound, Ambiguous}
 

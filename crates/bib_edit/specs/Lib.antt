@@ -11,6 +11,6 @@ pub mod FieldPieces
 pub mod Limits
 pub mod Dangling
 pub mod NewKeys
-pub mod PlacedParts
+pub mod Replacing
 pub mod Definitions
 pub mod Laws

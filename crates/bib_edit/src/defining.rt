@@ -7,12 +7,12 @@ ghost use Rattle.edit_spec.specs.Edits.{text_of_macro};
 ghost use Rattle.bib_scan.specs.Layout.{start_of};
 ghost use Rattle.bib_store.specs.Meaning.{OfReading};
 ghost use Rattle.bib_edit.specs.Definitions.{IsDefinedAt, IsDefinitionFault, IsDefinitionAt, IsDefinitionNumber, braced, name_token, is_given};
-ghost use Rattle.bib_edit.specs.PlacedParts.{token_seen};
+ghost use Rattle.bib_tokens.specs.PlacedParts.{token_seen};
 
 use crate::fault::EditFault;
-use crate::tokens::Token;
 use bib_scan::{Seq, Text};
 use bib_store::{Database, ItemList};
+use bib_tokens::Token;
 use bib_value::{MacroTable, month};
 use std::alloc::{AllocError, Global};
 

@@ -4,7 +4,7 @@ ghost use Rattle.std.specs.Prelude.{◌≡◌, ◌&&◌, ◌==◌, ◌+◌, ◌�
 ghost use Rattle.bib_spec.specs.Bytes.{close_paren};
 ghost use Rattle.bib_scan.specs.View.{field_seen};
 ghost use Rattle.bib_edit.specs.Planning.{IsAllowedEdit, ArePiecesOf, IsRefusal};
-ghost use Rattle.bib_edit.specs.Addressing.{field_end};
+ghost use Rattle.bib_tokens.specs.PlacedParts.{field_end};
 ghost use Rattle.bib_edit.specs.FieldPieces.{cut_piece, joins_key};
 ghost use Rattle.bib_data.specs.declared.edit.Edit.TheVariants.{DropField};
 ghost use Rattle.bib_edit.specs.declared.fault.EditFault.TheVariants.{Memory};

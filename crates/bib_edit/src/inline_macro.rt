@@ -7,11 +7,10 @@ ghost use Rattle.bib_data.specs.declared.edit.Edit.TheVariants.{InlineMacro};
 use crate::defining::{braced_text, lone_definition};
 use crate::fault::EditFault;
 use crate::replacing::{is_result_too_long, replaced_after};
-use crate::sought::Sought;
 use crate::taking_out::{body_of, joins_cleanly, removal_of};
-use crate::tokens::push_from;
 use bib_scan::{Seq, is_name, one_reading};
 use bib_store::{Database, ItemList, Piece};
+use bib_tokens::{Sought, push_from};
 use std::alloc::Global;
 
 /// The pieces that take the macro's one definition out and put what it says, in braces, for each use after it, or the

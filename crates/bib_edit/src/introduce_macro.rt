@@ -10,10 +10,9 @@ use crate::defining::is_given;
 use crate::fault::EditFault;
 use crate::new_entry::insertion_of;
 use crate::replacing::{is_result_too_long, replaced_after};
-use crate::sought::Sought;
-use crate::tokens::{first_with, push_from};
 use bib_scan::{Seq, Text, is_balanced, is_name, one_reading};
 use bib_store::{Database, ItemList, Piece};
+use bib_tokens::{Sought, first_with, push_from};
 use std::alloc::{AllocError, Global};
 
 /// The pieces that define the macro as this text before the first item that has it, in braces or in quotes, as a part, and

@@ -31,9 +31,7 @@ mod rename_key;
 mod rename_macro;
 mod replacing;
 mod set_field;
-mod sought;
 mod taking_out;
-mod tokens;
 mod values;
 
 pub use bib_data::{Edit, NewEntry};

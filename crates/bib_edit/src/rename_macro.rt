@@ -7,7 +7,7 @@ ghost use Rattle.edit_spec.specs.Edits.{uses};
 ghost use Rattle.bib_scan.specs.Layout.{start_of};
 ghost use Rattle.bib_store.specs.Meaning.{OfReading, IsItemPlace};
 ghost use Rattle.bib_edit.specs.Definitions.{IsDefinitionAt, IsDefinitionNumber, name_token, is_taken_before, is_taken_from};
-ghost use Rattle.bib_edit.specs.PlacedParts.{items_placed, tokens_of, tokens_seen};
+ghost use Rattle.bib_tokens.specs.PlacedParts.{items_placed, tokens_of, tokens_seen};
 ghost use Rattle.bib_edit.specs.declared.fault.EditFault.TheVariants.{Memory};
 ghost use Rattle.bib_edit.specs.Planning.{IsAllowedEdit, ArePiecesOf, IsRefusal};
 ghost use Rattle.bib_data.specs.declared.edit.Edit.TheVariants.{RenameMacro};
@@ -15,10 +15,9 @@ ghost use Rattle.bib_data.specs.declared.edit.Edit.TheVariants.{RenameMacro};
 use crate::defining::{is_given, lone_definition, name_of};
 use crate::fault::EditFault;
 use crate::replacing::{is_result_too_long, push_replaced};
-use crate::sought::Sought;
-use crate::tokens::{Token, is_met_before, push_from};
 use bib_scan::{Seq, is_name, one_reading, same_folded};
 use bib_store::{Database, ItemList, Piece};
+use bib_tokens::{Sought, Token, is_met_before, push_from};
 use std::alloc::Global;
 
 /// The pieces that give the macro another name in its one definition and in each use from there on, its own definition
@@ -81,7 +80,7 @@ fn is_taken_before<L: ItemList>(
     if is_given(db, to) {
         return Ok(true);
     }
-    is_met_before(alloc, db, n, Sought::Uses(to))
+    Ok(is_met_before(alloc, db, n, Sought::Uses(to))?)
 }
 
 /// The macro's name in its definition and in each use from there on, and whether the new name is used there.

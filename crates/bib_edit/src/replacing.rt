@@ -2,15 +2,16 @@
 
 ghost use Rattle.std.specs.Prelude.{◌≡◌, ◌↔◌, ◌+◌, ◌*◌, ◌<◌, ◌≤◌, ◌^◌, ◌++◌, ◌∷◌, length, map, IsTrue, IfOk, OnOk, IfErr};
 ghost use Rattle.bib_spec.specs.Bytes.{file_limit};
-ghost use Rattle.bib_edit.specs.PlacedParts.{tokens_seen, replaced_by, covered};
+ghost use Rattle.bib_tokens.specs.PlacedParts.{tokens_seen};
+ghost use Rattle.bib_edit.specs.Replacing.{replaced_by, covered};
 ghost use Rattle.bib_edit.specs.declared.fault.EditFault.TheVariants.{Memory};
 
 use crate::fault::EditFault;
 use crate::limits::is_file_too_long;
 use crate::pieces::copied;
-use crate::tokens::Token;
 use bib_scan::Seq;
 use bib_store::{Database, ItemList, Piece};
+use bib_tokens::Token;
 use std::alloc::Global;
 
 /// Adds a piece for each token, for which the new bytes stand. It takes memory for a copy of the new

@@ -1,7 +1,7 @@
 use Rattle.std.proofs.Common.{◌≡◌, ◌∙◌, Some, sym, arith}
 use Rattle.edit_spec.specs.Edits.{defines}
-use Rattle.bib_edit.specs.Addressing.{first_item}
-use Rattle.bib_edit.proofs.FirstFound.{none-count, first-count}
+use Rattle.bib_tokens.specs.FirstItem.{first_item}
+use Rattle.bib_tokens.proofs.FirstFound.{none-count, first-count}
 use Rattle.bib_edit.proofs.TabledDefinitions.{tabled-count, tabled-first}
 use Rattle.bib_edit.proofs.defining.lone_definition.Goals as goal
 

@@ -6,7 +6,8 @@ use Rattle.bib_spec.specs.Text.{Text}
 use Rattle.bib_spec.specs.Pieces.{Piece}
 use Rattle.bib_scan.specs.View.{field_seen}
 use Rattle.bib_edit.specs.Planning.{IsAllowedEdit, ArePiecesOf}
-use Rattle.bib_edit.specs.Addressing.{field_end, is_field}
+use Rattle.bib_tokens.specs.PlacedParts.{field_end}
+use Rattle.bib_edit.specs.Addressing.{is_field}
 use Rattle.bib_edit.specs.FieldPieces.{cut_piece}
 use Rattle.bib_data.specs.declared.edit.Edit.TheVariants.{DropField}
 use Rattle.bib_edit.proofs.NamedEntries.{named-within, held-item}

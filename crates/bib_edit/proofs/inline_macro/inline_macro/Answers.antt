@@ -10,11 +10,12 @@ use Rattle.edit_spec.specs.EditChunks.{pieces_of}
 use Rattle.bib_data.specs.declared.edit.Edit.TheVariants.{InlineMacro}
 use Rattle.bib_edit.specs.Planning.{ArePiecesOf}
 use Rattle.bib_keys.specs.MadeBase.{made_base}
-use Rattle.bib_edit.specs.PlacedParts.{token_seen, tokens_seen, replaced_by}
+use Rattle.bib_tokens.specs.PlacedParts.{token_seen, tokens_seen}
+use Rattle.bib_edit.specs.Replacing.{replaced_by}
 use Rattle.bib_edit.proofs.FoundItems.{first-at, first-within}
 use Rattle.bib_edit.proofs.LimitTests.{not_over}
 use Rattle.bib_edit.proofs.OpenFiles.{opens-as}
-use Rattle.bib_edit.proofs.PlacedItems.{only-tokens}
+use Rattle.bib_tokens.proofs.PlacedItems.{only-tokens}
 use Rattle.bib_edit.proofs.AskedEdits.{of-inline_macro}
 use Rattle.bib_edit.proofs.InlinedMacro.{inline-merges, inline-long_file, inline-accepted, refused-definition, inlining-pieces, inlining-within}
 use Rattle.bib_edit.proofs.inline_macro.inline_macro.Goals as goal

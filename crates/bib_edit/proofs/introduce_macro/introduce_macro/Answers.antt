@@ -11,12 +11,13 @@ use Rattle.bib_edit.specs.Planning.{ArePiecesOf}
 use Rattle.edit_spec.specs.EditChunks.{pieces_of}
 use Rattle.bib_keys.specs.MadeBase.{made_base}
 use Rattle.bib_edit.specs.NewEntries.{insertion_of}
-use Rattle.bib_edit.specs.PlacedParts.{token_seen, tokens_seen, replaced_by}
+use Rattle.bib_tokens.specs.PlacedParts.{token_seen, tokens_seen}
+use Rattle.bib_edit.specs.Replacing.{replaced_by}
 use Rattle.bib_edit.proofs.FoundItems.{first-at, first-within}
 use Rattle.bib_edit.proofs.LimitTests.{not_over}
 use Rattle.bib_edit.proofs.NamesInUse.{in-use-told}
 use Rattle.bib_edit.proofs.OpenFiles.{opens-as}
-use Rattle.bib_edit.proofs.PlacedItems.{only-tokens}
+use Rattle.bib_tokens.proofs.PlacedItems.{only-tokens}
 use Rattle.bib_edit.proofs.AskedEdits.{of-introduce_macro}
 use Rattle.bib_edit.proofs.IntroducedMacro.{introduce-unbalanced, introduce-missing, introduce-in_use, introduce-long_file, introduce-accepted, introducing-pieces, introducing-within, found-first, found-none, met-first}
 use Rattle.bib_edit.proofs.introduce_macro.introduce_macro.Goals as goal

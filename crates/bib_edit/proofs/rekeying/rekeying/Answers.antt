@@ -6,8 +6,8 @@ use Rattle.bib_spec.specs.Tree.{tree_bytes}
 use Rattle.bib_scan.specs.View.{View}
 use Rattle.bib_scan.specs.Layout.{start_of}
 use Rattle.bib_store.proofs.EntryItems.{entry_within, entry_stands}
-use Rattle.bib_edit.proofs.SeenItems.{slice_get-within}
-use Rattle.bib_edit.proofs.PlacedItems.{item-ends, place-next}
+use Rattle.bib_tokens.proofs.Elements.{slice_get-within}
+use Rattle.bib_tokens.proofs.PlacedItems.{item-ends, place-next}
 use Rattle.bib_edit.proofs.EntryPieces.{first-pieces, next-pieces, all-pieces}
 use Rattle.bib_edit.proofs.rekeying.rekeying.Goals as goal
 

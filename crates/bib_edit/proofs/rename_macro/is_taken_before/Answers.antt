@@ -1,6 +1,5 @@
 use Rattle.std.proofs.Common.{◌||◌, ◌&&◌, not, take, sym, ◌∙◌, ap, ap₂}
 use Rattle.bib_edit.specs.Definitions.{is_given, is_used}
-use Rattle.bib_edit.proofs.Results.{if_ok-as}
 use Rattle.bib_edit.proofs.rename_macro.is_taken_before.Goals as goal
 
 pub returns-then-same_folded-clause-taken : goal.returns-then-same_folded-clause-taken
@@ -12,9 +11,6 @@ returns-then-is_given-clause-taken g c db reads =
     sym (ap₂ (λ b d. not b && (d || is_used c.args.to.now (take c.args.n db.items))) (sym c.same_folded.ensures ∙ c.if-same_folded.false) (sym (c.is_given.ensures db reads) ∙ c.if-is_given.true))
 
 pub returns-clause-taken : goal.returns-clause-taken
-returns-clause-taken g c =
-    if_ok-as _ _
-    (λ met found db reads.
-    found db reads
-    ∙ sym (ap₂ (λ b d. not b && (d || is_used c.args.to.now (take c.args.n db.items))) (sym c.same_folded.ensures ∙ c.if-same_folded.false) (sym (c.is_given.ensures db reads) ∙ c.if-is_given.false)))
-    c.is_met_before.result c.is_met_before.ensures.met
+returns-clause-taken g c db reads =
+    c.in_ok-is_met_before.ensures db reads
+    ∙ sym (ap₂ (λ b d. not b && (d || is_used c.args.to.now (take c.args.n db.items))) (sym c.same_folded.ensures ∙ c.if-same_folded.false) (sym (c.is_given.ensures db reads) ∙ c.if-is_given.false))

@@ -6,7 +6,8 @@ use Rattle.bib_spec.specs.Pieces.{Piece}
 use Rattle.edit_spec.specs.Edits.{defines}
 use Rattle.edit_spec.specs.EditChunks.{pieces_of}
 use Rattle.bib_keys.specs.MadeBase.{made_base}
-use Rattle.bib_edit.specs.PlacedParts.{token_seen, tokens_seen, replaced_by}
+use Rattle.bib_tokens.specs.PlacedParts.{token_seen, tokens_seen}
+use Rattle.bib_edit.specs.Replacing.{replaced_by}
 use Rattle.bib_edit.proofs.FoundItems.{first-at, first-within}
 use Rattle.bib_edit.proofs.NamesInUse.{taken-before, taken-from, taken-never}
 use Rattle.bib_edit.proofs.LimitTests.{not_over}

@@ -1,5 +1,6 @@
 use Rattle.std.proofs.Common.{◌≡◌, ◌++◌, drop, map}
-use Rattle.bib_edit.specs.PlacedParts.{tokens_seen, replaced_by}
+use Rattle.bib_tokens.specs.PlacedParts.{tokens_seen}
+use Rattle.bib_edit.specs.Replacing.{replaced_by}
 use Rattle.bib_edit.proofs.replacing.push_replaced.Given as goal
 
 abbrev pub invariant-loop-token : goal.invariant-loop-token

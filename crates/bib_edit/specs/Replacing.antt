@@ -1,0 +1,13 @@
+-- Bytes that stand for many tokens.
+use Rattle.std.specs.Prelude.{ℕ, ◌+◌, List, [], ◌∷◌, length}
+use Rattle.bib_spec.specs.Text.{Text}
+use Rattle.bib_spec.specs.Pieces.{Piece}
+
+-- these bytes stand for the token
+abbrev pub replaced_by : Text → ℕ × Text → Piece
+replaced_by new token = record { place = token.0; old = token.1; new = new }
+
+-- how many bytes the tokens have
+abbrev pub covered : List (ℕ × Text) → ℕ
+covered [] = 0
+covered (token ∷ tokens) = length token.1 + covered tokens

@@ -1,0 +1,6 @@
+pub mod Elements
+pub mod FirstFound
+pub mod PlacedValues
+pub mod PlacedFields
+pub mod PlacedItems
+pub mod MetParts

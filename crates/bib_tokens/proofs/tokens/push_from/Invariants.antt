@@ -1,0 +1,9 @@
+use Rattle.bib_store.specs.Meaning.{OfReading}
+use Rattle.bib_tokens.specs.PlacedParts.{test_of, tokens_seen}
+use Rattle.bib_tokens.proofs.PlacedItems.{AreTokensTo}
+use Rattle.bib_tokens.proofs.MetParts.{IsMetFrom}
+use Rattle.bib_tokens.proofs.tokens.push_from.Given as goal
+
+abbrev pub invariant-items : goal.invariant-items
+invariant-items g l =
+    OfReading l.db (λ r. AreTokensTo (test_of l.sought) r l.n (tokens_seen l.initial.tokens.items) l.k l.at (tokens_seen l.tokens.items) × IsMetFrom (test_of l.watched) r.items l.n l.k l.met)
