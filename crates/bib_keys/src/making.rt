@@ -81,7 +81,7 @@ fn make_key<L: ItemList>(
     ensures short { IfOk result (λ key. length key ≤ name_limit) }
 {
     let base = base_of(alloc, db, n, names, last)?;
-    Ok(taken.take_free(base.as_slice())?)
+    taken.take_free(base.as_slice())
 }
 
 /// Puts the key that was made, if it was, after the others.
@@ -143,7 +143,7 @@ pub fn free_key<L: ItemList>(
     ensures { IfOk result (λ key. OfReading db.now (λ r. key ≡ free_key (taken_in r taken.now) base.now)) }
 {
     let mut known = taken_in(alloc, db, taken)?;
-    Ok(known.take_free(base)?)
+    known.take_free(base)
 }
 
 /// A free key for each of these bases in turn, as `free_key` finds one, which then is taken too. It takes time in the

@@ -61,7 +61,7 @@ fn parts_in(alloc: Global, value: &[u8]) -> Result<Parts, AllocError>
 {
     match read_value(alloc, value) {
         Ok(parts) => Ok(parts),
-        // A value is read but where memory is refused.
+        // A value is refused only where memory is.
         Err(_) => Err(AllocError),
     }
 }

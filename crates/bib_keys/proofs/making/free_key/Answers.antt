@@ -1,5 +1,6 @@
+use Rattle.std.proofs.lemmas.Result.{IfOk-weaker}
 use Rattle.bib_keys.specs.TakenKeys.{taken_in}
 use Rattle.bib_keys.proofs.making.free_key.Goals as goal
 
 pub returns : goal.returns
-returns g c = λ db reads. c.in_ok-take_free.ensures.key (taken_in db c.args.taken.now) (c.in_ok-known.ensures.taken db reads)
+returns g c = IfOk-weaker c.take_free.result _ _ (λ key h db reads. h (taken_in db c.args.taken.now) (c.in_ok-known.ensures.taken db reads)) c.take_free.ensures.key
