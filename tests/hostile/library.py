@@ -20,8 +20,8 @@ HERE = os.path.dirname(os.path.abspath(__file__))
 ROOT = os.path.dirname(os.path.dirname(HERE))
 CRATE = "refusals"
 STANDS_ON = (
-    "bib_scan bib_data bib_value bib_order bib_index bib_entries bib_definitions bib_items bib_store bib_names bib_edit "
-    "bib_journal journal_format bib_script ris_text ris_format bib_ris bib_taps"
+    "bib_scan bib_data bib_value bib_order bib_index bib_entries bib_definitions bib_items bib_store bib_names "
+    "bib_keys bib_tokens bib_edit bib_journal journal_format bib_script ris_text ris_format bib_ris bib_taps"
 )
 # The number of the request that is refused, and how many the program makes before it spends any.
 REFUSED = 400
@@ -40,7 +40,7 @@ ROWS = {
     "names": 14,
     "flat_edits": 18,
     "paged_edits": 18,
-    "plans": 23,
+    "plans": 24,
     "journals": 8,
     "references": 14,
 }
