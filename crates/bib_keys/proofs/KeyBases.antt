@@ -11,7 +11,7 @@ use Rattle.bib_store.proofs.Inherited.{record_with, expanded_alone, expanded_wit
 use Rattle.bib_names.specs.Label.{Fields, label_names, or_anon, key_base}
 use Rattle.bib_names.proofs.LabelFields.{base_kept}
 use Rattle.bib_keys.specs.MadeBase.{made_base}
-use Rattle.bib_keys.specs.LastParent.{label_fields}
+use Rattle.bib_keys.specs.Parents.{label_fields}
 
 key_base_kept : (fields : Fields) → key_base (chosen label_names fields) ≡ key_base fields
 key_base_kept fields = ap (λ (base : Text). take base_limit (or_anon (filter is_ascii_alphanumeric base))) (base_kept fields)
@@ -37,7 +37,7 @@ base_alone names entries n entry fields are at none is =
 -- the same from its own fields and those of its parent
 pub base_inheriting : (names : List Text) (entries : List EntryTexts) (n p : ℕ) (entry : EntryTexts) (fields : Fields) → names ≡ label_names → slice_get entries n ≡ Some entry →
     parent entries n ≡ Some p → fields ≡ chosen names (fields_at entries n) →
-    key_base (fields ++ missing fields (label_fields entries (Some p))) ≡ made_base (record_of default_depth entries n entry)
+    key_base (fields ++ missing fields (label_fields entries p)) ≡ made_base (record_of default_depth entries n entry)
 base_inheriting names entries n p entry fields are at one is =
     let own : Fields = fields_at entries n in
     let others : Fields = fields_at entries p in

@@ -8,5 +8,6 @@ pub mod CandidateLengths
 pub mod FirstFree
 pub mod TakenLists
 -- ---- keys that are made
+pub mod KnownParents
 pub mod KeyBases
 pub mod MadeKeyLists

@@ -1,4 +1,4 @@
 pub mod Dangling
 pub mod TakenKeys
 pub mod MadeBase
-pub mod LastParent
+pub mod Parents

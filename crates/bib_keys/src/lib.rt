@@ -4,8 +4,8 @@
 #![tactic(auto)]
 
 mod dangling;
-mod last_parents;
 mod making;
+mod parents;
 mod taken_keys;
 
 pub use making::{free_key, free_keys, made_keys};

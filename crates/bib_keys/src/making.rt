@@ -10,10 +10,10 @@ ghost use Rattle.bib_store.specs.Meaning.{OfReading, IsEntryNumber};
 ghost use Rattle.bib_names.specs.Label.{Fields, label_names, key_base};
 ghost use Rattle.bib_names.specs.LabelParts.{parts_of};
 ghost use Rattle.bib_keys.specs.MadeBase.{made_base};
-ghost use Rattle.bib_keys.specs.LastParent.{IsLastParent};
+ghost use Rattle.bib_keys.specs.Parents.{AreParents};
 ghost use Rattle.bib_keys.specs.TakenKeys.{AreTaken, taken_in};
 
-use crate::last_parents::LastParent;
+use crate::parents::Parents;
 use crate::taken_keys::TakenKeys;
 use bib_names::{LabelParts, key_base_with, label_names};
 use bib_scan::{Seq, Text};
@@ -21,18 +21,18 @@ use bib_store::{Database, ItemList};
 use std::alloc::{AllocError, Global};
 
 /// The base of the key that is made for entry `n`: that of its record. No other fields are gathered than those of these
-/// names, which are all that a base is made of, and those of its parent are not read again where it is the last.
+/// names, which are all that a base is made of, and those of its parent are read once for all its children.
 fn base_of<L: ItemList>(
     alloc: Global,
     db: &Database<L>,
     n: usize,
     names: &[&[u8]],
-    last: &mut LastParent,
+    parents: &mut Parents,
 ) -> Result<Text, AllocError>
     requires number { IsEntryNumber db.now n }
     requires names { map (λ name. name.now) names.now ≡ label_names }
-    requires last { IsLastParent db.now last.old }
-    ensures last { OnOk result (IsLastParent db.now last.new) }
+    requires parents { AreParents db.now parents.old }
+    ensures parents { OnOk result (AreParents db.now parents.new) }
     ensures base { IfOk result (λ base. OfReading db.now (λ r. (entry : EntryTexts) → slice_get (entries_of r) n ≡ Some entry → base ≡ made_base (record_of default_depth (entries_of r) n entry))) }
     ensures short { IfOk result (λ base. length base ≤ base_limit) }
 {
@@ -42,8 +42,11 @@ fn base_of<L: ItemList>(
     let Some(parent) = db.parent(n) else {
         return base_with(alloc, fields.as_slice(), &LabelParts::none(alloc));
     };
-    last.turn_to(alloc, db, parent, names)?;
-    base_with(alloc, fields.as_slice(), last.parts())
+    parents.learn(alloc, db, parent, names)?;
+    match parents.parts(parent) {
+        Some(inherited) => base_with(alloc, fields.as_slice(), inherited),
+        None => unreachable!(),
+    }
 }
 
 /// The base of the key that is made of these fields, and of what is inherited.
@@ -68,19 +71,19 @@ fn make_key<L: ItemList>(
     n: usize,
     names: &[&[u8]],
     taken: &mut TakenKeys,
-    last: &mut LastParent,
+    parents: &mut Parents,
 ) -> Result<Text, AllocError>
     requires number { IsEntryNumber db.now n }
     requires names { map (λ name. name.now) names.now ≡ label_names }
-    requires last { IsLastParent db.now last.old }
+    requires parents { AreParents db.now parents.old }
     requires count { taken.old.count + 1 < 2 ^ 64 }
-    ensures last { OnOk result (IsLastParent db.now last.new) }
+    ensures parents { OnOk result (AreParents db.now parents.new) }
     ensures key { IfOk result (λ key. OfReading db.now (λ r. (entry : EntryTexts) → slice_get (entries_of r) n ≡ Some entry → (keys : List Bytes) → AreTaken keys taken.old → key ≡ free_key keys (made_base (record_of default_depth (entries_of r) n entry)))) }
     ensures taken { IfOk result (λ key. (keys : List Bytes) → AreTaken keys taken.old → AreTaken (key ∷ keys) taken.new) }
     ensures count { OnOk result (taken.new.count ≡ taken.old.count + 1) }
     ensures short { IfOk result (λ key. length key ≤ name_limit) }
 {
-    let base = base_of(alloc, db, n, names, last)?;
+    let base = base_of(alloc, db, n, names, parents)?;
     taken.take_free(base.as_slice())
 }
 
@@ -93,8 +96,8 @@ fn push_made(keys: &mut Vec<Text>, made: Result<Text, AllocError>) -> Result<(),
 }
 
 /// The made keys of all entries: for each in turn the first candidate of its base that is neither an earlier entry's made
-/// key nor the text of a dangling crossref. It takes time in the number of entries and in their bytes, those of a parent
-/// once for each run of its children, which only a child of another parent ends, and memory for the keys.
+/// key nor the text of a dangling crossref. It takes time in the number of entries and in their bytes, and memory for the
+/// keys and for what parents give.
 pub fn made_keys<L: ItemList>(alloc: Global, db: &Database<L>) -> Result<Seq<Text>, AllocError>
     ensures keys { IfOk result (λ keys. OfReading db.now (λ r. keys ≡ new_keys made_base default_depth (entries_of r))) }
     ensures short { IfOk result (AllByRecursion (λ key. length key ≤ name_limit)) }
@@ -103,12 +106,12 @@ pub fn made_keys<L: ItemList>(alloc: Global, db: &Database<L>) -> Result<Seq<Tex
     let mut taken = TakenKeys::of_dangling(alloc, db)?;
     let label_names = label_names(alloc)?;
     let names = label_names.as_slice();
-    let mut last = LastParent::none(alloc);
+    let mut parents = Parents::none(alloc);
     let mut keys = Vec::new(alloc);
     'entries: for n in 0..db.entry_count() {
         push_made(
             &mut keys,
-            make_key(alloc, db, n, names, &mut taken, &mut last),
+            make_key(alloc, db, n, names, &mut taken, &mut parents),
         )?;
     }
     Ok(Seq::from_vec(keys))

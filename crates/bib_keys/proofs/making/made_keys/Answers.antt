@@ -48,7 +48,7 @@ entries-preserved g c = (
       let taken = c.entries.invariant.2 db reads in
       let more = was-made c.make_key.result _ c.in_ok-push_made.ensures.pushed c.make_key.ensures.count in
       omega (arith, taken, more),
-  was-made c.make_key.result _ c.in_ok-push_made.ensures.pushed c.make_key.ensures.last,
+  was-made c.make_key.result _ c.in_ok-push_made.ensures.pushed c.make_key.ensures.parents,
 )
 
 pub returns-clause-keys : goal.returns-clause-keys

@@ -1,0 +1,25 @@
+-- What parents give to the labels of their children, as it is kept from one child to the next.
+use Rattle.std.specs.Prelude.{ℕ, ◌≡◌, List, Option, None, IfSome, slice_index_or}
+use Rattle.bib_spec.specs.Text.{Text}
+use Rattle.bib_spec.specs.Records.{EntryTexts, entries_of, fields_at}
+use Rattle.bib_store.specs.Meaning.{OfReading}
+use Rattle.bib_store.specs.Choosing.{chosen}
+use Rattle.bib_names.specs.Label.{Fields, label_names}
+use Rattle.bib_names.specs.LabelParts.{parts_of}
+use Rattle.bib_keys.specs.declared.parents.Parents.{Parents}
+
+-- the fields of entry n that labels are made of
+abbrev pub label_fields : List EntryTexts → ℕ → Fields
+label_fields entries n = chosen label_names (fields_at entries n)
+
+-- what is kept of entry n
+abbrev pub kept_of : {X : Type 0} → List (Option X) → ℕ → Option X
+kept_of known n = slice_index_or known n None
+
+-- of each entry the same is kept
+abbrev pub KeepTheSame : {X : Type 0} → List (Option X) → List (Option X) → Type 0
+KeepTheSame old new = (n : ℕ) → kept_of new n ≡ kept_of old n
+
+-- what is kept of an entry is what its fields give
+abbrev pub AreParents : Text → Parents → Type 0
+AreParents file parents = OfReading file (λ db. (n : ℕ) → IfSome (kept_of parents.known.items n) (λ kept. kept.value ≡ parts_of (label_fields (entries_of db) n)))

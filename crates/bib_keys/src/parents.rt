@@ -1,0 +1,101 @@
+//! What parents give to the labels of their children.
+
+ghost use Rattle.std.specs.Prelude.{◌≡◌, ◌<◌, length, map, IfOk, OnOk};
+ghost use Rattle.bib_spec.specs.Records.{entries_of};
+ghost use Rattle.bib_store.specs.Meaning.{OfReading, IsEntryNumber};
+ghost use Rattle.bib_names.specs.Label.{label_names};
+ghost use Rattle.bib_names.specs.LabelParts.{parts_of};
+ghost use Rattle.bib_keys.specs.Parents.{label_fields, KeepTheSame};
+
+use bib_names::{LabelParts, label_parts};
+use bib_store::{Database, ItemList};
+use std::alloc::{AllocError, Global};
+
+/// What the own fields of parents give to a label, by the parents' numbers, as far as it was asked for. So the fields of a
+/// parent are read once, however many children it has.
+#[derive(Drop)]
+pub(crate) struct Parents {
+    known: Vec<Option<Box<LabelParts>>>,
+}
+
+/// Makes room for what entry `n` gives.
+fn make_room(known: &mut Vec<Option<Box<LabelParts>>>, n: usize) -> Result<(), AllocError>
+    ensures room { OnOk result (n < length known.new.items) }
+    ensures same { KeepTheSame known.old.items known.new.items }
+{
+    'grow: while known.len() <= n {
+        known.push(None)?;
+    }
+    Ok(())
+}
+
+/// What the own fields of entry `n` give to a label.
+fn parts_of<L: ItemList>(
+    alloc: Global,
+    db: &Database<L>,
+    n: usize,
+    names: &[&[u8]],
+) -> Result<LabelParts, AllocError>
+    requires number { IsEntryNumber db.now n }
+    requires names { map (λ name. name.now) names.now ≡ label_names }
+    ensures { IfOk result (λ parts. OfReading db.now (λ r. parts ≡ parts_of (label_fields (entries_of r) n))) }
+{
+    let Ok(fields) = db.own_fields_with(n, names) else {
+        return Err(AllocError);
+    };
+    match label_parts(alloc, fields.as_slice()) {
+        Ok(parts) => Ok(parts),
+        Err(_) => Err(AllocError),
+    }
+}
+
+impl Parents {
+    ghost use Rattle.std.specs.Prelude.{◌≡◌, map, IsSome, OnOk};
+    ghost use Rattle.std.specs.Option.{option_copied, option_map};
+    ghost use Rattle.bib_spec.specs.Text.{Text as Bytes};
+    ghost use Rattle.bib_store.specs.Meaning.{IsEntryNumber};
+    ghost use Rattle.bib_names.specs.Label.{label_names};
+    ghost use Rattle.bib_keys.specs.Parents.{AreParents, kept_of};
+
+    /// None is known. It takes no memory.
+    pub fn none(alloc: Global) -> Self
+        ensures { (file : Bytes) → AreParents file result }
+    {
+        Parents {
+            known: Vec::new(alloc),
+        }
+    }
+
+    /// What entry `n` gives, where that is known.
+    pub fn parts(&self, n: usize) -> Option<&LabelParts>
+        ensures { option_copied result ≡ option_map (λ kept. kept.value) (kept_of self.now.known.items n) }
+    {
+        match self.known.get(n) {
+            Some(Some(parts)) => Some(parts),
+            _ => None,
+        }
+    }
+
+    /// Gets to know what entry `n` gives. Where it is known already, no field is read.
+    pub fn learn<L: ItemList>(
+        &mut self,
+        alloc: Global,
+        db: &Database<L>,
+        n: usize,
+        names: &[&[u8]],
+    ) -> Result<(), AllocError>
+        requires number { IsEntryNumber db.now n }
+        requires names { map (λ name. name.now) names.now ≡ label_names }
+        requires parents { AreParents db.now self.old }
+        ensures parents { OnOk result (AreParents db.now self.new) }
+        ensures known { OnOk result (IsSome (kept_of self.new.known.items n)) }
+    {
+        make_room(&mut self.known, n)?;
+        if self.known[n].is_some() {
+            return Ok(());
+        }
+        let parts = parts_of(alloc, db, n, names)?;
+        self.known[n] = Some(Box::new(alloc, parts)?);
+        Ok(())
+    }
+}
