@@ -6,6 +6,7 @@ pub mod SeenItems
 pub mod SeenNames
 pub mod NamesInUse
 pub mod PlacedTexts
+pub mod BracedTexts
 pub mod Ranks
 -- ---- pieces, in order and within the file
 pub mod PieceLists
@@ -50,7 +51,6 @@ pub mod RekeyedTexts
 pub mod RenamedKeys
 -- ---- keys that are made
 pub mod KeyBases
-pub mod BracedTexts
 pub mod Regenerated
 -- ---- macros that change
 pub mod DefinedNames
