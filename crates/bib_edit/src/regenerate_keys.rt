@@ -14,9 +14,8 @@ use bib_store::{Database, ItemList, Piece};
 use std::alloc::Global;
 
 /// The pieces that give all entries their made keys at once, and name their targets by these, or the first reason against
-/// it. Since all is told by the old keys, two entries may exchange theirs. It takes time in the length of the file, and in
-/// that of a parent once for each run of its children, which only a child of another parent ends; and memory for the pieces and
-/// the keys.
+/// it. Since all is told by the old keys, two entries may exchange theirs. It takes time in the length of the file, and
+/// memory for the pieces, the keys and what parents give to them.
 pub(crate) fn regenerate_keys<L: ItemList>(
     alloc: Global,
     db: &Database<L>,
