@@ -251,9 +251,10 @@ def one_base(count):
 
 
 def children_of_long(count):
-    """So many entries without an author of one parent, which comes last and has 100 bytes for each of them: half in its authors, half in a note."""
+    """So many entries without an author, of two parents in turn, which come last and have 100 bytes each for each entry: half in authors, half in a note."""
     people = b" and ".join(b"Author %06d" % n for n in range(50 * count // 18))
-    return entries(count, b",crossref={p}") + b"@a{p,year=1984,author={%s},note={%s}}" % (people, b"x" * (50 * count))
+    children = b"".join(b"@a{k%d,crossref={%s}}" % (n, (b"p", b"q")[n % 2]) for n in range(count))
+    return children + b"".join(b"@a{%s,year=1984,author={%s},note={%s}}" % (key, people, b"x" * (50 * count)) for key in (b"p", b"q"))
 
 
 def great():
@@ -285,8 +286,8 @@ CONTENTS = {
     "publisher 11": lambda: articles_of_one_publisher(11112),
     "base 50": lambda: one_base(50000),
     "base 100": lambda: one_base(100000),
-    "long parent 5": lambda: children_of_long(5000),
-    "long parent 10": lambda: children_of_long(10000),
+    "long parents 5": lambda: children_of_long(5000),
+    "long parents 10": lambda: children_of_long(10000),
     "great": great,
     "authors 50000": lambda: authors(50000),
     "authors 100000": lambda: authors(100000),
