@@ -129,16 +129,17 @@ impl<L: ItemList> Database<L> {
         )?;
         let front = new_front(self.alloc, &change)?;
         let front_len = front_len(self.front.as_slice(), &front);
+        let read = change.text.as_slice().len();
         self.notes = Seq::from_vec(Vec::new(self.alloc));
         exchange(
             self.alloc,
             front_len,
             &mut self.items,
             &mut self.tables,
-            &change,
+            change,
         )?;
         put_front(&mut self.front, front);
-        self.scanned = change.text.as_slice().len();
+        self.scanned = read;
         Ok(())
     }
 }
