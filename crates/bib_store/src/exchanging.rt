@@ -20,9 +20,11 @@ use crate::window::Window;
 use bib_items::{ItemList, StoreFault};
 use std::alloc::Global;
 
-/// Tables follow so many items that come, and so many that go. Each takes some steps for each page of the tables, so that
-/// for more of them it costs less to make the tables again.
-pub(crate) const FOLLOWED_LIMIT: usize = 64;
+/// Tables follow so many items that come, and so many that go, or one in `FOLLOWED_SHARE` of all. Each takes some steps for
+/// each page of the tables, so that for more of them it costs less to make the tables again.
+const FOLLOWED_LIMIT: usize = 64;
+
+const FOLLOWED_SHARE: usize = 16;
 
 /// Puts the items of a change in place of those in its window, and lets the tables say what holds of all items then. Where
 /// each takes the place of one of its kind, with its key and crossref, the tables stay but for a definition, and the list
@@ -179,18 +181,17 @@ pub(crate) fn lead_of<L: ItemList>(items: &L, window: Window, count: usize) -> u
     0
 }
 
-/// Whether the tables may follow: few items come and go, and but for those of the lead none of them defines a macro.
+/// Whether the tables may follow: few of all items come and go, and but for those of the lead none of them defines a macro.
 pub(crate) fn can_follow<L: ItemList>(items: &L, window: Window, count: usize, lead: usize) -> bool
     requires within { window.to + count ≤ length (L.items items.now) }
     requires lead { IsLead window count lead (L.items items.now) }
     ensures come { IsTrue result → DefineNothingBetween (window.from + lead) (window.from + count) (L.items items.now) }
     ensures gone { IsTrue result → DefineNothingBetween (window.from + count + lead) (window.to + count) (L.items items.now) }
 {
-    // so many items fit
-    let _ = items.count();
+    let all = items.count();
     let first_old = window.from + count;
     let most = count.max(window.to - window.from);
-    most <= FOLLOWED_LIMIT
+    most <= FOLLOWED_LIMIT.max(all / FOLLOWED_SHARE)
         && are_others(items, window.from + lead, first_old)
         && are_others(items, first_old + lead, window.to + count)
 }
