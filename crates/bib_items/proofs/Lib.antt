@@ -1,3 +1,4 @@
+pub mod Appended
 pub mod Filled
 pub mod ItemsIn
 pub mod PageSizes

@@ -22,28 +22,6 @@ no_item = item [] []
 pub bytes-split : (items : List Item) (n : ℕ) → all_bytes (take n items) ++ all_bytes (drop n items) ≡ all_bytes items
 bytes-split items n = sym (flat_map-append kept_bytes (take n items) (drop n items)) ∙ ap all_bytes (take-append-drop n items)
 
--- one item more from a number on
-pub between-more : (items : List Item) (from n : ℕ) → from ≤ n → n < length items → between from (n + 1) items ≡ between from n items ++ item_at items n ∷ []
-between-more items from n h k =
-    let far : n + 1 - from ≡ n - from + 1 = omega arith in
-    let here : from + (n - from) ≡ n = omega arith in
-    let room : n - from < length (drop from items) = omega (arith, length-drop from items) in
-    ap (λ m. take m (drop from items)) far
-    ∙ take_more (drop from items) (n - from) no_item room
-    ∙ ap (λ i. between from n items ++ i ∷ []) (get_or-drop from items (n - from) no_item ∙ ap (λ m. get_or items m no_item) here)
-
-pub joined-more : (items : List Item) (from n : ℕ) (front : Text) → from ≤ n → n < length items
-    → (front ++ all_bytes (between from n items)) ++ (item_at items n).body ++ (item_at items n).trail ≡ front ++ all_bytes (between from (n + 1) items)
-joined-more items from n front h k =
-    append_assoc (front ++ all_bytes (between from n items)) (item_at items n).body (item_at items n).trail
-    ∙ flat_map_more kept_bytes front (between from n items) (item_at items n)
-    ∙ ap (λ l. front ++ all_bytes l) (sym (between-more items from n h k))
-
-pub none_joined : (items : List Item) (from : ℕ) (front : Text) → front ++ all_bytes (between from from items) ≡ front
-none_joined items from front =
-    let none : from - from ≡ 0 = omega arith in
-    ap (λ m. front ++ all_bytes (take m (drop from items))) none ∙ append-nil front
-
 -- ---- the file around a window
 
 items-around : (items : List Item) (from to : ℕ) → from ≤ to → all_bytes items ≡ all_bytes (take from items) ++ (all_bytes (between from to items) ++ all_bytes (drop to items))

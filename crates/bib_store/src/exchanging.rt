@@ -20,33 +20,37 @@ use crate::window::Window;
 use bib_items::{ItemList, StoreFault};
 use std::alloc::Global;
 
-/// Tables follow so many items that come, and so many that go. Each takes some steps for each page of the tables, so that
-/// for more of them it costs less to make the tables again.
-pub(crate) const FOLLOWED_LIMIT: usize = 64;
+/// Tables follow so many items that come, and so many that go, or one in `FOLLOWED_SHARE` of all. Each takes some steps for
+/// each page of the tables, so that for more of them it costs less to make the tables again.
+const FOLLOWED_LIMIT: usize = 64;
+
+const FOLLOWED_SHARE: usize = 16;
 
 /// Puts the items of a change in place of those in its window, and lets the tables say what holds of all items then. Where
-/// each takes the place of one of its kind, with its key and crossref, the tables stay but for a definition. It is refused
-/// where memory runs out, or where a raw text is too long; nothing has changed then.
+/// each takes the place of one of its kind, with its key and crossref, the tables stay but for a definition, and the list
+/// may keep the memory of the change's text. It is refused where memory runs out, or where a raw text is too long; nothing
+/// has changed then.
 pub(crate) fn exchange<L: ItemList>(
     alloc: Global,
     front_len: usize,
     items: &mut L,
     tables: &mut Tables,
-    change: &Change,
+    change: Change,
 ) -> Result<(), StoreFault>
-    requires window { IsWindow (L.items items.old) change.now.window }
-    requires layout { IsLayoutOf change.now.text change.now.layout }
-    ensures items { OnOk result ((inner : Reading) → Reads change.now.text inner → L.items items.new ≡ exchanged change.now.window inner.items (L.items items.old)) }
-    ensures tables { OnOk result (OfJoined change.now front_len (L.items items.old) tables.old (λ db. AreTables db tables.new × (too_long_at db ≡ None))) }
-    ensures len { OnOk result (tables.new.file_len ≡ change.now.file_len) }
-    ensures refused { IfErr result (λ fault. fault ≡ BadSplice → OfJoined change.now front_len (L.items items.old) tables.old (λ db. too_long_at db ≡ None → ⊥)) }
+    requires window { IsWindow (L.items items.old) change.window }
+    requires layout { IsLayoutOf change.text change.layout }
+    ensures items { OnOk result ((inner : Reading) → Reads change.text inner → L.items items.new ≡ exchanged change.window inner.items (L.items items.old)) }
+    ensures tables { OnOk result (OfJoined change front_len (L.items items.old) tables.old (λ db. AreTables db tables.new × (too_long_at db ≡ None))) }
+    ensures len { OnOk result (tables.new.file_len ≡ change.file_len) }
+    ensures refused { IfErr result (λ fault. fault ≡ BadSplice → OfJoined change front_len (L.items items.old) tables.old (λ db. too_long_at db ≡ None → ⊥)) }
     ensures only { IfErr result (λ fault. (fault ≡ BadSplice) ⊎ (fault ≡ Memory)) }
     ensures err { OnErr result ((L.items items.new ≡ L.items items.old) × SayTheSameOf (L.items items.old) tables.old tables.new) }
 {
-    match put_in_place(alloc, tables, &*items, change) {
+    let file_len = change.file_len;
+    match put_in_place(alloc, tables, &*items, &change) {
         Some(kept) => match exchange_items(items, change) {
             Ok(()) => {
-                tables.file_len = change.file_len;
+                tables.file_len = file_len;
                 Ok(())
             }
             Err(fault) => {
@@ -54,24 +58,25 @@ pub(crate) fn exchange<L: ItemList>(
                 Err(fault)
             }
         },
-        None => exchange_all(alloc, front_len, items, tables, change),
+        None => exchange_all(alloc, front_len, items, tables, &change),
     }
 }
 
 /// Puts the items of a change in place of those in its window. Where memory is refused, the list is as it was.
-fn exchange_items<L: ItemList>(items: &mut L, change: &Change) -> Result<(), StoreFault>
-    requires window { IsWindow (L.items items.old) change.now.window }
-    requires layout { IsLayoutOf change.now.text change.now.layout }
-    ensures items { OnOk result ((inner : Reading) → Reads change.now.text inner → L.items items.new ≡ exchanged change.now.window inner.items (L.items items.old)) }
+fn exchange_items<L: ItemList>(items: &mut L, change: Change) -> Result<(), StoreFault>
+    requires window { IsWindow (L.items items.old) change.window }
+    requires layout { IsLayoutOf change.text change.layout }
+    ensures items { OnOk result ((inner : Reading) → Reads change.text inner → L.items items.new ≡ exchanged change.window inner.items (L.items items.old)) }
     ensures only { IfErr result (λ fault. fault ≡ Memory) }
     ensures err { OnErr result (L.items items.new ≡ L.items items.old) }
 {
     let window = change.window;
     if window.to - window.from == 1 && change.layout.len() == 1 {
-        return exchange_one(items, change);
+        return exchange_one(items, &change);
     }
     let old_count = items.count();
-    items.insert_all(window.from, change.text.as_slice(), &change.layout)?;
+    let Change { text, layout, .. } = change;
+    items.take_in(window.from, text.into_vec(), &layout)?;
     let count = items.count() - old_count;
     items.remove_range(window.from + count, window.to + count);
     Ok(())
@@ -176,18 +181,17 @@ pub(crate) fn lead_of<L: ItemList>(items: &L, window: Window, count: usize) -> u
     0
 }
 
-/// Whether the tables may follow: few items come and go, and but for those of the lead none of them defines a macro.
+/// Whether the tables may follow: few of all items come and go, and but for those of the lead none of them defines a macro.
 pub(crate) fn can_follow<L: ItemList>(items: &L, window: Window, count: usize, lead: usize) -> bool
     requires within { window.to + count ≤ length (L.items items.now) }
     requires lead { IsLead window count lead (L.items items.now) }
     ensures come { IsTrue result → DefineNothingBetween (window.from + lead) (window.from + count) (L.items items.now) }
     ensures gone { IsTrue result → DefineNothingBetween (window.from + count + lead) (window.to + count) (L.items items.now) }
 {
-    // so many items fit
-    let _ = items.count();
+    let all = items.count();
     let first_old = window.from + count;
     let most = count.max(window.to - window.from);
-    most <= FOLLOWED_LIMIT
+    most <= FOLLOWED_LIMIT.max(all / FOLLOWED_SHARE)
         && are_others(items, window.from + lead, first_old)
         && are_others(items, first_old + lead, window.to + count)
 }

@@ -16,11 +16,9 @@ pub(crate) fn join<L: ItemList>(
     requires { length (file_of front.now (L.items items.now)) ≤ file_limit }
     ensures { IfOk result (λ file. file.items ≡ file_of front.now (L.items items.now)) }
 {
-    let mut file = Vec::with_capacity(alloc, front.len() + items.start(items.count()))?;
+    let count = items.count();
+    let mut file = Vec::with_capacity(alloc, front.len() + items.start(count))?;
     file.extend_from_slice(front)?;
-    'join: for n in 0..items.count() {
-        file.extend_from_slice(items.body(n))?;
-        file.extend_from_slice(items.trail(n))?;
-    }
+    items.append_bytes(0, count, &mut file)?;
     Ok(file)
 }

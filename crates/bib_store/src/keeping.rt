@@ -76,7 +76,7 @@ fn keep_file<L: ItemList>(
 {
     let front = Vec::from_slice(alloc, layout.front(file.as_slice()))?;
     let mut items = empty;
-    items.take_file(file, layout)?;
+    items.take_in(0, file, layout)?;
     Ok((Seq::from_vec(front), items))
 }
 

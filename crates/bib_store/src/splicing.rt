@@ -18,7 +18,7 @@ impl<L: ItemList> Database<L> {
 
     /// Replaces pieces of the file, all at once. The items that the pieces touch are read again, but for one that they
     /// touch by its end alone where the rest is read without it: each run of neighbours alone, where at most 256 pieces
-    /// make 2 to 64 runs of at most 64 items each, or touch one macro definition alone, none touches the front, and of
+    /// make 2 to 64 runs of few items each, or touch one macro definition alone, none touches the front, and of
     /// macro definitions only the trails change, where they are the first that a run touches, or one gives way to another
     /// in a run of its own, while no crossref and no definition is made of macros and the items are short; else all from
     /// the first to the last; and where that shows no file, the whole file. It takes time in the length of what is read,
@@ -26,9 +26,9 @@ impl<L: ItemList> Database<L> {
     /// memory in the length of what is read. Where a definition gives way to another in a run of its own, it takes time
     /// and memory in the length of all definitions too. Where all is read in one run, the tables stay as they are if each
     /// item takes the place of one of its kind, with its key and what its crossref says, of definitions one alone changes,
-    /// and no crossref and no definition is made of macros where it does. Else, where more than 64 items come or go, or one
-    /// defines a macro, the tables of all items are made again: it takes time in the file's length, and memory as opening
-    /// it. A first item of which only the trail changes neither comes nor goes.
+    /// and no crossref and no definition is made of macros where it does. Else, where more items come or go than 64, and
+    /// than one in sixteen of all, or one defines a macro, the tables of all items are made again: it takes time in the
+    /// file's length, and memory as opening it. A first item of which only the trail changes neither comes nor goes.
     pub fn splice(&mut self, pieces: &[Piece]) -> Result<(), StoreFault>
         ensures fit { OnOk result (Fit pieces.now self.old) }
         ensures spliced { OnOk result (self.new ≡ applied pieces.now self.old) }
@@ -129,16 +129,17 @@ impl<L: ItemList> Database<L> {
         )?;
         let front = new_front(self.alloc, &change)?;
         let front_len = front_len(self.front.as_slice(), &front);
+        let read = change.text.as_slice().len();
         self.notes = Seq::from_vec(Vec::new(self.alloc));
         exchange(
             self.alloc,
             front_len,
             &mut self.items,
             &mut self.tables,
-            &change,
+            change,
         )?;
         put_front(&mut self.front, front);
-        self.scanned = change.text.as_slice().len();
+        self.scanned = read;
         Ok(())
     }
 }

@@ -38,11 +38,6 @@ pub(crate) fn text_of<L: ItemList>(
 {
     let mut text = Vec::new(alloc);
     text.extend_from_slice(front_of(front, window))?;
-    'join: for n in window.from..window.to {
-        let (body, trail) = items.texts(n);
-        text.reserve(body.len().saturating_add(trail.len()))?;
-        text.extend_from_slice(body)?;
-        text.extend_from_slice(trail)?;
-    }
+    items.append_bytes(window.from, window.to, &mut text)?;
     Ok(text)
 }

@@ -3,7 +3,7 @@ use Rattle.bib_items.specs.declared.list.Item.{Item}
 use Rattle.bib_items.specs.Items.{item, without_range}
 use Rattle.bib_pages.specs.Pages.{joined}
 use Rattle.bib_items.proofs.Filled.{IsBegun, begun_start, begun_more, begun_len, begun_back, begun_all}
-use Rattle.bib_items.proofs.paged.PagedItemList.insert_all.Goals as goal
+use Rattle.bib_items.proofs.paged.Paged.put_each_in.Goals as goal
 
 pub fill-init : goal.fill-init
 fill-init c = begun_start (joined c.args.self.now) c.args.at c.args.text.now
