@@ -11,6 +11,7 @@ ghost use Rattle.bib_answers.specs.Marks.{AreEntryNumbers};
 
 use crate::answers::{Answer, done, no_such_entry};
 use crate::citing::all_cited;
+use crate::lines::add_all;
 use crate::opening::answer_file;
 use bib_names::{label_base, label_names, labels_of};
 use bib_scan::Text;
@@ -127,8 +128,5 @@ fn label_lines(alloc: Global, bases: &[Text], keys: &[Text]) -> Result<Text, All
 fn add_label(out: &mut Vec<u8>, label: &[u8], key: &[u8]) -> Result<(), AllocError>
     ensures { OnOk result (out.new.items ≡ out.old.items ++ (label.now ++ (codes "\t" ++ (key.now ++ codes "\n")))) }
 {
-    out.extend_from_slice(label)?;
-    out.extend_from_slice(b"\t")?;
-    out.extend_from_slice(key)?;
-    out.extend_from_slice(b"\n")
+    add_all(out, &[label, b"\t", key, b"\n"])
 }

@@ -18,6 +18,7 @@ ghost use Rattle.bib_answers.specs.Seen.{HaveSeen};
 
 use crate::answers::MEMORY;
 use crate::kinds::is_same_kind;
+use crate::lines::add_all;
 use crate::seen_names::SeenNames;
 use bib_scan::{ItemView, Kind, Part, Parts, only_part, read_value, same_folded};
 use bib_store::{Database, Paged};
@@ -264,10 +265,7 @@ fn add_target(
 fn add_report(out: &mut Vec<u8>, said: &[u8], name: &[u8]) -> Result<(), AllocError>
     ensures { OnOk result (out.new.items ≡ out.old.items ++ report said.now name.now) }
 {
-    out.extend_from_slice(said)?;
-    out.extend_from_slice(b" ")?;
-    out.extend_from_slice(name)?;
-    out.extend_from_slice(b"\n")
+    add_all(out, &[said, b" ", name, b"\n"])
 }
 
 fn add_report_both(
@@ -278,10 +276,5 @@ fn add_report_both(
 ) -> Result<(), AllocError>
     ensures { OnOk result (out.new.items ≡ out.old.items ++ report_both said.now key.now name.now) }
 {
-    out.extend_from_slice(said)?;
-    out.extend_from_slice(b" ")?;
-    out.extend_from_slice(key)?;
-    out.extend_from_slice(b" ")?;
-    out.extend_from_slice(name)?;
-    out.extend_from_slice(b"\n")
+    add_all(out, &[said, b" ", key, b" ", name, b"\n"])
 }
