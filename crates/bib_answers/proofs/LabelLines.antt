@@ -1,7 +1,7 @@
 -- Labels beside their keys, one after another.
 use Rattle.std.proofs.Common.{◌≡◌, ◌∙◌, ℕ, ◌+◌, ◌≤◌, ◌<◌, List, [], ◌∷◌, ◌++◌, length, take, get_or, filter_map, map, zip, min, Option, None, Some, refl, sym, ap, ap₂, arith}
 use Rattle.std.specs.List.{flat_map, cons_option}
-use Rattle.std.proofs.lemmas.List.{take_more, take_all, map-append}
+use Rattle.std.proofs.lemmas.List.{take_all, map-append}
 use Rattle.std.proofs.lemmas.Slice.Zip.{get_or-zip}
 use Rattle.bib_spec.specs.Text.{Text}
 use Rattle.bib_spec.specs.Records.{Record}
@@ -45,15 +45,10 @@ told_more records more r bases keys base key is also next told = record {
       ∙ sym (map-append (λ (x : Record). x.key) records (r ∷ [])) ∙ ap (map (λ (x : Record). x.key)) next;
 }
 
-filter_map-append : {X Y : Type 0} (f : X → Option Y) (xs : List X) (x : X) (y : Y) → f x ≡ Some y → filter_map f (xs ++ x ∷ []) ≡ filter_map f xs ++ y ∷ []
+pub filter_map-append : {X Y : Type 0} (f : X → Option Y) (xs : List X) (x : X) (y : Y) → f x ≡ Some y → filter_map f (xs ++ x ∷ []) ≡ filter_map f xs ++ y ∷ []
 filter_map-append f [] x y e = ap (λ o. cons_option o []) e
 filter_map-append f (z ∷ xs) x y e = ap (cons_option (f z)) (filter_map-append f xs x y e) ∙ apart (f z) (filter_map f xs) (y ∷ [])
   where
     apart : {Y : Type 0} (o : Option Y) (ys zs : List Y) → cons_option o (ys ++ zs) ≡ cons_option o ys ++ zs
     apart None ys zs = refl
     apart (Some x) ys zs = refl
-
--- one more that is found
-pub found_more : {X Y : Type 0} (f : X → Option Y) (xs : List X) (n : ℕ) (d : X) (y : Y) → n < length xs → f (get_or xs n d) ≡ Some y
-    → filter_map f (take n xs) ++ y ∷ [] ≡ filter_map f (take (n + 1) xs)
-found_more f xs n d y within e = sym (ap (filter_map f) (take_more xs n d within) ∙ filter_map-append f (take n xs) (get_or xs n d) y e)

@@ -7,6 +7,7 @@ pub mod Show
 pub mod Cite
 pub mod Marks
 pub mod Check
+pub mod LookedThrough
 pub mod Fields
 pub mod Recurring
 pub mod Seen

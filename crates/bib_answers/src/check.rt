@@ -1,11 +1,12 @@
 //! `check`: what is in a file, and what is wrong with it.
 
-ghost use Rattle.std.specs.Prelude.{◌≡◌, ◌++◌, ◌+◌, ◌<◌, ◌^◌, [], if◌then◌else◌, IfOk};
+ghost use Rattle.std.specs.Prelude.{◌≡◌, ◌++◌, ◌+◌, ◌<◌, ◌^◌, [], if◌then◌else◌, IfOk, OnOk};
 ghost use Rattle.bib_spec.specs.Tree.{is_comment};
-ghost use Rattle.bib_store.specs.Meaning.{OfReading};
+ghost use Rattle.bib_store.specs.Meaning.{OfReading, IsItemNumber};
 ghost use Rattle.bib_answers.specs.Opened.{AnswersFile};
 ghost use Rattle.bib_definitions.specs.Definitions.{is_definition_tree};
 ghost use Rattle.bib_answers.specs.Check.{count_items, count_lines, all_reports, check_answer};
+ghost use Rattle.bib_answers.specs.LookedThrough.{IsFoundBefore};
 
 use crate::answers::{Answer, done};
 use crate::kinds::is_same_kind;
@@ -71,10 +72,12 @@ fn write_counts(
     Ok(text.into_bytes())
 }
 
-/// What is found in one pass over the items: the reports on them in order, and how many are definitions and comments.
+/// What is found in one pass over the items: the reports on them in order, and how many are entries, definitions and
+/// comments.
 #[derive(Drop)]
 struct Found {
     reports: Vec<u8>,
+    entries: usize,
     definitions: usize,
     comments: usize,
 }
@@ -84,24 +87,40 @@ fn look_through(alloc: Global, db: &Database<Paged>) -> Result<Found, AllocError
     ensures definitions { IfOk result (λ found. OfReading db.now (λ r. found.definitions ≡ count_items is_definition_tree r)) }
     ensures comments { IfOk result (λ found. OfReading db.now (λ r. found.comments ≡ count_items is_comment r)) }
 {
-    let mut reports = room_for_reports(alloc, db);
+    let mut found = Found {
+        reports: room_for_reports(alloc, db),
+        entries: 0,
+        definitions: 0,
+        comments: 0,
+    };
     let mut names = SeenNames::new(alloc);
-    let mut entries: usize = 0;
-    let mut definitions: usize = 0;
-    let mut comments: usize = 0;
     'items: for n in 0..db.item_count() {
-        let item = db.item(n);
-        add_item_reports(alloc, &mut reports, db, n, &item, entries, &mut names)?;
-        let kind = item.kind();
-        entries = counted(entries, is_same_kind(kind, Kind::Entry));
-        definitions = counted(definitions, is_same_kind(kind, Kind::Macro));
-        comments = counted(comments, is_same_kind(kind, Kind::Comment));
+        look_at(alloc, &mut found, db, n, &mut names)?;
     }
-    Ok(Found {
-        reports,
-        definitions,
-        comments,
-    })
+    Ok(found)
+}
+
+/// Adds what is found in item `n`. `names` lends its memory for the names of the fields.
+fn look_at<'a>(
+    alloc: Global,
+    found: &mut Found,
+    db: &'a Database<Paged>,
+    n: usize,
+    names: &mut SeenNames<'a>,
+) -> Result<(), AllocError>
+    requires item { IsItemNumber db.now n }
+    requires small { n + 1 < 2 ^ 64 }
+    requires before { IsFoundBefore db.now n found.old }
+    ensures { OnOk result (IsFoundBefore db.now (n + 1) found.new) }
+{
+    let item = db.item(n);
+    let entries = found.entries;
+    add_item_reports(alloc, &mut found.reports, db, n, &item, entries, names)?;
+    let kind = item.kind();
+    found.entries = counted(entries, is_same_kind(kind, Kind::Entry));
+    found.definitions = counted(found.definitions, is_same_kind(kind, Kind::Macro));
+    found.comments = counted(found.comments, is_same_kind(kind, Kind::Comment));
+    Ok(())
 }
 
 /// No reports. Where a key is repeated there is room for a report on each entry, as far as there is memory for it: reports

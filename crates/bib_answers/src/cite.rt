@@ -10,6 +10,7 @@ ghost use Rattle.bib_answers.specs.Cite.{IsKeyed, parent_bytes, line_bytes, with
 ghost use Rattle.bib_answers.specs.Marks.{AreMarks, AreEntryNumbers, ArePlaces};
 
 use crate::answers::{Answer, done};
+use crate::lines::add_all;
 use crate::listing::{Keyed, Line, Listing};
 use crate::opening::answer_file;
 use bib_scan::Text;
@@ -147,7 +148,5 @@ fn add_unknown(out: &mut Vec<u8>, keys: &[Text], places: &[usize]) -> Result<(),
 fn add_unknown_key(out: &mut Vec<u8>, key: &[u8]) -> Result<(), AllocError>
     ensures { OnOk result (out.new.items ≡ out.old.items ++ codes "? " ++ (key.now ++ codes "\n")) }
 {
-    out.extend_from_slice(b"? ")?;
-    out.extend_from_slice(key)?;
-    out.extend_from_slice(b"\n")
+    add_all(out, &[b"? ", key, b"\n"])
 }

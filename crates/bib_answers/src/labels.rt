@@ -1,16 +1,17 @@
 //! `labels`: short names for the entries that keys cite.
 
-ghost use Rattle.std.specs.Prelude.{◌≡◌, ◌++◌, codes, zip, IfOk, OnOk};
+ghost use Rattle.std.specs.Prelude.{◌≡◌, ◌++◌, ◌∷◌, ℕ, List, [], map, codes, zip, IfOk, OnOk};
 ghost use Rattle.std.specs.List.{flat_map};
 ghost use Rattle.bib_spec.specs.Records.{entries_of};
-ghost use Rattle.bib_store.specs.Meaning.{OfReading};
+ghost use Rattle.bib_store.specs.Meaning.{OfReading, IsEntryNumber};
 ghost use Rattle.bib_answers.specs.Opened.{AnswersFile};
-ghost use Rattle.bib_names.specs.Label.{label_base, labels_of};
+ghost use Rattle.bib_names.specs.Label.{label_base, label_names, labels_of};
 ghost use Rattle.bib_answers.specs.Labels.{label_lines, chosen_at, keyed_line, AreToldOf, labels_answer};
 ghost use Rattle.bib_answers.specs.Marks.{AreEntryNumbers};
 
 use crate::answers::{Answer, done, no_such_entry};
 use crate::citing::all_cited;
+use crate::lines::add_all;
 use crate::opening::answer_file;
 use bib_names::{label_base, label_names, labels_of};
 use bib_scan::Text;
@@ -49,25 +50,55 @@ struct Told {
     keys: Vec<Text>,
 }
 
+impl Told {
+    ghost use Rattle.std.specs.Prelude.{[], IfOk};
+    ghost use Rattle.bib_answers.specs.Labels.{AreToldOf};
+
+    /// Those of no entries, with room for so many.
+    fn with_room(alloc: Global, count: usize) -> Result<Told, AllocError>
+        ensures { IfOk result (λ told. AreToldOf [] told.bases.items told.keys.items) }
+    {
+        Ok(Told {
+            bases: Vec::with_capacity(alloc, count)?,
+            keys: Vec::with_capacity(alloc, count)?,
+        })
+    }
+}
+
 /// The label bases of these entries, and their keys. Of each record no more is kept, and no other fields are gathered than
 /// those that labels are made of.
 fn told_of(alloc: Global, db: &Database<Paged>, list: &[usize]) -> Result<Told, AllocError>
     requires { AreEntryNumbers db.now list.now }
     ensures { IfOk result (λ told. OfReading db.now (λ r. AreToldOf (chosen_at (entries_of r) list.now) told.bases.items told.keys.items)) }
 {
-    let label_names = label_names(alloc)?;
-    let names = label_names.as_slice();
-    let mut bases = Vec::with_capacity(alloc, list.len())?;
-    let mut keys = Vec::with_capacity(alloc, list.len())?;
+    let names = label_names(alloc)?;
+    let mut told = Told::with_room(alloc, list.len())?;
     'expand: for n in list {
-        let Ok(record) = db.expanded_with(*n, names) else {
-            return Err(AllocError);
-        };
-        let (base, key) = told_by(alloc, record)?;
-        bases.push(base)?;
-        keys.push(key)?;
+        add_told(alloc, &mut told, db, *n, names.as_slice())?;
     }
-    Ok(Told { bases, keys })
+    Ok(told)
+}
+
+/// Adds the label base of entry `n`, and its key.
+fn add_told(
+    alloc: Global,
+    told: &mut Told,
+    db: &Database<Paged>,
+    n: usize,
+    names: &[&[u8]],
+) -> Result<(), AllocError>
+    requires number { IsEntryNumber db.now n }
+    requires names { map (λ name. name.now) names.now ≡ label_names }
+    ensures { OnOk result (OfReading db.now (λ r. (list : List ℕ) → AreToldOf (chosen_at (entries_of r) list) told.old.bases.items told.old.keys.items
+        → AreToldOf (chosen_at (entries_of r) (list ++ n ∷ [])) told.new.bases.items told.new.keys.items)) }
+{
+    let Ok(record) = db.expanded_with(n, names) else {
+        return Err(AllocError);
+    };
+    let (base, key) = told_by(alloc, record)?;
+    told.bases.push(base)?;
+    told.keys.push(key)?;
+    Ok(())
 }
 
 /// The label base of a record, and its key.
@@ -97,8 +128,5 @@ fn label_lines(alloc: Global, bases: &[Text], keys: &[Text]) -> Result<Text, All
 fn add_label(out: &mut Vec<u8>, label: &[u8], key: &[u8]) -> Result<(), AllocError>
     ensures { OnOk result (out.new.items ≡ out.old.items ++ (label.now ++ (codes "\t" ++ (key.now ++ codes "\n")))) }
 {
-    out.extend_from_slice(label)?;
-    out.extend_from_slice(b"\t")?;
-    out.extend_from_slice(key)?;
-    out.extend_from_slice(b"\n")
+    add_all(out, &[label, b"\t", key, b"\n"])
 }

@@ -10,6 +10,7 @@ mod cite;
 mod citing;
 mod kinds;
 mod labels;
+mod lines;
 mod listing;
 mod marks;
 mod messages;

@@ -2,7 +2,7 @@
 
 ghost use Rattle.std.specs.Prelude.{◌≡◌, ◌++◌, OnOk};
 ghost use Rattle.std.specs.List.{flat_map};
-ghost use Rattle.bib_answers.specs.Cite.{line_bytes};
+ghost use Rattle.bib_answers.specs.Cite.{line_bytes, parent_bytes};
 
 use std::alloc::{AllocError, Global};
 use std::marker::Model;
@@ -97,9 +97,17 @@ fn write_line(text: &mut Vec<u8>, line: Line<'_>) -> Result<(), AllocError>
     ensures { OnOk result (text.new.items ≡ text.old.items ++ line_bytes line.entry) }
 {
     text.extend_from_slice(line.key)?;
-    if let Some(parent) = line.parent {
-        text.extend_from_slice(b"\t")?;
-        text.extend_from_slice(parent.key)?;
-    }
+    write_parent(text, line.parent)?;
     text.extend_from_slice(b"\n")
+}
+
+/// Writes a tab and the key of the parent, if there is one.
+fn write_parent(text: &mut Vec<u8>, parent: Option<Keyed<'_>>) -> Result<(), AllocError>
+    ensures { OnOk result (text.new.items ≡ text.old.items ++ parent_bytes parent.entry) }
+{
+    let Some(parent) = parent else {
+        return Ok(());
+    };
+    text.extend_from_slice(b"\t")?;
+    text.extend_from_slice(parent.key)
 }

@@ -7,7 +7,7 @@ ghost use Rattle.bib_store.specs.Meaning.{OfReading, IsEntryNumber};
 ghost use Rattle.bib_names.specs.declared.fault.NameFault.TheVariants.{Memory};
 ghost use Rattle.bib_answers.specs.Messages.{no_such_entry_line};
 ghost use Rattle.bib_answers.specs.Outcome.{answer_of};
-ghost use Rattle.bib_answers.specs.Names.{name_fault_name, name_fault_line, listed_in, persons, parts_in, name_line, name_lines, lines_of, lines_answer, record_answer, names_answer, Spells, IsNamesAnswer};
+ghost use Rattle.bib_answers.specs.Names.{name_fault_name, name_fault_line, listed_in, persons, parts_in, line_of, name_line, name_lines, lines_of, lines_answer, record_answer, names_answer, Spells, IsNamesAnswer};
 
 use crate::answers::{Answer, done, no_such_entry, refused};
 use crate::opening::answer_file;
@@ -159,7 +159,15 @@ fn name_line(alloc: Global, template: &Template, name: &[u8]) -> Result<Text, Na
     ensures fault { IfErr result (λ fault. fault ≢ Memory → name_line template.now name.now ≡ Err fault) }
 {
     let parts = parts_in(alloc, name)?;
-    let mut line = template.print(&parts)?.into_vec();
+    line_of(template, &parts)
+}
+
+/// The print of a name with these parts, a line.
+fn line_of(template: &Template, parts: &Name<'_>) -> Result<Text, NameFault>
+    ensures line { IfOk result (λ line. line_of template.now (Ok parts.now) ≡ Ok line) }
+    ensures fault { IfErr result (λ fault. fault ≡ Memory) }
+{
+    let mut line = template.print(parts)?.into_vec();
     line.extend_from_slice(b"\n")?;
     Ok(Text::from_vec(line))
 }

@@ -7,6 +7,7 @@ ghost use Rattle.bib_spec.specs.Text.{Text, folded};
 ghost use Rattle.bib_spec.specs.Reading.{IsValueWithin};
 ghost use Rattle.bib_spec.specs.Records.{entries_of, is_repeated};
 ghost use Rattle.bib_scan.specs.PartView.{part_view};
+ghost use Rattle.bib_scan.specs.ValueParts.{IsPartsOf};
 ghost use Rattle.bib_value.specs.Macros.{is_own};
 ghost use Rattle.bib_value.specs.Raw.{OfValue};
 ghost use Rattle.bib_store.specs.Meaning.{OfReading, IsItemNumber};
@@ -17,8 +18,9 @@ ghost use Rattle.bib_answers.specs.Seen.{HaveSeen};
 
 use crate::answers::MEMORY;
 use crate::kinds::is_same_kind;
+use crate::lines::add_all;
 use crate::seen_names::SeenNames;
-use bib_scan::{ItemView, Kind, Part, only_part, read_value, same_folded};
+use bib_scan::{ItemView, Kind, Part, Parts, only_part, read_value, same_folded};
 use bib_store::{Database, Paged};
 use bib_value::MacroTable;
 use std::alloc::{AllocError, Global};
@@ -145,11 +147,24 @@ fn add_each_use<M: MacroTable>(
     requires { IsValueWithin name_limit value.now }
     ensures { OnOk result (OfValue value.now (λ v. out.new.items ≡ out.old.items ++ use_reports (option_copied own.entry) (M.macros macros.now) v)) }
 {
-    let parts = match read_value(alloc, value) {
-        Ok(parts) => parts,
-        Err(fault) if fault.kind == MEMORY => return Err(AllocError),
+    match read_value(alloc, value) {
+        Ok(parts) => add_part_uses(out, macros, own, value, &parts),
+        Err(fault) if fault.kind == MEMORY => Err(AllocError),
         Err(_) => unreachable!(),
-    };
+    }
+}
+
+/// The same, of a value whose parts these are.
+fn add_part_uses<M: MacroTable>(
+    out: &mut Vec<u8>,
+    macros: &M,
+    own: Option<&[u8]>,
+    value: &[u8],
+    parts: &Parts,
+) -> Result<(), AllocError>
+    requires { IsPartsOf value.now parts.now }
+    ensures { OnOk result (OfValue value.now (λ v. out.new.items ≡ out.old.items ++ use_reports (option_copied own.entry) (M.macros macros.now) v)) }
+{
     'uses: for n in 0..parts.len() {
         add_use(out, parts.part(value, n), macros, own)?;
     }
@@ -250,10 +265,7 @@ fn add_target(
 fn add_report(out: &mut Vec<u8>, said: &[u8], name: &[u8]) -> Result<(), AllocError>
     ensures { OnOk result (out.new.items ≡ out.old.items ++ report said.now name.now) }
 {
-    out.extend_from_slice(said)?;
-    out.extend_from_slice(b" ")?;
-    out.extend_from_slice(name)?;
-    out.extend_from_slice(b"\n")
+    add_all(out, &[said, b" ", name, b"\n"])
 }
 
 fn add_report_both(
@@ -264,10 +276,5 @@ fn add_report_both(
 ) -> Result<(), AllocError>
     ensures { OnOk result (out.new.items ≡ out.old.items ++ report_both said.now key.now name.now) }
 {
-    out.extend_from_slice(said)?;
-    out.extend_from_slice(b" ")?;
-    out.extend_from_slice(key)?;
-    out.extend_from_slice(b" ")?;
-    out.extend_from_slice(name)?;
-    out.extend_from_slice(b"\n")
+    add_all(out, &[said, b" ", key, b" ", name, b"\n"])
 }

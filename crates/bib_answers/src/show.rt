@@ -8,6 +8,7 @@ ghost use Rattle.bib_answers.specs.Opened.{AnswersFile};
 ghost use Rattle.bib_answers.specs.Show.{head_line, shown_field, record_lines, parent_line, shown, show_answer};
 
 use crate::answers::{Answer, done, no_such_entry};
+use crate::lines::add_all;
 use crate::opening::answer_file;
 use bib_scan::Text;
 use bib_store::{Database, Paged, Record};
@@ -81,11 +82,7 @@ fn add_record(out: &mut Vec<u8>, rec: &Record) -> Result<(), AllocError>
 fn add_head(out: &mut Vec<u8>, kind_name: &[u8], key: &[u8]) -> Result<(), AllocError>
     ensures { OnOk result (out.new.items ≡ out.old.items ++ head_line (record { kind_name = kind_name.now; key = key.now; fields = [] })) }
 {
-    out.extend_from_slice(b"@")?;
-    out.extend_from_slice(kind_name)?;
-    out.extend_from_slice(b" ")?;
-    out.extend_from_slice(key)?;
-    out.extend_from_slice(b"\n")
+    add_all(out, &[b"@", kind_name, b" ", key, b"\n"])
 }
 
 fn add_fields(out: &mut Vec<u8>, fields: &[(Text, Text)]) -> Result<(), AllocError>
@@ -100,8 +97,5 @@ fn add_fields(out: &mut Vec<u8>, fields: &[(Text, Text)]) -> Result<(), AllocErr
 fn add_field(out: &mut Vec<u8>, name: &[u8], text: &[u8]) -> Result<(), AllocError>
     ensures { OnOk result (out.new.items ≡ out.old.items ++ shown_field (name.now, text.now)) }
 {
-    out.extend_from_slice(name)?;
-    out.extend_from_slice(b" = ")?;
-    out.extend_from_slice(text)?;
-    out.extend_from_slice(b"\n")
+    add_all(out, &[name, b" = ", text, b"\n"])
 }

@@ -111,13 +111,21 @@ fn changes_of<L: ItemList>(
 {
     db.opens();
     let said = said_with(alloc, digest, journal)?;
-    if !fit_once(alloc, db, &said)? {
-        return Err(SessionFault::JournalMismatch);
+    if fit_once(alloc, db, &said)? {
+        Ok(changes_said(said))
+    } else {
+        Err(SessionFault::JournalMismatch)
     }
-    Ok(Changes {
+}
+
+/// The changes that the journal says.
+fn changes_said(said: Journal) -> Changes
+    ensures { result ≡ record { past = said.past; future = said.future } }
+{
+    Changes {
         past: said.past,
         future: said.future,
-    })
+    }
 }
 
 /// Whether the steps that the journal says belong to the open file, which has its digest. It ends where the past begins.

@@ -102,8 +102,8 @@ impl<L: ItemList> Session<L> {
         }
     }
 
-    /// Closes the file, and forgets its steps.
-    pub(crate) fn close(self) {
+    /// Closes the file, and forgets its steps, as dropping the session does.
+    pub fn close(self) {
         let Session {
             alloc: _,
             database,

@@ -2,9 +2,10 @@
 use Rattle.std.proofs.Common.{◌≡◌, ◌≢◌, ℕ, suc, ◌+◌, ◌-◌, ◌≤◌, ◌<◌, Bool, true, false, cond, eqb, length, get_or, refl, sym, ap, ◌∙◌, arith, below_more}
 use Rattle.std.specs.Prelude.{◌&&◌, not}
 use Rattle.std.specs.List.{range_with_len, find}
-use Rattle.std.specs.Prelude.{Some, None}
+use Rattle.std.specs.Prelude.{Option, Some, None, IfSome, IfNone}
 use Rattle.std.proofs.Math.Dec.{ltb}
 use Rattle.std.proofs.lemmas.Bool.{eqb-true, ltb-true, ltb-false}
+use Rattle.std.proofs.lemmas.Option.{IfSome_then}
 use Rattle.std.proofs.Math.Bool.{and-false}
 use Rattle.bib_spec.specs.Text.{Text, opened_before, closed_before}
 use Rattle.bib_names.specs.Places.{is_level}
@@ -72,6 +73,15 @@ special_open text place fails = ap (λ b. is_level text place && is_opening text
 
 pub special_none : (text : Text) (place : ℕ) → (is_level text place && is_opening text place) ≡ false → begins_special text place ≡ false
 special_none text place fails = ap (λ b. b && is_level text (next_level text place)) fails
+
+-- where a special character may begin, it does and ends with its group, or does not if that has no end
+pub special_at : (text : Text) (place : ℕ) (end : Option ℕ) → (is_level text place && is_opening text place) ≡ true → IfSome end (IsGroupEnd text place) → IfSome end (IsSpecial text place)
+special_at text place end opens ends =
+    let two = both (is_level text place) (is_opening text place) opens in IfSome_then end ends (λ e is. special_found text place e two.0 two.1 is)
+
+pub special_endless : (text : Text) (place : ℕ) (end : Option ℕ) → IfNone end (is_level text (next_level text place) ≡ false) → IfNone end (begins_special text place ≡ false)
+special_endless text place None fails = special_open text place fails
+special_endless text place (Some end) fails = tt
 
 -- the first of the places from one on up to n that passes a test
 pub find_here : (test : ℕ → Bool) (at n : ℕ) → at < n → test at ≡ true → find test (range_with_len at (n - at)) ≡ Some at

@@ -9,9 +9,8 @@ ghost use Rattle.bib_run.specs.SessionNames.{session_fault_name};
 
 use crate::messages::JOURNAL_MISMATCH;
 use bib_answers::{Answer, Outcome, fault_name, outcome_of, refused, unread};
-use bib_journal::{Saved, Session, SessionFault};
+use bib_journal::{Saved, SessionFault};
 use bib_scan::Text;
-use bib_store::Paged;
 use bib_words::status;
 use std::alloc::{AllocError, Global};
 
@@ -29,9 +28,6 @@ pub fn unopened(alloc: Global, fault: SessionFault) -> Result<Answer, AllocError
         _ => Err(AllocError),
     }
 }
-
-/// Closes a session.
-pub fn close(_session: Session<Paged>) {}
 
 /// What so many changes leave: the file and its journal, if there was a change or nothing stopped it.
 pub fn outcome_left(alloc: Global, done: usize, message: Option<Text>, saved: Saved) -> Outcome

@@ -251,7 +251,9 @@ fn ran_in<L: ItemList>(
     requires { L.items items ≡ [] }
 {
     let mut session = Session::open(alloc, file, journal, items)?;
-    left_and_saved(&mut session, asked)
+    let left = left_and_saved(&mut session, asked);
+    session.close();
+    left
 }
 
 fn is_saved_alike(one: &Saved, other: &Saved) -> bool {
@@ -315,7 +317,10 @@ fn runs_hold(alloc: Global, runs: &Runs) -> Result<bool, Stop> {
 /// The number and the place of the fault at which the file is not opened with this journal, or 0.
 fn fault_of(alloc: Global, file: &[u8], journal: &[u8]) -> (u16, Option<usize>) {
     match Session::load(alloc, file, journal, Flat::new(alloc)) {
-        Ok(_) => (0, None),
+        Ok(session) => {
+            session.close();
+            (0, None)
+        }
         Err(fault) => (fault.number(), fault.place()),
     }
 }

@@ -168,7 +168,9 @@ pub fn after<L: ItemList>(
     requires { L.items items ≡ [] }
 {
     let mut session = Session::start(alloc, file, items)?;
-    lefts(alloc, &mut session, turns)
+    let lefts = lefts(alloc, &mut session, turns);
+    session.close();
+    lefts
 }
 
 /// Whether both leave the same.

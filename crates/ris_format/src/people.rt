@@ -1,9 +1,9 @@
 //! Names of persons, both ways.
 
-ghost use Rattle.std.specs.Prelude.{◌≡◌, ◌++◌, ◌==◌, ◌&&◌, not, OnOk, IfOk, map, length, codes, true, false};
+ghost use Rattle.std.specs.Prelude.{◌≡◌, ◌++◌, ◌==◌, ◌&&◌, not, OnOk, IfOk, map, option_map, length, codes, true, false};
 ghost use Rattle.std.specs.List.{slice_range, list_any, list_all, flat_map};
 ghost use Rattle.ris_format.specs.Lines.{line};
-ghost use Rattle.ris_format.specs.People.{word_end, to_last_end, part_text, family, person, ris_name, bib_name, is_somebody, taken_apart, is_broken, is_refused, written_person, written_name, written_names, written_people, name_pieces, person_of, lacks_and, is_opaque, read_balanced, read_name, read_people, is_plain_name, are_plain_names};
+ghost use Rattle.ris_format.specs.People.{word_end, to_last_end, part_text, family, person, ris_name, bib_name, is_somebody, taken_apart, is_broken, is_refused, written_person, written_name, written_names, written_people, name_pieces, person_of, lacks_and, is_opaque, read_balanced, read_name, read_people, is_plain_person, is_plain_name, are_plain_names};
 ghost use Rattle.bib_names.specs.Label.{balances, listed_names};
 
 use crate::braces::Braces;
@@ -132,12 +132,12 @@ impl<'a> Model for Person<'a> {
     ghost view = { λ p. record { last = p.last.now; first = p.first.now; suffix = p.suffix.now } };
 }
 
-/// The name's parts, none where it cannot be taken apart.
-fn taken_apart(alloc: Global, name: &[u8]) -> Result<Option<Name<'_>>, AllocError>
-    ensures { IfOk result (λ parts. parts ≡ taken_apart name.now) }
+/// The parts of the name as texts, none where it cannot be taken apart.
+fn person_in(alloc: Global, name: &[u8]) -> Result<Option<Person<'_>>, AllocError>
+    ensures { IfOk result (λ found. found ≡ option_map (person name.now) (taken_apart name.now)) }
 {
     match split_name(alloc, name) {
-        Ok(parts) => Ok(Some(parts)),
+        Ok(parts) => Ok(Some(Person::of(name, &parts))),
         Err(NameFault::UnbalancedName) => Ok(None),
         Err(NameFault::TooManyCommas) => Ok(None),
         Err(_) => Err(AllocError),
@@ -159,7 +159,7 @@ fn listed_names(alloc: Global, list: &[u8]) -> Result<Seq<&[u8]>, AllocError>
 fn is_broken(alloc: Global, name: &[u8]) -> Result<bool, AllocError>
     ensures { IfOk result (λ b. b ≡ is_broken name.now) }
 {
-    Ok(taken_apart(alloc, name)?.is_none())
+    Ok(person_in(alloc, name)?.is_none())
 }
 
 /// Whether one of the names cannot be taken apart.
@@ -212,10 +212,10 @@ fn push_name<T: Kept>(
     ensures whole { IfOk result (λ is_whole. is_whole ≡ not (is_broken name.now)) }
     ensures lines { OnOk result (lines.new.items ≡ lines.old.items ++ flat_map T.kept (map (line tag) (written_name name.now))) }
 {
-    let Some(parts) = taken_apart(alloc, name)? else {
+    let Some(person) = person_in(alloc, name)? else {
         return Ok(false);
     };
-    push_person(alloc, lines, tag, &Person::of(name, &parts))?;
+    push_person(alloc, lines, tag, &person)?;
     Ok(true)
 }
 
@@ -383,18 +383,24 @@ pub(crate) fn read_people(alloc: Global, values: &[&[u8]]) -> Result<Text, Alloc
 
 // ---- the profile
 
-/// Whether the name is written as its parts say, with a Last.
-fn is_plain_name(alloc: Global, name: &[u8]) -> Result<bool, AllocError>
-    ensures { IfOk result (λ b. b ≡ is_plain_name name.now) }
+/// Whether the name is written as these parts of it say, with a Last.
+fn is_plain_person(alloc: Global, name: &[u8], person: &Person<'_>) -> Result<bool, AllocError>
+    ensures { IfOk result (λ b. b ≡ is_plain_person name.now person.now) }
 {
-    let Some(parts) = taken_apart(alloc, name)? else {
-        return Ok(false);
-    };
-    let person = Person::of(name, &parts);
     if !has_bytes(person.last) {
         return Ok(false);
     }
     Ok(is(person.bib_name(alloc)?.as_slice(), name))
+}
+
+/// Whether the name is written as its parts say, with a Last.
+fn is_plain_name(alloc: Global, name: &[u8]) -> Result<bool, AllocError>
+    ensures { IfOk result (λ b. b ≡ is_plain_name name.now) }
+{
+    match person_in(alloc, name)? {
+        Some(person) => is_plain_person(alloc, name, &person),
+        None => Ok(false),
+    }
 }
 
 /// Whether all names are written so.

@@ -6,7 +6,7 @@ ghost use Rattle.bib_journal.specs.Session.{Opens};
 ghost use Rattle.bib_script.specs.Script.{said_of};
 ghost use Rattle.bib_run.specs.EditAnswer.{script_line, refused_line, bad_line, stop_line, applied_line, edited_answer, HasEdited, IsEditAnswer};
 
-use crate::sessions::{close, outcome_left, session_fault_name, unopened};
+use crate::sessions::{outcome_left, session_fault_name, unopened};
 use bib_answers::{Answer, too_long};
 use bib_journal::{Saved, Session, SessionFault, perform};
 use bib_scan::{FILE_LIMIT, Text};
@@ -29,7 +29,7 @@ pub fn answer_edit(
     match Session::open_file(alloc, file, journal, Paged::new(alloc)) {
         Ok(mut session) => {
             let answer = answer_script(alloc, &mut session, input);
-            close(session);
+            session.close();
             answer
         }
         Err(fault) => unopened(alloc, fault),

@@ -10,7 +10,7 @@ ghost use Rattle.bib_answers.specs.Outcome.{answer_of};
 ghost use Rattle.bib_run.specs.Sessions.{fault_line};
 ghost use Rattle.bib_run.specs.ImportAnswer.{added_line, unread_line, import_fault_line, HasAdded, HasImported, IsImportAnswer};
 
-use crate::sessions::{close, fault_line, outcome_left, unopened};
+use crate::sessions::{fault_line, outcome_left, unopened};
 use bib_answers::{Answer, placed_line, refused, too_long};
 use bib_data::{Edit, NewEntry};
 use bib_journal::{Session, SessionFault};
@@ -35,7 +35,7 @@ pub fn answer_import(
     match Session::open_file(alloc, file, journal, Paged::new(alloc)) {
         Ok(mut session) => {
             let answer = answer_records(alloc, &mut session, input);
-            close(session);
+            session.close();
             answer
         }
         Err(fault) => unopened(alloc, fault),

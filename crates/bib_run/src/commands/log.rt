@@ -8,7 +8,7 @@ ghost use Rattle.bib_journal.specs.Kept.{kept};
 ghost use Rattle.bib_journal.specs.Session.{started};
 ghost use Rattle.bib_run.specs.Log.{old_len, new_len, step_line, log_text, IsLogAnswer, IsForgetAnswer};
 
-use crate::sessions::{close, unopened};
+use crate::sessions::unopened;
 use bib_answers::{Answer, Outcome, done};
 use bib_journal::{Changes, Session, read_changes};
 use bib_scan::{Seq, Text};
@@ -99,7 +99,7 @@ pub fn answer_forget(alloc: Global, file: Vec<u8>) -> Result<Answer, AllocError>
     match Session::start(alloc, file.as_slice(), Paged::new(alloc)) {
         Ok(session) => {
             let answer = forget(alloc, &session);
-            close(session);
+            session.close();
             answer
         }
         Err(fault) => unopened(alloc, fault),

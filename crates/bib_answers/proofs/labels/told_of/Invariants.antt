@@ -5,4 +5,4 @@ use Rattle.bib_answers.specs.Labels.{chosen_at, AreToldOf}
 use Rattle.bib_answers.proofs.labels.told_of.Given as goal
 
 abbrev pub invariant-expand : goal.invariant-expand
-invariant-expand l = OfReading l.db (λ r. AreToldOf (chosen_at (entries_of r) (take l.n-index l.list)) l.bases.items l.keys.items)
+invariant-expand l = OfReading l.db (λ r. AreToldOf (chosen_at (entries_of r) (take l.n-index l.list)) l.told.bases.items l.told.keys.items)

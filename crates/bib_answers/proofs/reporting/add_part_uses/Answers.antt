@@ -4,7 +4,7 @@ use Rattle.bib_scan.specs.PartView.{part_view}
 use Rattle.bib_value.proofs.RawLemmas.{parts_counted}
 use Rattle.bib_answers.specs.Check.{use_report}
 use Rattle.bib_answers.proofs.ReportSteps.{uses_more, uses_all}
-use Rattle.bib_answers.proofs.reporting.add_each_use.Goals as goal
+use Rattle.bib_answers.proofs.reporting.add_part_uses.Goals as goal
 
 pub uses-preserved : goal.uses-preserved
 uses-preserved g c v ok same =
@@ -17,4 +17,4 @@ pub returns : goal.returns
 returns g c v ok same =
     let end : c.uses.n ≡ c.len-n-end.result = omega arith in
     uses_all c.args.value.now (use_report (option_copied c.args.own) (g.M.MacroTable.macros c.args.macros.now)) c.uses.n c.args.out.now.items c.uses.out.items
-    (λ v ok same. end ∙ parts_counted c.args.value.now c.in-Ok.parts c.len-n-end.result c.in-Ok.ensures.found c.len-n-end.ensures.parts v ok same) c.uses.invariant v ok same
+    (λ v ok same. end ∙ parts_counted c.args.value.now c.args.parts.now c.len-n-end.result c.requires c.len-n-end.ensures.parts v ok same) c.uses.invariant v ok same
