@@ -92,24 +92,24 @@ fn add_told(
     ensures { OnOk result (OfReading db.now (λ r. (list : List ℕ) → AreToldOf (chosen_at (entries_of r) list) told.old.bases.items told.old.keys.items
         → AreToldOf (chosen_at (entries_of r) (list ++ n ∷ [])) told.new.bases.items told.new.keys.items)) }
 {
-    let Ok(record) = db.expanded_with(n, names) else {
+    let Ok(expanded) = db.expanded_with(n, names) else {
         return Err(AllocError);
     };
-    let (base, key) = told_by(alloc, record)?;
+    let (base, key) = told_by(alloc, expanded)?;
     told.bases.push(base)?;
     told.keys.push(key)?;
     Ok(())
 }
 
 /// The label base of a record, and its key.
-fn told_by(alloc: Global, record: Record) -> Result<(Text, Text), AllocError>
-    ensures base { IfOk result (λ told. told.0 ≡ label_base record.fields) }
-    ensures key { IfOk result (λ told. told.1 ≡ record.key) }
+fn told_by(alloc: Global, expanded: Record) -> Result<(Text, Text), AllocError>
+    ensures base { IfOk result (λ told. told.0 ≡ label_base expanded.fields) }
+    ensures key { IfOk result (λ told. told.1 ≡ expanded.key) }
 {
-    let Ok(base) = label_base(alloc, &record) else {
+    let Ok(base) = label_base(alloc, &expanded) else {
         return Err(AllocError);
     };
-    Ok((base, record.key))
+    Ok((base, expanded.key))
 }
 
 /// A line for each of these bases, with its label and its key.

@@ -12,6 +12,6 @@ renamed names wanted found record_is same is = ap (λ (ns : List Text). option_m
 pub returns : goal.returns
 returns c db reads list told =
     let found = renamed _ label_names _ _ c.requires.names (c.in-Ok.ensures.rec db reads) in
-    let next = sym (filter_map-append (λ n. option_map (with_chosen label_names) (expanded default_depth (entries_of db) n)) list c.args.n c.in-Ok.record found) in
+    let next = sym (filter_map-append (λ n. option_map (with_chosen label_names) (expanded default_depth (entries_of db) n)) list c.args.n c.in-Ok.expanded found) in
     rw (c.in_ok-push.ensures.items, c.in_ok-push-2.ensures.items)
-    (told_more _ _ c.in-Ok.record c.args.told.now.bases.items c.args.told.now.keys.items _ _ c.in_ok-base.ensures.base c.in_ok-base.ensures.key next told)
+    (told_more _ _ c.in-Ok.expanded c.args.told.now.bases.items c.args.told.now.keys.items _ _ c.in_ok-base.ensures.base c.in_ok-base.ensures.key next told)
