@@ -1,22 +1,17 @@
 -- What stands before, in and after a window.
-use Rattle.std.proofs.Common.{◌≡◌, ℕ, ◌+◌, ◌-◌, ◌≤◌, ◌<◌, Bool, true, false, List, [], ◌∷◌, ◌++◌, length, take, drop, get_or, refl, sym, ◌∙◌, ap, arith, append_assoc, length-drop, take-append-drop}
-use Rattle.std.proofs.lemmas.List.{drop-drop, take_more, append-nil, get_or-drop, flat_map_more}
+use Rattle.std.proofs.Common.{◌≡◌, ℕ, ◌+◌, ◌-◌, ◌≤◌, Bool, true, false, List, [], ◌++◌, take, drop, refl, sym, ◌∙◌, ap, arith, append_assoc, take-append-drop}
+use Rattle.std.proofs.lemmas.List.{drop-drop}
 use Rattle.std.proofs.lemmas.List.Concat.{flat_map-append}
 use Rattle.std.specs.List.{flat_map, between}
 use Rattle.bib_spec.specs.Text.{Text}
 use Rattle.bib_items.specs.declared.list.Item.{Item}
 use Rattle.bib_store.specs.declared.window.Window.{Window}
-use Rattle.bib_items.specs.Items.{item, item_at, kept_bytes}
+use Rattle.bib_items.specs.Items.{kept_bytes}
 use Rattle.bib_store.specs.Stored.{file_of}
 use Rattle.bib_store.specs.Windows.{IsWindow, front_before, front_within, bytes_before, bytes_within, bytes_behind}
 
 abbrev all_bytes : List Item → Text
 all_bytes items = flat_map kept_bytes items
-
-abbrev no_item : Item
-no_item = item [] []
-
--- ---- walking over items
 
 -- what the items up to a number take of all
 pub bytes-split : (items : List Item) (n : ℕ) → all_bytes (take n items) ++ all_bytes (drop n items) ≡ all_bytes items
