@@ -20,11 +20,14 @@ use crate::window::Window;
 use bib_items::{ItemList, StoreFault};
 use std::alloc::Global;
 
-/// Tables follow so many items that come, and so many that go, or one in `FOLLOWED_SHARE` of all. Each takes some steps for
-/// each page of the tables, so that for more of them it costs less to make the tables again.
+/// Tables follow so many items that come, and so many that go, or one in `FOLLOWED_SHARE` of all, but no more than
+/// `FOLLOWED_MOST`. Each takes some steps for each page of the tables, so that for more of them it costs less to make the
+/// tables again.
 const FOLLOWED_LIMIT: usize = 64;
 
 const FOLLOWED_SHARE: usize = 16;
+
+const FOLLOWED_MOST: usize = 2048;
 
 /// Puts the items of a change in place of those in its window, and lets the tables say what holds of all items then. Where
 /// each takes the place of one of its kind, with its key and crossref, the tables stay but for a definition, and the list
@@ -191,7 +194,7 @@ pub(crate) fn can_follow<L: ItemList>(items: &L, window: Window, count: usize, l
     let all = items.count();
     let first_old = window.from + count;
     let most = count.max(window.to - window.from);
-    most <= FOLLOWED_LIMIT.max(all / FOLLOWED_SHARE)
+    most <= (all / FOLLOWED_SHARE).clamp(FOLLOWED_LIMIT, FOLLOWED_MOST)
         && are_others(items, window.from + lead, first_old)
         && are_others(items, first_old + lead, window.to + count)
 }

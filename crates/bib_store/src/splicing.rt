@@ -27,8 +27,9 @@ impl<L: ItemList> Database<L> {
     /// and memory in the length of all definitions too. Where all is read in one run, the tables stay as they are if each
     /// item takes the place of one of its kind, with its key and what its crossref says, of definitions one alone changes,
     /// and no crossref and no definition is made of macros where it does. Else, where more items come or go than 64, and
-    /// than one in sixteen of all, or one defines a macro, the tables of all items are made again: it takes time in the
-    /// file's length, and memory as opening it. A first item of which only the trail changes neither comes nor goes.
+    /// than one in sixteen of all or than 2,048, or one defines a macro, the tables of all items are made again: it takes
+    /// time in the file's length, and memory as opening it. A first item of which only the trail changes neither comes nor
+    /// goes.
     pub fn splice(&mut self, pieces: &[Piece]) -> Result<(), StoreFault>
         ensures fit { OnOk result (Fit pieces.now self.old) }
         ensures spliced { OnOk result (self.new ≡ applied pieces.now self.old) }
