@@ -1,12 +1,14 @@
 -- Labels beside their keys, one after another.
-use Rattle.std.proofs.Common.{◌≡◌, ◌∙◌, ℕ, ◌+◌, ◌≤◌, ◌<◌, List, [], ◌∷◌, ◌++◌, length, take, get_or, filter_map, map, zip, min, Option, None, Some, refl, sym, ap, ap₂, arith}
+use Rattle.std.proofs.Common.{◌≡◌, ◌∙◌, ℕ, ◌+◌, ◌≤◌, ◌<◌, List, [], ◌∷◌, ◌++◌, length, take, get_or, filter_map, map, zip, min, slice_get, Option, None, Some, option_map, refl, sym, ap, ap₂, arith}
 use Rattle.std.specs.List.{flat_map, cons_option}
+use Rattle.std.specs.Option.{option_map_or}
 use Rattle.std.proofs.lemmas.List.{take_all, map-append}
 use Rattle.std.proofs.lemmas.Slice.Zip.{get_or-zip}
 use Rattle.bib_spec.specs.Text.{Text}
-use Rattle.bib_spec.specs.Records.{Record}
+use Rattle.bib_spec.specs.Records.{EntryTexts, Record, default_depth, record_of, expanded}
 use Rattle.bib_names.specs.Label.{label_base, labels_of}
-use Rattle.bib_answers.specs.Labels.{label_line, labelled, keyed_line, AreToldOf}
+use Rattle.bib_answers.specs.Labels.{label_line, labelled, keyed_line, records_at, AreToldOf}
+use Rattle.bib_answers.specs.Entries.{key_at}
 use Rattle.bib_answers.proofs.LineLists.{lines_more}
 
 length-zip : {X Y : Type 0} (xs : List X) (ys : List Y) → length (zip xs ys) ≡ min (length xs) (length ys)
@@ -37,7 +39,7 @@ lines_told records bases keys told =
     ∙ lines_keyed (labels_of (map (λ (r : Record). label_base r.fields) records)) records
 
 -- one more record
-pub told_more : (records more : List Record) (r : Record) (bases keys : List Text) (base key : Text) → base ≡ label_base r.fields → key ≡ r.key → records ++ r ∷ [] ≡ more → AreToldOf records bases keys → AreToldOf more (bases ++ base ∷ []) (keys ++ key ∷ [])
+told_more : (records more : List Record) (r : Record) (bases keys : List Text) (base key : Text) → base ≡ label_base r.fields → key ≡ r.key → records ++ r ∷ [] ≡ more → AreToldOf records bases keys → AreToldOf more (bases ++ base ∷ []) (keys ++ key ∷ [])
 told_more records more r bases keys base key is also next told = record {
   bases_are = ap₂ (λ (bs : List Text) (b : Text). bs ++ b ∷ []) told.bases_are is
       ∙ sym (map-append (λ (x : Record). label_base x.fields) records (r ∷ [])) ∙ ap (map (λ (x : Record). label_base x.fields)) next;
@@ -45,10 +47,20 @@ told_more records more r bases keys base key is also next told = record {
       ∙ sym (map-append (λ (x : Record). x.key) records (r ∷ [])) ∙ ap (map (λ (x : Record). x.key)) next;
 }
 
-pub filter_map-append : {X Y : Type 0} (f : X → Option Y) (xs : List X) (x : X) (y : Y) → f x ≡ Some y → filter_map f (xs ++ x ∷ []) ≡ filter_map f xs ++ y ∷ []
+filter_map-append : {X Y : Type 0} (f : X → Option Y) (xs : List X) (x : X) (y : Y) → f x ≡ Some y → filter_map f (xs ++ x ∷ []) ≡ filter_map f xs ++ y ∷ []
 filter_map-append f [] x y e = ap (λ o. cons_option o []) e
 filter_map-append f (z ∷ xs) x y e = ap (cons_option (f z)) (filter_map-append f xs x y e) ∙ apart (f z) (filter_map f xs) (y ∷ [])
   where
     apart : {Y : Type 0} (o : Option Y) (ys zs : List Y) → cons_option o (ys ++ zs) ≡ cons_option o ys ++ zs
     apart None ys zs = refl
     apart (Some x) ys zs = refl
+
+-- one more entry
+pub told_one : (entries : List EntryTexts) (list : List ℕ) (n : ℕ) (entry : EntryTexts) (bases keys : List Text) (base key : Text) → slice_get entries n ≡ Some entry
+    → base ≡ label_base (record_of default_depth entries n entry).fields → key ≡ key_at entries n
+    → AreToldOf (records_at entries list) bases keys → AreToldOf (records_at entries (list ++ n ∷ [])) (bases ++ base ∷ []) (keys ++ key ∷ [])
+told_one entries list n entry bases keys base key at is also told =
+    let rec : Record = record_of default_depth entries n entry in
+    let next : records_at entries (list ++ n ∷ []) ≡ records_at entries list ++ rec ∷ [] = filter_map-append (expanded default_depth entries) list n rec (ap (option_map (record_of default_depth entries n)) at) in
+    told_more (records_at entries list) (records_at entries (list ++ n ∷ [])) rec bases keys base key is
+    (also ∙ ap (λ (o : Option EntryTexts). option_map_or (λ e. e.key) o []) at) (sym next) told

@@ -11,7 +11,6 @@ pub mod ReportSteps
 -- ---- cited lists, labels and names
 pub mod MarkSteps
 pub mod CitedNumbers
-pub mod LabelFields
 pub mod LabelLines
 pub mod NameLines
 pub mod LineLists

@@ -1,21 +1,16 @@
 -- `labels`: short names for the entries that keys cite. (dialect)
-use Rattle.std.specs.Prelude.{ℕ, ◌≡◌, List, ◌++◌, map, filter_map, option_map, zip, codes}
+use Rattle.std.specs.Prelude.{ℕ, ◌≡◌, List, ◌++◌, map, filter_map, zip, codes}
 use Rattle.std.specs.List.{flat_map}
 use Rattle.bib_spec.specs.Text.{Text}
 use Rattle.bib_spec.specs.Reading.{Reading}
 use Rattle.bib_spec.specs.Records.{EntryTexts, Record, default_depth, expanded}
-use Rattle.bib_store.specs.Choosing.{with_chosen}
-use Rattle.bib_names.specs.Label.{label_base, label_names, labels_of}
+use Rattle.bib_names.specs.Label.{label_base, labels_of}
 use Rattle.bib_answers.specs.declared.answers.Answer.{Answer}
 use Rattle.bib_answers.specs.Cited.{cited_answer}
 
 -- the records of these entries
 abbrev pub records_at : List EntryTexts → List ℕ → List Record
 records_at entries list = filter_map (expanded default_depth entries) list
-
--- the same, with no other fields than those that labels are made of
-abbrev pub chosen_at : List EntryTexts → List ℕ → List Record
-chosen_at entries list = filter_map (λ n. option_map (with_chosen label_names) (expanded default_depth entries n)) list
 
 -- a label, a tab, and the key of its record, a line
 abbrev pub label_line : Text × Record → Text

@@ -1,21 +1,22 @@
 //! `labels`: short names for the entries that keys cite.
 
-ghost use Rattle.std.specs.Prelude.{◌≡◌, ◌++◌, ◌∷◌, ℕ, List, [], map, codes, zip, IfOk, OnOk};
+ghost use Rattle.std.specs.Prelude.{◌≡◌, ◌++◌, ◌∷◌, [], codes, zip, IfOk, OnOk};
 ghost use Rattle.std.specs.List.{flat_map};
 ghost use Rattle.bib_spec.specs.Records.{entries_of};
-ghost use Rattle.bib_store.specs.Meaning.{OfReading, IsEntryNumber};
+ghost use Rattle.bib_store.specs.Meaning.{OfReading};
 ghost use Rattle.bib_answers.specs.Opened.{AnswersFile};
-ghost use Rattle.bib_names.specs.Label.{label_base, label_names, labels_of};
-ghost use Rattle.bib_answers.specs.Labels.{label_lines, chosen_at, keyed_line, AreToldOf, labels_answer};
+ghost use Rattle.bib_names.specs.Label.{labels_of};
+ghost use Rattle.bib_answers.specs.Labels.{label_lines, records_at, keyed_line, AreToldOf, labels_answer};
 ghost use Rattle.bib_answers.specs.Marks.{AreEntryNumbers};
 
 use crate::answers::{Answer, done, no_such_entry};
 use crate::citing::all_cited;
 use crate::lines::add_all;
 use crate::opening::answer_file;
-use bib_names::{label_base, label_names, labels_of};
+use bib_keys::Parents;
+use bib_names::{label_names, labels_of};
 use bib_scan::Text;
-use bib_store::{Database, Paged, Record};
+use bib_store::{Database, Paged};
 use std::alloc::{AllocError, Global};
 
 /// The labels of the entries that the keys cite, or that a key finds none.
@@ -65,51 +66,29 @@ impl Told {
     }
 }
 
-/// The label bases of these entries, and their keys. Of each record no more is kept, and no other fields are gathered than
-/// those that labels are made of.
+/// The label bases of these entries, and their keys. What many of them inherit is read once.
 fn told_of(alloc: Global, db: &Database<Paged>, list: &[usize]) -> Result<Told, AllocError>
     requires { AreEntryNumbers db.now list.now }
-    ensures { IfOk result (λ told. OfReading db.now (λ r. AreToldOf (chosen_at (entries_of r) list.now) told.bases.items told.keys.items)) }
+    ensures { IfOk result (λ told. OfReading db.now (λ r. AreToldOf (records_at (entries_of r) list.now) told.bases.items told.keys.items)) }
 {
     let names = label_names(alloc)?;
+    let mut parents = Parents::none(alloc);
     let mut told = Told::with_room(alloc, list.len())?;
-    'expand: for n in list {
-        add_told(alloc, &mut told, db, *n, names.as_slice())?;
+    'tell: for n in list {
+        let base = parents.label_base(alloc, db, *n, names.as_slice())?;
+        add_told(alloc, &mut told, base, db.entry(*n).key())?;
     }
     Ok(told)
 }
 
-/// Adds the label base of entry `n`, and its key.
-fn add_told(
-    alloc: Global,
-    told: &mut Told,
-    db: &Database<Paged>,
-    n: usize,
-    names: &[&[u8]],
-) -> Result<(), AllocError>
-    requires number { IsEntryNumber db.now n }
-    requires names { map (λ name. name.now) names.now ≡ label_names }
-    ensures { OnOk result (OfReading db.now (λ r. (list : List ℕ) → AreToldOf (chosen_at (entries_of r) list) told.old.bases.items told.old.keys.items
-        → AreToldOf (chosen_at (entries_of r) (list ++ n ∷ [])) told.new.bases.items told.new.keys.items)) }
+/// Adds a label base, and the key of its entry.
+fn add_told(alloc: Global, told: &mut Told, base: Text, key: &[u8]) -> Result<(), AllocError>
+    ensures keys { OnOk result (told.new.keys.items ≡ told.old.keys.items ++ key.now ∷ []) }
+    ensures bases { OnOk result (told.new.bases.items ≡ told.old.bases.items ++ base ∷ []) }
 {
-    let Ok(expanded) = db.expanded_with(n, names) else {
-        return Err(AllocError);
-    };
-    let (base, key) = told_by(alloc, expanded)?;
+    told.keys.push(Text::from_vec(Vec::from_slice(alloc, key)?))?;
     told.bases.push(base)?;
-    told.keys.push(key)?;
     Ok(())
-}
-
-/// The label base of a record, and its key.
-fn told_by(alloc: Global, expanded: Record) -> Result<(Text, Text), AllocError>
-    ensures base { IfOk result (λ told. told.0 ≡ label_base expanded.fields) }
-    ensures key { IfOk result (λ told. told.1 ≡ expanded.key) }
-{
-    let Ok(base) = label_base(alloc, &expanded) else {
-        return Err(AllocError);
-    };
-    Ok((base, expanded.key))
 }
 
 /// A line for each of these bases, with its label and its key.

@@ -9,5 +9,5 @@ pub mod FirstFree
 pub mod TakenLists
 -- ---- keys that are made
 pub mod KnownParents
-pub mod KeyBases
+pub mod RecordBases
 pub mod MadeKeyLists

@@ -1,6 +1,6 @@
-//! Makes keys for the entries of a file, and finds keys that are free in it. It knows the keys that a file has and those
-//! that its dangling crossrefs wait for; it knows no edits, and changes nothing. It promises the keys of the definitions,
-//! or the one refusal, which is want of memory.
+//! Makes label bases and keys for the entries of a file, and finds keys that are free in it. It knows what entries inherit,
+//! the keys that a file has and those that its dangling crossrefs wait for; it knows no edits, and changes nothing. It
+//! promises the bases and the keys of the definitions, or the one refusal, which is want of memory.
 #![tactic(auto)]
 
 mod dangling;
@@ -9,3 +9,4 @@ mod parents;
 mod taken_keys;
 
 pub use making::{free_key, free_keys, made_keys};
+pub use parents::Parents;

@@ -4,24 +4,22 @@ ghost use Rattle.std.specs.Prelude.{◌≡◌, ◌≤◌, ◌<◌, ◌+◌, ◌*
 ghost use Rattle.std.specs.List.{AllByRecursion};
 ghost use Rattle.bib_spec.specs.Bytes.{name_limit, file_limit};
 ghost use Rattle.bib_spec.specs.Text.{Text as Bytes};
-ghost use Rattle.bib_spec.specs.Records.{EntryTexts, entries_of, missing, record_of, default_depth};
+ghost use Rattle.bib_spec.specs.Records.{EntryTexts, entries_of, record_of, default_depth};
 ghost use Rattle.bib_spec.specs.MadeKeys.{free_key, made_keys, new_keys, base_limit};
 ghost use Rattle.bib_store.specs.Meaning.{OfReading, IsEntryNumber};
-ghost use Rattle.bib_names.specs.Label.{Fields, label_names, key_base};
-ghost use Rattle.bib_names.specs.LabelParts.{parts_of};
+ghost use Rattle.bib_names.specs.Label.{label_names};
 ghost use Rattle.bib_keys.specs.MadeBase.{made_base};
 ghost use Rattle.bib_keys.specs.Parents.{AreParents};
 ghost use Rattle.bib_keys.specs.TakenKeys.{AreTaken, taken_in};
 
 use crate::parents::Parents;
 use crate::taken_keys::TakenKeys;
-use bib_names::{LabelParts, key_base_with, label_names};
+use bib_names::{key_letters, label_names};
 use bib_scan::{Seq, Text};
 use bib_store::{Database, ItemList};
 use std::alloc::{AllocError, Global};
 
-/// The base of the key that is made for entry `n`: that of its record. No other fields are gathered than those of these
-/// names, which are all that a base is made of, and those of its parent are read once for all its children.
+/// The base of the key that is made for entry `n`.
 fn base_of<L: ItemList>(
     alloc: Global,
     db: &Database<L>,
@@ -36,32 +34,8 @@ fn base_of<L: ItemList>(
     ensures base { IfOk result (λ base. OfReading db.now (λ r. (entry : EntryTexts) → slice_get (entries_of r) n ≡ Some entry → base ≡ made_base (record_of default_depth (entries_of r) n entry))) }
     ensures short { IfOk result (λ base. length base ≤ base_limit) }
 {
-    let Ok(fields) = db.own_fields_with(n, names) else {
-        return Err(AllocError);
-    };
-    let Some(parent) = db.parent(n) else {
-        return base_with(alloc, fields.as_slice(), &LabelParts::none(alloc));
-    };
-    parents.learn(alloc, db, parent, names)?;
-    match parents.parts(parent) {
-        Some(inherited) => base_with(alloc, fields.as_slice(), inherited),
-        None => unreachable!(),
-    }
-}
-
-/// The base of the key that is made of these fields, and of what is inherited.
-fn base_with(
-    alloc: Global,
-    fields: &[(Text, Text)],
-    inherited: &LabelParts,
-) -> Result<Text, AllocError>
-    ensures base { IfOk result (λ base. (others : Fields) → inherited.now ≡ parts_of others → base ≡ key_base (fields.now ++ missing fields.now others)) }
-    ensures short { IfOk result (λ base. length base ≤ base_limit) }
-{
-    match key_base_with(alloc, fields, inherited) {
-        Ok(base) => Ok(base),
-        Err(_) => Err(AllocError),
-    }
+    let label_base = parents.label_base(alloc, db, n, names)?;
+    key_letters(alloc, label_base.as_slice())
 }
 
 /// The key that is made for entry `n`, the first candidate of its base that is not taken, which then is.

@@ -8,7 +8,7 @@ use Rattle.std.proofs.lemmas.Bool.{leb-true, le-leb, lt-ltb, ne_eqb, leb-false, 
 use Rattle.std.proofs.lemmas.List.{length-take}
 use Rattle.bib_spec.specs.Text.{Text, is_new_key_byte, is_new_key}
 use Rattle.bib_spec.specs.MadeKeys.{base_limit, IsKeyBase}
-use Rattle.bib_names.specs.Label.{or_anon, key_base, label_base}
+use Rattle.bib_names.specs.Label.{or_anon, key_letters, key_base, label_base}
 use Rattle.bib_names.proofs.BoolLemmas.{both}
 
 -- a letter or digit stands above the space
@@ -54,12 +54,12 @@ anon_some : (text : Text) → 0 < length (or_anon text)
 anon_some [] = omega arith
 anon_some (b ∷ text) = omega (arith, ap length (kept b text))
 
-pub key_base-short : (base : Text) → length (take base_limit (or_anon (filter is_ascii_alphanumeric base))) ≤ base_limit
-key_base-short base = omega (arith, length-take base_limit (or_anon (filter is_ascii_alphanumeric base)))
+pub key_letters-short : (base : Text) → length (key_letters base) ≤ base_limit
+key_letters-short base = omega (arith, length-take base_limit (or_anon (filter is_ascii_alphanumeric base)))
 
-pub key_base-is_key : (base : Text) → is_new_key (take base_limit (or_anon (filter is_ascii_alphanumeric base))) ≡ true
+pub key_letters-is_key : (base : Text) → is_new_key (key_letters base) ≡ true
 unfolding is_new_key
-key_base-is_key base =
+key_letters-is_key base =
     let letters = or_anon (filter is_ascii_alphanumeric base) in
     let len = length-take base_limit letters in
     let some = anon_some (filter is_ascii_alphanumeric base) in
@@ -69,6 +69,6 @@ key_base-is_key base =
 pub key_bases_are_keys : IsKeyBase (λ r. key_base r.fields)
 key_bases_are_keys = record {
   ignores_key = λ r key. refl;
-  is_key = λ r. key_base-is_key (label_base r.fields);
-  short = λ r. key_base-short (label_base r.fields);
+  is_key = λ r. key_letters-is_key (label_base r.fields);
+  short = λ r. key_letters-short (label_base r.fields);
 }

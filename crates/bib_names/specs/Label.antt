@@ -110,9 +110,13 @@ last_two digits = drop (length digits - 2) digits
 abbrev pub label_base : Fields → Text
 label_base fields = or_anon (letters_of_fields fields) ++ last_two (filter is_ascii_digit (text_in fields (codes "year")))
 
--- the letters and digits of the label base, or `anon`, cut to that length
+-- the letters and digits of a label base, or `anon`, cut to that length
+abbrev pub key_letters : Text → Text
+key_letters base = take base_limit (or_anon (filter is_ascii_alphanumeric base))
+
+-- those of the label base
 abbrev pub key_base : Fields → Text
-key_base fields = take base_limit (or_anon (filter is_ascii_alphanumeric (label_base fields)))
+key_base fields = key_letters (label_base fields)
 
 -- how often a base stands among these, byte for byte
 abbrev pub count_of : Text → List Text → ℕ

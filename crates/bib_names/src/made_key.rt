@@ -1,10 +1,9 @@
 //! Made keys.
 
-ghost use Rattle.std.specs.Prelude.{◌≡◌, ◌≤◌, IfOk, IfErr, true, length, filter, take};
-ghost use Rattle.std.specs.Char.{is_ascii_alphanumeric};
+ghost use Rattle.std.specs.Prelude.{◌≡◌, ◌≤◌, IfOk, IfErr, true, length};
 ghost use Rattle.bib_spec.specs.Text.{is_new_key};
 ghost use Rattle.bib_spec.specs.MadeKeys.{base_limit, candidate, IsKeyBase};
-ghost use Rattle.bib_names.specs.Label.{or_anon, key_base};
+ghost use Rattle.bib_names.specs.Label.{key_letters, key_base};
 
 use crate::fault::NameFault;
 use crate::label::or_anon;
@@ -18,8 +17,8 @@ use std::alloc::{AllocError, Global};
 pub const BASE_LIMIT: usize = 40;
 
 /// The letters and digits of a text, or `anon`, cut to the limit.
-pub(crate) fn key_letters(alloc: Global, base: &[u8]) -> Result<Vec<u8>, AllocError>
-    ensures { IfOk result (λ t. t.items ≡ take base_limit (or_anon (filter is_ascii_alphanumeric base.now))) }
+fn letters_of(alloc: Global, base: &[u8]) -> Result<Vec<u8>, AllocError>
+    ensures { IfOk result (λ t. t.items ≡ key_letters base.now) }
 {
     let kept: Vec<u8> = base
         .iter()
@@ -31,6 +30,17 @@ pub(crate) fn key_letters(alloc: Global, base: &[u8]) -> Result<Vec<u8>, AllocEr
     Ok(out)
 }
 
+/// The base of the made key of a record that has this label base: the letters and digits of that, or `anon`, cut to 40
+/// bytes. It is a key that an edit may write. It takes time in the length of the label base. The one refusal is want of
+/// memory. (dialect)
+pub fn key_letters(alloc: Global, label_base: &[u8]) -> Result<Text, AllocError>
+    ensures letters { IfOk result (λ t. t ≡ key_letters label_base.now) }
+    ensures is_key { IfOk result (λ t. is_new_key t ≡ true) }
+    ensures short { IfOk result (λ t. length t ≤ base_limit) }
+{
+    Ok(Seq::from_vec(letters_of(alloc, label_base)?))
+}
+
 /// The base of a record's made key: the letters and digits of its label base, cut to 40 bytes. It is a key that an edit
 /// may write, and the citation key has no part in it. The one refusal is want of memory.
 pub fn key_base(alloc: Global, entry: &Record) -> Result<Text, NameFault>
@@ -40,7 +50,7 @@ pub fn key_base(alloc: Global, entry: &Record) -> Result<Text, NameFault>
     ensures memory { IfErr result (λ fault. fault ≡ NameFault.Memory) }
 {
     let base = base_of(alloc, entry.fields.as_slice())?;
-    Ok(Seq::from_vec(key_letters(alloc, base.as_slice())?))
+    Ok(key_letters(alloc, base.as_slice())?)
 }
 
 /// The key that is candidate `n` of a base: the base, and after it no letters for 0, then a, b, .. z, aa, ab, .. It takes

@@ -1,10 +1,8 @@
 //! What each field gives to a label, so that what many entries inherit is read once.
 
-ghost use Rattle.std.specs.Prelude.{◌≡◌, ◌≤◌, ◌++◌, [], IfOk, IfErr, OnOk, codes, length, map, true};
-ghost use Rattle.bib_spec.specs.Text.{is_new_key};
+ghost use Rattle.std.specs.Prelude.{◌≡◌, ◌++◌, [], IfOk, IfErr, OnOk, codes, map};
 ghost use Rattle.bib_spec.specs.Records.{missing};
-ghost use Rattle.bib_spec.specs.MadeKeys.{base_limit};
-ghost use Rattle.bib_names.specs.Label.{Fields, first_three, label_base, key_base};
+ghost use Rattle.bib_names.specs.Label.{Fields, first_three, label_base};
 ghost use Rattle.bib_names.specs.LabelParts.{letters_if_any, letters_in, year_digits, parts_of, parts_with, letters_from, base_from, has_field, given_or};
 
 use crate::fault::NameFault;
@@ -12,7 +10,6 @@ use crate::label::{
     digits_of, first_three, last_two, letters_of_many, letters_of_one, listed_names, or_anon,
     text_in,
 };
-use crate::made_key::key_letters;
 use bib_scan::{Seq, Text, same_folded};
 use std::alloc::{AllocError, Global};
 
@@ -190,19 +187,16 @@ pub(crate) fn base_of(alloc: Global, fields: &[(Text, Text)]) -> Result<Text, Al
     base_with(alloc, fields, &LabelParts::none(alloc))
 }
 
-/// The base of the made key of a record that has these fields of its own, and inherits those that are missing from others,
-/// of which it needs no more than what they give to a label. So what many entries inherit is read once. It takes time in
-/// the lengths of these fields and of the letters that are given. The one refusal is want of memory.
-pub fn key_base_with(
+/// The label base of a record that has these fields of its own, and inherits those that are missing from others, of which
+/// it needs no more than what they give to a label. So what many entries inherit is read once. It takes time in the
+/// lengths of these fields and of the letters that are given. The one refusal is want of memory.
+pub fn label_base_with(
     alloc: Global,
     fields: &[(Text, Text)],
     inherited: &LabelParts,
 ) -> Result<Text, NameFault>
-    ensures base { IfOk result (λ base. (others : Fields) → inherited.now ≡ parts_of others → base ≡ key_base (fields.now ++ missing fields.now others)) }
-    ensures is_key { IfOk result (λ base. is_new_key base ≡ true) }
-    ensures short { IfOk result (λ base. length base ≤ base_limit) }
+    ensures base { IfOk result (λ base. (others : Fields) → inherited.now ≡ parts_of others → base ≡ label_base (fields.now ++ missing fields.now others)) }
     ensures memory { IfErr result (λ fault. fault ≡ NameFault.Memory) }
 {
-    let base = base_with(alloc, fields, inherited)?;
-    Ok(Seq::from_vec(key_letters(alloc, base.as_slice())?))
+    Ok(base_with(alloc, fields, inherited)?)
 }
