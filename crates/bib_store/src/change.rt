@@ -128,6 +128,22 @@ fn begin_from(pieces: &[Piece], place: usize) -> bool {
     }
 }
 
+/// The window with the front, where the file begins with it and its front is empty: what comes into the window may begin
+/// with a front.
+fn with_empty_front(front: &[u8], window: Window) -> Option<Window>
+    ensures empty { IfSome result (λ w. front.now ≡ []) }
+    ensures begins { IfSome result (λ w. window.from ≡ 0) }
+    ensures window { IfSome result (λ w. w ≡ record window { with_front = true }) }
+{
+    if window.with_front || window.from > 0 || !front.is_empty() {
+        return None;
+    }
+    Some(Window {
+        with_front: true,
+        ..window
+    })
+}
+
 /// What replaces the window, which holds what the pieces touch, or where they don't serve there the whole file.
 pub(crate) fn find_change<L: ItemList>(
     alloc: Global,
@@ -147,6 +163,11 @@ pub(crate) fn find_change<L: ItemList>(
 {
     if let Some(change) = change_near(alloc, front, items, file_len, window, pieces)? {
         return Ok(change);
+    }
+    if let Some(begun) = with_empty_front(front, window) {
+        if let Some(change) = change_of(alloc, front, items, file_len, begun, pieces)? {
+            return Ok(change);
+        }
     }
     let whole = Window {
         from: 0,
