@@ -1,26 +1,11 @@
 -- What is kept beside the items of a file: which of them are preambles, and what each entry's crossref says.
-use Rattle.std.specs.Prelude.{ℕ, ◌++◌, Bool, true, false, List, take, drop, map, filter, Option}
+use Rattle.std.specs.Prelude.{ℕ, Bool, true, false, List, map, filter, Option}
 use Rattle.std.specs.List.{enumerate_from}
 use Rattle.bib_spec.specs.Text.{Text}
-use Rattle.bib_spec.specs.Tree.{Tree, CommentTree, DefinitionTree, PreambleTree, EntryTree, tree_bytes}
+use Rattle.bib_spec.specs.Tree.{Tree, CommentTree, DefinitionTree, PreambleTree, EntryTree}
 use Rattle.bib_spec.specs.Reading as reading
 use Rattle.bib_spec.specs.Reading.{Reading}
 use Rattle.bib_spec.specs.Records.{entries_of, crossref_text}
-use Rattle.bib_items.specs.declared.list.Item.{Item}
-use Rattle.bib_items.specs.Items.{item}
-
--- ---- items as they are kept
-
--- an item's bytes, as they are kept
-abbrev pub stored : reading.Item → Item
-stored i = item (tree_bytes i.tree) i.trail
-
-abbrev pub all_stored : List reading.Item → List Item
-all_stored items = map stored items
-
--- a list of items without those from one number up to another
-abbrev pub without_range : ℕ → ℕ → List Item → List Item
-without_range from to items = take from items ++ drop to items
 
 -- ---- numbers
 
