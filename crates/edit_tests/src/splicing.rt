@@ -198,6 +198,12 @@ const SCANS: &[Scan] = &[
         scanned: 22,
     },
     Scan {
+        name: "the first item becomes a front",
+        file: b"@misc{a}@misc{b}",
+        changes: &[(1, b"m", b"1")],
+        scanned: 8,
+    },
+    Scan {
         name: "what is refused leaves it",
         file: b"@misc{a}\n@misc{b}\n",
         changes: &[(16, b"}", b"")],
