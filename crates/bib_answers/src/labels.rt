@@ -86,7 +86,8 @@ fn add_told(alloc: Global, told: &mut Told, base: Text, key: &[u8]) -> Result<()
     ensures keys { OnOk result (told.new.keys.items ≡ told.old.keys.items ++ key.now ∷ []) }
     ensures bases { OnOk result (told.new.bases.items ≡ told.old.bases.items ++ base ∷ []) }
 {
-    told.keys.push(Text::from_vec(Vec::from_slice(alloc, key)?))?;
+    told.keys
+        .push(Text::from_vec(Vec::from_slice(alloc, key)?))?;
     told.bases.push(base)?;
     Ok(())
 }

@@ -1,6 +1,6 @@
-//! Knows what the commands that read a file alone answer to its bytes: `cat`, `check`, `show`, `cite`, `labels` and
-//! `names`; and how an answer says that a file is not read. It knows no journals and no edits, no readers and no writers.
-//! It promises that output, message and status are a stated function of the file.
+//! Knows what `cat`, `check`, `show`, `cite`, `labels` and `names`, which read a file alone, answer to its bytes; and how
+//! an answer says that a file is not read. It knows no journals and no edits, no readers and no writers. It promises that
+//! output, message and status are a stated function of the file.
 #![tactic(auto)]
 
 mod answers;

@@ -98,7 +98,7 @@ impl KeyIndex {
         self.holders(text).len()
     }
 
-    /// Gives an id of the order this text, where it has none. Where memory is refused, nothing changes.
+    /// Gives an id of the order this text, where it has none. Where memory is refused, each text has the ids that it had.
     pub fn add(&mut self, order: &Order, text: &[u8], id: usize) -> Result<(), AllocError>
         requires { length text.now ≤ name_limit }
         ensures ok { OnOk result ((texts : ℕ → Option Text) → texts id ≡ None → IsIndexOf texts order.now (ids_in self.old) → IsIndexOf (with_text texts id (Some text.now)) order.now (ids_in self.new)) }
@@ -114,7 +114,8 @@ impl KeyIndex {
         self.take_out(text, id);
     }
 
-    /// Gives an id of the order a new text in the place of the one that it has. Where memory is refused, nothing changes.
+    /// Gives an id of the order a new text in the place of the one that it has. Where memory is refused, each text has the
+    /// ids that it had.
     pub fn rekey(
         &mut self,
         order: &Order,

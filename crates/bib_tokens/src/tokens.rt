@@ -144,7 +144,8 @@ fn push_in_fields<'a>(
 }
 
 /// Adds the sought parts of item `n` and of those after it to the tokens, in their order, and says whether a part of one
-/// is watched for. It looks at each field once, and takes time in the length of these items.
+/// is watched for. It looks at each field once, and takes time in the length of these items. Where memory is refused, a
+/// part of the tokens may stand there.
 pub fn push_from<'a, L: ItemList>(
     alloc: Global,
     tokens: &mut Vec<Token<'a>>,

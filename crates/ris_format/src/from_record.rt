@@ -236,7 +236,7 @@ fn record_of(alloc: Global, kind: Kind, entry: &Record) -> Result<RisRecord, All
 }
 
 /// Puts the text of a record's RIS record, as `to_ris` makes that, after a text. It takes time in the record's size, and
-/// memory for the text alone. The one refusal is want of memory.
+/// memory for the text alone. The one refusal is want of memory: then a part of the record may stand there.
 pub fn write_entry(alloc: Global, text: &mut Vec<u8>, entry: &Record) -> Result<(), MappingFault>
     requires { is_well_formed (ris entry.now) ≡ true }
     ensures text { OnOk result (text.new.items ≡ text.old.items ++ record_text (ris entry.now)) }
