@@ -97,8 +97,9 @@ pub record MakesAgain (old new : KeptSteps) : Type 0 where
   pub carried : GoesOn step old new
   pub file : Redoes (history_of old) (history_of new)
 
+-- why no change is taken back: there is none; or memory was refused where there is one
 abbrev pub RefusesUndo : SessionFault → KeptSteps → Type 0
-RefusesUndo Memory kept = Unit {0}
+RefusesUndo Memory kept = kept.past ≢ []
 RefusesUndo NothingToUndo kept = kept.past ≡ []
 RefusesUndo (Unopened fault) kept = ⊥
 RefusesUndo (Refused fault) kept = ⊥
@@ -107,8 +108,9 @@ RefusesUndo NothingToRedo kept = ⊥
 RefusesUndo (BadJournal place) kept = ⊥
 RefusesUndo JournalMismatch kept = ⊥
 
+-- why no change is made again: none was taken back; or memory was refused where one was
 abbrev pub RefusesRedo : SessionFault → KeptSteps → Type 0
-RefusesRedo Memory kept = Unit {0}
+RefusesRedo Memory kept = kept.future ≢ []
 RefusesRedo NothingToRedo kept = kept.future ≡ []
 RefusesRedo (Unopened fault) kept = ⊥
 RefusesRedo (Refused fault) kept = ⊥
