@@ -1,15 +1,16 @@
 -- Contents, held against a file.
-use Rattle.std.proofs.Common.{◌≡◌, ℕ, List, Option, Some, None, reverse, refl, sym, subst, ◌∙◌, ap, sum_by, min, ◌^◌, ◌-◌, arith}
+use Rattle.std.proofs.Common.{◌≡◌, ℕ, ◌≤◌, List, length, Option, Some, None, reverse, refl, sym, subst, ◌∙◌, ap, sum_by, min, ◌^◌, ◌-◌, arith}
 use Rattle.std.proofs.lemmas.List.{reverse-reverse}
+use Rattle.bib_spec.specs.Bytes.{file_limit}
 use Rattle.bib_spec.specs.Text.{Text}
 use Rattle.bib_spec.specs.Texts.{IsOpenable}
-use Rattle.edit_spec.specs.Steps.{Step, IsSound, AreSteps, step_text_len}
+use Rattle.edit_spec.specs.Steps.{Step, KeptSteps, IsSound, AreSteps, step_text_len}
 use Rattle.journal_format.specs.Contents.{Contents, digest_of}
 use Rattle.journal_format.specs.Faults.{IsJournalOf, Refuses}
 use Rattle.journal_format.specs.declared.fault.JournalFault.{JournalFault}
 use Rattle.journal_format.specs.declared.fault.JournalFault.TheVariants as journal_fault
 use Rattle.bib_journal.specs.Faults.{unread}
-use Rattle.bib_journal.specs.Session.{RefusesLoad, RefusesOpen}
+use Rattle.bib_journal.specs.Session.{Opens, RefusesLoad, RefusesOpen}
 use Rattle.bib_journal.specs.declared.fault.SessionFault.{SessionFault}
 use Rattle.bib_journal.specs.declared.fault.SessionFault.TheVariants.{Memory}
 use Rattle.bib_journal.specs.Kept.{kept, IsKept}
@@ -21,7 +22,7 @@ its_mismatch file text c opens journal misfit = record { opens = opens; contents
 -- a journal that is not read loads nothing
 pub unread_refuses : (fault : JournalFault) (file text : Text) → IsOpenable file → Refuses fault text → RefusesLoad (unread fault) file text
 unread_refuses (journal_fault.BadJournal place) file text opens refuses = (opens, refuses)
-unread_refuses journal_fault.Memory file text opens refuses = tt
+unread_refuses journal_fault.Memory file text opens refuses = opens.1.short
 
 -- the steps of the contents, undone ones last first
 pub contents_kept : (c : Contents) (file : Text) (stack : List Step) → stack ≡ reverse c.future → kept c.past file (reverse stack) ≡ kept c.past file c.future
@@ -47,10 +48,17 @@ says_loads file text c says =
       fit = subst (λ (x : Contents). FitFile x file) (sym same) says.fit;
     }
 
--- want of memory refuses any opening
-memory_refuses_any : (file : Text) (journal : Option Text) → RefusesOpen Memory file journal
-memory_refuses_any file None = tt
-memory_refuses_any file (Some text) = tt
+-- ---- want of memory
 
-pub memory_refuses : (fault : SessionFault) (file : Text) (journal : Option Text) → fault ≡ Memory → RefusesOpen fault file journal
-memory_refuses fault file journal is = subst (λ (f : SessionFault). RefusesOpen f file journal) (sym is) (memory_refuses_any file journal)
+-- what is opened is not too long
+pub opened_short : (file : Text) (journal : Option Text) (kept : KeptSteps) → Opens file journal kept → length file ≤ file_limit
+opened_short file None kept opens = opens.0.1.short
+opened_short file (Some text) kept opens = opens.fit.opens.1.short
+
+memory_refuses_any : (file : Text) (journal : Option Text) → length file ≤ file_limit → RefusesOpen Memory file journal
+memory_refuses_any file None short = short
+memory_refuses_any file (Some text) short = short
+
+-- want of memory refuses any opening of a file that is not too long
+pub memory_refuses : (fault : SessionFault) (file : Text) (journal : Option Text) → length file ≤ file_limit → fault ≡ Memory → RefusesOpen fault file journal
+memory_refuses fault file journal short is = subst (λ (f : SessionFault). RefusesOpen f file journal) (sym is) (memory_refuses_any file journal short)

@@ -1,11 +1,12 @@
 -- Several runs, and the one session that does what they do.
 use Rattle.std.proofs.Common.{◌≡◌, ℕ, zero, suc, List, [], ◌∷◌, ◌++◌, length, Option, Some, None, refl, sym, ◌∙◌, ap, subst, arith, replicate}
-use Rattle.std.proofs.lemmas.List.{same_from_push}
+use Rattle.std.proofs.lemmas.List.{same_from_push, nil_from_length}
 use Rattle.bib_spec.specs.Text.{Text}
+use Rattle.bib_spec.specs.Pieces.{applied}
 use Rattle.bib_spec.specs.Reading.{Reading, Reads}
 use Rattle.bib_spec.specs.Texts.{IsOpenable}
 use Rattle.edit_spec.specs.History.{History, Undoes, Times, LeadsAlone, IsAtFirst, files_of}
-use Rattle.edit_spec.specs.Steps.{Step, KeptSteps, IsSound, Adds, BelongTo, history_of, files_before}
+use Rattle.edit_spec.specs.Steps.{Step, KeptSteps, IsSound, Adds, BelongTo, history_of, first_of, files_before, files_after}
 use Rattle.edit_spec.specs.Edits as edits
 use Rattle.edit_spec.specs.EditChunks.{pieces_of}
 use Rattle.edit_spec.proofs.HistoryLemmas.{undoing-all}
@@ -20,9 +21,9 @@ use Rattle.bib_edit.specs.Asking.{AsksFor}
 use Rattle.bib_edit.specs.Planning.{ArePiecesOf}
 use Rattle.bib_edit.proofs.AskedEdits.{asked_for}
 use Rattle.bib_journal.specs.declared.saving.Saved.{Saved}
-use Rattle.bib_journal.specs.Loading.{contents_of, Loads, Saves}
+use Rattle.bib_journal.specs.Loading.{contents_of, Loads, Saves, last_of}
 use Rattle.bib_journal.specs.Session.{started, Opens, MakesEdit, Does, DoesAll}
-use Rattle.bib_journal.specs.Runs.{OnDisk, fresh, left, IsRun, requests_of, Moves, MovesAll, IsOneSession, one_opening, runs_are_one_session, undoing_all_leads_to_the_first_file}
+use Rattle.bib_journal.specs.Runs.{OnDisk, left, IsRun, requests_of, Moves, MovesAll, IsOneSession, one_opening, runs_are_one_session, undoing_all_leads_to_the_first_file, redoing_all_leads_to_the_last_file}
 use Rattle.bib_journal.proofs.Moves.{planned_leads}
 
 -- ---- one history
@@ -178,14 +179,50 @@ opened_present : (file : Text) (journal : Option Text) (kept : KeptSteps) → Op
 opened_present file None kept opens = ap (λ (k : KeptSteps). k.present) opens.1
 opened_present file (Some journal) kept opens = opens.present
 
+first_before : (steps : List Step) (file : Text) → first_in (files_before steps file) file ≡ first_of steps file
+first_before [] file = refl
+first_before (step ∷ steps) file = refl
+
 pub undoing-all-leads-to-first : undoing_all_leads_to_the_first_file
-undoing-all-leads-to-first runs back file mid new kept there is opens again undos =
-    let start : Opens file None (started file) = (is, refl) in
-    let one : IsOneSession (requests_of runs) (started file) mid = runs-are-one runs (started file) (fresh file) mid start there in
+undoing-all-leads-to-first runs back old mid new first kept begins there opens again undos =
+    let one : IsOneSession (requests_of runs) first mid = runs-are-one runs first old mid begins there in
     let same : one.closed ≡ kept = one-opening mid.file mid.journal one.closed kept one.opens opens in
-    let first : first_file (history_of one.closed) ≡ file = all_keep_first (requests_of runs) (started file) one.closed (started_is_sound file is) one.did in
+    let kept_first : first_file (history_of one.closed) ≡ first_file (history_of first) =
+    all_keep_first (requests_of runs) first one.closed (opened_is_sound old.file old.journal first begins) one.did in
     let two : IsOneSession (requests_of back) kept new = runs-are-one back kept mid new opens again in
     let moved : MovesAll (replicate (length kept.past) request.Undo) (history_of kept) (history_of two.closed) =
     subst (λ (rs : List Request). MovesAll rs (history_of kept) (history_of two.closed)) undos two.moved in
     sym (opened_present new.file new.journal two.closed two.opens) ∙ undone_to_first kept two.closed moved
-    ∙ ap (λ (k : KeptSteps). first_file (history_of k)) (sym same) ∙ first
+    ∙ ap (λ (k : KeptSteps). first_file (history_of k)) (sym same) ∙ kept_first ∙ first_before first.past first.present
+
+-- ---- the last file
+
+-- the last of a file and those after it
+abbrev last_in : Text → List Text → Text
+last_in file [] = file
+last_in file (next ∷ files) = last_in next files
+
+last_after : (steps : List Step) (file : Text) → last_in file (files_after steps file) ≡ last_of steps file
+last_after [] file = refl
+last_after (step ∷ steps) file = last_after steps (applied step file)
+
+length-files_after : (steps : List Step) (file : Text) → length (files_after steps file) ≡ length steps
+length-files_after [] file = refl
+length-files_after (step ∷ steps) file = ap suc (length-files_after steps (applied step file))
+
+-- as many redos as there is future lead to the last file
+redone_to_last : (n : ℕ) (old new : History) → length old.future ≡ n → MovesAll (replicate n request.Redo) old new → new.present ≡ last_in old.present old.future
+redone_to_last zero old new count moved =
+    ap (λ (h : History). h.present) moved ∙ ap (λ (fs : List Text). last_in old.present fs) (sym (nil_from_length old.future count))
+redone_to_last (suc n) old new count moved =
+    redone_to_last n moved.0 new (omega (arith, count, ap length moved.1.future)) moved.2
+    ∙ ap (λ (fs : List Text). last_in old.present fs) (sym moved.1.future)
+
+pub redoing-all-leads-to-last : redoing_all_leads_to_the_last_file
+redoing-all-leads-to-last on mid new kept opens again redos =
+    let one : IsOneSession (requests_of on) kept new = runs-are-one on kept mid new opens again in
+    let moved : MovesAll (replicate (length kept.future) request.Redo) (history_of kept) (history_of one.closed) =
+    subst (λ (rs : List Request). MovesAll rs (history_of kept) (history_of one.closed)) redos one.moved in
+    sym (opened_present new.file new.journal one.closed one.opens)
+    ∙ redone_to_last (length kept.future) (history_of kept) (history_of one.closed) (length-files_after kept.future kept.present) moved
+    ∙ last_after kept.future kept.present

@@ -1,10 +1,9 @@
 -- Several runs: each opens the file and the journal that the one before left, does its requests, and leaves both again. (dialect)
-use Rattle.std.specs.Prelude.{◌≡◌, List, [], ◌∷◌, ◌++◌, length, replicate, Option, Some, None}
+use Rattle.std.specs.Prelude.{◌≡◌, List, [], ◌∷◌, ◌++◌, length, replicate, Option, Some}
 use Rattle.bib_spec.specs.Text.{Text}
 use Rattle.bib_spec.specs.Reading.{bytes_of}
-use Rattle.bib_spec.specs.Texts.{IsOpenable}
 use Rattle.edit_spec.specs.History.{History, Edits, Undoes, Redoes}
-use Rattle.edit_spec.specs.Steps.{KeptSteps, history_of}
+use Rattle.edit_spec.specs.Steps.{KeptSteps, history_of, first_of}
 use Rattle.edit_spec.specs.Edits.{edited}
 use Rattle.bib_store.specs.Meaning.{OfReading}
 use Rattle.bib_data.specs.declared.request.Request.{Request}
@@ -12,17 +11,13 @@ use Rattle.bib_data.specs.declared.request.Request.TheVariants as request
 use Rattle.bib_keys.specs.MadeBase.{made_base}
 use Rattle.bib_edit.specs.Asking.{OfEdit}
 use Rattle.bib_journal.specs.declared.saving.Saved.{Saved}
-use Rattle.bib_journal.specs.Loading.{Saves}
+use Rattle.bib_journal.specs.Loading.{Saves, last_of}
 use Rattle.bib_journal.specs.Session.{Opens, DoesAll}
 
 -- what stands on the disk: a file, and its journal if it has one
 pub record OnDisk : Type 0 where
   pub file : Text
   pub journal : Option Text
-
--- a file to which nothing was done, without a journal
-abbrev pub fresh : Text → OnDisk
-fresh file = record { file = file; journal = None }
 
 -- a file and its journal, as a run left them
 abbrev pub left : Saved → OnDisk
@@ -79,8 +74,14 @@ runs_are_one_session = (runs : List (List Request)) (kept : KeptSteps) (old new 
 abbrev pub one_opening : Type 0
 one_opening = (file : Text) (journal : Option Text) (a b : KeptSteps) → Opens file journal a → Opens file journal b → a ≡ b
 
--- After any runs from a file to which nothing was done, as many undos as there is past, in whatever runs, lead to that file.
+-- After any runs, as many undos as there is past, in whatever runs, lead to the first file of the history that was opened
+-- before them. Where nothing was done to the file before them, that is the file itself.
 abbrev pub undoing_all_leads_to_the_first_file : Type 0
-undoing_all_leads_to_the_first_file = (runs back : List (List Request)) (file : Text) (mid new : OnDisk) (kept : KeptSteps)
-    → AreRuns runs (fresh file) mid → IsOpenable file → Opens mid.file mid.journal kept
-    → AreRuns back mid new → requests_of back ≡ replicate (length kept.past) request.Undo → new.file ≡ file
+undoing_all_leads_to_the_first_file = (runs back : List (List Request)) (old mid new : OnDisk) (first kept : KeptSteps)
+    → Opens old.file old.journal first → AreRuns runs old mid → Opens mid.file mid.journal kept
+    → AreRuns back mid new → requests_of back ≡ replicate (length kept.past) request.Undo → new.file ≡ first_of first.past first.present
+
+-- From whatever is left, as many redos as there is future, in whatever runs, lead to the last file of the history.
+abbrev pub redoing_all_leads_to_the_last_file : Type 0
+redoing_all_leads_to_the_last_file = (on : List (List Request)) (mid new : OnDisk) (kept : KeptSteps) → Opens mid.file mid.journal kept
+    → AreRuns on mid new → requests_of on ≡ replicate (length kept.future) request.Redo → new.file ≡ last_of kept.future kept.present

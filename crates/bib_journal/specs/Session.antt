@@ -1,5 +1,6 @@
 -- What a session answers to what it is asked.
 use Rattle.std.specs.Prelude.{ℕ, ◌≡◌, ◌≢◌, ◌≤◌, List, [], ◌∷◌, length, take, drop, Option, Some, None}
+use Rattle.bib_spec.specs.Bytes.{file_limit}
 use Rattle.bib_spec.specs.Text.{Text}
 use Rattle.bib_spec.specs.Reading.{bytes_of}
 use Rattle.bib_spec.specs.Texts.{IsOpenable}
@@ -26,9 +27,9 @@ use Rattle.bib_data.specs.declared.request.Request.TheVariants as request
 abbrev pub started : Text → KeptSteps
 started file = record { past = []; present = file; future = [] }
 
--- why no session is started
+-- why no session is started: the bytes can't be opened; or memory was refused to a file that is not too long
 abbrev pub RefusesStart : SessionFault → Text → Type 0
-RefusesStart Memory file = Unit {0}
+RefusesStart Memory file = length file ≤ file_limit
 RefusesStart (Unopened fault) file = IsOpenFault file fault.kind fault.place
 RefusesStart (Refused fault) file = ⊥
 RefusesStart JournalFull file = ⊥
@@ -37,9 +38,10 @@ RefusesStart NothingToRedo file = ⊥
 RefusesStart (BadJournal place) file = ⊥
 RefusesStart JournalMismatch file = ⊥
 
--- why no session is loaded: the bytes can't be opened; or the text is no journal; or it does not belong to the file
+-- why no session is loaded: the bytes can't be opened; or the text is no journal; or it does not belong to the file; or
+-- memory was refused to a file that is not too long
 abbrev pub RefusesLoad : SessionFault → Text → Text → Type 0
-RefusesLoad Memory file text = Unit {0}
+RefusesLoad Memory file text = length file ≤ file_limit
 RefusesLoad (Unopened fault) file text = IsOpenFault file fault.kind fault.place
 RefusesLoad (BadJournal place) file text = IsOpenable file × IsNoJournal text place
 RefusesLoad JournalMismatch file text = IsMismatch file text
@@ -97,8 +99,9 @@ pub record MakesAgain (old new : KeptSteps) : Type 0 where
   pub carried : GoesOn step old new
   pub file : Redoes (history_of old) (history_of new)
 
+-- why no change is taken back: there is none; or memory was refused where there is one
 abbrev pub RefusesUndo : SessionFault → KeptSteps → Type 0
-RefusesUndo Memory kept = Unit {0}
+RefusesUndo Memory kept = kept.past ≢ []
 RefusesUndo NothingToUndo kept = kept.past ≡ []
 RefusesUndo (Unopened fault) kept = ⊥
 RefusesUndo (Refused fault) kept = ⊥
@@ -107,8 +110,9 @@ RefusesUndo NothingToRedo kept = ⊥
 RefusesUndo (BadJournal place) kept = ⊥
 RefusesUndo JournalMismatch kept = ⊥
 
+-- why no change is made again: none was taken back; or memory was refused where one was
 abbrev pub RefusesRedo : SessionFault → KeptSteps → Type 0
-RefusesRedo Memory kept = Unit {0}
+RefusesRedo Memory kept = kept.future ≢ []
 RefusesRedo NothingToRedo kept = kept.future ≡ []
 RefusesRedo (Unopened fault) kept = ⊥
 RefusesRedo (Refused fault) kept = ⊥

@@ -12,7 +12,7 @@ ghost use Rattle.bib_journal.specs.declared.fault.SessionFault.TheVariants.{Noth
 
 use crate::closing::close;
 use crate::fault::{SessionFault, unopened};
-use crate::loading::said_with;
+use crate::loading::{digest_within, said_with};
 use crate::performing::{Performed, repeat};
 use crate::replay::{belong_once, file_before};
 use crate::saving::{Saved, saved_back};
@@ -20,7 +20,7 @@ use crate::session::Session;
 use bib_data::Request;
 use bib_scan::{Seq, Text};
 use bib_store::{Database, ItemList, Piece};
-use journal_format::{Journal, digest};
+use journal_format::Journal;
 use std::alloc::{AllocError, Global};
 
 /// The changes that a journal keeps: those that can be undone, from the oldest, and those that can be redone, from the next.
@@ -87,7 +87,7 @@ fn changes_in<L: ItemList>(
     ensures loaded { IfOk result (λ changes. Loads file.items journal.now (kept changes.past file.items changes.future)) }
     ensures refused { IfErr result (λ fault. RefusesLoad fault file.items journal.now) }
 {
-    let digest = digest(alloc, file.as_slice())?;
+    let digest = digest_within(alloc, file.as_slice())?;
     match Database::open_file(alloc, file, empty) {
         Ok(mut db) => {
             let changes = changes_of(alloc, &mut db, digest.as_slice(), journal);
@@ -232,7 +232,7 @@ fn undo_in<L: ItemList>(
     ensures turned { IfOk result (Turns Undo n file.items (Some journal.now)) }
     ensures refused { IfErr result (λ fault. RefusesLoad fault file.items journal.now) }
 {
-    let digest = digest(alloc, file.as_slice())?;
+    let digest = digest_within(alloc, file.as_slice())?;
     match Database::open_file(alloc, file, empty) {
         Ok(mut db) => {
             let turned = undo_of(alloc, &mut db, digest.as_slice(), journal, n);

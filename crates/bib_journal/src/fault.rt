@@ -1,7 +1,10 @@
 //! Why a session refuses a call.
 
 ghost use Rattle.std.specs.Prelude.{◌≡◌};
+ghost use Rattle.bib_spec.specs.Text.{Text as FileText};
+ghost use Rattle.bib_store.specs.Meaning.{IsOpenFault};
 ghost use Rattle.bib_journal.specs.Faults.{fault_number, fault_place, unopened, unread, refused};
+ghost use Rattle.bib_journal.specs.Session.{RefusesStart, RefusesLoad};
 
 use bib_edit::EditFault;
 use bib_scan::ReadFault;
@@ -93,7 +96,9 @@ impl<T: Drop> From<AllocFailed<T>> for SessionFault {
 
 /// What a refused opening is to a session.
 pub(crate) fn unopened(fault: ReadFault) -> SessionFault
-    ensures { result ≡ unopened fault }
+    ensures value { result ≡ unopened fault }
+    ensures start { (file : FileText) → IsOpenFault file fault.kind fault.place → RefusesStart result file }
+    ensures load { (file text : FileText) → IsOpenFault file fault.kind fault.place → RefusesLoad result file text }
 {
     if fault.kind == 10 {
         SessionFault::Memory

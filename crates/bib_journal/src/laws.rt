@@ -1,6 +1,6 @@
 //! Laws of several runs.
 
-ghost use Rattle.bib_journal.specs.Runs.{one_opening, runs_are_one_session, undoing_all_leads_to_the_first_file};
+ghost use Rattle.bib_journal.specs.Runs.{one_opening, runs_are_one_session, undoing_all_leads_to_the_first_file, redoing_all_leads_to_the_last_file};
 
 /// A file and its journal open as one history, if they open at all.
 pub fn a_journal_keeps_one_history()
@@ -9,8 +9,9 @@ pub fn a_journal_keeps_one_history()
 
 /// Several runs, each from the file and journal that the one before left, do what one session does that is asked for all
 /// their requests: the file after each accepted request is that of the history of whole files. As many undos as there is
-/// past, in whatever runs, lead to the first file.
+/// past, in whatever runs, lead to the first file, and as many redos as there is future to the last.
 pub fn several_runs_are_one_session()
     ensures one { runs_are_one_session }
     ensures first { undoing_all_leads_to_the_first_file }
+    ensures last { redoing_all_leads_to_the_last_file }
 {}

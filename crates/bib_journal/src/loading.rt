@@ -11,9 +11,24 @@ ghost use Rattle.bib_journal.specs.Session.{RefusesLoad};
 
 use crate::fault::{SessionFault, unread};
 use crate::replay::belong;
+use bib_scan::{FILE_LIMIT, ReadFault, Text};
 use bib_store::{Database, ItemList};
-use journal_format::{Journal, read_journal};
+use journal_format::{Journal, digest, read_journal};
 use std::alloc::{AllocError, Global};
+
+/// The digest of a file. A file that is too long to be opened is refused first, with 9 as `Database::open_bytes` refuses it.
+pub(crate) fn digest_within(alloc: Global, file: &[u8]) -> Result<Text, SessionFault>
+    ensures digest { IfOk result (λ digest. digest ≡ digest_of file.now) }
+    ensures refused { IfErr result (λ fault. (text : FileText) → RefusesLoad fault file.now text) }
+{
+    if file.len() > FILE_LIMIT {
+        return Err(SessionFault::Unopened(ReadFault {
+            kind: 9,
+            place: FILE_LIMIT,
+        }));
+    }
+    Ok(digest(alloc, file)?)
+}
 
 /// What the journal says, whatever the file.
 fn said_in(alloc: Global, journal: &[u8]) -> Result<Journal, SessionFault>

@@ -10,15 +10,13 @@ ghost use Rattle.bib_journal.specs.Session.{started, MakesEdit, Opens, RefusesSt
 
 use crate::closing::close;
 use crate::fault::{SessionFault, refused, unopened};
-use crate::loading::said_of;
+use crate::loading::{digest_within, said_of};
 use crate::saving::{Saved, journal_of};
 use crate::stepping::{forget, go_back, go_on, push_within_capacity};
 use bib_edit::{Edit, plan};
 use bib_scan::{Seq, Text};
 use bib_store::{Database, ItemList, Piece};
-use journal_format::{
-    CHANGE_LIMIT, Journal, STEP_TEXTS_LIMIT, digest, step_text_len, step_texts_len,
-};
+use journal_format::{CHANGE_LIMIT, Journal, STEP_TEXTS_LIMIT, step_text_len, step_texts_len};
 use std::alloc::Global;
 use std::marker::Model;
 
@@ -157,14 +155,9 @@ impl<L: ItemList> Session<L> {
         ensures loaded { IfOk result (λ session. Loads bytes.now journal.now session) }
         ensures refused { IfErr result (λ fault. RefusesLoad fault bytes.now journal.now) }
     {
+        let digest = digest_within(alloc, bytes)?;
         match Database::open_bytes(alloc, bytes, empty) {
-            Ok(database) => match digest(alloc, bytes) {
-                Ok(digest) => loaded(alloc, database, digest.as_slice(), journal),
-                Err(fault) => {
-                    close(database);
-                    Err(fault.into())
-                }
-            },
+            Ok(database) => loaded(alloc, database, digest.as_slice(), journal),
             Err(fault) => Err(unopened(fault)),
         }
     }
@@ -180,7 +173,7 @@ impl<L: ItemList> Session<L> {
         ensures loaded { IfOk result (λ session. Loads file.items journal.now session) }
         ensures refused { IfErr result (λ fault. RefusesLoad fault file.items journal.now) }
     {
-        let digest = digest(alloc, file.as_slice())?;
+        let digest = digest_within(alloc, file.as_slice())?;
         match Database::open_file(alloc, file, empty) {
             Ok(database) => loaded(alloc, database, digest.as_slice(), journal),
             Err(fault) => Err(unopened(fault)),
