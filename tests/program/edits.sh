@@ -48,6 +48,10 @@ edit; ends_with 1; writes_nothing; says 'bibkeep: 9 FileTooLong at 16777216'; le
 given_edit '@inproceedings{c, crossref = {p}}@proceedings{p}' 'remove\tp'
 given wanted 'applied 0\n'
 edit; ends_with 1; writes wanted; says 'bibkeep: line 1: 39 Referred'
+given_edit '' 'remove\tp\n'
+cp parents.bib edited.bib
+edit; ends_with 1; writes wanted; says 'bibkeep: line 1: 39 Referred'
+expect 'the file is another one' cmp -s parents.bib edited.bib
 
 # An edit sees the crossrefs that the edits before it left.
 given_edit '@misc{c}@misc{p}@misc{q}' 'set\tc\tcrossref\t{P}\nremove\tp'

@@ -10,6 +10,7 @@ given editor.bib '@misc{a, author = { }, editor = {Ann B. Cee and Dan Eff}}'
 when labels books.bib Lam86 knu84; ends_with 0; prints 'Knu84\tLam86\nLam86\tKnu84\n'; says_nothing
 when labels twice.bib b a c; ends_with 0; prints 'Bee99a\tb\nBee99b\ta\nanon\tc\n'; says_nothing
 when labels parents.bib c1 c2; ends_with 0; prints 'anon01a\tc1\nanon01b\tc2\nanon01c\tp\n'; says_nothing
+when labels books.bib zz; ends_with 1; writes_nothing; says 'bibkeep: 11 NoSuchEntry'
 when labels books.bib Lam86 zz; ends_with 1; writes_nothing; says 'bibkeep: 11 NoSuchEntry'
 when labels newline.bib a; ends_with 1; writes_nothing; says 'bibkeep: 6 UnbalancedBrace at 15'
 

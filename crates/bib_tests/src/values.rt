@@ -70,10 +70,37 @@ fn are_replaced(macros: &mut Macros) -> Result<bool, ValueFault> {
     Ok(are_apart && stands_for(macros, b"mar", b"3"))
 }
 
-/// Lets a macro stand for its text twice.
-fn double(alloc: Global, macros: &mut Macros) -> Result<(), Fail> {
-    let text = said(alloc, b"m # m", macros, None)??;
-    define(macros, b"m", text.as_slice())?;
+/// Macros, each of which stands for the text of the one before twice, and their values.
+const DOUBLED: &[(&[u8], &[u8])] = &[
+    (b"m1", b"m0 # m0"),
+    (b"m2", b"m1 # m1"),
+    (b"m3", b"m2 # m2"),
+    (b"m4", b"m3 # m3"),
+    (b"m5", b"m4 # m4"),
+    (b"m6", b"m5 # m5"),
+    (b"m7", b"m6 # m6"),
+    (b"m8", b"m7 # m7"),
+    (b"m9", b"m8 # m8"),
+    (b"m10", b"m9 # m9"),
+    (b"m11", b"m10 # m10"),
+    (b"m12", b"m11 # m11"),
+    (b"m13", b"m12 # m12"),
+    (b"m14", b"m13 # m13"),
+    (b"m15", b"m14 # m14"),
+    (b"m16", b"m15 # m15"),
+    (b"m17", b"m16 # m16"),
+    (b"m18", b"m17 # m17"),
+    (b"m19", b"m18 # m18"),
+    (b"m20", b"m19 # m19"),
+];
+
+/// Lets the macro `m0` stand for `x`, and each one after it for the text of the one before twice.
+fn double_all(alloc: Global, macros: &mut Macros) -> Result<(), Fail> {
+    define(macros, b"m0", b"x")?;
+    for (name, value) in DOUBLED {
+        let text = said(alloc, value, macros, None)??;
+        define(macros, name, text.as_slice())?;
+    }
     Ok(())
 }
 
@@ -83,15 +110,19 @@ fn len_of(alloc: Global, bytes: &[u8], macros: &Macros) -> Result<u32, ReadFault
     Ok(raw_len(&parts, bytes, macros, None))
 }
 
+/// Whether it is `x` so many times.
+fn is_all_x(text: &[u8], count: usize) -> bool {
+    text.len() == count && text.iter().all(|byte| *byte == b'x')
+}
+
 /// Whether a text may have 1,048,576 bytes and no more.
 fn is_limited(alloc: Global, macros: &mut Macros) -> Result<bool, Fail> {
-    define(macros, b"m", b"x")?;
-    for _ in 0..20 {
-        double(alloc, macros)?;
-    }
-    let is_full = said(alloc, b"m", macros, None)??.as_slice().len() == 1_048_576;
-    let is_over = len_of(alloc, b"m # m", macros)? == 1_048_577;
-    let fault = said(alloc, b"m # m", macros, None)?.err();
+    double_all(alloc, macros)?;
+    let full = said(alloc, b"m19 # m19", macros, None)??;
+    let is_full = is_all_x(full.as_slice(), 1_048_576)
+        && stands_for(macros, b"m20", full.as_slice());
+    let is_over = len_of(alloc, b"m20 # m20", macros)? == 1_048_577;
+    let fault = said(alloc, b"m20 # m20", macros, None)?.err();
     Ok(is_full && is_over && fault == Some(ValueFault::TextTooLong))
 }
 

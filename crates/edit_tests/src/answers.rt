@@ -17,6 +17,8 @@ enum Question {
     CrossrefText(usize),
     Target(usize),
     Parent(usize),
+    /// The parent that the record of an entry names.
+    RecordParent(usize),
     IsRepeated(usize),
     Holders(&'static [u8]),
     HoldersOf(&'static [u8]),
@@ -50,6 +52,8 @@ const TWICE: &[u8] = b"@string{p={A}}@misc{a,t=p}@string{p={B}}@misc{b,t=p}";
 const CROSSREF: &[u8] = b"@string{p={a}}@misc{a}@misc{b}@misc{c,crossref=p}";
 
 const THREE: &[u8] = b"@misc{a}@misc{b, crossref = \"A\" # {}}@misc{A, crossref = {none}}";
+
+const FOUR: &[u8] = b"@misc{a, crossref={a}}@misc{b}@misc{c, crossref={b}}@misc{d,crossref={q}}";
 
 const PREAMBLE: &[u8] = b"@preamble{\"a\" # { b}}";
 
@@ -133,46 +137,126 @@ const OF_CROSSREFS: &[Asked] = &[
         answer: Answer::Nothing,
     },
     Asked {
+        name: "a crossref of a macro has the parent that the macro says",
+        file: CROSSREF,
+        changes: &[],
+        question: Question::Parent(2),
+        answer: Answer::Number(0),
+    },
+    Asked {
+        name: "a crossref of a macro has another parent once the macro says another",
+        file: CROSSREF,
+        changes: &[(11, b"a", b"b")],
+        question: Question::Parent(2),
+        answer: Answer::Number(1),
+    },
+    Asked {
+        name: "a crossref of a macro has no parent once the macro says no key",
+        file: CROSSREF,
+        changes: &[(11, b"a", b"b"), (11, b"b", b"z")],
+        question: Question::Parent(2),
+        answer: Answer::Nothing,
+    },
+    Asked {
         name: "a crossref of parts has a parent",
         file: b"@string{conf={conf}}@misc{conf95}@misc{b, crossref = conf # {95}}",
         changes: &[],
-        question: Question::Parent(1),
+        question: Question::RecordParent(1),
         answer: Answer::Number(0),
     },
     Asked {
         name: "a crossref that follows a key keeps its parent",
         file: b"@string{conf={conf}}@misc{icc}@misc{b, crossref = {icc}}",
         changes: &[],
-        question: Question::Parent(1),
+        question: Question::RecordParent(1),
         answer: Answer::Number(0),
     },
     Asked {
         name: "an entry has a parent before keys are exchanged",
         file: CROSSED,
         changes: &[],
-        question: Question::Parent(1),
+        question: Question::RecordParent(1),
         answer: Answer::Number(0),
     },
     Asked {
         name: "an entry has the same parent once keys are exchanged",
         file: MADE,
         changes: &[],
-        question: Question::Parent(1),
+        question: Question::RecordParent(1),
         answer: Answer::Number(0),
     },
     Asked {
         name: "a crossref that waits for an entry has no parent",
         file: b"@misc{a}@misc{b, crossref = {Z}}",
         changes: &[],
-        question: Question::Parent(1),
+        question: Question::RecordParent(1),
         answer: Answer::Nothing,
     },
     Asked {
         name: "an entry for which a crossref waited is its parent",
         file: b"@misc{a}@misc{b, crossref = {Z}}@misc{y}\n@misc{z}\n",
         changes: &[],
-        question: Question::Parent(1),
+        question: Question::RecordParent(1),
         answer: Answer::Number(3),
+    },
+];
+
+const OF_TARGETS: &[Asked] = &[
+    Asked {
+        name: "an entry may name itself",
+        file: FOUR,
+        changes: &[],
+        question: Question::Target(0),
+        answer: Answer::Number(0),
+    },
+    Asked {
+        name: "an entry without a crossref finds none",
+        file: FOUR,
+        changes: &[],
+        question: Question::Target(1),
+        answer: Answer::Nothing,
+    },
+    Asked {
+        name: "a crossref finds an entry before it",
+        file: FOUR,
+        changes: &[],
+        question: Question::Target(2),
+        answer: Answer::Number(1),
+    },
+    Asked {
+        name: "a crossref finds no entry",
+        file: FOUR,
+        changes: &[],
+        question: Question::Target(3),
+        answer: Answer::Nothing,
+    },
+    Asked {
+        name: "a crossref says the key of its own entry",
+        file: FOUR,
+        changes: &[],
+        question: Question::CrossrefText(0),
+        answer: Answer::Text(b"a"),
+    },
+    Asked {
+        name: "an entry without a crossref has no text of one",
+        file: FOUR,
+        changes: &[],
+        question: Question::CrossrefText(1),
+        answer: Answer::Nothing,
+    },
+    Asked {
+        name: "a crossref says the key of an entry before it",
+        file: FOUR,
+        changes: &[],
+        question: Question::CrossrefText(2),
+        answer: Answer::Text(b"b"),
+    },
+    Asked {
+        name: "a crossref says the key of no entry",
+        file: FOUR,
+        changes: &[],
+        question: Question::CrossrefText(3),
+        answer: Answer::Text(b"q"),
     },
 ];
 
@@ -386,7 +470,14 @@ fn target<L: ItemList>(db: &Database<L>, n: usize) -> Said {
     Said::from(db.target(n))
 }
 
-fn parent<L: ItemList>(db: &Database<L>, n: usize) -> Result<Said, Stop> {
+fn parent<L: ItemList>(db: &Database<L>, n: usize) -> Said {
+    if n >= db.entry_count() {
+        return Said::Nothing;
+    }
+    Said::from(db.parent(n))
+}
+
+fn record_parent<L: ItemList>(db: &Database<L>, n: usize) -> Result<Said, Stop> {
     if n >= db.entry_count() {
         return Ok(Said::Nothing);
     }
@@ -415,7 +506,8 @@ fn answer_of<L: ItemList>(
         Question::PreambleText(n) => preamble_text(db, *n),
         Question::CrossrefText(n) => crossref_text(alloc, db, *n),
         Question::Target(n) => Ok(target(db, *n)),
-        Question::Parent(n) => parent(db, *n),
+        Question::Parent(n) => Ok(parent(db, *n)),
+        Question::RecordParent(n) => record_parent(db, *n),
         Question::IsRepeated(n) => Ok(is_repeated(db, *n)),
         Question::Holders(key) => Ok(Said::Number(db.holders(key))),
         Question::HoldersOf(key) => Ok(Said::from(db.holders_of(key))),
@@ -467,6 +559,11 @@ fn a_preamble_has_a_text(rt: HostRuntime) -> Result<(), Fail> {
 #[test]
 fn crossrefs_are_followed(rt: HostRuntime) -> Result<(), Fail> {
     all_hold(rt.alloc(), OF_CROSSREFS)
+}
+
+#[test]
+fn crossrefs_have_texts_and_targets(rt: HostRuntime) -> Result<(), Fail> {
+    all_hold(rt.alloc(), OF_TARGETS)
 }
 
 #[test]

@@ -1,13 +1,28 @@
 //! How long values and steps may be.
 
-use crate::rows::{Course, Step, all_come_out};
+use crate::rows::{Course, Step, Stop, all_come_out, told};
 use crate::turns::{Long, Turn};
+use bib_journal::STEP_TEXTS_LIMIT;
+use bib_scan::{Seq, Text};
+use bib_store::Piece;
+use journal_format::step_text_len;
+use std::alloc::{AllocError, Global};
 use std::test::Fail;
+
+const FILE: &[u8] = b"@misc{a,t=1}";
+
+/// A line that sets a field to digits.
+const DIGITS: Long = Long {
+    before: b"set\ta\tt\t",
+    byte: b'1',
+    count: 1_048_576,
+    after: b"",
+};
 
 const LENGTHS: &[Course<'_>] = &[
     Course {
         name: "a value may be as long as the limit",
-        file: b"@misc{a,t=1}",
+        file: FILE,
         steps: &[
             Step {
                 turn: Turn::Long(
@@ -20,7 +35,7 @@ const LENGTHS: &[Course<'_>] = &[
                     },
                 ),
                 refusal: 8,
-                file: Some(b"@misc{a,t=1}"),
+                file: Some(FILE),
                 counts: None,
             },
             Step {
@@ -41,32 +56,16 @@ const LENGTHS: &[Course<'_>] = &[
     },
     Course {
         name: "the texts of steps are limited",
-        file: b"@misc{a,t=1}",
+        file: FILE,
         steps: &[
             Step {
-                turn: Turn::Long(
-                    32,
-                    Long {
-                        before: b"set\ta\tt\t",
-                        byte: b'1',
-                        count: 1_048_576,
-                        after: b"",
-                    },
-                ),
+                turn: Turn::Long(32, DIGITS),
                 refusal: 0,
                 file: None,
                 counts: None,
             },
             Step {
-                turn: Turn::Long(
-                    1,
-                    Long {
-                        before: b"set\ta\tt\t",
-                        byte: b'1',
-                        count: 1_048_576,
-                        after: b"",
-                    },
-                ),
+                turn: Turn::Long(1, DIGITS),
                 refusal: 41,
                 file: None,
                 counts: Some((32, 0)),
@@ -78,4 +77,35 @@ const LENGTHS: &[Course<'_>] = &[
 #[test]
 fn values_and_steps_have_limits(rt: HostRuntime) -> Result<(), Fail> {
     all_come_out(rt.alloc(), LENGTHS)
+}
+
+fn digits(alloc: Global, count: usize) -> Result<Text, AllocError> {
+    let mut digits = Vec::new(alloc);
+    digits.resize(count, DIGITS.byte)?;
+    Ok(Seq::from_vec(digits))
+}
+
+/// How long the text of the step is that sets so many digits in the place of so many.
+fn step_len(alloc: Global, old: usize, new: usize) -> Result<u64, AllocError> {
+    let pieces = [Piece {
+        place: 10,
+        old: digits(alloc, old)?,
+        new: digits(alloc, new)?,
+    }];
+    Ok(step_text_len(&pieces))
+}
+
+/// Whether the texts of 32 steps are so long together, which may be kept, and with one more, which may not.
+fn are_added_up(alloc: Global) -> Result<bool, Stop> {
+    let first = step_len(alloc, 1, DIGITS.count)?;
+    let next = step_len(alloc, DIGITS.count, DIGITS.count)?;
+    let kept = next.saturating_mul(31).saturating_add(first);
+    let over = kept.saturating_add(next);
+    let is_between = kept <= STEP_TEXTS_LIMIT && STEP_TEXTS_LIMIT < over;
+    Ok(kept == 66_060_987 && over == 68_158_161 && is_between)
+}
+
+#[test]
+fn texts_of_steps_add_up(rt: HostRuntime) -> Result<(), Fail> {
+    told("the texts of steps", are_added_up(rt.alloc()))
 }
