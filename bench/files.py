@@ -196,6 +196,27 @@ def many_sets(count):
     return b"".join(b"set\tk0\tt\t{%d}\n" % n for n in range(count))
 
 
+def in_order(script, order):
+    """The script's lines sorted by the place in the file that they are about, from the end to the front, or mixed."""
+    lines = sorted(script.splitlines(keepends=True), key=place_of)
+    if order == "back":
+        return b"".join(reversed(lines))
+    if order == "mixed":
+        return b"".join(lines[n * 7919 % len(lines)] for n in range(len(lines)))
+    return b"".join(lines)
+
+
+def place_of(line):
+    """A number that grows with the place in the file: of an added entry its position, of any other edit its key's."""
+    words = line.split(b"\t")
+    return int(words[1]) if words[0] == b"add" else int(words[1].strip()[len("key"):])
+
+
+def one_step(script):
+    """The same edits as one step."""
+    return b"group\tall\n" + script + b"end\n"
+
+
 def all_kinds(count):
     """A script of so many edits of all kinds but those that look at the whole file, which are one in a thousand."""
     lines, keys = [], articles(count // 8 + 1)
@@ -257,6 +278,23 @@ def children_of_long(count):
     return children + b"".join(b"@a{%s,year=1984,author={%s},note={%s}}" % (key, people, b"x" * (50 * count)) for key in (b"p", b"q"))
 
 
+def line_of_ancestors(papers):
+    """So many papers without an author, of a volume for each 100 of them, of a series for each 20 volumes, of one publisher's entry. Each ancestor has 20,000 bytes, and
+    the publisher's alone an author."""
+    note = b"x" * 20000
+    volumes = papers // 100
+    return b"".join(
+        [b"@inproceedings{k%d,title={Paper %d},year=1984,crossref={v%d}}\n" % (n, n, n % volumes) for n in range(papers)]
+        + [b"@proceedings{v%d,booktitle={Volume %d},note={%s},crossref={s%d}}\n" % (n, n, note, n // 20) for n in range(volumes)]
+        + [b"@book{s%d,series={Series %d},note={%s},crossref={p}}\n" % (n, n, note) for n in range(max(volumes // 20, 1))]
+        + [b"@misc{p,author={Ann Publisher},publisher={Publisher},note={%s}}\n" % note])
+
+
+def ring(count):
+    """So many entries, each the child of the next one, and the last the child of the first."""
+    return b"".join(b"@misc{k%d,f%d={%d},crossref={k%d}}\n" % (n, n % 16, n, (n + 1) % count) for n in range(count))
+
+
 def great():
     """A macro whose text is long, and so many uses that all of them would be gigabytes."""
     return b"@string{m = {%s}}\n" % (b"x" * 1000000) + b"".join(b"@misc{k%d, t = m}\n" % n for n in range(20000))
@@ -288,6 +326,9 @@ CONTENTS = {
     "base 100": lambda: one_base(100000),
     "long parents 5": lambda: children_of_long(5000),
     "long parents 10": lambda: children_of_long(10000),
+    "ancestors": lambda: line_of_ancestors(20000),
+    "ring 50": lambda: ring(50000),
+    "ring 100": lambda: ring(100000),
     "great": great,
     "authors 50000": lambda: authors(50000),
     "authors 100000": lambda: authors(100000),

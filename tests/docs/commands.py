@@ -80,7 +80,9 @@ def compare_examples(report, root, program, top, commands):
             report.expect(examples, where, "it has no example")
             for example in examples:
                 answer = run(example, program, folder)
-                report.expect(answer.returncode == 0, where, f"{example}\nends with {answer.returncode} and says\n{answer.stdout.decode()}")
+                # diff ends with 1 where it shows a change
+                wanted = 1 if re.search(r"\| diff [^|]*$", example) else 0
+                report.expect(answer.returncode == wanted, where, f"{example}\nends with {answer.returncode} and says\n{answer.stdout.decode()}")
 
 
 # ---- the manual page
@@ -109,7 +111,7 @@ def arguments_of(line):
     line = re.sub(r"O[op] Fl -[\w-]+(?: Ar \w+)?(?: Oc)?", "", line)
     arguments = []
     for optional, name, more in re.findall(r"(Op )?Ar (\w+)( \.\.\.)?", line):
-        arguments.append(f"[{name}]" if optional else f"<{name}>" + ("..." if more else ""))
+        arguments.append((f"[{name}]" if optional else f"<{name}>") + ("..." if more else ""))
     return arguments
 
 
@@ -202,14 +204,17 @@ def compare_page(report, page, commands):
 
 
 def compare_lines(report, path, pages, text):
-    """The lines that help lists are those of docs/EDITS.md, of the guide and of the manual page."""
-    wanted = set(re.findall(r"^  ([a-z-]+(?: [A-Z]+)*(?: \.\.)?)(?:  |$)", text, re.M))
+    """The lines that help lists are those of docs/PROGRAM.md, of the guide and of the manual page."""
+    wanted = set(re.findall(r"^  ([a-z-]+(?: (?:[A-Z]+|\[[A-Z]+\]))*(?: \.\.)?)(?:  |$)", text, re.M))
     for page in pages:
-        if page.path in ("docs/EDITS.md", "docs/GUIDE.md"):
+        if page.path in ("docs/PROGRAM.md", "docs/GUIDE.md"):
             told = {row.cells[0].strip("`") for row in page.rows() if row.header[0] == "Line"}
             report.expect_same(wanted, told, page.path, "lines of a script")
-    manual = re.findall(r"^\.It Li ([a-z-]+)(?: Ar ([A-Z ]+?))?( \.\.\.)?$", read(path), re.M)
-    told = {" ".join(filter(None, (word, arguments, ".." if more else ""))) for word, arguments, more in manual}
+    manual = re.findall(r"^\.It Li ([a-z-]+)(?: Ar ([A-Z ]+?))?(?: Op Ar ([A-Z]+))?( \.\.\.)?$", read(path), re.M)
+    told = {
+        " ".join(filter(None, (word, arguments, f"[{left_out}]" if left_out else "", ".." if more else "")))
+        for word, arguments, left_out, more in manual
+    }
     report.expect_same(wanted, told, path, "lines of a script")
 
 

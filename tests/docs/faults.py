@@ -1,5 +1,6 @@
-"""Whether docs/FAULTS.md has the faults of the sources, each with its number and name."""
+"""Whether docs/FAULTS.md has a section with a link to it, and the manual page a line, for each fault of the sources."""
 
+import os
 import re
 
 # In an enum, in a message, and in a definition of one.
@@ -10,11 +11,16 @@ FORMS = (
 )
 NUMBERED = re.compile(r'^\s+(\d+) => "(\w+)",', re.M)
 ARM = re.compile(r"^\s+\w*Fault::(\w+)(?:\(_\))? => (\d+),", re.M)
+# The heading of a section, and a link to one.
+HEADING = re.compile(r"^## (\d+) (\w+)$")
+LINK = re.compile(r"\]\(#([\w-]+)\)")
+# A line of the manual page.
+ITEM = re.compile(r"^\.It (\d+) (\w+)$", re.M)
 
 
-def compare(report, pages, sources):
+def compare(report, root, pages, sources):
     page = next(page for page in pages if page.path == "docs/FAULTS.md")
-    told = {(row.cells[0], row.cells[1]): row.number for row in page.rows() if row.cells[0].isdigit()}
+    told = {heading.groups(): line.number for line in page.prose if (heading := HEADING.match(line.text))}
     known = set()
     for text in sources.texts.values():
         known.update(faults_of(text))
@@ -22,6 +28,19 @@ def compare(report, pages, sources):
         report.expect((number, name) in told, page.path, f"the fault {number} {name} is missing")
     for (number, name), line in told.items():
         report.expect((number, name) in known, page.where(line), f"no fault is {number} {name}")
+    numbers = [int(number) for number, _ in told]
+    report.expect(numbers == sorted(numbers), page.path, "the faults are not in the order of their numbers")
+    compare_links(report, page, told)
+    with open(os.path.join(root, "man/bibkeep.1"), encoding="utf-8") as file:
+        items = ITEM.findall(file.read())
+    report.expect_same([" ".join(fault) for fault in known], [" ".join(item) for item in items], "man/bibkeep.1", "faults")
+
+
+def compare_links(report, page, told):
+    """Each fault is linked at the head of the page."""
+    links = {link for line in page.prose for link in LINK.findall(line.text)}
+    for number, name in told:
+        report.expect(f"{number}-{name}".lower() in links, page.path, f"nothing links to {number} {name}")
 
 
 def faults_of(text):

@@ -87,7 +87,7 @@ def compare_span(report, root, page, sources, files, span):
 def is_path(text):
     if not PATH.match(text) or text.startswith("/"):
         return False
-    return text.endswith(ENDINGS) or text.startswith(("crates/", "docs/", "tests/", "bench/", "tools/", ".ci/", "man/", "completions/", "specs/", "proofs/", "src/"))
+    return text.endswith(ENDINGS) or text.startswith(("crates/", "docs/", "tests/", "bench/", "tools/", ".ci/", "man/", "completions/", "release/", "specs/", "proofs/", "src/"))
 
 
 def is_there(root, files, page, text):

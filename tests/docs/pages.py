@@ -11,7 +11,7 @@ Span = collections.namedtuple("Span", "number text clauses")
 Row = collections.namedtuple("Row", "number section header cells")
 
 # A code span, and the words in parentheses that may follow it.
-SPAN = re.compile(r"`([^`]+)`(?:\s+\(([a-z_0-9]+(?:, [a-z_0-9]+)*)\))?")
+SPAN = re.compile(r"`([^`]+)`(?:\s+\(([a-z_0-9]+(?:,\s+[a-z_0-9]+)*)\))?")
 
 
 class Page:
@@ -67,9 +67,13 @@ class Page:
 def spans_of(number, text):
     """The code spans of a line, each with the clauses that are named after it."""
     for match in SPAN.finditer(text):
-        yield Span(number, match.group(1), (match.group(2) or "").split(", ") if match.group(2) else [])
+        yield Span(number, match.group(1), re.split(r",\s+", match.group(2)) if match.group(2) else [])
+
+
+# Where pages are: the top, these folders, and those of the tests.
+FOLDERS = ("", "docs", "bench", "release", "tests/*")
 
 
 def pages_of(root):
-    paths = glob.glob(os.path.join(root, "*.md")) + glob.glob(os.path.join(root, "docs", "*.md"))
+    paths = [path for folder in FOLDERS for path in glob.glob(os.path.join(root, folder, "*.md"))]
     return [Page(root, path) for path in sorted(paths)]

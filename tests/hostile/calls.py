@@ -189,8 +189,13 @@ def later_run(program, case, state):
         return difference(answer_of(case), left)
     if state == "new file, old journal" and case.journal is not None and JOURNAL in case.reads:
         left = program.run(("log", FILE))
-        return difference(Left(1, b"", MISMATCH, case.file_after(), case.journal, left.others), left)
+        return difference(Left(1, b"", refusal_of_journal(case.journal), case.file_after(), case.journal, left.others), left)
     return None
+
+
+def refusal_of_journal(text):
+    """What is said of a journal that does not fit, or of a text that never was one and ends too early."""
+    return MISMATCH if text.startswith(b"bibkeep ") else b"bibkeep: 53 BadJournal at %d\n" % len(text)
 
 
 KINDS = {

@@ -54,11 +54,14 @@ class Case:
         return self.journal if self.new_journal is None else self.new_journal
 
 
-def journal(file, past=(), future=()):
-    """The journal of a file with these steps, each of which is a list of pieces: a place, old bytes and new bytes."""
+def journal(file, past=(), future=(), version=2, label=b""):
+    """The journal of a file with these steps, each of which is a list of pieces: a place, old bytes and new bytes. The last
+    step of the past has a label."""
     digest = hashlib.sha256(file).hexdigest().encode()
-    text = b"bibkeep 1\n%s\n%d %d\n" % (digest, len(past), len(future))
-    for step in (*past, *future):
+    text = b"bibkeep %d\n%s\n%d %d\n" % (version, digest, len(past), len(future))
+    for number, step in enumerate((*past, *future), 1):
+        if version == 2:
+            text += (label if number == len(past) else b"") + b"\n"
         text += b"%d\n" % len(step)
         for place, old, new in step:
             text += b"%d %d %d\n%s%s\n" % (place, len(old), len(new), old, new)
@@ -90,6 +93,26 @@ def edited(file, script, pieces, new_file, journal_before=None, past=()):
     return stored("edit", b"applied 1\n", file, script, pieces, new_file, journal_before, past)
 
 
+def worded(file, words, pieces, new_file, journal_before=None, past=(), options=()):
+    """An edit by its words, which are the label of its step. Standard input is not read."""
+    return Case(
+        words=("edit", FILE, *options, *words),
+        file=file,
+        journal=journal_before,
+        input=b"remove\tk\n",
+        reads=(FILE,) if journal_before is None else (FILE, JOURNAL),
+        output=b"applied 1\n",
+        new_file=new_file,
+        new_journal=journal(new_file, [*past, pieces], label=" ".join(words).encode()),
+    )
+
+
+def printed(words, file, given, output, journal_before=None):
+    """A run with `--print`: the new file is the output, and nothing is stored."""
+    reads = [FILE, *([] if journal_before is None else [JOURNAL]), *([] if given is None else [INPUT])]
+    return Case(words=(*words, "--print"), file=file, journal=journal_before, input=given or b"", reads=tuple(reads), output=output)
+
+
 def imported(file, text, counts, entries, journal_before=None, past=()):
     """Entries added to the end of a file by a RIS text."""
     pieces = [(len(file), b"", entries)] if entries else []
@@ -117,6 +140,8 @@ PARENTS = (
     b"@inproceedings{c3, title = {Three}, crossref = {p}}\n"
     b"@proceedings{p, title = {Proc}, booktitle = {Proc}, year = 2001}\n"
 )
+RING = b"@misc{c,crossref={b}}@misc{b,x=1,crossref={a}}@misc{a,x=2,y=3,crossref={c}}"
+CHAIN = b"@misc{p,crossref={q}}@misc{q,crossref={r}}@misc{r,year=1999}"
 BOOKS = (
     b"@misc{Lam86, author = {Donald E. Knuth}, year = 1984}\n"
     b"@misc{Knu84, author = {Leslie Lamport}, year = 1986, crossref = {lam86}}\n"
@@ -164,11 +189,18 @@ READING = [
         PARENTS,
         output=b"@inproceedings c1\ntitle = One\nbooktitle = Proc\nyear = 2001\ncrossref = p\n",
     ),
+    Case(("show", FILE, "c", "--depth", "8"), RING, output=b"@misc c\nx = 1\ny = 3\ncrossref = b\n"),
     Case(("show", FILE, "zz"), PARENTS, status=1, message=b"bibkeep: 11 NoSuchEntry\n"),
     Case(("cite", FILE, "c1", "zz", "c2", "C1"), PARENTS, output=b"c1\tp\nc2\tp\np\n? zz\n"),
     Case(("cite", FILE, "--min-crossrefs", "3", "c1", "zz", "c2", "C1"), PARENTS, output=b"c1\nc2\n? zz\n"),
     Case(("labels", FILE, "Lam86", "knu84"), BOOKS, output=b"Knu84\tLam86\nLam86\tKnu84\n"),
     Case(("names", FILE, "Lam86", "{f. }{vv~}{ll}"), BOOKS, output=b"D.~E. Knuth\n"),
+    Case(("lint", FILE), b"@misc{a, t = u}\n@misc{A}", status=1, output=b"f.bib:1:14: warning: macro u is not defined\nf.bib:2:7: warning: key A is that of an earlier entry\n"),
+    Case(("lint", FILE), b"@misc{a,\n t = \"}\"}", status=1, output=b"f.bib:2:7: error: 6 UnbalancedBrace\n"),
+    Case(("json", FILE, "knu84"), BOOKS, output=b'{"type":"misc","key":"Knu84","parent":"Lam86","fields":{"author":"Leslie Lamport","year":"1986"}}\n'),
+    Case(("newkeys", FILE), BOOKS, output=b"Lam86\tKnu84\nKnu84\tLam86\n"),
+    Case(("ris", FILE, "--dropped", "a"), b"@misc{a, t = 1, year = 2000}", output=b"a\tt\n"),
+    Case(("labels", FILE, "--depth", "2", "p"), CHAIN, output=b"anon99\tp\n"),
     Case(("ris", FILE, "k1"), KING, output=KING_RIS),
     Case(
         ("ris", FILE, "*"),
@@ -226,6 +258,18 @@ EDITING = [
         ],
         REGENERATED,
     ),
+    edited(
+        CHAIN,
+        b"regenerate\t2\n",
+        [
+            (CHAIN.index(b"p,"), b"p", b"anon99"),
+            (CHAIN.index(b"{q}"), b"{q}", b"{anon99a}"),
+            (CHAIN.index(b"q,"), b"q", b"anon99a"),
+            (CHAIN.index(b"{r}"), b"{r}", b"{anon99b}"),
+            (CHAIN.index(b"r,"), b"r", b"anon99b"),
+        ],
+        b"@misc{anon99,crossref={anon99a}}@misc{anon99a,crossref={anon99b}}@misc{anon99b,year=1999}",
+    ),
     # the edits before a refused line stand, and where there are none nothing is stored
     Case(
         ("edit", FILE),
@@ -263,6 +307,58 @@ IMPORTING = [
     unimported(b"", b"TY  - GEN\nID  - x\nER  - \nTY  - GEN\nID  - x\nER  - \n", b"37 KeyInUse"),
     unimported(b"@misc{X}", b"TY  - GEN\nID  - x\nER  - \n", b"37 KeyInUse", journal(b"@misc{X}", [[(0, b"", b"@misc{X}")]])),
     unimported(b"abd", LONG_ONE, b"54 JournalMismatch", REMOVED),
+]
+
+WORDING = [
+    worded(FIELD, ("set", "a", "y", "{2}"), [(14, b"", b",\n  y = {2}")], b"@misc{a, t = 1,\n  y = {2},}"),
+    worded(WITH_ENTRY, ("remove", "k"), REMOVAL, b"abc"),
+    worded(b"abc", ("add", "0", "misc", "k"), [(3, b"", b"@misc{k}\n")], WITH_ENTRY + b"\n", journal_before=REMOVED, past=[REMOVAL]),
+    Case(("edit", FILE, "remove", "k"), b"abc", status=1, output=b"applied 0\n", message=b"bibkeep: 35 NotFound\n"),
+    Case(("edit", FILE, "end"), b"abc", status=1, output=b"applied 0\n", message=b"bibkeep: 71 BadScript\n"),
+]
+
+PRINTING = [
+    printed(("edit", FILE), WITH_ENTRY, b"remove\tk\n", b"abc"),
+    printed(("edit", FILE, "remove", "k"), WITH_ENTRY, None, b"abc", journal_before=TAKEN_BACK),
+    printed(("import", FILE), b"abc", KING_RIS, b"abc" + KING_ADDED),
+    printed(("undo", FILE), b"abc", None, WITH_ENTRY, journal_before=REMOVED),
+    printed(("redo", FILE), WITH_ENTRY, None, b"abc", journal_before=TAKEN_BACK),
+    # the edits before a refused line are in what is printed, and where there are none nothing is
+    Case(
+        ("edit", FILE, "--print"),
+        FIELD,
+        input=b"drop\ta\tt\ndrop\ta\tq\n",
+        reads=(FILE, INPUT),
+        status=1,
+        output=b"@misc{a,}",
+        message=b"bibkeep: line 2: 35 NotFound\n",
+    ),
+    Case(("edit", FILE, "--print", "remove", "k"), b"abc", status=1, message=b"bibkeep: 35 NotFound\n"),
+]
+
+# A journal that does not fit is replaced by the option alone, and one that fits is kept.
+BEGINNING = [
+    worded(b"abd", ("add", "0", "misc", "k"), [(3, b"", b"@misc{k}\n")], b"abd@misc{k}\n", REMOVED, options=("--new-journal",)),
+    worded(b"abd", ("add", "0", "misc", "k"), [(3, b"", b"@misc{k}\n")], b"abd@misc{k}\n", b"bib", options=("--new-journal",)),
+    worded(b"abc", ("add", "0", "misc", "k"), [(3, b"", b"@misc{k}\n")], WITH_ENTRY + b"\n", REMOVED, past=[REMOVAL], options=("--new-journal",)),
+    Case(
+        ("import", FILE, "--new-journal"),
+        b"abd",
+        journal=REMOVED,
+        input=KING_RIS,
+        reads=(FILE, JOURNAL, INPUT),
+        output=b"added 1 skipped 0\n",
+        new_file=b"abd" + KING_ADDED,
+        new_journal=journal(b"abd" + KING_ADDED, [[(3, b"", KING_ADDED)]]),
+    ),
+    Case(
+        ("edit", FILE, "remove", "k"),
+        b"abd",
+        journal=REMOVED,
+        reads=(FILE, JOURNAL),
+        status=1,
+        message=b"bibkeep: 54 JournalMismatch\n",
+    ),
 ]
 
 TURNING = [
@@ -325,4 +421,4 @@ TURNING = [
     Case(("forget", FILE), b"abc", b"no journal", new_journal=journal(b"abc")),
 ]
 
-CASES = READING + EDITING + IMPORTING + TURNING
+CASES = READING + EDITING + WORDING + PRINTING + BEGINNING + IMPORTING + TURNING

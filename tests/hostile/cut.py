@@ -82,7 +82,7 @@ STACK = 131072
 
 FILE_TOO_LONG = b"bibkeep: 9 FileTooLong at 16777216\n"
 # One byte past the longest journal.
-JOURNAL_WITHOUT_LINE = b"bibkeep: 53 BadJournal at 67108952\n"
+JOURNAL_WITHOUT_LINE = b"bibkeep: 53 BadJournal at 67174487\n"
 READERS = [
     ("cat", FILE),
     ("check", FILE),

@@ -33,9 +33,10 @@ def with_step(step):
 
 # What is not the text of a journal, each with the place at which it goes wrong.
 MALFORMED = [
-    (with_line(0, b"bibkeep 2"), 0),
-    (with_line(0, b"bibkeep 1\r"), 0),
-    (with_line(0, b" bibkeep 1"), 0),
+    (with_line(0, b"bibkeep 3"), 0),
+    (with_line(0, b"bibkeep 1"), 79),
+    (with_line(0, b"bibkeep 2\r"), 0),
+    (with_line(0, b" bibkeep 2"), 0),
     (b"\n" + REMOVED, 0),
     (REMOVED.replace(b"ba78", b"Ba78"), 10),
     (REMOVED.replace(b"15ad\n", b"15a\n"), 10),
@@ -51,35 +52,40 @@ MALFORMED = [
     (with_line(2, b"-1 0"), 75),
     (with_line(2, b"+1 0"), 75),
     (with_line(2, b"18446744073709551617 0"), 75),
-    (with_line(3, b"01"), 79),
-    (with_line(3, b""), 79),
-    (with_line(3, b"16777217"), 79),
-    (with_line(4, b"16777217 8 0"), 81),
-    (with_line(4, b"3 08 0"), 81),
-    (with_line(4, b"3 8"), 81),
-    (with_line(4, b"3 8 0 0"), 81),
-    (with_line(4, b"3 8 16777217"), 81),
+    (with_line(4, b"01"), 80),
+    (with_line(4, b""), 80),
+    (with_line(4, b"16777217"), 80),
+    (with_line(5, b"16777217 8 0"), 82),
+    (with_line(5, b"3 08 0"), 82),
+    (with_line(5, b"3 8"), 82),
+    (with_line(5, b"3 8 0 0"), 82),
+    (with_line(5, b"3 8 16777217"), 82),
     # the bytes of a piece reach beyond the end
-    (with_line(4, b"3 16777216 0"), 96 + 7),
-    (with_line(4, b"3 8 16777216"), 96 + 7),
-    (with_line(3, b"2"), 96),
-    (with_line(2, b"2 0"), 96),
-    (REMOVED[:-1] + b"x", 95),
-    (REMOVED + b"x", 96),
-    (REMOVED + b"\n", 96),
+    (with_line(5, b"3 16777216 0"), 97 + 7),
+    (with_line(5, b"3 8 16777216"), 97 + 7),
+    (with_line(4, b"2"), 97),
+    (with_line(2, b"2 0"), 97),
+    (REMOVED[:-1] + b"x", 96),
+    (REMOVED + b"x", 97),
+    (REMOVED + b"\n", 97),
     # there are no steps, and bytes for one
     (with_line(2, b"0 0"), 79),
     # pieces that overlap, or do not ascend
-    (with_step(b"2\n0 2 0\nab\n1 1 0\nb\n"), len(HEAD) + len(b"2\n0 2 0\nab\n")),
-    (with_step(b"2\n2 0 1\nx\n1 0 1\nx\n"), len(HEAD) + len(b"2\n2 0 1\nx\n")),
+    (with_step(b"\n2\n0 2 0\nab\n1 1 0\nb\n"), len(HEAD) + len(b"\n2\n0 2 0\nab\n")),
+    (with_step(b"\n2\n2 0 1\nx\n1 0 1\nx\n"), len(HEAD) + len(b"\n2\n2 0 1\nx\n")),
+    # labels with control bytes, and one that is too long
+    (with_line(3, b"a\tb"), 79),
+    (with_line(3, b"\x1f"), 79),
+    (with_line(3, b"\x7f"), 79),
+    (with_line(3, b"x" * 256), 79),
 ]
 
 # Journals that do not fit their file.
 MISFITS = [
     (b"abd", REMOVED),
     (b"", REMOVED),
-    (ABC, with_line(4, b"4 8 0")),
-    (ABC, with_line(4, b"16777216 8 0")),
+    (ABC, with_line(5, b"4 8 0")),
+    (ABC, with_line(5, b"16777216 8 0")),
     (ABC, REMOVED.replace(b"@misc{k}", b"@misc{k]")),
     # the same steps, taken back in place of done
     (ABC, with_line(2, b"0 1")),
@@ -98,7 +104,7 @@ MISFITS = [
 
 # Journals that were written by hand and fit: what `undo` makes of the file.
 FITTING = [
-    (with_line(4, b"0 8 0"), b"@misc{k}abc", [(0, b"@misc{k}", b"")]),
+    (with_line(5, b"0 8 0"), b"@misc{k}abc", [(0, b"@misc{k}", b"")]),
     (journal(ABC, past=[[]]), ABC, []),
     (journal(ABC, past=[[(0, b"", b"")]]), ABC, [(0, b"", b"")]),
     (journal(ABC, past=[[(0, b"x", b"a"), (1, b"yy", b"b")]]), b"xyyc", [(0, b"x", b"a"), (1, b"yy", b"b")]),
@@ -107,7 +113,11 @@ FITTING = [
 
 # A past of two steps and a future of one, so that a cut can come anywhere.
 LONGER = journal(ABC, past=[[(3, b"", b"d"), (4, b"e", b"")], [(3, b"d", b"")]], future=[[(0, b"a", b"@misc{a}")]])
-TOO_MANY_BYTES = 67108864
+TOO_MANY_BYTES = 67174399
+# A label may be as long as this, and hold any byte that is no control byte of ASCII.
+LABELLED = with_line(3, b" ~\x80\xff" + b"x" * 251)
+# The removal in the version that is read, and no longer written.
+BEFORE = journal(ABC, past=[REMOVAL], version=1)
 
 
 def tried(report, program):
@@ -127,7 +137,7 @@ def refused(program, words, file, text, message):
 
 def cut(program, words):
     """A journal that is cut goes wrong at its end."""
-    for text in (REMOVED, LONGER):
+    for text in (REMOVED, LONGER, LABELLED, BEFORE):
         for size in range(len(text)):
             yield refused(program, words, ABC, text[:size], bad_at(size))
 

@@ -20,7 +20,7 @@ HERE = os.path.dirname(os.path.abspath(__file__))
 ROOT = os.path.dirname(os.path.dirname(HERE))
 CRATE = "refusals"
 STANDS_ON = (
-    "bib_scan bib_data bib_value bib_order bib_index bib_entries bib_definitions bib_items bib_store bib_names "
+    "bib_scan bib_data bib_value bib_order bib_index bib_entries bib_definitions bib_items bib_store bib_steps bib_names "
     "bib_keys bib_tokens bib_edit bib_journal journal_format bib_script ris_text ris_format bib_ris bib_taps"
 )
 # The number of the request that is refused, and how many the program makes before it spends any.
@@ -38,8 +38,8 @@ ROWS = {
     "flat_stores": 13,
     "paged_stores": 13,
     "names": 14,
-    "flat_edits": 18,
-    "paged_edits": 18,
+    "flat_edits": 20,
+    "paged_edits": 20,
     "plans": 24,
     "journals": 8,
     "references": 14,
@@ -51,7 +51,7 @@ QUIET = "quiet"
 SET_UP = "set_up"
 QUIET_ROWS = 17
 # The calls with a result that take no memory.
-WITHOUT_MEMORY = {"Database::find", "Macros::months", "Reader::new"}
+WITHOUT_MEMORY = {"Database::find", "Macros::months", "Reader::new", "Session::end"}
 # A request that comes after all of a row, and one that comes before the first.
 LATE = REFUSED - STARTING - 1
 BEFORE_THE_FIRST = ("files", 0, 0)

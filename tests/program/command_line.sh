@@ -2,15 +2,15 @@
 # shellcheck shell=sh
 
 when --help; ends_with 0; mentions 'Usage: bibkeep'; says_nothing
-when -h; ends_with 0; mentions 'Edits BibTeX databases'; says_nothing
-when help; ends_with 0; mentions 'Writes the bytes of a file'; says_nothing
-when cat --help; ends_with 0; mentions 'or standard input where it is left out'; says_nothing
+when -h; ends_with 0; mentions 'Edits BibTeX files'; says_nothing
+when help; ends_with 0; mentions 'Prints a file that is valid BibTeX'; says_nothing
+when cat --help; ends_with 0; mentions 'standard input if it is left out'; says_nothing
 when cat -h; ends_with 0; mentions 'Usage: bibkeep cat [F]'; says_nothing
 when help cat; ends_with 0; mentions 'Usage: bibkeep cat [F]'; says_nothing
 when check --help; ends_with 0; mentions 'Usage: bibkeep check <F>'; says_nothing
-when help show; ends_with 0; mentions 'Usage: bibkeep show <F> <KEY>'; says_nothing
+when help show; ends_with 0; mentions 'Usage: bibkeep show [OPTIONS] <F> <KEY>'; says_nothing
 when cite --help; ends_with 0; mentions '--min-crossrefs <N>'; says_nothing
-when edit --help; ends_with 0; mentions 'Usage: bibkeep edit <F>'; says_nothing
+when edit --help; ends_with 0; mentions 'Usage: bibkeep edit [OPTIONS] <F> [WORD]...'; says_nothing
 when --version; ends_with 0; mentions 'bibkeep 0.1.0'; says_nothing
 when -V; ends_with 0; mentions 'bibkeep 0.1.0'; says_nothing
 
@@ -28,6 +28,10 @@ when show row.bib a b; ends_with 2; writes_nothing; complains_of "'b'"
 when cite row.bib; ends_with 2; writes_nothing; complains_of '<KEY>'
 when cite row.bib --min-crossrefs 0 a; ends_with 2; writes_nothing; complains_of "'0'"
 when cite row.bib --min-crossrefs 65536 a; ends_with 2; writes_nothing; complains_of "'65536'"
+when show row.bib --depth 0 a; ends_with 2; writes_nothing; complains_of "'0'"
+when show row.bib --depth 9 a; ends_with 2; writes_nothing; complains_of "'9'"
+when labels row.bib --depth two a; ends_with 2; writes_nothing; complains_of "'two'"
+when cite row.bib --depth 2 a; ends_with 2; writes_nothing; complains_of "'--depth'"
 when cite row.bib --min-crossrefs two a; ends_with 2; writes_nothing; complains_of "'two'"
 when --hel; ends_with 2; writes_nothing; complains_of "'--help'"
 when cat "$(printf 'caf\351.bib')"; ends_with 2; writes_nothing; complains_of 'not UTF-8'

@@ -7,6 +7,7 @@ parts='@string{conf={conf}}@misc{conf95}@misc{b, crossref = conf # {95}}'
 uses='@misc{a, t = m}@string{m = 1}@misc{b, t = m}'
 crossed='@misc{Lam86, author = {Donald E. Knuth}, year = 1984}\n@misc{Knu84, author = {Leslie Lamport}, year = 1986, crossref = {lam86}}\n'
 made='@misc{Knu84, author = {Donald E. Knuth}, year = 1984}\n@misc{Lam86, author = {Leslie Lamport}, year = 1986, crossref = {Knu84}}\n'
+chain='@misc{p,crossref={q}}@misc{q,crossref={r}}@misc{r,year=1999}'
 family='@misc{a, crossref = {p}, year = 2001}
 @misc{b, crossref = {q}}
 @misc{c, crossref = {P}}
@@ -44,8 +45,24 @@ makes "$crossed" 'regenerate' "$made"
 makes "$crossed" 'regenerate\nregenerate' "$made"
 makes '@misc{,year=1999}@misc{x,year=1999}@misc{c,year=2000,crossref={anon99A}}' 'regenerate' '@misc{anon99,year=1999}@misc{anon99b,year=1999}@misc{anon00,year=2000,crossref={anon99A}}'
 makes "$family" 'regenerate' "$named"
+makes "$chain" 'regenerate' '@misc{anon,crossref={anon99}}@misc{anon99,crossref={anon99a}}@misc{anon99a,year=1999}'
+makes "$chain" 'regenerate\t1' '@misc{anon,crossref={anon99}}@misc{anon99,crossref={anon99a}}@misc{anon99a,year=1999}'
+makes "$chain" 'regenerate\t2' '@misc{anon99,crossref={anon99a}}@misc{anon99a,crossref={anon99b}}@misc{anon99b,year=1999}'
+makes "$chain" 'regenerate\t2\nregenerate\t2' '@misc{anon99,crossref={anon99a}}@misc{anon99a,crossref={anon99b}}@misc{anon99b,year=1999}'
 makes '' 'regenerate' ''
 makes '@misc{a, crossref = {b}}@misc{c}' 'rename-key\ta\td\nrename-key\tc\ta\nregenerate' '@misc{anon, crossref = {b}}@misc{anona}'
+
+# `newkeys` lists the keys that `regenerate` gives, each after the old one, and changes nothing.
+lists() { given list.bib "$1"; cp list.bib same.bib; when newkeys list.bib --depth "$2"; case="newkeys of $1"; ends_with 0; prints "$3"; says_nothing; when_shell_runs 'cmp list.bib same.bib && test ! -e list.bib.bibkeep'; ends_with 0; writes_nothing; says_nothing; }
+
+lists '@misc{,year=1999}@misc{x,year=1999}@misc{c,year=2000,crossref={anon99A}}' 1 '\tanon99\nx\tanon99b\nc\tanon00\n'
+lists "$chain" 1 'p\tanon\nq\tanon99\nr\tanon99a\n'
+lists "$chain" 2 'p\tanon99\nq\tanon99a\nr\tanon99b\n'
+lists '' 1 ''
+given chain.bib "$chain"
+when_shell_runs '"$program" newkeys chain.bib | cut -f 2 >new && printf "regenerate\n" | "$program" edit chain.bib && "$program" newkeys chain.bib | cut -f 1 | cmp - new'; ends_with 0; prints 'applied 1\n'; says_nothing
+when newkeys newline.bib; ends_with 1; writes_nothing; says 'bibkeep: 6 UnbalancedBrace at 15'
+when newkeys nothing.bib; ends_with 3; writes_nothing; says 'bibkeep: read fault'
 
 refuses 31 BadKey "$two" 'rename-key\ta\tb c'
 refuses 35 NotFound "$two" 'rename-key\tc\td'
@@ -69,7 +86,10 @@ refuses 71 BadScript "$two" 'inline'
 refuses 71 BadScript "$two" 'inline\ta\tb'
 refuses 71 BadScript "$two" 'introduce\ta'
 refuses 71 BadScript "$two" 'regenerate\t'
-refuses 71 BadScript "$two" 'regenerate\t1'
+refuses 71 BadScript "$two" 'regenerate\t0'
+refuses 71 BadScript "$two" 'regenerate\t9'
+refuses 71 BadScript "$two" 'regenerate\t01'
+refuses 71 BadScript "$two" 'regenerate\t1\t1'
 
 # What is shown of an entry, without its type and key: a renaming keeps it.
 keeps() {

@@ -21,6 +21,14 @@ when ris empty.bib '*'; ends_with 0; writes_nothing; says_nothing
 when ris nothing.bib '*'; ends_with 3; writes_nothing; says 'bibkeep: read fault'
 when ris king.bib; ends_with 2; writes_nothing; complains_of '<KEY>'
 
+# What RIS leaves out: the key and the name of each such field, a line each; an empty field is none.
+given dropped.bib '@article{a, title = {T}, number = 3, publisher = {P}, crossref = {p}}@misc{b, author = {x, y, z, w}, month = {spring}, url = {}}@proceedings{p, doi = {10}, annote = {n}}'
+when ris --dropped dropped.bib a b; ends_with 0; says_nothing
+when ris --dropped king.bib k1; ends_with 0; writes_nothing; says_nothing
+when ris --dropped king.bib zz; ends_with 1; writes_nothing; says 'bibkeep: 11 NoSuchEntry'
+when ris --dropped newline.bib '*'; ends_with 1; writes_nothing; says 'bibkeep: 6 UnbalancedBrace at 15'
+when ris --dropped empty.bib '*'; ends_with 0; writes_nothing; says_nothing
+
 # A file to which nothing was done, and the RIS text that is added to it.
 given_import() {
     rm -f edited.bib.bibkeep

@@ -9,6 +9,6 @@ when_shell_runs 'cd prefix/share && find . -type f ! -path "./doc/*" | sort'; pr
 when_shell_runs 'cmp "$root/man/bibkeep.1" prefix/share/man/man1/bibkeep.1 && cmp "$root/docs/FAULTS.md" prefix/share/doc/bibkeep/FAULTS.md'; ends_with 0; writes_nothing; says_nothing
 when_shell_runs '"$root/install" prefix'; ends_with 0; mentions 'prefix/bin/bibkeep'; says_nothing
 when_shell_runs 'HOME=$PWD/home "$root/install" && home/.local/bin/bibkeep --version'; ends_with 0; mentions 'bibkeep 0.1.0'; says_nothing
-when_shell_runs '"$root/install" --help'; ends_with 0; mentions 'Usage: ./install [PREFIX]'; says_nothing
-when_shell_runs '"$root/install" --nowhere'; ends_with 2; writes_nothing; complains_of 'Usage: ./install [PREFIX]'
+when_shell_runs '"$root/install" --help'; ends_with 0; mentions 'Usage: ./install [--prove] [PREFIX]'; says_nothing
+when_shell_runs '"$root/install" --nowhere'; ends_with 2; writes_nothing; complains_of 'Usage: ./install [--prove] [PREFIX]'
 when_shell_runs '"$root/test" --help'; ends_with 0; mentions 'Usage: ./test'; says_nothing

@@ -13,6 +13,14 @@ when show crossrefs.bib d; ends_with 0; prints '@misc d\n'; says_nothing
 when show macros.bib A; ends_with 0; prints '@misc a\nt = A\n'; says_nothing
 when show macros.bib b; ends_with 0; prints '@misc b\nt = B\n'; says_nothing
 
+# A chain of parents, and a ring of three.
+given ring.bib '@misc{c,crossref={b}}@misc{b,x=1,crossref={a}}@misc{a,x=2,y=3,crossref={c}}'
+when show ring.bib c; ends_with 0; prints '@misc c\nx = 1\ncrossref = b\n'; says_nothing
+when show ring.bib c --depth 1; ends_with 0; prints '@misc c\nx = 1\ncrossref = b\n'; says_nothing
+when show ring.bib c --depth 2; ends_with 0; prints '@misc c\nx = 1\ny = 3\ncrossref = b\n'; says_nothing
+when show ring.bib c --depth 8; ends_with 0; prints '@misc c\nx = 1\ny = 3\ncrossref = b\n'; says_nothing
+when show ring.bib a --depth 8; ends_with 0; prints '@misc a\nx = 2\ny = 3\ncrossref = c\n'; says_nothing
+
 shows() { given shown.bib "$1"; when show shown.bib "$2"; case="show $2 of $1"; ends_with 0; prints "$3"; says_nothing; }
 
 shows '@Misc{K, Title = { A \n\tb }, title = {c}}@misc{k}' k '@misc K\ntitle = A b\n'

@@ -5,7 +5,7 @@ use Rattle.std.specs.Option.{option_map_or}
 use Rattle.std.proofs.lemmas.List.{take_all, map-append}
 use Rattle.std.proofs.lemmas.Slice.Zip.{get_or-zip}
 use Rattle.bib_spec.specs.Text.{Text}
-use Rattle.bib_spec.specs.Records.{EntryTexts, Record, default_depth, record_of, expanded}
+use Rattle.bib_spec.specs.Records.{EntryTexts, Record, record_of, expanded}
 use Rattle.bib_names.specs.Label.{label_base, labels_of}
 use Rattle.bib_answers.specs.Labels.{label_line, labelled, keyed_line, records_at, AreToldOf}
 use Rattle.bib_answers.specs.Entries.{key_at}
@@ -56,11 +56,11 @@ filter_map-append f (z ∷ xs) x y e = ap (cons_option (f z)) (filter_map-append
     apart (Some x) ys zs = refl
 
 -- one more entry
-pub told_one : (entries : List EntryTexts) (list : List ℕ) (n : ℕ) (entry : EntryTexts) (bases keys : List Text) (base key : Text) → slice_get entries n ≡ Some entry
-    → base ≡ label_base (record_of default_depth entries n entry).fields → key ≡ key_at entries n
-    → AreToldOf (records_at entries list) bases keys → AreToldOf (records_at entries (list ++ n ∷ [])) (bases ++ base ∷ []) (keys ++ key ∷ [])
-told_one entries list n entry bases keys base key at is also told =
-    let rec : Record = record_of default_depth entries n entry in
-    let next : records_at entries (list ++ n ∷ []) ≡ records_at entries list ++ rec ∷ [] = filter_map-append (expanded default_depth entries) list n rec (ap (option_map (record_of default_depth entries n)) at) in
-    told_more (records_at entries list) (records_at entries (list ++ n ∷ [])) rec bases keys base key is
+pub told_one : (depth : ℕ) (entries : List EntryTexts) (list : List ℕ) (n : ℕ) (entry : EntryTexts) (bases keys : List Text) (base key : Text) → slice_get entries n ≡ Some entry
+    → base ≡ label_base (record_of depth entries n entry).fields → key ≡ key_at entries n
+    → AreToldOf (records_at depth entries list) bases keys → AreToldOf (records_at depth entries (list ++ n ∷ [])) (bases ++ base ∷ []) (keys ++ key ∷ [])
+told_one depth entries list n entry bases keys base key at is also told =
+    let rec : Record = record_of depth entries n entry in
+    let next : records_at depth entries (list ++ n ∷ []) ≡ records_at depth entries list ++ rec ∷ [] = filter_map-append (expanded depth entries) list n rec (ap (option_map (record_of depth entries n)) at) in
+    told_more (records_at depth entries list) (records_at depth entries (list ++ n ∷ [])) rec bases keys base key is
     (also ∙ ap (λ (o : Option EntryTexts). option_map_or (λ e. e.key) o []) at) (sym next) told

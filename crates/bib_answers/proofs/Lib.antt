@@ -8,9 +8,14 @@ pub mod Shown
 pub mod Recurrences
 pub mod SeenSteps
 pub mod ReportSteps
+pub mod PositionSteps
+pub mod FindingSteps
+pub mod ItemFindings
 -- ---- cited lists, labels and names
 pub mod MarkSteps
 pub mod CitedNumbers
 pub mod LabelLines
+pub mod NewKeyLines
 pub mod NameLines
+pub mod JsonLines
 pub mod LineLists

@@ -2,7 +2,7 @@
 use Rattle.std.proofs.Common.{◌≡◌, ℕ, List, ◌++◌, Option, Some, None, refl, sym, subst}
 use Rattle.std.specs.Option.{IfSome}
 use Rattle.bib_spec.specs.Text.{Text}
-use Rattle.bib_spec.specs.Records.{EntryTexts, Record, crossref, entries_of, parent, default_depth, expanded}
+use Rattle.bib_spec.specs.Records.{EntryTexts, Record, crossref, entries_of, parent, expanded}
 use Rattle.bib_spec.proofs.Parents.{parent_within}
 use Rattle.bib_store.specs.Meaning.{OfReading, IsEntryNumber}
 use Rattle.bib_answers.specs.Entries.{key_at}
@@ -20,6 +20,6 @@ number_is file p m is within = subst (λ (o : Option ℕ). IfSome o (IsEntryNumb
 pub parent_line_with : (entries : List EntryTexts) (p : Option ℕ) (m : ℕ) (key : Text) → p ≡ Some m → key ≡ key_at entries m → shown_field (crossref, key) ≡ parent_line entries p
 parent_line_with entries p m key has named = rw (has, named) refl
 
-pub shown_with : (entries : List EntryTexts) (n : ℕ) (rec : Record) (p : Option ℕ) → expanded default_depth entries n ≡ Some rec → p ≡ parent entries n
-    → record_lines rec ++ parent_line entries p ≡ shown entries n
-shown_with entries n rec p is has = rw (is, has) refl
+pub shown_with : (depth : ℕ) (entries : List EntryTexts) (n : ℕ) (rec : Record) (p : Option ℕ) → expanded depth entries n ≡ Some rec → p ≡ parent entries n
+    → record_lines rec ++ parent_line entries p ≡ shown depth entries n
+shown_with depth entries n rec p is has = rw (is, has) refl

@@ -3,14 +3,14 @@ use Rattle.std.specs.Prelude.{ℕ, ◌≡◌, List, ◌++◌, map, filter_map, z
 use Rattle.std.specs.List.{flat_map}
 use Rattle.bib_spec.specs.Text.{Text}
 use Rattle.bib_spec.specs.Reading.{Reading}
-use Rattle.bib_spec.specs.Records.{EntryTexts, Record, default_depth, expanded}
+use Rattle.bib_spec.specs.Records.{EntryTexts, Record, expanded}
 use Rattle.bib_names.specs.Label.{label_base, labels_of}
 use Rattle.bib_answers.specs.declared.answers.Answer.{Answer}
 use Rattle.bib_answers.specs.Cited.{cited_answer}
 
--- the records of these entries
-abbrev pub records_at : List EntryTexts → List ℕ → List Record
-records_at entries list = filter_map (expanded default_depth entries) list
+-- the records of these entries at this depth
+abbrev pub records_at : ℕ → List EntryTexts → List ℕ → List Record
+records_at depth entries list = filter_map (expanded depth entries) list
 
 -- a label, a tab, and the key of its record, a line
 abbrev pub label_line : Text × Record → Text
@@ -21,12 +21,12 @@ abbrev pub labelled : List Record → List (Text × Record)
 labelled records = zip (labels_of (map (λ r. label_base r.fields) records)) records
 
 -- a line for each of these entries, with its label and its key
-abbrev pub label_lines : List EntryTexts → List ℕ → Text
-label_lines entries list = flat_map label_line (labelled (records_at entries list))
+abbrev pub label_lines : ℕ → List EntryTexts → List ℕ → Text
+label_lines depth entries list = flat_map label_line (labelled (records_at depth entries list))
 
--- `labels F KEY..`: the labels of the entries that the keys cite, each with its key
-abbrev pub labels_answer : List Text → Reading → Answer
-labels_answer = cited_answer label_lines
+-- `labels F KEY..`: the labels of the entries that the keys cite, of their records at this depth, each with its key
+abbrev pub labels_answer : ℕ → List Text → Reading → Answer
+labels_answer depth = cited_answer (label_lines depth)
 
 -- ---- what is kept of the records
 

@@ -15,3 +15,9 @@ pub mod Kinds
 pub mod Cited
 pub mod Labels
 pub mod Names
+pub mod NewKeys
+pub mod Positions
+pub mod Lint
+pub mod FindingLines
+pub mod LintedThrough
+pub mod Json

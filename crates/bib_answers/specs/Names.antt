@@ -1,10 +1,10 @@
 -- `names`: the names of an entry, printed by a template. (dialect)
-use Rattle.std.specs.Prelude.{◌≡◌, List, [], ◌∷◌, ◌++◌, Option, None, Some, Result, Ok, Err, option_and_then, codes, if◌then◌else◌}
+use Rattle.std.specs.Prelude.{ℕ, ◌≡◌, List, [], ◌∷◌, ◌++◌, Option, None, Some, Result, Ok, Err, option_and_then, codes, if◌then◌else◌}
 use Rattle.std.specs.Option.{option_map_or}
 use Rattle.std.specs.Fmt.{decimal}
 use Rattle.bib_spec.specs.Text.{Text}
 use Rattle.bib_spec.specs.Reading.{Reading}
-use Rattle.bib_spec.specs.Records.{Record, entries_of, entry_named, default_depth, expanded}
+use Rattle.bib_spec.specs.Records.{Record, entries_of, entry_named, expanded}
 use Rattle.bib_names.specs.Faults.{number_of}
 use Rattle.bib_names.specs.NameList.{names_of}
 use Rattle.bib_names.specs.Name.{parts_of}
@@ -97,11 +97,11 @@ abbrev pub record_answer : Option Pattern → Record → Answer
 record_answer None r = lines_answer (Err BadTemplate)
 record_answer (Some t) r = lines_answer (lines_of t (persons r.fields))
 
--- the answer where an entry has this record, if there is an entry
-abbrev pub names_answer : Text → Option Pattern → Reading → Answer
-names_answer key pattern db =
+-- the answer where an entry has this record at this depth, if there is an entry
+abbrev pub names_answer : ℕ → Text → Option Pattern → Reading → Answer
+names_answer depth key pattern db =
     let entries = entries_of db in
-    option_map_or (record_answer pattern) (option_and_then (expanded default_depth entries) (entry_named entries key)) (answer_of [] no_such_entry_line 1)
+    option_map_or (record_answer pattern) (option_and_then (expanded depth entries) (entry_named entries key)) (answer_of [] no_such_entry_line 1)
 
 -- the template that the bytes spell, if they spell one
 pub data Spells (bytes : Text) : Option Pattern → Type 0 where
@@ -111,7 +111,7 @@ pub data Spells (bytes : Text) : Option Pattern → Type 0 where
 -- `names F KEY TEMPLATE`: the names of the first entry with this key, printed by this template, a line each; or, with
 -- nothing written, why not: no entry has the key, or else the bytes are no template, or else a list of names does not
 -- balance, or else a name has too many commas
-pub record IsNamesAnswer (key template file : Text) (answer : Answer) : Type 0 where
+pub record IsNamesAnswer (depth : ℕ) (key template file : Text) (answer : Answer) : Type 0 where
   pub pattern : Option Pattern
   pub spells : Spells template pattern
-  pub answers : AnswersFile (names_answer key pattern) file answer
+  pub answers : AnswersFile (names_answer depth key pattern) file answer

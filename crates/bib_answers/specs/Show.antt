@@ -4,7 +4,7 @@ use Rattle.std.specs.List.{flat_map}
 use Rattle.std.specs.Option.{option_map_or}
 use Rattle.bib_spec.specs.Text.{Text}
 use Rattle.bib_spec.specs.Reading.{Reading}
-use Rattle.bib_spec.specs.Records.{EntryTexts, RecordField, Record, entries_of, entry_named, crossref, parent, default_depth, expanded}
+use Rattle.bib_spec.specs.Records.{EntryTexts, RecordField, Record, entries_of, entry_named, crossref, parent, expanded}
 use Rattle.bib_answers.specs.declared.answers.Answer.{Answer}
 use Rattle.bib_answers.specs.Entries.{key_at}
 use Rattle.bib_answers.specs.Messages.{no_such_entry_line}
@@ -26,11 +26,11 @@ record_lines r = head_line r ++ flat_map shown_field r.fields
 abbrev pub parent_line : List EntryTexts → Option ℕ → Text
 parent_line entries parent = option_map_or (λ m. shown_field (crossref, key_at entries m)) parent []
 
--- entry n: its record, and its parent
-abbrev pub shown : List EntryTexts → ℕ → Text
-shown entries n = option_map_or record_lines (expanded default_depth entries n) [] ++ parent_line entries (parent entries n)
+-- entry n: its record at this depth, and its parent
+abbrev pub shown : ℕ → List EntryTexts → ℕ → Text
+shown depth entries n = option_map_or record_lines (expanded depth entries n) [] ++ parent_line entries (parent entries n)
 
--- `show F KEY`: the first entry with this key (dialect)
-abbrev pub show_answer : Text → Reading → Answer
-show_answer key db =
-    option_map_or (λ n. answer_of (shown (entries_of db) n) [] 0) (entry_named (entries_of db) key) (answer_of [] no_such_entry_line 1)
+-- `show F KEY`: the first entry with this key, at this depth (dialect)
+abbrev pub show_answer : ℕ → Text → Reading → Answer
+show_answer depth key db =
+    option_map_or (λ n. answer_of (shown depth (entries_of db) n) [] 0) (entry_named (entries_of db) key) (answer_of [] no_such_entry_line 1)

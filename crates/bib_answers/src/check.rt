@@ -136,7 +136,7 @@ fn room_for_reports(alloc: Global, db: &Database<Paged>) -> Vec<u8>
 }
 
 /// The count, with one more where this is one.
-fn counted(count: usize, is_one: bool) -> usize
+pub(crate) fn counted(count: usize, is_one: bool) -> usize
     requires { count + 1 < 2 ^ 64 }
     ensures { result ≡ count + (if is_one then 1 else 0) }
 {

@@ -2,7 +2,7 @@
 
 ghost use Rattle.std.specs.Prelude.{◌≡◌, ◌++◌, ◌∷◌, [], codes, zip, IfOk, OnOk};
 ghost use Rattle.std.specs.List.{flat_map};
-ghost use Rattle.bib_spec.specs.Records.{entries_of};
+ghost use Rattle.bib_spec.specs.Records.{entries_of, IsDepth};
 ghost use Rattle.bib_store.specs.Meaning.{OfReading};
 ghost use Rattle.bib_answers.specs.Opened.{AnswersFile};
 ghost use Rattle.bib_names.specs.Label.{labels_of};
@@ -19,28 +19,46 @@ use bib_scan::Text;
 use bib_store::{Database, Paged};
 use std::alloc::{AllocError, Global};
 
-/// The labels of the entries that the keys cite, or that a key finds none.
-pub fn answer_labels(alloc: Global, file: Vec<u8>, keys: &[Text]) -> Result<Answer, AllocError>
-    ensures { IfOk result (AnswersFile (labels_answer keys.now) file.items) }
+/// The labels of the entries that the keys cite, of their records at this depth, or that a key finds none.
+pub fn answer_labels(
+    alloc: Global,
+    file: Vec<u8>,
+    keys: &[Text],
+    depth: u8,
+) -> Result<Answer, AllocError>
+    requires { IsDepth depth }
+    ensures { IfOk result (AnswersFile (labels_answer depth keys.now) file.items) }
 {
-    answer_file(alloc, file, |db| label(alloc, db, keys))
+    answer_file(alloc, file, |db| label(alloc, db, keys, depth))
 }
 
-fn label(alloc: Global, db: &Database<Paged>, keys: &[Text]) -> Result<Answer, AllocError>
-    ensures { IfOk result (λ answer. OfReading db.now (λ r. answer ≡ labels_answer keys.now r)) }
+fn label(
+    alloc: Global,
+    db: &Database<Paged>,
+    keys: &[Text],
+    depth: u8,
+) -> Result<Answer, AllocError>
+    requires { IsDepth depth }
+    ensures { IfOk result (λ answer. OfReading db.now (λ r. answer ≡ labels_answer depth keys.now r)) }
 {
     match all_cited(db, keys)? {
-        Some(list) => Ok(done(alloc, lines_of(alloc, db, list.as_slice())?)),
+        Some(list) => Ok(done(alloc, lines_of(alloc, db, list.as_slice(), depth)?)),
         None => no_such_entry(alloc),
     }
 }
 
 /// A line for each of these entries, with its label.
-fn lines_of(alloc: Global, db: &Database<Paged>, list: &[usize]) -> Result<Text, AllocError>
-    requires { AreEntryNumbers db.now list.now }
-    ensures { IfOk result (λ text. OfReading db.now (λ r. text ≡ label_lines (entries_of r) list.now)) }
+fn lines_of(
+    alloc: Global,
+    db: &Database<Paged>,
+    list: &[usize],
+    depth: u8,
+) -> Result<Text, AllocError>
+    requires numbers { AreEntryNumbers db.now list.now }
+    requires depth { IsDepth depth }
+    ensures { IfOk result (λ text. OfReading db.now (λ r. text ≡ label_lines depth (entries_of r) list.now)) }
 {
-    let told = told_of(alloc, db, list)?;
+    let told = told_of(alloc, db, list, depth)?;
     label_lines(alloc, told.bases.as_slice(), told.keys.as_slice())
 }
 
@@ -67,15 +85,21 @@ impl Told {
 }
 
 /// The label bases of these entries, and their keys. What many of them inherit is read once.
-fn told_of(alloc: Global, db: &Database<Paged>, list: &[usize]) -> Result<Told, AllocError>
-    requires { AreEntryNumbers db.now list.now }
-    ensures { IfOk result (λ told. OfReading db.now (λ r. AreToldOf (records_at (entries_of r) list.now) told.bases.items told.keys.items)) }
+fn told_of(
+    alloc: Global,
+    db: &Database<Paged>,
+    list: &[usize],
+    depth: u8,
+) -> Result<Told, AllocError>
+    requires numbers { AreEntryNumbers db.now list.now }
+    requires depth { IsDepth depth }
+    ensures { IfOk result (λ told. OfReading db.now (λ r. AreToldOf (records_at depth (entries_of r) list.now) told.bases.items told.keys.items)) }
 {
     let names = label_names(alloc)?;
     let mut parents = Parents::none(alloc);
     let mut told = Told::with_room(alloc, list.len())?;
     'tell: for n in list {
-        let base = parents.label_base(alloc, db, *n, names.as_slice())?;
+        let base = parents.label_base(alloc, db, *n, depth, names.as_slice())?;
         add_told(alloc, &mut told, base, db.entry(*n).key())?;
     }
     Ok(told)

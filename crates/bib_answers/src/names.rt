@@ -2,7 +2,7 @@
 
 ghost use Rattle.std.specs.Prelude.{◌≡◌, ◌≢◌, ◌++◌, [], Ok, Err, map, IfOk, IfErr, OnOk, codes};
 ghost use Rattle.std.specs.Option.{option_map_or};
-ghost use Rattle.bib_spec.specs.Records.{entries_of, default_depth, expanded};
+ghost use Rattle.bib_spec.specs.Records.{entries_of, expanded, IsDepth};
 ghost use Rattle.bib_store.specs.Meaning.{OfReading, IsEntryNumber};
 ghost use Rattle.bib_names.specs.declared.fault.NameFault.TheVariants.{Memory};
 ghost use Rattle.bib_answers.specs.Messages.{no_such_entry_line};
@@ -16,17 +16,20 @@ use bib_scan::{Seq, Text};
 use bib_store::{Database, Paged, Record};
 use std::alloc::{AllocError, Global};
 
-/// The names of the first entry with this key, printed by the template that the bytes spell, or why they are not.
+/// The names of the first entry with this key, of its record at this depth, printed by the template that the bytes spell, or
+/// why they are not.
 pub fn answer_names(
     alloc: Global,
     file: Vec<u8>,
     key: &[u8],
+    depth: u8,
     template: &[u8],
 ) -> Result<Answer, AllocError>
-    ensures { IfOk result (IsNamesAnswer key.now template.now file.items) }
+    requires { IsDepth depth }
+    ensures { IfOk result (IsNamesAnswer depth key.now template.now file.items) }
 {
     let template = spelled(alloc, template)?;
-    answer_file(alloc, file, |db| names(alloc, db, key, &template))
+    answer_file(alloc, file, |db| names(alloc, db, key, depth, &template))
 }
 
 /// The template that the bytes spell, if they spell one.
@@ -44,27 +47,31 @@ fn names(
     alloc: Global,
     db: &Database<Paged>,
     key: &[u8],
+    depth: u8,
     template: &Option<Template>,
 ) -> Result<Answer, AllocError>
-    ensures { IfOk result (λ answer. OfReading db.now (λ r. answer ≡ names_answer key.now template.now r)) }
+    requires { IsDepth depth }
+    ensures { IfOk result (λ answer. OfReading db.now (λ r. answer ≡ names_answer depth key.now template.now r)) }
 {
     match db.find(key) {
-        Ok(n) => entry_answer(alloc, db, n, template),
+        Ok(n) => entry_answer(alloc, db, n, depth, template),
         Err(_) => no_such_entry(alloc),
     }
 }
 
-/// The names of entry `n`.
+/// The names of the record of entry `n` at this depth.
 fn entry_answer(
     alloc: Global,
     db: &Database<Paged>,
     n: usize,
+    depth: u8,
     template: &Option<Template>,
 ) -> Result<Answer, AllocError>
-    requires { IsEntryNumber db.now n }
-    ensures { IfOk result (λ answer. OfReading db.now (λ r. answer ≡ option_map_or (record_answer template.now) (expanded default_depth (entries_of r) n) (answer_of [] no_such_entry_line 1))) }
+    requires number { IsEntryNumber db.now n }
+    requires depth { IsDepth depth }
+    ensures { IfOk result (λ answer. OfReading db.now (λ r. answer ≡ option_map_or (record_answer template.now) (expanded depth (entries_of r) n) (answer_of [] no_such_entry_line 1))) }
 {
-    let Ok(expanded) = db.expanded(n) else {
+    let Ok(expanded) = db.expanded(n, depth) else {
         return Err(AllocError);
     };
     record_answer(alloc, &expanded.rec, template)

@@ -91,7 +91,7 @@ fn add_field_reports<'a, M: MacroTable>(
 }
 
 /// The macro that a field of this name defines, in an item of this kind.
-fn defined_in(kind: Kind, name: &[u8]) -> Option<&[u8]>
+pub(crate) fn defined_in(kind: Kind, name: &[u8]) -> Option<&[u8]>
     ensures { option_copied result ≡ defined_in kind name.now }
 {
     match kind {
@@ -192,7 +192,7 @@ fn add_use<M: MacroTable>(
 }
 
 /// Whether the name is that of the macro being defined.
-fn is_own(name: &[u8], own: Option<&[u8]>) -> bool
+pub(crate) fn is_own(name: &[u8], own: Option<&[u8]>) -> bool
     ensures { result ≡ is_own (option_copied own.entry) (folded name.now) }
 {
     match own {
@@ -204,7 +204,7 @@ fn is_own(name: &[u8], own: Option<&[u8]>) -> bool
 // ---- entries
 
 /// Whether an earlier entry has the key of this one, folded. The key is at hand: the entry is not looked up again.
-fn is_repeated(db: &Database<Paged>, number: usize, key: &[u8]) -> bool
+pub(crate) fn is_repeated(db: &Database<Paged>, number: usize, key: &[u8]) -> bool
     requires { OfReading db.now (λ r. IsKeyOf r number key.now) }
     ensures { OfReading db.now (λ r. result ≡ is_repeated (entries_of r) number) }
 {

@@ -2,7 +2,7 @@
 
 ghost use Rattle.std.specs.Prelude.{◌≡◌, ◌++◌, [], IfOk, IfSome, OnOk};
 ghost use Rattle.std.specs.List.{flat_map};
-ghost use Rattle.bib_spec.specs.Records.{entries_of};
+ghost use Rattle.bib_spec.specs.Records.{entries_of, IsDepth};
 ghost use Rattle.bib_store.specs.Meaning.{OfReading, IsEntryNumber};
 ghost use Rattle.bib_answers.specs.Opened.{AnswersFile};
 ghost use Rattle.bib_answers.specs.Show.{head_line, shown_field, record_lines, parent_line, shown, show_answer};
@@ -14,28 +14,41 @@ use bib_scan::Text;
 use bib_store::{Database, Paged, Record};
 use std::alloc::{AllocError, Global};
 
-/// The first entry with this key, or that there is none.
-pub fn answer_show(alloc: Global, file: Vec<u8>, key: &[u8]) -> Result<Answer, AllocError>
-    ensures { IfOk result (AnswersFile (show_answer key.now) file.items) }
+/// The first entry with this key, at this depth, or that there is none.
+pub fn answer_show(
+    alloc: Global,
+    file: Vec<u8>,
+    key: &[u8],
+    depth: u8,
+) -> Result<Answer, AllocError>
+    requires { IsDepth depth }
+    ensures { IfOk result (AnswersFile (show_answer depth key.now) file.items) }
 {
-    answer_file(alloc, file, |db| show(alloc, db, key))
+    answer_file(alloc, file, |db| show(alloc, db, key, depth))
 }
 
-fn show(alloc: Global, db: &Database<Paged>, key: &[u8]) -> Result<Answer, AllocError>
-    ensures { IfOk result (λ answer. OfReading db.now (λ r. answer ≡ show_answer key.now r)) }
+fn show(alloc: Global, db: &Database<Paged>, key: &[u8], depth: u8) -> Result<Answer, AllocError>
+    requires { IsDepth depth }
+    ensures { IfOk result (λ answer. OfReading db.now (λ r. answer ≡ show_answer depth key.now r)) }
 {
     match db.find(key) {
-        Ok(n) => Ok(done(alloc, Text::from_vec(entry_text(alloc, db, n)?))),
+        Ok(n) => Ok(done(alloc, Text::from_vec(entry_text(alloc, db, n, depth)?))),
         Err(_) => no_such_entry(alloc),
     }
 }
 
-/// Entry `n`: its record, and its parent.
-fn entry_text(alloc: Global, db: &Database<Paged>, n: usize) -> Result<Vec<u8>, AllocError>
-    requires { IsEntryNumber db.now n }
-    ensures { IfOk result (λ text. OfReading db.now (λ r. text.items ≡ shown (entries_of r) n)) }
+/// Entry `n`: its record at this depth, and its parent.
+fn entry_text(
+    alloc: Global,
+    db: &Database<Paged>,
+    n: usize,
+    depth: u8,
+) -> Result<Vec<u8>, AllocError>
+    requires number { IsEntryNumber db.now n }
+    requires depth { IsDepth depth }
+    ensures { IfOk result (λ text. OfReading db.now (λ r. text.items ≡ shown depth (entries_of r) n)) }
 {
-    let Ok(expanded) = db.expanded(n) else {
+    let Ok(expanded) = db.expanded(n, depth) else {
         return Err(AllocError);
     };
     expanded_text(alloc, db, &expanded.rec, expanded.parent)

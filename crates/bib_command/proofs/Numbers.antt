@@ -20,29 +20,29 @@ digits_from (d ∷ ds) e =
     let parts = both _ _ e in
     (ltb-true _ _ parts.0, digits_from ds parts.1)
 
-abbrev is_number : List ℕ → Bool
-is_number ds = nat_lt 0 (length ds) && list_all (λ d. nat_lt (digit_value d) 10) ds && nat_lt (digits_value 10 ds) (2 ^ 32)
+abbrev is_number : ℕ → List ℕ → Bool
+is_number bits ds = nat_lt 0 (length ds) && list_all (λ d. nat_lt (digit_value d) 10) ds && nat_lt (digits_value 10 ds) (2 ^ bits)
 
 abbrev value_or_zero : {E : Type 0} → Result ℕ E → ℕ
 value_or_zero (Ok n) = n
 value_or_zero (Err e) = 0
 
-number_read : {E : Type 0} (text : Text) (r : Result ℕ E) → ParsesUnsigned 32 10 text r → value_or_zero r ≡ number_said text
-number_read text (Ok n) h =
+number_read : {E : Type 0} (bits : ℕ) (text : Text) (r : Result ℕ E) → ParsesUnsigned bits 10 text r → value_or_zero r ≡ number_said bits text
+number_read bits text (Ok n) h =
     let ds = without_leading_plus text in
-    rw (lt-ltb 0 (length ds) h.0.0.0, digits_pass ds h.0.0.1, lt-ltb (digits_value 10 ds) (2 ^ 32) h.0.1) h.1
-number_read text (Err e) h = go (is_number (without_leading_plus text)) refl
+    rw (lt-ltb 0 (length ds) h.0.0.0, digits_pass ds h.0.0.1, lt-ltb (digits_value 10 ds) (2 ^ bits) h.0.1) h.1
+number_read bits text (Err e) h = go (is_number bits (without_leading_plus text)) refl
   where
-    go : (b : Bool) → is_number (without_leading_plus text) ≡ b → 0 ≡ number_said text
+    go : (b : Bool) → is_number bits (without_leading_plus text) ≡ b → 0 ≡ number_said bits text
     go false t = rw t refl
     go true t =
         let outer = both _ _ t in
         let inner = both _ _ outer.0 in
         absurd (h ((ltb-true _ _ inner.0, digits_from (without_leading_plus text) inner.1), ltb-true _ _ outer.1))
 
--- `get_one::<u32>(id).unwrap_or(0)`
-pub one_number : {E : Type 0} (gives : List ℕ → Result ℕ E → Type 0) (one : Option Text) (r : Option ℕ) → ((t : Text) (x : Result ℕ E) → gives t x → ParsesUnsigned 32 10 t x)
-    → (one ≡ None → r ≡ None) → ((t : Text) → one ≡ Some t → ReadsOne gives t r) → unwrap_or r 0 ≡ option_map_or number_said one 0
-one_number {E} gives None r parses none some = ap (λ o. unwrap_or o 0) (none refl)
-one_number {E} gives (Some t) (Some v) parses none some = number_read {E = E} t (Ok v) (parses t (Ok v) (some t refl))
-one_number {E} gives (Some t) None parses none some = let bad = some t refl in number_read {E = E} t (Err bad.0) (parses t (Err bad.0) bad.1)
+-- `get_one(id).unwrap_or(0)` of a number of so many bits
+pub one_number : {E : Type 0} (bits : ℕ) (gives : List ℕ → Result ℕ E → Type 0) (one : Option Text) (r : Option ℕ) → ((t : Text) (x : Result ℕ E) → gives t x → ParsesUnsigned bits 10 t x)
+    → (one ≡ None → r ≡ None) → ((t : Text) → one ≡ Some t → ReadsOne gives t r) → unwrap_or r 0 ≡ option_map_or (number_said bits) one 0
+one_number {E} bits gives None r parses none some = ap (λ o. unwrap_or o 0) (none refl)
+one_number {E} bits gives (Some t) (Some v) parses none some = number_read {E = E} bits t (Ok v) (parses t (Ok v) (some t refl))
+one_number {E} bits gives (Some t) None parses none some = let bad = some t refl in number_read {E = E} bits t (Err bad.0) (parses t (Err bad.0) bad.1)

@@ -1,13 +1,15 @@
 -- The command line in clap's words, and the command that its matches name. (clap)
-use Rattle.std.specs.Prelude.{◌≡◌, ℕ, true, ◌&&◌, ◌++◌, ◌^◌, List, [], ◌∷◌, Some, unwrap_or, codes, pos, length, nat_lt, if◌then◌else◌}
+use Rattle.std.specs.Prelude.{◌≡◌, ℕ, Bool, true, false, ◌&&◌, ◌++◌, ◌^◌, List, [], ◌∷◌, Some, unwrap_or, codes, pos, length, nat_lt, if◌then◌else◌}
 use Rattle.std.specs.List.{list_all}
 use Rattle.std.specs.Char.{digit_value}
 use Rattle.std.specs.Option.{option_map_or}
+use Rattle.std.specs.Str.{bytes_eq}
 use Rattle.std.specs.Str.Parse.{digits_value, without_leading_plus}
 use Rattle.clap.specs.Words.{App, Row, Rule, Text, all_of, one_of, subcommand_of, new_app, new_rule, with_rule, with_subcommand}
 use Rattle.clap.specs.Lexer.{usize_max}
 use Rattle.clap.specs.Simple.{on_top}
 use Rattle.clap.specs.declared.builder.ValueParser.TheVariants as parser
+use Rattle.clap.specs.declared.builder.ArgAction.TheVariants.{SetTrue}
 use Rattle.bib_words.specs.declared.commands.Command.{Command}
 
 -- ---- arguments
@@ -24,12 +26,28 @@ needed id = record (new_rule id) { required = true }
 abbrev pub keys : Rule
 keys = record (needed (codes "KEY")) { range = Some (record { start_inclusive = 1; end_inclusive = usize_max }) }
 
+-- `[WORD..]`: none or more
+abbrev pub edit_words : Rule
+edit_words = record (new_rule (codes "WORD")) { range = Some (record { start_inclusive = 1; end_inclusive = usize_max }) }
+
+-- `--NAME`: an option that is given or not
+abbrev pub switch : Text → Rule
+switch name = record (new_rule name) { long = Some name; action = Some SetTrue }
+
 -- `--NAME N`: a number from 1 to 65535, and this one where it is left out
 abbrev pub count : Text → Text → Rule
 count name default = record (new_rule (codes "N")) {
   long = Some name;
   defaults = default ∷ [];
   parser = Some (parser.Signed (pos 1) (pos 65535));
+}
+
+-- `--depth D`: a number from 1 to 8, and 1 where it is left out
+abbrev pub levels : Rule
+levels = record (new_rule (codes "D")) {
+  long = Some (codes "depth");
+  defaults = codes "1" ∷ [];
+  parser = Some (parser.Signed (pos 1) (pos 8));
 }
 
 -- ---- commands
@@ -42,25 +60,45 @@ over_file name = with_rule (new_app name) (needed (codes "F"))
 abbrev pub cat_line : App
 cat_line = with_rule (new_app (codes "cat")) any_file
 
--- `show F KEY`
+-- `show F [--depth D] KEY`
 abbrev pub show_line : App
-show_line = with_rule (over_file (codes "show")) (needed (codes "KEY"))
+show_line = with_rule (with_rule (over_file (codes "show")) (needed (codes "KEY"))) levels
 
 -- `cite F [--min-crossrefs N] KEY..`
 abbrev pub cite_line : App
 cite_line = with_rule (with_rule (over_file (codes "cite")) keys) (count (codes "min-crossrefs") (codes "2"))
 
--- `labels F KEY..`, and so `ris`
+-- `labels F [--depth D] KEY..`, and so `json`
 abbrev pub keys_line : Text → App
-keys_line name = with_rule (over_file name) keys
+keys_line name = with_rule (with_rule (over_file name) keys) levels
 
--- `names F KEY TEMPLATE`
+-- `names F [--depth D] KEY TEMPLATE`
 abbrev pub names_line : App
-names_line = with_rule (with_rule (over_file (codes "names")) (needed (codes "KEY"))) (needed (codes "TEMPLATE"))
+names_line = with_rule (with_rule (with_rule (over_file (codes "names")) (needed (codes "KEY"))) (needed (codes "TEMPLATE"))) levels
 
--- `undo F [--steps N]`, and so `redo`
+-- `newkeys F [--depth D]`
+abbrev pub newkeys_line : App
+newkeys_line = with_rule (over_file (codes "newkeys")) levels
+
+-- `edit F [--print] [--new-journal] [WORD..]`
+abbrev pub edit_line : App
+edit_line = with_rule (with_rule (with_rule (over_file (codes "edit")) edit_words) (switch (codes "print"))) (switch (codes "new-journal"))
+
+-- `undo F [--steps N] [--print]`, and so `redo`
 abbrev pub steps_line : Text → App
-steps_line name = with_rule (over_file name) (count (codes "steps") (codes "1"))
+steps_line name = with_rule (with_rule (over_file name) (count (codes "steps") (codes "1"))) (switch (codes "print"))
+
+-- `ris F [--depth D] [--dropped] KEY..`
+abbrev pub ris_line : App
+ris_line = with_rule (keys_line (codes "ris")) (switch (codes "dropped"))
+
+-- `import F [--print] [--new-journal]`
+abbrev pub import_line : App
+import_line = with_rule (with_rule (over_file (codes "import")) (switch (codes "print"))) (switch (codes "new-journal"))
+
+-- `explain FAULT`
+abbrev pub explain_line : App
+explain_line = with_rule (new_app (codes "explain")) (needed (codes "FAULT"))
 
 -- with one more subcommand
 abbrev pub adds : App → App → App
@@ -72,19 +110,19 @@ bibkeep_top = on_top (λ s. record s { has_version = true; subcommand_required =
 
 -- with the commands that show what a file says
 abbrev pub bibkeep_shows : App
-bibkeep_shows = adds (adds (adds (adds bibkeep_top cat_line) (over_file (codes "check"))) show_line) cite_line
+bibkeep_shows = adds (adds (adds (adds (adds bibkeep_top cat_line) (over_file (codes "check"))) (over_file (codes "lint"))) show_line) cite_line
 
--- with those that change a file
+-- with those that make something of it
+abbrev pub bibkeep_makes : App
+bibkeep_makes = adds (adds (adds (adds bibkeep_shows (keys_line (codes "labels"))) (keys_line (codes "json"))) names_line) newkeys_line
+
+-- with those that change a file, and those over what was done to it
 abbrev pub bibkeep_edits : App
-bibkeep_edits = adds (adds (adds bibkeep_shows (keys_line (codes "labels"))) names_line) (over_file (codes "edit"))
-
--- with those over what was done to it
-abbrev pub bibkeep_journals : App
-bibkeep_journals = adds (adds (adds (adds bibkeep_edits (steps_line (codes "undo"))) (steps_line (codes "redo"))) (over_file (codes "log"))) (over_file (codes "forget"))
+bibkeep_edits = adds (adds (adds (adds (adds bibkeep_makes edit_line) (steps_line (codes "undo"))) (steps_line (codes "redo"))) (over_file (codes "log"))) (over_file (codes "forget"))
 
 -- `bibkeep COMMAND`
 abbrev pub bibkeep : App
-bibkeep = adds (adds bibkeep_journals (keys_line (codes "ris"))) (over_file (codes "import"))
+bibkeep = adds (adds (adds bibkeep_edits ris_line) import_line) explain_line
 
 -- ---- what matches name
 
@@ -92,20 +130,40 @@ bibkeep = adds (adds bibkeep_journals (keys_line (codes "ris"))) (over_file (cod
 abbrev pub values : Text → List Row → List Text
 values id rows = unwrap_or (all_of id rows) []
 
--- the number that a text of digits says, where it is below 2 to the power of 32
-abbrev pub number_said : Text → ℕ
-number_said text =
+-- the number that a text of digits says, where it is below 2 to the power of so many bits
+abbrev pub number_said : ℕ → Text → ℕ
+number_said bits text =
     let digits = without_leading_plus text in
-    if nat_lt 0 (length digits) && list_all (λ d. nat_lt (digit_value d) 10) digits && nat_lt (digits_value 10 digits) (2 ^ 32)
+    if nat_lt 0 (length digits) && list_all (λ d. nat_lt (digit_value d) 10) digits && nat_lt (digits_value 10 digits) (2 ^ bits)
     then digits_value 10 digits else 0
 
 -- the number of the command, or 0 where it has none
 abbrev pub number : List Row → ℕ
-number rows = option_map_or number_said (one_of (codes "N") rows) 0
+number rows = option_map_or (number_said 32) (one_of (codes "N") rows) 0
+
+-- the depth of the command, or 0 where it has none
+abbrev pub depth : List Row → ℕ
+depth rows = option_map_or (number_said 8) (one_of (codes "D") rows) 0
+
+-- whether the option was given
+abbrev pub given : Text → List Row → Bool
+given name rows = option_map_or (λ text. bytes_eq text (codes "true")) (one_of name rows) false
+
+-- the positional words, in order
+abbrev pub words_in : List Row → List Text
+words_in rows = values (codes "F") rows ++ values (codes "KEY") rows ++ values (codes "TEMPLATE") rows ++ values (codes "WORD") rows ++ values (codes "FAULT") rows
 
 -- the command of this name with these matches
 abbrev pub command_of : Text → List Row → Command
-command_of name rows = record { name = name; words = values (codes "F") rows ++ values (codes "KEY") rows ++ values (codes "TEMPLATE") rows; n = number rows }
+command_of name rows = record {
+  name = name;
+  words = words_in rows;
+  n = number rows;
+  depth = depth rows;
+  print = given (codes "print") rows;
+  new_journal = given (codes "new-journal") rows;
+  dropped = given (codes "dropped") rows;
+}
 
 -- the words name this command by clap's exact matching
 pub record IsCommandOf (words : List Text) (c : Command) : Type 0 where

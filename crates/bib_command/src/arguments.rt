@@ -1,17 +1,17 @@
 //! The arguments of the commands.
 
-ghost use Rattle.std.specs.Prelude.{◌≡◌, false};
+ghost use Rattle.std.specs.Prelude.{◌≡◌, false, codes};
 ghost use Rattle.clap.specs.Words.{rule_of};
-ghost use Rattle.bib_command.specs.CommandLine.{any_file, needed, keys, count};
+ghost use Rattle.bib_command.specs.CommandLine.{any_file, needed, keys, edit_words, switch, count, levels};
 
-use clap::{Arg, value_parser};
+use clap::{Arg, ArgAction, value_parser};
 use std::alloc::Global;
 
 pub fn any_file<'a>(alloc: Global) -> Arg<'a>
     ensures rule { rule_of result ≡ any_file }
     ensures local { result.global ≡ false }
 {
-    Arg::new(alloc, "F").help("The BibTeX file, or standard input where it is left out")
+    Arg::new(alloc, "F").help("The BibTeX file; standard input if it is left out")
 }
 
 pub fn needed<'a>(alloc: Global, id: &'a str, help: &'a str) -> Arg<'a>
@@ -29,6 +29,51 @@ pub fn keys<'a>(alloc: Global) -> Arg<'a>
     needed(alloc, "KEY", "The keys of entries, or * alone for all").num_args(1..)
 }
 
+/// The words of an edit, if there are any.
+pub fn edit_words<'a>(alloc: Global) -> Arg<'a>
+    ensures rule { rule_of result ≡ edit_words }
+    ensures local { result.global ≡ false }
+{
+    Arg::new(alloc, "WORD").num_args(1..).help(
+        "One edit, its words as in a script; standard input is not read then",
+    )
+}
+
+/// An option that is given or not.
+pub fn switch<'a>(alloc: Global, name: &'a str, help: &'a str) -> Arg<'a>
+    ensures rule { rule_of result ≡ switch name.entry.now }
+    ensures local { result.global ≡ false }
+{
+    Arg::new(alloc, name)
+        .long(name)
+        .action(ArgAction::SetTrue)
+        .help(help)
+}
+
+/// `--print`.
+pub fn print<'a>(alloc: Global) -> Arg<'a>
+    ensures rule { rule_of result ≡ switch (codes "print") }
+    ensures local { result.global ≡ false }
+{
+    switch(
+        alloc,
+        "print",
+        "Writes the new file to standard output, and stores nothing",
+    )
+}
+
+/// `--new-journal`.
+pub fn new_journal<'a>(alloc: Global) -> Arg<'a>
+    ensures rule { rule_of result ≡ switch (codes "new-journal") }
+    ensures local { result.global ≡ false }
+{
+    switch(
+        alloc,
+        "new-journal",
+        "Begins a new journal if the old one is not a journal or does not fit the file",
+    )
+}
+
 /// An option with a number, which is `default` where it is left out.
 pub fn count<'a>(alloc: Global, name: &'a str, default: &'a str, help: &'a str) -> Arg<'a>
     ensures rule { rule_of result ≡ count name.entry.now default.entry.now }
@@ -39,4 +84,16 @@ pub fn count<'a>(alloc: Global, name: &'a str, default: &'a str, help: &'a str) 
         .default_value(default)
         .value_parser(value_parser!(u32).range(1..=65535))
         .help(help)
+}
+
+/// The option with the depth of records, which is 1 where it is left out.
+pub fn levels<'a>(alloc: Global) -> Arg<'a>
+    ensures rule { rule_of result ≡ levels }
+    ensures local { result.global ≡ false }
+{
+    Arg::new(alloc, "D")
+        .long("depth")
+        .default_value("1")
+        .value_parser(value_parser!(u8).range(1..=8))
+        .help("From how many parents in a chain an entry inherits, from 1 to 8")
 }

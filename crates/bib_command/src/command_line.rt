@@ -3,9 +3,11 @@
 ghost use Rattle.std.specs.Prelude.{◌≡◌, IfOk, codes};
 ghost use Rattle.clap.specs.Words.{App, new_app};
 ghost use Rattle.bib_command.specs.Lines.{Reads};
-ghost use Rattle.bib_command.specs.CommandLine.{adds, over_file, cat_line, show_line, cite_line, keys_line, names_line, steps_line, bibkeep_top, bibkeep_shows, bibkeep_edits, bibkeep_journals, bibkeep};
+ghost use Rattle.bib_command.specs.CommandLine.{adds, over_file, cat_line, show_line, cite_line, keys_line, names_line, newkeys_line, edit_line, steps_line, ris_line, import_line, explain_line, bibkeep_top, bibkeep_shows, bibkeep_makes, bibkeep_edits, bibkeep};
 
-use crate::arguments::{any_file, count, keys, needed};
+use crate::arguments::{
+    any_file, count, edit_words, keys, levels, needed, new_journal, print, switch,
+};
 use clap::Command;
 use std::alloc::{AllocError, Global};
 
@@ -13,32 +15,39 @@ use std::alloc::{AllocError, Global};
 pub fn command_line<'a>(alloc: Global) -> Result<Command<'a>, AllocError>
     ensures { IfOk result (Reads bibkeep) }
 {
-    adds(adds(journals(alloc), ris(alloc)), import(alloc))
+    adds(
+        adds(adds(edits(alloc), ris(alloc)), import(alloc)),
+        explain(alloc),
+    )
 }
 
-/// With the commands over what was done to a file.
-fn journals<'a>(alloc: Global) -> Result<Command<'a>, AllocError>
-    ensures { IfOk result (Reads bibkeep_journals) }
+/// With the commands that change a file, and those over what was done to it.
+fn edits<'a>(alloc: Global) -> Result<Command<'a>, AllocError>
+    ensures { IfOk result (Reads bibkeep_edits) }
 {
-    let turns = adds(adds(edits(alloc), undo(alloc)), redo(alloc));
+    let turns = adds(
+        adds(adds(makes(alloc), edit(alloc)), undo(alloc)),
+        redo(alloc),
+    );
     adds(adds(turns, log(alloc)), forget(alloc))
 }
 
 /// With the commands that make something of what a file says.
-fn edits<'a>(alloc: Global) -> Result<Command<'a>, AllocError>
-    ensures { IfOk result (Reads bibkeep_edits) }
+fn makes<'a>(alloc: Global) -> Result<Command<'a>, AllocError>
+    ensures { IfOk result (Reads bibkeep_makes) }
 {
-    adds(
-        adds(adds(shows(alloc), labels(alloc)), names(alloc)),
-        edit(alloc),
-    )
+    let records = adds(adds(shows(alloc), labels(alloc)), json(alloc));
+    adds(adds(records, names(alloc)), newkeys(alloc))
 }
 
 /// With the commands that show what a file says.
 fn shows<'a>(alloc: Global) -> Result<Command<'a>, AllocError>
     ensures { IfOk result (Reads bibkeep_shows) }
 {
-    let checks = adds(adds(top(alloc), cat(alloc)), check(alloc));
+    let checks = adds(
+        adds(adds(top(alloc), cat(alloc)), check(alloc)),
+        lint(alloc),
+    );
     adds(adds(checks, show(alloc)), cite(alloc))
 }
 
@@ -59,13 +68,13 @@ fn top<'a>(alloc: Global) -> Result<Command<'a>, AllocError>
     named(
         alloc,
         "bibkeep",
-        "Edits BibTeX databases and changes no byte that nobody asked to change",
+        "Edits BibTeX files and leaves every other byte as it was",
         "\
-Statuses: 0 done, 1 refused, 2 no such command, 3 a read or write failed, 4 no memory.
+Exit status: 0 done, 1 refused, 2 bad usage, 3 read or write error, 4 out of memory.
 
 Examples:
-  bibkeep check refs.bib          # what is in the file, and what is doubtful
-  bibkeep show refs.bib knuth86   # one entry, with what it inherits
+  bibkeep check refs.bib          # what is in the file, and what looks wrong
+  bibkeep show refs.bib knuth86   # one entry, with inherited fields
   bibkeep help edit               # more about a command",
     )
     .version("0.1.0")
@@ -79,11 +88,11 @@ fn cat<'a>(alloc: Global) -> Result<Command<'a>, AllocError>
     named(
         alloc,
         "cat",
-        "Writes the bytes of a file that can be read as a database",
+        "Prints a file that is valid BibTeX, byte for byte",
         "\
 Examples:
   bibkeep cat refs.bib     # the file, byte for byte, or where it goes wrong
-  bibkeep cat < refs.bib   # the same of standard input",
+  bibkeep cat < refs.bib   # the same for standard input",
     )
     .arg(any_file(alloc))
 }
@@ -94,13 +103,29 @@ fn check<'a>(alloc: Global) -> Result<Command<'a>, AllocError>
     over_file(
         alloc,
         "check",
-        "Counts what is in a file and reports what is doubtful",
+        "Counts what is in a file and reports what looks wrong",
         "\
 It reports repeated entries, extra fields, undefined macros, macros that their own definition uses, and crossrefs that
-are missing, that name their own entry, or whose parent stands before them. None of these is refused: the status is 0.
+are missing, that name their own entry, or whose parent comes before them. None of these is a refusal: the status is 0.
 
 Example:
   bibkeep check refs.bib",
+    )
+}
+
+fn lint<'a>(alloc: Global) -> Result<Command<'a>, AllocError>
+    ensures { IfOk result (Reads (over_file (codes "lint"))) }
+{
+    over_file(
+        alloc,
+        "lint",
+        "Reports what looks wrong, one finding per line with line and column, for editors and hooks",
+        "\
+A finding is a line such as `refs.bib:12:5: warning: macro mai is not defined`. The column counts bytes from 1. The status
+is 1 if there is a finding, and 0 if there is none.
+
+Example:
+  bibkeep lint refs.bib",
     )
 }
 
@@ -110,14 +135,17 @@ fn show<'a>(alloc: Global) -> Result<Command<'a>, AllocError>
     over_file(
         alloc,
         "show",
-        "Writes an entry as a bibliography style sees it",
+        "Prints an entry as a bibliography style sees it",
         "\
-Macros are put in, each run of white space is one space, and fields that are missing come from the parent.
+Macros are expanded, each run of white space is one space, and missing fields are inherited from the parent; with
+--depth 2 from the parent's parent too, and so on.
 
-Example:
-  bibkeep show refs.bib knuth86",
+Examples:
+  bibkeep show refs.bib knuth86
+  bibkeep show refs.bib knuth86 --depth 2",
     )?
-    .arg(needed(alloc, "KEY", "The entry's key"))
+    .arg(needed(alloc, "KEY", "The entry's key"))?
+    .arg(levels(alloc))
 }
 
 fn cite<'a>(alloc: Global) -> Result<Command<'a>, AllocError>
@@ -126,9 +154,9 @@ fn cite<'a>(alloc: Global) -> Result<Command<'a>, AllocError>
     over_file(
         alloc,
         "cite",
-        "Lists the entries that a bibliography for these keys has",
+        "Lists the entries that a bibliography for these keys contains",
         "\
-A parent is listed too where enough of its children are. A key that finds no entry comes last, after a question mark.
+A parent that at least N listed entries refer to is listed too. Unknown keys come last, each after `?`.
 
 Examples:
   bibkeep cite refs.bib knuth86 lamport86
@@ -140,7 +168,7 @@ Examples:
         alloc,
         "min-crossrefs",
         "2",
-        "How many children list a parent, from 1 to 65535",
+        "How many listed entries must refer to a parent so that it is listed too, from 1 to 65535",
     ))
 }
 
@@ -150,13 +178,29 @@ fn labels<'a>(alloc: Global) -> Result<Command<'a>, AllocError>
     over_keys(
         alloc,
         "labels",
-        "Makes a short label for each entry that these keys cite",
+        "Prints a short label, such as Knu84, for each entry that these keys cite",
         "\
-A line has a label, a tab and the entry's key. A label is made of the names and the year; equal ones get letters.
+Each line is a label, a tab and the entry's key. A label is made of names and year; equal labels get letters.
 
 Examples:
   bibkeep labels refs.bib knuth86 lamport86
   bibkeep labels refs.bib '*'   # every entry",
+    )
+}
+
+fn json<'a>(alloc: Global) -> Result<Command<'a>, AllocError>
+    ensures { IfOk result (Reads (keys_line (codes "json"))) }
+{
+    over_keys(
+        alloc,
+        "json",
+        "Prints the entries that these keys cite as JSON, one line each",
+        "\
+Each line is an object with type, key, parent (or null) and fields. The fields are those that `show` prints, in order.
+
+Examples:
+  bibkeep json refs.bib knuth86 lamport86
+  bibkeep json refs.bib '*' | jq -r .key   # every entry",
     )
 }
 
@@ -166,7 +210,7 @@ fn names<'a>(alloc: Global) -> Result<Command<'a>, AllocError>
     over_file(
         alloc,
         "names",
-        "Prints an entry's authors, or else its editors, by a template",
+        "Prints an entry's authors, or its editors if it has none, by a template",
         "\
 A template is text and groups in braces, of which each prints a part of the name: f (first), v (von), l (last) and
 j (jr). One letter prints initials, two print the words.
@@ -176,36 +220,61 @@ Examples:
   bibkeep names refs.bib knuth86 '{vv~}{ll}{, jj}{, f.}'",
     )?
     .arg(needed(alloc, "KEY", "The entry's key"))?
-    .arg(needed(alloc, "TEMPLATE", "How a name is printed"))
+    .arg(needed(alloc, "TEMPLATE", "How a name is printed"))?
+    .arg(levels(alloc))
+}
+
+fn newkeys<'a>(alloc: Global) -> Result<Command<'a>, AllocError>
+    ensures { IfOk result (Reads newkeys_line) }
+{
+    over_file(
+        alloc,
+        "newkeys",
+        "Lists the keys that `edit F regenerate` would make, and changes nothing",
+        "\
+Each line is an entry's key, a tab and the key that it would get, in file order.
+
+Examples:
+  bibkeep newkeys refs.bib
+  bibkeep newkeys refs.bib --depth 2",
+    )?
+    .arg(levels(alloc))
 }
 
 fn edit<'a>(alloc: Global) -> Result<Command<'a>, AllocError>
-    ensures { IfOk result (Reads (over_file (codes "edit"))) }
+    ensures { IfOk result (Reads edit_line) }
 {
     over_file(
         alloc,
         "edit",
-        "Makes the edits that standard input lists, and changes no other byte",
+        "Makes one edit, or those listed on standard input, and changes no other byte",
         "\
-Each line is an edit, its words parted by tabs (shown here as spaces):
-  set KEY FIELD VALUE                    gives the field this value, as in a file: {text}, \"text\", 12 or a macro
-  drop KEY FIELD                         takes the field away
-  add POSITION TYPE KEY FIELD VALUE ..   puts a new entry before the item at POSITION, counted from 0
-  remove KEY                             takes the entry away
-  move KEY POSITION                      puts the entry before the item at POSITION among the others
-  rename-key FROM TO                     gives the entry another key, and changes each crossref that names it
-  rename-macro FROM TO                   gives the macro another name, in its definition and from there on
-  inline NAME                            puts the macro's text in the place of each use, and takes its definition away
-  introduce NAME TEXT                    makes each value or part that is this text a use of a new macro
-  regenerate                             makes all keys anew, of names and years, and changes the crossrefs
-The first line that is refused ends the script; the edits before it stand. What it did is kept in the journal
-F.bibkeep, for undo.
+An edit is one of these. As arguments, its words follow F; on standard input there is one edit per line, words separated
+by tabs (shown here as spaces):
+  set KEY FIELD VALUE                    sets the field, or adds it; a value is {text}, \"text\", 12 or a macro
+  drop KEY FIELD                         removes the field
+  add POSITION TYPE KEY FIELD VALUE ..   inserts an entry before item POSITION, counted from 0
+  remove KEY                             removes the entry
+  move KEY POSITION                      moves the entry before item POSITION of the others
+  rename-key FROM TO                     changes the entry's key and the crossrefs to it
+  rename-macro FROM TO                   renames the macro, in its definition and the uses after it
+  inline NAME                            replaces the macro's uses by its text, and removes its definition
+  introduce NAME TEXT                    defines the macro and uses it for every {TEXT} or \"TEXT\"
+  regenerate [DEPTH]                     makes a key of names and year for every entry, and updates the crossrefs
+  group LABEL                            begins a step: one undo takes back the edits up to its end
+  end                                    ends the step
+Arguments make one edit, so group and end are for standard input only. Put -- before words that begin with a hyphen.
+The first refused line stops the script; the edits before it are kept, and `bibkeep undo F` takes them back.
 
 Examples:
-  printf 'set\\tknuth86\\tyear\\t1986\\n' | bibkeep edit refs.bib
-  printf 'set\\tknuth86\\tnote\\t{x}\\ndrop\\tknuth86\\tpages\\n' | bibkeep edit refs.bib
-  printf 'rename-key\\ttype86\\ttype\\n' | bibkeep edit refs.bib",
-    )
+  bibkeep edit refs.bib set knuth86 year 1986
+  bibkeep edit refs.bib set knuth86 note '{50\\% of \\TeX}'
+  bibkeep edit refs.bib --print rename-key type86 type | diff -u refs.bib -
+  printf 'set\\tknuth86\\tnote\\t{x}\\ndrop\\tknuth86\\tpages\\n' | bibkeep edit refs.bib",
+    )?
+    .arg(edit_words(alloc))?
+    .arg(print(alloc))?
+    .arg(new_journal(alloc))
 }
 
 fn undo<'a>(alloc: Global) -> Result<Command<'a>, AllocError>
@@ -214,13 +283,13 @@ fn undo<'a>(alloc: Global) -> Result<Command<'a>, AllocError>
     over_steps(
         alloc,
         "undo",
-        "Takes back the last changes, whatever run made them",
+        "Undoes the last changes, of earlier runs too",
         "\
-What is undone can be redone, until the next edit. `bibkeep log F` lists both.
+Undone changes can be redone until the next edit. `bibkeep log F` lists both.
 
 Examples:
-  bibkeep undo refs.bib             # takes the last change back
-  bibkeep undo refs.bib --steps 2   # takes the last two back",
+  bibkeep undo refs.bib             # the last change
+  bibkeep undo refs.bib --steps 2   # the last two changes",
     )
 }
 
@@ -230,7 +299,7 @@ fn redo<'a>(alloc: Global) -> Result<Command<'a>, AllocError>
     over_steps(
         alloc,
         "redo",
-        "Makes again what was undone last",
+        "Redoes what was undone last",
         "\
 Example:
   bibkeep redo refs.bib --steps 2",
@@ -245,7 +314,8 @@ fn log<'a>(alloc: Global) -> Result<Command<'a>, AllocError>
         "log",
         "Lists the changes that can be undone and redone",
         "\
-A line for each change, the oldest first: done or undone, its number of pieces, how many bytes went, how many came.
+One line per change, the oldest first: done or undone, the number of replacements, of bytes removed and of bytes
+inserted, and the label of a step.
 
 Example:
   bibkeep log refs.bib",
@@ -258,10 +328,9 @@ fn forget<'a>(alloc: Global) -> Result<Command<'a>, AllocError>
     over_file(
         alloc,
         "forget",
-        "Begins a new journal for the file as it is now",
+        "Starts a new journal, and gives up undo of what was done before",
         "\
-The file stays as it is; what was done before can no longer be undone. This is the way to continue where the file was
-changed by hand and the other commands say 54 JournalMismatch.
+The file is unchanged. Use it after a change by hand, when `edit` and `undo` say 54 JournalMismatch.
 
 Example:
   bibkeep forget refs.bib",
@@ -269,39 +338,65 @@ Example:
 }
 
 fn ris<'a>(alloc: Global) -> Result<Command<'a>, AllocError>
-    ensures { IfOk result (Reads (keys_line (codes "ris"))) }
+    ensures { IfOk result (Reads ris_line) }
 {
     over_keys(
         alloc,
         "ris",
-        "Writes the entries that these keys cite as RIS, for other programs",
+        "Prints the entries that these keys cite as RIS, for reference managers",
         "\
-Each entry is written with what it inherits, its macros put in. Fields that RIS has no place for are left out.
+Each entry has its inherited fields, and macros are expanded. Fields that RIS has no place for are left out.
 
 Examples:
   bibkeep ris refs.bib knuth86 lamport86
-  bibkeep ris refs.bib '*' > refs.ris   # every entry",
-    )
+  bibkeep ris refs.bib '*' > refs.ris   # every entry
+  bibkeep ris refs.bib --dropped '*'    # what the RIS text leaves out",
+    )?
+    .arg(switch(
+        alloc,
+        "dropped",
+        "Lists the fields that RIS leaves out, as key, tab and field, instead of the RIS text",
+    ))
 }
 
 fn import<'a>(alloc: Global) -> Result<Command<'a>, AllocError>
-    ensures { IfOk result (Reads (over_file (codes "import"))) }
+    ensures { IfOk result (Reads import_line) }
 {
     over_file(
         alloc,
         "import",
-        "Adds the records of RIS on standard input as entries at the end of a file",
+        "Appends the RIS records on standard input as entries",
         "\
-A record's ID is the key of its entry where it can be one; else a key is made of names and year. All entries are one
-change, which `bibkeep undo F` takes back. Where one of them is refused, none is added.
+A record's ID becomes the key if it is a valid key; otherwise an unused key is made of names and year. All entries are one
+change, which `bibkeep undo F` takes back. If one of them is refused, none is added.
 
 Examples:
   bibkeep import refs.bib < citation.ris
+  bibkeep import refs.bib --print < citation.ris | diff -u refs.bib -
   printf 'TY  - BOOK\\nTI  - Type\\nER  - \\n' | bibkeep import refs.bib",
-    )
+    )?
+    .arg(print(alloc))?
+    .arg(new_journal(alloc))
 }
 
-/// A command over a file that takes keys.
+fn explain<'a>(alloc: Global) -> Result<Command<'a>, AllocError>
+    ensures { IfOk result (Reads explain_line) }
+{
+    named(
+        alloc,
+        "explain",
+        "Explains a refusal: what it means, an example, what to do",
+        "\
+FAULT is a number or a name, as in the message `bibkeep: 39 Referred`.
+
+Examples:
+  bibkeep explain 39
+  bibkeep explain Referred",
+    )
+    .arg(needed(alloc, "FAULT", "The number or the name of a fault"))
+}
+
+/// A command over a file that takes keys and a depth.
 fn over_keys<'a>(
     alloc: Global,
     name: &'a str,
@@ -310,7 +405,9 @@ fn over_keys<'a>(
 ) -> Result<Command<'a>, AllocError>
     ensures { IfOk result (Reads (keys_line name.entry.now)) }
 {
-    over_file(alloc, name, about, more)?.arg(keys(alloc))
+    over_file(alloc, name, about, more)?
+        .arg(keys(alloc))?
+        .arg(levels(alloc))
 }
 
 /// A command over a file that takes a number of changes.
@@ -322,12 +419,9 @@ fn over_steps<'a>(
 ) -> Result<Command<'a>, AllocError>
     ensures { IfOk result (Reads (steps_line name.entry.now)) }
 {
-    over_file(alloc, name, about, more)?.arg(count(
-        alloc,
-        "steps",
-        "1",
-        "How many changes, from 1 to 65535",
-    ))
+    over_file(alloc, name, about, more)?
+        .arg(count(alloc, "steps", "1", "How many changes, from 1 to 65535"))?
+        .arg(print(alloc))
 }
 
 /// A command over a file that is named.

@@ -7,5 +7,6 @@ mod command_line;
 mod parsing;
 mod usages;
 
+pub use bib_words::Command;
 pub use parsing::parse;
 pub use usages::Usage;

@@ -2,7 +2,7 @@
 
 ghost use Rattle.std.specs.Prelude.{◌≡◌, ◌++◌, IfOk, IfErr, OnOk, map, string_bytes, [], true};
 ghost use Rattle.clap.specs.Words.{fault_of, takes, rows_of, found_of};
-ghost use Rattle.bib_command.specs.CommandLine.{bibkeep, values, number, command_of, IsCommandOf};
+ghost use Rattle.bib_command.specs.CommandLine.{bibkeep, values, words_in, number, depth, given, command_of, IsCommandOf};
 ghost use Rattle.bib_command.specs.Usage.{no_memory, IsUsageFor};
 ghost use Rattle.bib_words.specs.Command.{IsCommand};
 
@@ -18,6 +18,9 @@ use std::alloc::{AllocError, Global};
 pub fn parse(alloc: Global, words: &[String]) -> Result<Command, Usage>
     ensures ok { IfOk result (IsCommandOf (map string_bytes words.now)) }
     ensures known { IfOk result IsCommand }
+
+    // A command comes only of words that clap's exact matching accepts.
+    ensures accepted { OnOk result (fault_of bibkeep (map string_bytes words.now) ≡ []) }
     ensures err { IfErr result (IsUsageFor (map string_bytes words.now)) }
 
     // Words that name a command are refused for want of memory alone.
@@ -43,15 +46,28 @@ pub fn parse(alloc: Global, words: &[String]) -> Result<Command, Usage>
 fn command_of(alloc: Global, name: &str, matches: &ArgMatches<'_>) -> Result<Command, AllocError>
     ensures { IfOk result (λ command. command ≡ command_of name.now (rows_of (found_of matches.now))) }
 {
+    Ok(Command {
+        name: Text::from_vec(Vec::from_slice(alloc, name.as_bytes())?),
+        words: words_in(alloc, matches)?,
+        n: number_of(matches),
+        depth: depth_of(matches),
+        print: is_given(matches, "print"),
+        new_journal: is_given(matches, "new-journal"),
+        dropped: is_given(matches, "dropped"),
+    })
+}
+
+/// The positional words of a command, in order.
+fn words_in(alloc: Global, matches: &ArgMatches<'_>) -> Result<Seq<Text>, AllocError>
+    ensures { IfOk result (λ words. words ≡ words_in (rows_of (found_of matches.now))) }
+{
     let mut words = Vec::new(alloc);
     add_values(alloc, &mut words, matches, "F")?;
     add_values(alloc, &mut words, matches, "KEY")?;
     add_values(alloc, &mut words, matches, "TEMPLATE")?;
-    Ok(Command {
-        name: Text::from_vec(Vec::from_slice(alloc, name.as_bytes())?),
-        words: Seq::from_vec(words),
-        n: number_of(matches),
-    })
+    add_values(alloc, &mut words, matches, "WORD")?;
+    add_values(alloc, &mut words, matches, "FAULT")?;
+    Ok(Seq::from_vec(words))
 }
 
 /// The number of a command, or 0 where it has none.
@@ -59,6 +75,20 @@ fn number_of(matches: &ArgMatches<'_>) -> u32
     ensures { result ≡ number (rows_of (found_of matches.now)) }
 {
     matches.get_one::<u32>("N").unwrap_or(0)
+}
+
+/// The depth of a command, or 0 where it has none.
+fn depth_of(matches: &ArgMatches<'_>) -> u8
+    ensures { result ≡ depth (rows_of (found_of matches.now)) }
+{
+    matches.get_one::<u8>("D").unwrap_or(0)
+}
+
+/// Whether an option was given.
+fn is_given(matches: &ArgMatches<'_>, name: &str) -> bool
+    ensures { result ≡ given name.now (rows_of (found_of matches.now)) }
+{
+    matches.get_one::<bool>(name).unwrap_or(false)
 }
 
 /// Adds the values of an argument, in order.

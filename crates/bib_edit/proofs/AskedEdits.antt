@@ -5,7 +5,6 @@ use Rattle.bib_scan.proofs.PlaceOfFault.{value_or_failing}
 use Rattle.bib_edit.specs.Laws.{EditsAreAskedFor}
 use Rattle.bib_spec.specs.Text.{Text}
 use Rattle.bib_spec.specs.Tree.{Value}
-use Rattle.bib_spec.specs.Records.{default_depth}
 use Rattle.edit_spec.specs.Edits as edits
 use Rattle.edit_spec.specs.Edits.{Spells}
 use Rattle.bib_data.specs.declared.edit.Edit.TheVariants.{SetField, DropField, AddEntry, AddMany, RemoveEntry, MoveEntry, RenameKey, RegenerateKeys, RenameMacro, InlineMacro, IntroduceMacro}
@@ -53,7 +52,7 @@ asked_for (AddMany entries) = let news = spelled_entries entries in (edits.AddMa
 asked_for (RemoveEntry key) = (edits.RemoveEntry key, remove_entry key)
 asked_for (MoveEntry key position) = (edits.MoveEntry key position, move_entry key position)
 asked_for (RenameKey from to) = (edits.RenameKey from to, rename_key from to)
-asked_for RegenerateKeys = (edits.RegenerateKeys default_depth, regenerate_keys)
+asked_for (RegenerateKeys depth) = (edits.RegenerateKeys depth, regenerate_keys depth)
 asked_for (RenameMacro from to) = (edits.RenameMacro from to, rename_macro from to)
 asked_for (InlineMacro name) = (edits.InlineMacro name, inline_macro name)
 asked_for (IntroduceMacro name text) = (edits.IntroduceMacro name text, introduce_macro name text)
@@ -73,8 +72,8 @@ of-move_entry key position P h e (move_entry k n) = h
 pub of-rename_key : (from to : Text) (P : edits.Edit → Type 0) → P (edits.RenameKey from to) → OfEdit (RenameKey from to) P
 of-rename_key from to P h e (rename_key f t) = h
 
-pub of-regenerate_keys : (P : edits.Edit → Type 0) → P (edits.RegenerateKeys default_depth) → OfEdit RegenerateKeys P
-of-regenerate_keys P h e regenerate_keys = h
+pub of-regenerate_keys : (depth : ℕ) (P : edits.Edit → Type 0) → P (edits.RegenerateKeys depth) → OfEdit (RegenerateKeys depth) P
+of-regenerate_keys depth P h e (regenerate_keys d) = h
 
 pub of-rename_macro : (from to : Text) (P : edits.Edit → Type 0) → P (edits.RenameMacro from to) → OfEdit (RenameMacro from to) P
 of-rename_macro from to P h e (rename_macro f t) = h

@@ -10,7 +10,7 @@ use Rattle.bib_spec.specs.Text.{Text}
 use Rattle.bib_spec.specs.Tree.{IsValue}
 use Rattle.bib_spec.specs.Reading.{Reading, Reads, bytes_of}
 use Rattle.bib_spec.specs.Texts.{Opens}
-use Rattle.bib_spec.specs.Records.{entries_of, default_depth}
+use Rattle.bib_spec.specs.Records.{entries_of}
 use Rattle.bib_spec.specs.Pieces.{Piece, Kept, pieces_of_chunks}
 use Rattle.bib_spec.specs.MadeKeys.{new_keys}
 use Rattle.edit_spec.specs.Edits as edits
@@ -24,9 +24,6 @@ use Rattle.bib_edit.proofs.PieceLists.{lengths-edited}
 use Rattle.bib_edit.proofs.PieceLengths.{olds-edited}
 use Rattle.bib_edit.proofs.Ranks.{IsClear, clear_none, clear_more, first_refusal, all_clear}
 use Rattle.bib_edit.proofs.RekeyedTexts.{AreShort, too_long-rekeyed}
-
-abbrev pub making : edits.Edit
-making = edits.RegenerateKeys default_depth
 
 -- from the first entry on, each gets a key
 every_key : (keys : List Text) (n : ℕ) → (let new : NewKeys = record { first = 0; keys = keys } in key_of new n) ≡ slice_get keys n
@@ -42,9 +39,12 @@ short-at [] all n key e = absurd (none-some key e)
 short-at (k ∷ keys) all zero key e = subst (λ (t : Text). length t ≤ name_limit) (same_Some k key e) all.0
 short-at (k ∷ keys) all (suc n) key e = short-at keys all.1 n key e
 
-module _ (file : Text) (db : Reading) (reads : Reads file db) (new : NewKeys) (first : new.first ≡ 0) (keys : new.keys ≡ new_keys made_base default_depth (entries_of db)) where
-  news : key_of new ≡ slice_get (new_keys made_base default_depth (entries_of db))
-  news = ap₂ (λ (f : ℕ) (ks : List Text). let it : NewKeys = record { first = f; keys = ks } in key_of it) first keys ∙ fun_ext (every_key (new_keys made_base default_depth (entries_of db)))
+module _ (depth : ℕ) (file : Text) (db : Reading) (reads : Reads file db) (new : NewKeys) (first : new.first ≡ 0) (keys : new.keys ≡ new_keys made_base depth (entries_of db)) where
+  abbrev making : edits.Edit
+  making = edits.RegenerateKeys depth
+
+  news : key_of new ≡ slice_get (new_keys made_base depth (entries_of db))
+  news = ap₂ (λ (f : ℕ) (ks : List Text). let it : NewKeys = record { first = f; keys = ks } in key_of it) first keys ∙ fun_ext (every_key (new_keys made_base depth (entries_of db)))
 
   pub pieces-are : rekeying new db ≡ pieces_of made_base db making
   pieces-are = ap (λ (k : ℕ → Option Text). pieces_of_chunks (Kept db.front ∷ key_chunks k db)) news
@@ -84,6 +84,6 @@ module _ (file : Text) (db : Reading) (reads : Reads file db) (new : NewKeys) (f
       let made_lengths = lengths in
       all_clear made_base db making
       (clear_more made_base db making edits.TextTooLong
-      (λ h. false≢true (sym (too_long-rekeyed (slice_get (new_keys made_base default_depth (entries_of db))) db
-      (short-at (new_keys made_base default_depth (entries_of db)) (subst (AllByRecursion (λ key. length key ≤ name_limit)) keys all)) opens.texts) ∙ h))
+      (λ h. false≢true (sym (too_long-rekeyed (slice_get (new_keys made_base depth (entries_of db))) db
+      (short-at (new_keys made_base depth (entries_of db)) (subst (AllByRecursion (λ key. length key ≤ name_limit)) keys all)) opens.texts) ∙ h))
       (clear_more made_base db making edits.FileTooLong (λ h. omega (arith, h, short, made_lengths)) clear))

@@ -2,7 +2,6 @@
 use Rattle.std.specs.Prelude.{ℕ, List, [], ◌∷◌, ◌≡◌}
 use Rattle.bib_spec.specs.Text.{Text}
 use Rattle.bib_spec.specs.Tree.{Value}
-use Rattle.bib_spec.specs.Records.{default_depth}
 use Rattle.edit_spec.specs.Edits as edits
 use Rattle.edit_spec.specs.Edits.{Spells}
 use Rattle.bib_data.specs.declared.edit.Edit.{Edit}
@@ -38,7 +37,7 @@ pub data AsksFor : Edit → edits.Edit → Type 0 where
   remove_entry : (key : Text) → AsksFor (RemoveEntry key) (edits.RemoveEntry key)
   move_entry : (key : Text) (position : ℕ) → AsksFor (MoveEntry key position) (edits.MoveEntry key position)
   rename_key : (from to : Text) → AsksFor (RenameKey from to) (edits.RenameKey from to)
-  regenerate_keys : AsksFor RegenerateKeys (edits.RegenerateKeys default_depth)
+  regenerate_keys : (depth : ℕ) → AsksFor (RegenerateKeys depth) (edits.RegenerateKeys depth)
   rename_macro : (from to : Text) → AsksFor (RenameMacro from to) (edits.RenameMacro from to)
   inline_macro : (name : Text) → AsksFor (InlineMacro name) (edits.InlineMacro name)
   introduce_macro : (name text : Text) → AsksFor (IntroduceMacro name text) (edits.IntroduceMacro name text)

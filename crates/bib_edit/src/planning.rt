@@ -1,6 +1,7 @@
 //! Plans an edit.
 
 ghost use Rattle.std.specs.Prelude.{OnOk, IfOk, IfErr};
+ghost use Rattle.bib_data.specs.Depths.{HasDepth};
 ghost use Rattle.bib_edit.specs.Planning.{IsAllowedEdit, ArePiecesOf, IsRefusal};
 
 use crate::add_entry::add_entry;
@@ -29,6 +30,7 @@ pub fn plan<L: ItemList>(
     db: &Database<L>,
     edit: &Edit,
 ) -> Result<Seq<Piece>, EditFault>
+    requires { HasDepth edit.now }
     ensures pieces { IfOk result (ArePiecesOf db.now edit.now) }
     ensures allowed { OnOk result (IsAllowedEdit db.now edit.now) }
     ensures refused { IfErr result (IsRefusal db.now edit.now) }
@@ -44,12 +46,12 @@ pub fn plan<L: ItemList>(
         Edit::DropField { key, field } => {
             drop_field(alloc, db, key.as_slice(), field.as_slice())
         }
-        Edit::AddEntry { position, entry } => add_entry(alloc, db, *position, entry),
+        Edit::AddEntry { place, entry } => add_entry(alloc, db, *place, entry),
         Edit::AddMany { entries } => add_many(alloc, db, entries.as_slice()),
         Edit::RemoveEntry { key } => remove_entry(alloc, db, key.as_slice()),
-        Edit::MoveEntry { key, position } => move_entry(alloc, db, key.as_slice(), *position),
+        Edit::MoveEntry { key, place } => move_entry(alloc, db, key.as_slice(), *place),
         Edit::RenameKey { from, to } => rename_key(alloc, db, from.as_slice(), to.as_slice()),
-        Edit::RegenerateKeys => regenerate_keys(alloc, db),
+        Edit::RegenerateKeys { depth } => regenerate_keys(alloc, db, *depth),
         Edit::RenameMacro { from, to } => {
             rename_macro(alloc, db, from.as_slice(), to.as_slice())
         }

@@ -141,7 +141,8 @@ impl EntryTable {
     }
 
     /// Makes room for so many entries more, as far as there is memory for it. There is room for 65,536 keys
-    /// at first, and for all once so many entries show that most have a key of their own. The table says what it said.
+    /// at first, and for all once so many entries show that most have a key of their own. The table says what it said: the room
+    /// is no promise, and saves time alone.
     pub fn prepare(&mut self, additional: usize)
         ensures { SaysTheSame self.old self.new }
     {
@@ -204,6 +205,7 @@ impl EntryTable {
     }
 
     /// Whether it is known that no two entries have one key, folded. Where two had one once, it is not known any more.
+    /// `false` promises nothing: a caller then looks for itself, which costs time alone.
     pub fn are_apart(&self) -> bool
         ensures { IsTrue result → (keys : List Bytes) (crossrefs : List (Option Bytes)) → IsTableOf keys crossrefs self.now → AreApart keys }
     {

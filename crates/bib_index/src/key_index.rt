@@ -60,14 +60,16 @@ impl KeyIndex {
         self.lists.len()
     }
 
-    /// Makes room for so many texts more. The index stays as it is.
+    /// Makes room for so many texts more. The index stays as it is: that there is room then is no promise, and saves time
+    /// alone.
     pub fn reserve(&mut self, additional: usize) -> Result<(), AllocError>
         ensures { self.new ≡ self.old }
     {
         self.lists.reserve(additional)
     }
 
-    /// Whether it is known that no text has two ids. Where a text had two once, that is not known any more.
+    /// Whether it is known that no text has two ids. Where a text had two once, that is not known any more. `false` promises
+    /// nothing: a caller then looks for itself, which costs time alone.
     pub fn are_apart(&self) -> bool
         ensures { IsTrue result → HaveOneAtMost self.now }
     {

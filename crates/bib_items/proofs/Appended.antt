@@ -1,6 +1,6 @@
 -- The bytes of items, put one after another behind a text.
 use Rattle.std.proofs.Common.{◌≡◌, ℕ, ◌+◌, ◌-◌, ◌≤◌, ◌<◌, suc, List, [], ◌∷◌, ◌++◌, length, take, drop, get_or, refl, sym, ◌∙◌, ap, arith, append-nil, append_assoc, length-drop}
-use Rattle.std.proofs.lemmas.List.{drop-drop, take_more, get_or-drop, flat_map_more, drop-append-le, drop_at, take-append-le}
+use Rattle.std.proofs.lemmas.List.{drop-drop, take_more, get_or-drop, flat_map_more, drop-append-le, drop_at, take-append-le, take-take, take_at, length-append}
 use Rattle.std.proofs.lemmas.List.Concat.{flat_map-append}
 use Rattle.std.proofs.Math.Seq.{take-add}
 use Rattle.std.specs.List.{flat_map, between}
@@ -13,6 +13,12 @@ use Rattle.bib_pages.proofs.Ways.{on_way_more, on_way_end}
 
 abbrev all_bytes : List Item → Text
 all_bytes items = flat_map kept_bytes items
+
+-- what stood first in a text that grew still stands first where the grown text does
+pub front_stands : (front now more new : Text) → now ≡ front ++ more → take (length now) new ≡ now → take (length front) new ≡ front
+front_stands front now more new grown stands =
+    let within : length front ≤ length now = omega (arith, ap (length {A = ℕ}) grown, length-append front more) in
+    sym (take-take (length front) (length now) new within) ∙ ap (take (length front)) (stands ∙ grown) ∙ take_at front more (length front) refl
 
 -- ---- item by item
 

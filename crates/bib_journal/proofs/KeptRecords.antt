@@ -5,13 +5,13 @@ use Rattle.std.proofs.lemmas.Bool.{false≢true, and_parts}
 use Rattle.bib_spec.specs.Bytes.{name_limit}
 use Rattle.bib_spec.specs.Text.{Text}
 use Rattle.bib_spec.specs.Reading.{Reading, Reads, bytes_of}
-use Rattle.bib_spec.specs.Records.{Record, entries_of, entry_named, expanded, default_depth}
+use Rattle.bib_spec.specs.Records.{Record, entries_of, entry_named, expanded}
 use Rattle.bib_spec.specs.MadeKeys.{IsKeyBase, new_keys}
 use Rattle.bib_scan.proofs.OneReading.{one_reading}
 use Rattle.edit_spec.specs.Edits as edits
 use Rattle.edit_spec.specs.Edits.{edited, IsAccepted, key_for}
 use Rattle.edit_spec.specs.Laws.{KeepsEntries, record_with_key, no_new_key}
-use Rattle.edit_spec.specs.Steps.{KeptSteps}
+use Rattle.history_spec.specs.Steps.{KeptSteps, history_of}
 use Rattle.edit_spec.proofs.RenameKey.{rename-key-keeps}
 use Rattle.edit_spec.proofs.Regenerate.{regenerate-keys-keeps, made-keys-differ, regenerating-again}
 use Rattle.edit_spec.proofs.MacroLaws.{rename-macro-keeps, inline-macro-keeps, introduce-macro-keeps}
@@ -26,12 +26,13 @@ use Rattle.bib_edit.specs.Asking.{AsksFor, OfEdit, rename_key, regenerate_keys, 
 use Rattle.bib_edit.specs.Planning.{IsRefusal}
 use Rattle.bib_edit.proofs.AskedEdits.{asked_for}
 use Rattle.bib_edit.proofs.KeyBases.{has_key_base}
+use Rattle.bib_journal.specs.OpenSteps.{SessionState}
 use Rattle.bib_journal.specs.Session.{DoesAll}
-use Rattle.bib_journal.proofs.MadeFiles.{made-reads, of-made}
+use Rattle.bib_journal.proofs.MadeFiles.{moved_present, made-reads, of-made}
 use Rattle.bib_journal.specs.Renaming.{Keeps, OfReadings, edit_keeps, keys_are_made_once, is_renaming, without_key, KeepsTexts, requests_keep}
 
 is_base : IsKeyBase made_base
-is_base = has_key_base (edits.RegenerateKeys default_depth)
+is_base = has_key_base (edits.RegenerateKeys 1)
 
 -- ---- one renaming
 
@@ -39,11 +40,11 @@ is_base = has_key_base (edits.RegenerateKeys default_depth)
 made-keeps : (edit : Edit) (db db' : Reading) → OfEdit edit (IsAccepted made_base db) → OfEdit edit (λ e. db' ≡ edited made_base db e) → Keeps edit db db'
 made-keeps (RenameKey from to) db db' allowed is =
     subst (Keeps (RenameKey from to) db) (sym (is (edits.RenameKey from to) (rename_key from to))) (rename-key-keeps made_base db from to (allowed (edits.RenameKey from to) (rename_key from to)))
-made-keeps RegenerateKeys db db' allowed is =
-    let accepted = allowed (edits.RegenerateKeys default_depth) regenerate_keys in
-    let keeps = regenerate-keys-keeps made_base is_base db default_depth accepted in
-    subst (Keeps RegenerateKeys db) (sym (is (edits.RegenerateKeys default_depth) regenerate_keys))
-    (keeps.0, keeps.1, keeps.2, made-keys-differ made_base is_base db default_depth accepted)
+made-keeps (RegenerateKeys depth) db db' allowed is =
+    let accepted = allowed (edits.RegenerateKeys depth) (regenerate_keys depth) in
+    let keeps = regenerate-keys-keeps made_base is_base db depth accepted in
+    subst (Keeps (RegenerateKeys depth) db) (sym (is (edits.RegenerateKeys depth) (regenerate_keys depth)))
+    (keeps.0, keeps.1, keeps.2, made-keys-differ made_base is_base db depth accepted)
 made-keeps (RenameMacro from to) db db' allowed is =
     subst (Keeps (RenameMacro from to) db) (sym (is (edits.RenameMacro from to) (rename_macro from to))) (rename-macro-keeps made_base db from to (allowed (edits.RenameMacro from to) (rename_macro from to)))
 made-keeps (InlineMacro name) db db' allowed is =
@@ -80,16 +81,18 @@ not-refused edit e asks edit_fault.FileTooLong file db reads accepted other is =
 not-refused edit e asks edit_fault.TextTooLong file db reads accepted other is = accepted edits.TextTooLong (is db reads e asks).holds
 
 pub keys-are-made-once : keys_are_made_once
-keys-are-made-once old new sound made =
+keys-are-made-once depth old new sound made =
     let db : Reading = sound.present.0 in
-    let reads : Reads old.present db = sound.present.1.reads in
-    let e : edits.Edit = edits.RegenerateKeys default_depth in
+    let reads : Reads old.steps.present db = sound.present.1.reads in
+    let e : edits.Edit = edits.RegenerateKeys depth in
+    let asks : AsksFor (RegenerateKeys depth) e = regenerate_keys depth in
     let db' : Reading = edited made_base db e in
-    let reads' : Reads new.present db' = made-reads RegenerateKeys old new made db reads e regenerate_keys in
-    let again = regenerating-again made_base is_base db default_depth (made.allowed db reads e regenerate_keys) in
+    let reads' : Reads new.steps.present db' = made-reads (RegenerateKeys depth) old new made db reads e asks in
+    let again = regenerating-again made_base is_base db depth (made.allowed db reads e asks) in
     record {
-      allowed = λ fault refuses. not-refused RegenerateKeys e regenerate_keys fault new.present db' reads' again.0 refuses.0 refuses.1;
-      file = λ more makes. (makes.file db' reads' e regenerate_keys).present ∙ ap bytes_of again.1 ∙ reads'.bytes;
+      allowed = λ fault refuses. not-refused (RegenerateKeys depth) e asks fault new.steps.present db' reads' again.0 refuses.0 refuses.1;
+      file = λ more makes. moved_present new.current (bytes_of (edited made_base db' e)) (history_of new.steps) (history_of more.steps) (makes.file db' reads' e asks)
+          ∙ ap bytes_of again.1 ∙ reads'.bytes;
     }
 
 -- ---- many renamings
@@ -109,7 +112,7 @@ keeps-texts new_key old new keeps = record {
 
 renaming-texts : (edit : Edit) → is_renaming (request.Edit edit) ≡ true → (old new : Reading) → Keeps edit old new → KeepsTexts old new
 renaming-texts (RenameKey from to) is old new keeps = keeps-texts (key_for (entry_named (entries_of old) from) to) old new keeps.0
-renaming-texts RegenerateKeys is old new keeps = keeps-texts (slice_get (new_keys made_base default_depth (entries_of old))) old new keeps.0
+renaming-texts (RegenerateKeys depth) is old new keeps = keeps-texts (slice_get (new_keys made_base depth (entries_of old))) old new keeps.0
 renaming-texts (RenameMacro from to) is old new keeps = keeps-texts no_new_key old new keeps.0
 renaming-texts (InlineMacro name) is old new keeps = keeps-texts no_new_key old new keeps.0
 renaming-texts (IntroduceMacro name text) is old new keeps = keeps-texts no_new_key old new keeps.0
@@ -131,20 +134,24 @@ texts-kept-on a b c ab bc = record {
   preambles = bc.preambles ∙ ab.preambles;
 }
 
-all-keep : (requests : List Request) (old new : KeptSteps) → list_all is_renaming requests ≡ true → DoesAll requests old new → OfReadings old.present new.present KeepsTexts
+pub all-keep : (requests : List Request) (old new : SessionState) → list_all is_renaming requests ≡ true → DoesAll requests old new → OfReadings old.steps.present new.steps.present KeepsTexts
 all-keep [] old new is all db reads db' reads' =
-    subst (KeepsTexts db) (one_reading name_limit old.present db db' reads (subst (λ (kept : KeptSteps). Reads kept.present db') all reads')) (texts-stay db)
+    subst (KeepsTexts db) (one_reading name_limit old.steps.present db db' reads (subst (λ (s : SessionState). Reads s.steps.present db') all reads')) (texts-stay db)
 all-keep (request.Undo ∷ requests) old new is all db reads db' reads' = absurd (false≢true is)
 all-keep (request.Redo ∷ requests) old new is all db reads db' reads' = absurd (false≢true is)
+all-keep (request.Begin label ∷ requests) old new is all db reads db' reads' =
+    all-keep requests all.0 new (and_parts true (list_all is_renaming requests) is).1 all.2 db (subst (λ (k : KeptSteps). Reads k.present db) (sym all.1.steps) reads) db' reads'
+all-keep (request.End ∷ requests) old new is all db reads db' reads' =
+    all-keep requests all.0 new (and_parts true (list_all is_renaming requests) is).1 all.2 db (subst (λ (k : KeptSteps). Reads k.present db) (sym all.1.steps) reads) db' reads'
 all-keep (request.Edit edit ∷ requests) old new is all db reads db' reads' =
     let both = and_parts (is_renaming (request.Edit edit)) (list_all is_renaming requests) is in
     let one : (e : edits.Edit) × AsksFor edit e = asked_for edit in
     let mid : Reading = edited made_base db one.0 in
-    let mid_reads : Reads all.0.present mid = made-reads edit old all.0 all.1 db reads one.0 one.1 in
+    let mid_reads : Reads all.0.steps.present mid = made-reads edit old all.0 all.1 db reads one.0 one.1 in
     texts-kept-on db mid db' (renaming-texts edit both.0 db mid (edit-keeps edit old all.0 all.1 db reads mid mid_reads))
     (all-keep requests all.0 new both.1 all.2 mid mid_reads db' reads')
 
-some-pass : {X : Type 0} (p : X → Bool) (n : ℕ) (xs : List X) → list_all p xs ≡ true → list_all p (take n xs) ≡ true
+pub some-pass : {X : Type 0} (p : X → Bool) (n : ℕ) (xs : List X) → list_all p xs ≡ true → list_all p (take n xs) ≡ true
 some-pass p zero xs all = refl
 some-pass p (suc n) [] all = refl
 some-pass p (suc n) (x ∷ xs) all =

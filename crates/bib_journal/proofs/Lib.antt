@@ -3,6 +3,8 @@ pub mod Turning
 pub mod TurnableSteps
 pub mod Moves
 pub mod OneMoreRequest
+mod TextLens
+mod GrowLemmas
 -- ---- journals that are loaded
 pub mod ReplayLemmas
 pub mod LoadLemmas
@@ -12,3 +14,7 @@ pub mod TakenBack
 pub mod MadeFiles
 pub mod KeptRecords
 pub mod OtherEntries
+pub mod UntouchedItems
+pub mod SavedLoads
+pub mod EndedSessions
+pub mod OneResult

@@ -4,7 +4,7 @@ use Rattle.std.proofs.lemmas.List.{reverse-reverse}
 use Rattle.bib_spec.specs.Bytes.{file_limit}
 use Rattle.bib_spec.specs.Text.{Text}
 use Rattle.bib_spec.specs.Texts.{IsOpenable}
-use Rattle.edit_spec.specs.Steps.{Step, KeptSteps, IsSound, AreSteps, step_text_len}
+use Rattle.history_spec.specs.Steps.{Step, KeptSteps, IsSound, AreSteps, step_text_len}
 use Rattle.journal_format.specs.Contents.{Contents, digest_of}
 use Rattle.journal_format.specs.Faults.{IsJournalOf, Refuses}
 use Rattle.journal_format.specs.declared.fault.JournalFault.{JournalFault}
@@ -14,6 +14,7 @@ use Rattle.bib_journal.specs.Session.{Opens, RefusesLoad, RefusesOpen}
 use Rattle.bib_journal.specs.declared.fault.SessionFault.{SessionFault}
 use Rattle.bib_journal.specs.declared.fault.SessionFault.TheVariants.{Memory}
 use Rattle.bib_journal.specs.Kept.{kept, IsKept}
+use Rattle.bib_journal.specs.OpenSteps.{idle}
 use Rattle.bib_journal.specs.Loading.{FitFile, Loads, SaysOf, IsMismatch}
 
 pub its_mismatch : (file text : Text) (c : Contents) → IsOpenable file → IsJournalOf c text → (FitFile c file → ⊥) → IsMismatch file text
@@ -29,13 +30,15 @@ pub contents_kept : (c : Contents) (file : Text) (stack : List Step) → stack �
 contents_kept c file stack turned = ap (kept c.past file) (ap reverse turned ∙ reverse-reverse c.future)
 
 -- contents that fit a file are what a session can keep
-pub contents_are_kept : (c : Contents) (file : Text) (stack : List Step) (len : ℕ) → AreSteps c.past c.future → FitFile c file → stack ≡ reverse c.future
-    → len ≡ min (sum_by step_text_len c.past) (2 ^ 64 - 1) → IsKept (kept c.past file (reverse stack)) len
-contents_are_kept c file stack len steps fit turned counted =
+pub contents_are_kept : (c : Contents) (file : Text) (stack : List Step) (len : ℕ) (ends : List ℕ) → AreSteps c.past c.future → FitFile c file → stack ≡ reverse c.future
+    → len ≡ min (sum_by step_text_len c.past) (2 ^ 64 - 1) → IsKept (idle (kept c.past file (reverse stack))) len ends
+contents_are_kept c file stack len ends steps fit turned counted =
     let sound : IsSound (kept c.past file c.future) = record { present = fit.opens; belong = fit.belong; steps = steps } in
     record {
       sound = subst IsSound (sym (contents_kept c file stack turned)) sound;
+      current = tt;
       counted = omega (arith, counted, steps.short);
+      placed = tt;
     }
 
 -- a session with what the journal says

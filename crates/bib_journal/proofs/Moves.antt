@@ -1,19 +1,20 @@
 -- What a session keeps, before and after each of its moves.
-use Rattle.std.proofs.Common.{◌≡◌, ℕ, ◌+◌, ◌-◌, ◌^◌, ◌≤◌, ◌<◌, List, [], ◌∷◌, ◌++◌, length, min, take, get_or, reverse, Some, sym, ◌∙◌, ap, subst, arith, refl, sum_by, inl, inr}
+use Rattle.std.proofs.Common.{◌≡◌, ◌⊎◌, ℕ, ◌+◌, ◌-◌, ◌^◌, ◌≤◌, ◌<◌, List, [], ◌∷◌, ◌++◌, length, min, take, get_or, reverse, Some, sym, ◌∙◌, ap, subst, arith, refl, sum_by, inl, inr}
+use Rattle.std.specs.Prelude.{Result, Ok, Err, OnOk}
 use Rattle.std.specs.List.{slice_get}
-use Rattle.std.proofs.lemmas.List.{length_push, get_or_push, reverse-append, take_all, take_more}
+use Rattle.std.proofs.lemmas.List.{length_push, same_from_push, get_or_push, reverse-append, take_all, take_more}
 use Rattle.std.proofs.lemmas.List.Sums.{sum_by_push}
 use Rattle.std.proofs.lemmas.Option.{slice_get_within, get_or_from_slice_get}
 use Rattle.bib_spec.specs.Text.{Text}
-use Rattle.bib_spec.specs.Pieces.{Fit, applied}
+use Rattle.bib_spec.specs.Pieces.{Piece, Fit, applied}
 use Rattle.bib_spec.specs.Reading.{Reading, Reads, bytes_of}
-use Rattle.edit_spec.specs.History.{Edits, Undoes, Redoes}
+use Rattle.history_spec.specs.History.{Undoes, Redoes}
 use Rattle.edit_spec.specs.Edits as edits
 use Rattle.edit_spec.specs.Edits.{edited, IsAccepted}
 use Rattle.edit_spec.specs.EditChunks.{pieces_of}
-use Rattle.edit_spec.specs.Steps.{Step, KeptSteps, before, Leads, LeadTo, LeadOn, IsAllowed, IsSound, IsFull, Adds, GoesBack, GoesOn, history_of, step_text_len}
+use Rattle.history_spec.specs.Steps.{Step, IsLabel, KeptSteps, with_edit, before, Leads, LeadTo, LeadOn, IsAllowed, IsSound, IsFull, IsOverlong, Adds, GoesBack, GoesOn, history_of, step_text_len}
 use Rattle.bib_spec.specs.Texts.{IsOpenable}
-use Rattle.edit_spec.proofs.StepLemmas.{lead_to_pop, adding-edits, going-back-undoes, going-on-redoes}
+use Rattle.history_spec.proofs.StepLemmas.{lead_to_pop, adding-edits, joining-amends, going-back-undoes, going-on-redoes}
 use Rattle.edit_spec.proofs.EditFiles.{pieces-lead}
 use Rattle.edit_spec.proofs.EditedReads.{applied-opens}
 use Rattle.bib_data.specs.declared.edit.Edit.{Edit}
@@ -22,8 +23,12 @@ use Rattle.bib_edit.specs.Asking.{AsksFor}
 use Rattle.bib_edit.specs.Planning.{IsAllowedEdit, ArePiecesOf}
 use Rattle.bib_edit.proofs.AskedEdits.{asked_for}
 use Rattle.bib_edit.proofs.KeyBases.{has_key_base}
-use Rattle.bib_journal.specs.Kept.{kept}
+use Rattle.history_spec.specs.Composing.{AreEnds}
+use Rattle.bib_journal.specs.Kept.{kept, KnowsEnds}
+use Rattle.bib_journal.specs.OpenSteps.{SessionState, IsOpenIn, after_edit, new_step, JoinsLast, MakesSteps, LacksRoom, MovesTo}
 use Rattle.bib_journal.specs.Session.{MakesEdit, IsOverfull, TakesBack, MakesAgain}
+use Rattle.bib_journal.specs.declared.open_step.OpenStep.{OpenStep}
+use Rattle.bib_journal.specs.declared.open_step.OpenStep.TheVariants.{NoStep, NewStep, LastStep}
 
 -- ---- the two stacks
 
@@ -47,14 +52,14 @@ last_split steps s top =
 
 -- the last past step leads to the present
 pub last_leads : (past future : List Step) (s : Step) (present : Text)
-    → IsSound (kept past present future) → Some s ≡ slice_get past (length past - 1) → Leads s (before s present) present
+    → IsSound (kept past present future) → Some s ≡ slice_get past (length past - 1) → Leads s.pieces (before s.pieces present) present
 last_leads past future s present w top =
     let rest : List Step = take (length past - 1) past in
     (lead_to_pop rest s present (subst (λ (ss : List Step). LeadTo ss present) (last_split past s top) w.belong.back)).1
 
 -- the next future step leads on from the present
 pub next_is_allowed : (past stack : List Step) (s : Step) (present : Text)
-    → IsSound (kept past present (reverse stack)) → Some s ≡ slice_get stack (length stack - 1) → IsAllowed s present
+    → IsSound (kept past present (reverse stack)) → Some s ≡ slice_get stack (length stack - 1) → IsAllowed s.pieces present
 next_is_allowed past stack s present w top =
     let rest : List Step = take (length stack - 1) stack in
     let next : reverse stack ≡ s ∷ reverse rest = future_push rest stack s (last_split stack s top) in
@@ -64,34 +69,41 @@ next_is_allowed past stack s present w top =
 -- ---- undo and redo
 
 -- the session is sound again, and moved so
-pub record Moves (Move : KeptSteps → KeptSteps → Type 0) (old new : KeptSteps) : Type 0 where
-  pub sound : IsSound new
+pub record Moves (Move : SessionState → SessionState → Type 0) (old new : SessionState) : Type 0 where
+  pub sound : IsSound new.steps
   pub moved : Move old new
 
-pub taken_back : (past rest stack stack' : List Step) (s : Step) (b b' : Text)
-    → IsSound (kept past b (reverse stack)) → past ≡ rest ++ s ∷ [] → b' ≡ before s b → stack' ≡ stack ++ s ∷ []
-    → Moves TakesBack (kept past b (reverse stack)) (kept rest b' (reverse stack'))
-taken_back past rest stack stack' s b b' w split made pushed =
+abbrev pub state : KeptSteps → OpenStep → SessionState
+state steps current = record { steps = steps; current = current }
+
+pub taken_back : (past rest stack stack' : List Step) (s : Step) (b b' : Text) (current : OpenStep) → current ≡ NoStep
+    → IsSound (kept past b (reverse stack)) → past ≡ rest ++ s ∷ [] → b' ≡ before s.pieces b → stack' ≡ stack ++ s ∷ []
+    → Moves TakesBack (state (kept past b (reverse stack)) current) (state (kept rest b' (reverse stack')) current)
+taken_back past rest stack stack' s b b' current none w split made pushed =
     let old : KeptSteps = kept past b (reverse stack) in
     let new : KeptSteps = kept rest b' (reverse stack') in
     let goes : GoesBack s old new = record { past = split; present = made; future = future_push stack stack' s pushed } in
     let both : IsSound new × Undoes (history_of old) (history_of new) = going-back-undoes s old new w goes in
-    record { sound = both.0; moved = record { step = s; carried = goes; file = both.1 } }
+    record { sound = both.0; moved = record { step = s; closed = none; still = none; carried = goes; file = both.1 } }
 
-pub made_again : (past past' stack rest : List Step) (s : Step) (b b' : Text)
-    → IsSound (kept past b (reverse stack)) → stack ≡ rest ++ s ∷ [] → b' ≡ applied s b → past' ≡ past ++ s ∷ []
-    → Moves MakesAgain (kept past b (reverse stack)) (kept past' b' (reverse rest))
-made_again past past' stack rest s b b' w split made pushed =
+pub made_again : (past past' stack rest : List Step) (s : Step) (b b' : Text) (current : OpenStep) → current ≡ NoStep
+    → IsSound (kept past b (reverse stack)) → stack ≡ rest ++ s ∷ [] → b' ≡ applied s.pieces b → past' ≡ past ++ s ∷ []
+    → Moves MakesAgain (state (kept past b (reverse stack)) current) (state (kept past' b' (reverse rest)) current)
+made_again past past' stack rest s b b' current none w split made pushed =
     let old : KeptSteps = kept past b (reverse stack) in
     let new : KeptSteps = kept past' b' (reverse rest) in
     let goes : GoesOn s old new = record { past = pushed; present = made; future = future_push rest stack s split } in
     let both : IsSound new × Redoes (history_of old) (history_of new) = going-on-redoes s old new w goes in
-    record { sound = both.0; moved = record { step = s; carried = goes; file = both.1 } }
+    record { sound = both.0; moved = record { step = s; closed = none; still = none; carried = goes; file = both.1 } }
+
+-- where no step is open, nothing is asked of it
+pub none_open : (steps : KeptSteps) (current : OpenStep) → current ≡ NoStep → IsOpenIn steps current
+none_open steps current none = subst (IsOpenIn steps) (sym none) tt
 
 -- ---- edits
 
 -- the pieces of an edit that nothing refuses lead from the file to another
-pub planned_leads : (file : Text) (edit : Edit) (pieces : Step) → IsOpenable file → IsAllowedEdit file edit → ArePiecesOf file edit pieces → IsAllowed pieces file
+pub planned_leads : (file : Text) (edit : Edit) (pieces : List Piece) → IsOpenable file → IsAllowedEdit file edit → ArePiecesOf file edit pieces → IsAllowed pieces file
 planned_leads file edit pieces is allowed planned =
     let db : Reading = is.0 in
     let reads : Reads file db = is.1.reads in
@@ -100,67 +112,164 @@ planned_leads file edit pieces is allowed planned =
     let same : pieces_of made_base db e ≡ pieces = sym (planned db reads e one.1) in
     let fits : Fit (pieces_of made_base db e) file = subst (λ (t : Text). Fit (pieces_of made_base db e) t) reads.bytes (pieces-lead made_base db e).0 in
     record {
-      fit = subst (λ (ps : Step). Fit ps file) same fits;
-      made = subst (λ (ps : Step). IsOpenable (applied ps file)) same
+      fit = subst (λ (ps : List Piece). Fit ps file) same fits;
+      made = subst (λ (ps : List Piece). IsOpenable (applied ps file)) same
           (edited made_base db e, applied-opens made_base file db e (has_key_base e) reads (allowed db reads e one.1));
     }
 
 -- the file that the pieces of the edit make
-planned_file : (file : Text) (db : Reading) (e : edits.Edit) (pieces : Step) → Reads file db → pieces ≡ pieces_of made_base db e
+planned_file : (file : Text) (db : Reading) (e : edits.Edit) (pieces : List Piece) → Reads file db → pieces ≡ pieces_of made_base db e
     → applied pieces file ≡ bytes_of (edited made_base db e)
 planned_file file db e pieces reads same =
-    ap (λ (ps : Step). applied ps file) same ∙ ap (λ (t : Text). applied (pieces_of made_base db e) t) (sym reads.bytes) ∙ (pieces-lead made_base db e).1
+    ap (λ (ps : List Piece). applied ps file) same ∙ ap (λ (t : Text). applied (pieces_of made_base db e) t) (sym reads.bytes) ∙ (pieces-lead made_base db e).1
 
-pub made_edit : (past past' future stack : List Step) (edit : Edit) (pieces : Step) (b b' : Text)
-    → IsSound (kept past b future) → IsAllowedEdit b edit → ArePiecesOf b edit pieces → (IsFull (kept past b future) pieces → ⊥)
-    → b' ≡ applied pieces b → past' ≡ past ++ pieces ∷ [] → stack ≡ []
-    → Moves (MakesEdit edit) (kept past b future) (kept past' b' (reverse stack))
-made_edit past past' future stack edit pieces b b' w allowed planned room made pushed emptied =
-    let old : KeptSteps = kept past b future in
-    let new : KeptSteps = kept past' b' (reverse stack) in
-    let adds : Adds pieces old new = record { past = pushed; present = made; future = ap reverse emptied } in
-    let both : IsSound new × Edits (applied pieces b) (history_of old) (history_of new) =
-    adding-edits pieces old new w (planned_leads b edit pieces w.present allowed planned) room adds in
+-- the empty text is a label
+pub no_label : IsLabel []
+no_label = record { short = omega arith; plain = refl }
+
+-- pieces that are allowed, and make new steps of the old, keep these sound, and move the history to the file that they make
+pub steps_move : (current : OpenStep) (pieces : List Piece) (old new : KeptSteps) → IsSound old → IsOpenIn old current → IsAllowed pieces old.present → (LacksRoom current pieces old → ⊥)
+    → MakesSteps current pieces old new → IsSound new × MovesTo current (applied pieces old.present) (history_of old) (history_of new)
+steps_move NoStep pieces old new w o allowed room makes = adding-edits (new_step NoStep pieces) old new w no_label allowed room makes
+steps_move (NewStep label) pieces old new w o allowed room makes = adding-edits (new_step (NewStep label) pieces) old new w o allowed room makes
+steps_move LastStep pieces old new w o allowed room makes =
+    joining-amends makes.0 makes.1 pieces old new w o.1 allowed (λ long. room (makes.0, makes.1, makes.2.last, long)) makes.2
+
+-- after an edit, a step that was opened is the last of the past, and nothing can be redone
+pub made_open : (current : OpenStep) (pieces : List Piece) (old new : KeptSteps) → IsOpenIn old current → MakesSteps current pieces old new → IsOpenIn new (after_edit current)
+made_open NoStep pieces old new o makes = tt
+made_open (NewStep label) pieces old new o makes =
+    ((λ none. omega (arith, ap length none, ap length makes.past, length_push old.past (new_step (NewStep label) pieces))), makes.future)
+made_open LastStep pieces old new o makes =
+    ((λ none. omega (arith, ap length none, ap length makes.2.past, length_push makes.0 (with_edit makes.1 pieces))), makes.2.future ∙ o.1)
+
+-- the first edit of a step, and one by itself, add a step
+pub added_makes : (current : OpenStep) (pieces : List Piece) (old new : KeptSteps) → (current ≡ LastStep → ⊥) → Adds (new_step current pieces) old new → MakesSteps current pieces old new
+added_makes NoStep pieces old new other adds = adds
+added_makes (NewStep label) pieces old new other adds = adds
+added_makes LastStep pieces old new other adds = absurd (other refl)
+
+pub added_room : (current : OpenStep) (pieces : List Piece) (old : KeptSteps) → (current ≡ LastStep → ⊥) → (IsFull old (new_step current pieces) → ⊥) → LacksRoom current pieces old → ⊥
+added_room NoStep pieces old other room full = room full
+added_room (NewStep label) pieces old other room full = room full
+added_room LastStep pieces old other room full = other refl
+
+pub added_full : (current : OpenStep) (pieces : List Piece) (old : KeptSteps) → (current ≡ LastStep → ⊥) → IsFull old (new_step current pieces) → LacksRoom current pieces old
+added_full NoStep pieces old other full = full
+added_full (NewStep label) pieces old other full = full
+added_full LastStep pieces old other full = absurd (other refl)
+
+-- the pieces of an edit that nothing refuses, made so, make the edit
+pub made_edit : (edit : Edit) (pieces : List Piece) (old new : SessionState) → IsSound old.steps → IsOpenIn old.steps old.current → IsAllowedEdit old.steps.present edit
+    → ArePiecesOf old.steps.present edit pieces → (LacksRoom old.current pieces old.steps → ⊥) → MakesSteps old.current pieces old.steps new.steps → new.current ≡ after_edit old.current
+    → MakesEdit edit old new
+made_edit edit pieces old new w o allowed planned room makes current =
+    let both : IsSound new.steps × MovesTo old.current (applied pieces old.steps.present) (history_of old.steps) (history_of new.steps) =
+    steps_move old.current pieces old.steps new.steps w o (planned_leads old.steps.present edit pieces w.present allowed planned) room makes in
     record {
-      sound = both.0;
-      moved = record {
-        allowed = allowed;
-        room = λ db reads e asks full. room (subst (λ (ps : Step). IsFull old ps) (sym (planned db reads e asks)) full);
-        step = λ db reads e asks. subst (λ (ps : Step). Adds ps old new) (planned db reads e asks) adds;
-        file = λ db reads e asks. subst (λ (t : Text). Edits t (history_of old) (history_of new)) (planned_file b db e pieces reads (planned db reads e asks)) both.1;
-      };
+      allowed = allowed;
+      pieces = pieces;
+      planned = planned;
+      room = room;
+      step = makes;
+      file = λ db reads e asks. subst (λ (t : Text). MovesTo old.current t (history_of old.steps) (history_of new.steps)) (planned_file old.steps.present db e pieces reads (planned db reads e asks)) both.1;
+      current = current;
     }
 
--- where the pieces of the edit are too many or too long, it can't be kept
-pub overfull : (steps : KeptSteps) (edit : Edit) (pieces : Step) → ArePiecesOf steps.present edit pieces → IsFull steps pieces → IsOverfull edit steps
-overfull steps edit pieces planned full = λ db reads e asks. subst (λ (ps : Step). IsFull steps ps) (planned db reads e asks) full
+-- what follows from three facts, where a call is accepted
+pub where_accepted : {T E P Q R S : Type 0} (r : Result T E) → (P → Q → R → S) → OnOk r P → OnOk r Q → OnOk r R → OnOk r S
+where_accepted (Ok x) f p q s = f p q s
+where_accepted (Err e) f p q s = tt
+
+-- where there is no room for the pieces of the edit, it can't be kept
+pub overfull : (old : SessionState) (edit : Edit) (pieces : List Piece) → ArePiecesOf old.steps.present edit pieces → LacksRoom old.current pieces old.steps → IsOverfull edit old
+overfull old edit pieces planned full = λ db reads e asks. subst (λ (ps : List Piece). LacksRoom old.current ps old.steps) (planned db reads e asks) full
+
+-- ---- the last step
+
+-- a list that ends with one member ends with no other
+last_is : (front front' : List Step) (s s' : Step) → front ++ s ∷ [] ≡ front' ++ s' ∷ [] → (front' ≡ front) × (s' ≡ s)
+last_is front front' s s' e = same_from_push front' front s' s (sym e)
+
+-- the last step with more pieces makes the new steps, where these are made of the file
+pub joined_makes : (past past' front future : List Step) (s s' : Step) (b b' : Text) (pieces : List Piece) → past ≡ front ++ s ∷ [] → past' ≡ front ++ s' ∷ [] → s' ≡ with_edit s pieces
+    → b' ≡ applied pieces b → JoinsLast pieces (kept past b future) (kept past' b' future)
+joined_makes past past' front future s s' b b' pieces split pushed grown made =
+    (front, s, record { last = split; past = pushed ∙ ap (λ (x : Step). front ++ x ∷ []) grown; present = made; future = refl })
+
+pub joined_room : (past front future : List Step) (s : Step) (b : Text) (pieces : List Piece) (room : ℕ) → past ≡ front ++ s ∷ [] → room ≡ 67174399 - sum_by step_text_len front
+    → sum_by step_text_len front ≤ 67174399 → step_text_len (with_edit s pieces) ≤ room → LacksRoom LastStep pieces (kept past b future) → ⊥
+joined_room past front future s b pieces room split is short fits long =
+    let same : (long.0 ≡ front) × (long.1 ≡ s) = last_is front long.0 s long.1 (sym split ∙ long.2) in
+    let over : IsOverlong front (with_edit s pieces) = subst (λ (fs : List Step). IsOverlong fs (with_edit s pieces)) same.0 (subst (λ (x : Step). IsOverlong long.0 (with_edit x pieces)) same.1 long.3) in
+    omega (arith, over, is, short, fits)
+
+pub joined_full : (past front future : List Step) (s : Step) (b : Text) (pieces : List Piece) (room : ℕ) → past ≡ front ++ s ∷ [] → room ≡ 67174399 - sum_by step_text_len front
+    → sum_by step_text_len front ≤ 67174399 → room < step_text_len (with_edit s pieces) → LacksRoom LastStep pieces (kept past b future)
+joined_full past front future s b pieces room split is short over = (front, s, split, omega (arith, is, short, over))
+
+-- the running count, with the last step and without it
+pub counted_front : (past front : List Step) (s : Step) (past_len text_len : ℕ) → past_len ≡ sum_by step_text_len past → text_len ≡ min (step_text_len s) (2 ^ 64 - 1)
+    → past ≡ front ++ s ∷ [] → sum_by step_text_len past ≤ 67174399 → (past_len - text_len ≡ sum_by step_text_len front) × (sum_by step_text_len front ≤ 67174399)
+counted_front past front s past_len text_len counted one split short =
+    let total : sum_by step_text_len past ≡ sum_by step_text_len front + step_text_len s = ap (sum_by step_text_len) split ∙ sum_by_push step_text_len front s in
+    (omega arith, omega arith)
+
+pub counted_joined : (past front : List Step) (s : Step) (rest len : ℕ) → rest ≡ sum_by step_text_len front → len ≡ step_text_len s → past ≡ front ++ s ∷ []
+    → rest + len ≡ sum_by step_text_len past
+counted_joined past front s rest len counted one pushed =
+    let total : sum_by step_text_len past ≡ sum_by step_text_len front + step_text_len s = ap (sum_by step_text_len) pushed ∙ sum_by_push step_text_len front s in
+    omega arith
 
 -- ---- the test of the limits
 
 pub has_room : (k : KeptSteps) (step : Step) (past_len text_len len : ℕ) → past_len ≡ sum_by step_text_len k.past → text_len ≡ min (step_text_len step) (2 ^ 64 - 1)
-    → len ≡ min (past_len + text_len) (2 ^ 64 - 1) → length k.past < 65535 → len ≤ 67108864 → IsFull k step → ⊥
+    → len ≡ min (past_len + text_len) (2 ^ 64 - 1) → length k.past < 65535 → len ≤ 67174399 → IsFull k step → ⊥
 has_room k step past_len text_len len counted one both few short (inl many) = omega arith
 has_room k step past_len text_len len counted one both few short (inr long) = omega arith
 
 pub is_full : (k : KeptSteps) (step : Step) (past_len text_len len : ℕ) → past_len ≡ sum_by step_text_len k.past → text_len ≡ min (step_text_len step) (2 ^ 64 - 1)
-    → len ≡ min (past_len + text_len) (2 ^ 64 - 1) → 67108864 < len → IsFull k step
+    → len ≡ min (past_len + text_len) (2 ^ 64 - 1) → 67174399 < len → IsFull k step
 is_full k step past_len text_len len counted one both long = inr (omega arith)
 
 -- the running count after a change
 pub counted_on : (past past' : List Step) (step : Step) (past_len text_len len : ℕ) → past_len ≡ sum_by step_text_len past → text_len ≡ min (step_text_len step) (2 ^ 64 - 1)
-    → len ≡ min (past_len + text_len) (2 ^ 64 - 1) → len ≤ 67108864 → past' ≡ past ++ step ∷ [] → len ≡ sum_by step_text_len past'
+    → len ≡ min (past_len + text_len) (2 ^ 64 - 1) → len ≤ 67174399 → past' ≡ past ++ step ∷ [] → len ≡ sum_by step_text_len past'
 counted_on past past' step past_len text_len len counted one both short pushed =
     let total : sum_by step_text_len past' ≡ sum_by step_text_len past + step_text_len step = ap (sum_by step_text_len) pushed ∙ sum_by_push step_text_len past step in
     omega arith
 
 pub counted_back : (past rest : List Step) (step : Step) (past_len text_len : ℕ) → past_len ≡ sum_by step_text_len past → text_len ≡ min (step_text_len step) (2 ^ 64 - 1)
-    → past ≡ rest ++ step ∷ [] → sum_by step_text_len past ≤ 67108864 → past_len - text_len ≡ sum_by step_text_len rest
+    → past ≡ rest ++ step ∷ [] → sum_by step_text_len past ≤ 67174399 → past_len - text_len ≡ sum_by step_text_len rest
 counted_back past rest step past_len text_len counted one split short =
     let total : sum_by step_text_len past ≡ sum_by step_text_len rest + step_text_len step = ap (sum_by step_text_len) split ∙ sum_by_push step_text_len rest step in
     omega arith
 
 pub counted_again : (past past' : List Step) (step : Step) (past_len text_len : ℕ) → past_len ≡ sum_by step_text_len past → text_len ≡ min (step_text_len step) (2 ^ 64 - 1)
-    → past' ≡ past ++ step ∷ [] → sum_by step_text_len past' ≤ 67108864 → past_len + text_len ≡ sum_by step_text_len past'
+    → past' ≡ past ++ step ∷ [] → sum_by step_text_len past' ≤ 67174399 → past_len + text_len ≡ sum_by step_text_len past'
 counted_again past past' step past_len text_len counted one pushed short =
     let total : sum_by step_text_len past' ≡ sum_by step_text_len past + step_text_len step = ap (sum_by step_text_len) pushed ∙ sum_by_push step_text_len past step in
     omega arith
+
+-- ---- where the pieces of the step that is open end
+
+pub none_known : (current : OpenStep) (past : List Step) (ends : List ℕ) → ends ≡ [] → KnowsEnds current past ends
+none_known NoStep past ends e = tt
+none_known (NewStep label) past ends e = tt
+none_known LastStep past ends e = λ front step split. inl e
+
+pub closed_knows : (current : OpenStep) (past : List Step) (ends : List ℕ) → current ≡ NoStep → KnowsEnds current past ends
+closed_knows current past ends none = subst (λ (o : OpenStep). KnowsEnds o past ends) (sym none) tt
+
+pub last_knows : (current : OpenStep) (past front : List Step) (step : Step) (ends : List ℕ) → current ≡ LastStep → past ≡ front ++ step ∷ [] → (ends ≡ []) ⊎ AreEnds step.pieces ends
+    → KnowsEnds current past ends
+last_knows current past front step ends last split e =
+    subst (λ (o : OpenStep). KnowsEnds o past ends) (sym last)
+    (λ other s is. subst (λ (t : Step). (ends ≡ []) ⊎ AreEnds t.pieces ends) (sym (last_is front other step s (sym split ∙ is)).1) e)
+
+pub last_known : (current : OpenStep) (past front : List Step) (step : Step) (ends : List ℕ) → KnowsEnds current past ends → current ≡ LastStep → past ≡ front ++ step ∷ []
+    → (ends ≡ []) ⊎ AreEnds step.pieces ends
+last_known current past front step ends k last split = subst (λ (o : OpenStep). KnowsEnds o past ends) last k front step split
+
+pub counted_split : (past front : List Step) (step : Step) (past_len : ℕ) → past_len ≡ sum_by step_text_len past → past ≡ front ++ step ∷ [] → past_len ≡ sum_by step_text_len front + step_text_len step
+counted_split past front step past_len counted split = counted ∙ ap (sum_by step_text_len) split ∙ sum_by_push step_text_len front step

@@ -1,29 +1,29 @@
 -- One more request that is accepted.
 use Rattle.std.proofs.Common.{◌≡◌, ℕ, ◌+◌, ◌<◌, List, [], ◌∷◌, ◌++◌, length, take, drop, get_or, replicate, Some, sym, ◌∙◌, ap, subst, refl, arith}
 use Rattle.std.proofs.lemmas.List.{take_more, drop_more, get_or-replicate, length-replicate}
-use Rattle.edit_spec.specs.Steps.{KeptSteps}
+use Rattle.bib_journal.specs.OpenSteps.{SessionState}
 use Rattle.bib_data.specs.declared.request.Request.{Request}
 use Rattle.bib_journal.specs.declared.fault.SessionFault.{SessionFault}
 use Rattle.bib_journal.specs.Session.{Does, DoesAll, Refuses, StopsAt, Performs}
 
-pub does_last : (requests : List Request) (request : Request) (old mid new : KeptSteps) → DoesAll requests old mid → Does request mid new → DoesAll (requests ++ request ∷ []) old new
-does_last [] request old mid new all does = (new, subst (λ (k : KeptSteps). Does request k new) all does, refl)
+pub does_last : (requests : List Request) (request : Request) (old mid new : SessionState) → DoesAll requests old mid → Does request mid new → DoesAll (requests ++ request ∷ []) old new
+does_last [] request old mid new all does = (new, subst (λ (k : SessionState). Does request k new) all does, refl)
 does_last (first ∷ requests) request old mid new all does = (all.0, all.1, does_last requests request all.0 mid new all.2 does)
 
-pub does_more : (requests : List Request) (n : ℕ) (request : Request) (old mid new : KeptSteps) → DoesAll (take n requests) old mid
+pub does_more : (requests : List Request) (n : ℕ) (request : Request) (old mid new : SessionState) → DoesAll (take n requests) old mid
     → n < length requests → request ≡ get_or requests n request → Does request mid new → DoesAll (take (n + 1) requests) old new
 does_more requests n request old mid new all h e does =
     let next : take (n + 1) requests ≡ take n requests ++ request ∷ [] = take_more requests n request h ∙ ap (λ (r : Request). take n requests ++ r ∷ []) (sym e) in
     subst (λ (rs : List Request). DoesAll rs old new) (sym next) (does_last (take n requests) request old mid new all does)
 
 -- the same request once more
-pub repeats_more : (times n : ℕ) (request : Request) (old mid new : KeptSteps) → DoesAll (take n (replicate times request)) old mid
+pub repeats_more : (times n : ℕ) (request : Request) (old mid new : SessionState) → DoesAll (take n (replicate times request)) old mid
     → n < times → Does request mid new → DoesAll (take (n + 1) (replicate times request)) old new
 repeats_more times n request old mid new all h does =
     does_more (replicate times request) n request old mid new all (omega (arith, h, length-replicate times request)) (sym (get_or-replicate times n request request h)) does
 
 -- the same request, refused
-pub repeats_up_to : (times n : ℕ) (request : Request) (fault : SessionFault) (old new : KeptSteps) → DoesAll (take n (replicate times request)) old new
+pub repeats_up_to : (times n : ℕ) (request : Request) (fault : SessionFault) (old new : SessionState) → DoesAll (take n (replicate times request)) old new
     → n < times → Refuses fault request new → Performs (replicate times request) n (Some fault) old new
 repeats_up_to times n request fault old new all h refused =
     let next : drop n (replicate times request) ≡ request ∷ drop (n + 1) (replicate times request) =

@@ -2,31 +2,31 @@
 use Rattle.std.proofs.Common.{◌≡◌, ℕ, ◌+◌, ◌<◌, ◌≤◌, List, [], ◌∷◌, ◌++◌, length, drop, get_or, sym, ◌∙◌, ap, subst, refl}
 use Rattle.std.proofs.lemmas.List.{drop_more, drop_all}
 use Rattle.bib_spec.specs.Text.{Text}
-use Rattle.bib_spec.specs.Pieces.{Fit, IsAscending, applied, reversed}
+use Rattle.bib_spec.specs.Pieces.{Piece, Fit, IsAscending, applied, reversed}
 use Rattle.bib_spec.specs.Texts.{IsOpenable}
-use Rattle.edit_spec.specs.Steps.{Step, before, first_of, IsAllowed, Leads, LeadTo, LeadOn}
+use Rattle.history_spec.specs.Steps.{Step, before, first_of, IsAllowed, Leads, LeadTo, LeadOn}
 use Rattle.bib_spec.proofs.WayBack.{fit_back, applied-reversed, reversed-reversed}
-use Rattle.edit_spec.proofs.StepLemmas.{first_of-push, lead_to_push, lead_to_pop, before-made, steps-lead-back, leads_from}
+use Rattle.history_spec.proofs.StepLemmas.{first_of-push, lead_to_push, lead_to_pop, before-made, steps-lead-back, leads_from}
 use Rattle.bib_journal.specs.Loading.{last_of}
 
 -- ---- back
 
 -- where the way back is allowed, the step leads here
-leads_here : (step : Step) (new : Text) → IsAscending step → IsOpenable new → IsAllowed (reversed step) new → Leads step (before step new) new
+leads_here : (step : List Piece) (new : Text) → IsAscending step → IsOpenable new → IsAllowed (reversed step) new → Leads step (before step new) new
 leads_here step new up f a =
     let twice : reversed (reversed step) ≡ step = reversed-reversed step up in
     record {
-      fit = subst (λ (s : Step). Fit s (before step new)) twice (fit_back (reversed step) new a.fit);
-      made = ap (λ (s : Step). applied s (before step new)) (sym twice) ∙ applied-reversed (reversed step) new a.fit;
+      fit = subst (λ (s : List Piece). Fit s (before step new)) twice (fit_back (reversed step) new a.fit);
+      made = ap (λ (s : List Piece). applied s (before step new)) (sym twice) ∙ applied-reversed (reversed step) new a.fit;
       old_is_file = a.made;
       new_is_file = f;
     }
 
-pub back_is_tested : (step back : Step) (new : Text) → IsAscending step → IsOpenable new → back ≡ reversed step → IsAllowed back new → Leads step (before step new) new
-back_is_tested step back new up f e a = leads_here step new up f (subst (λ (s : Step). IsAllowed s new) e a)
+pub back_is_tested : (step back : List Piece) (new : Text) → IsAscending step → IsOpenable new → back ≡ reversed step → IsAllowed back new → Leads step (before step new) new
+back_is_tested step back new up f e a = leads_here step new up f (subst (λ (s : List Piece). IsAllowed s new) e a)
 
-pub back_is_allowed : (step back : Step) (new : Text) → back ≡ reversed step → Leads step (before step new) new → IsAllowed back new
-back_is_allowed step back new e l = subst (λ (s : Step). IsAllowed s new) (sym e) (steps-lead-back step (before step new) new l).0
+pub back_is_allowed : (step back : List Piece) (new : Text) → back ≡ reversed step → Leads step (before step new) new → IsAllowed back new
+back_is_allowed step back new e l = subst (λ (s : List Piece). IsAllowed s new) (sym e) (steps-lead-back step (before step new) new l).0
 
 -- what the loop back keeps: the steps that are left lead to the file that is reached where all lead to the last
 pub record AreGoneBack (steps left : List Step) (last now : Text) : Type 0 where
@@ -38,7 +38,7 @@ pub none_gone_back : (steps : List Step) (last : Text) → AreGoneBack steps ste
 none_gone_back steps last = record { there = λ w. w; here = λ w. w; first = refl }
 
 pub one_gone_back : (steps left others : List Step) (step : Step) (last now new : Text) → AreGoneBack steps left last now
-    → left ≡ others ++ step ∷ [] → Leads step (before step now) now → new ≡ before step now → AreGoneBack steps others last new
+    → left ≡ others ++ step ∷ [] → Leads step.pieces (before step.pieces now) now → new ≡ before step.pieces now → AreGoneBack steps others last new
 one_gone_back steps left others step last now new g split l e = record {
   there = λ w. subst (λ (f : Text). LeadTo others f) (sym e) ((lead_to_pop others step now (subst (λ (ss : List Step). LeadTo ss now) split (g.there w))).0);
   here = λ w. g.here (subst (λ (ss : List Step). LeadTo ss now) (sym split) (lead_to_push others step now (subst (λ (f : Text). LeadTo others f) e w) l));
@@ -47,7 +47,7 @@ one_gone_back steps left others step last now new g split l e = record {
 
 -- a step that does not lead here refuses them all
 pub stuck_back : (steps left others : List Step) (step : Step) (last now : Text) → AreGoneBack steps left last now
-    → left ≡ others ++ step ∷ [] → (Leads step (before step now) now → ⊥) → LeadTo steps last → ⊥
+    → left ≡ others ++ step ∷ [] → (Leads step.pieces (before step.pieces now) now → ⊥) → LeadTo steps last → ⊥
 stuck_back steps left others step last now g split stuck w =
     stuck ((lead_to_pop others step now (subst (λ (ss : List Step). LeadTo ss now) split (g.there w))).1)
 
@@ -67,20 +67,20 @@ next_step : (steps : List Step) (i : ℕ) (s : Step) → i < length steps → s 
 next_step steps i s h e = drop_more steps i s h ∙ ap (λ (x : Step). x ∷ drop (i + 1) steps) (sym e)
 
 pub one_gone_on : (steps : List Step) (i : ℕ) (s : Step) (first now new : Text) → AreGoneOn steps i first now → i < length steps → s ≡ get_or steps i s
-    → IsAllowed s now → new ≡ applied s now → AreGoneOn steps (i + 1) first new
+    → IsAllowed s.pieces now → new ≡ applied s.pieces now → AreGoneOn steps (i + 1) first new
 one_gone_on steps i s first now new w h e a made =
     let next : drop i steps ≡ s ∷ drop (i + 1) steps = next_step steps i s h e in
     record {
       there = λ o. subst (λ (f : Text). LeadOn (drop (i + 1) steps) f) (sym made) ((subst (λ (ss : List Step). LeadOn ss now) next (w.there o)).1);
-      here = λ o. w.here (subst (λ (ss : List Step). LeadOn ss now) (sym next) (leads_from s now w.is_file a, subst (λ (f : Text). LeadOn (drop (i + 1) steps) f) made o));
+      here = λ o. w.here (subst (λ (ss : List Step). LeadOn ss now) (sym next) (leads_from s.pieces now w.is_file a, subst (λ (f : Text). LeadOn (drop (i + 1) steps) f) made o));
       last = ap (last_of (drop (i + 1) steps)) made ∙ ap (λ (ss : List Step). last_of ss now) (sym next) ∙ w.last;
       is_file = subst IsOpenable (sym made) a.made;
     }
 
 pub stuck_on : (steps : List Step) (i : ℕ) (s : Step) (first now : Text) → AreGoneOn steps i first now → i < length steps → s ≡ get_or steps i s
-    → (IsAllowed s now → ⊥) → LeadOn steps first → ⊥
+    → (IsAllowed s.pieces now → ⊥) → LeadOn steps first → ⊥
 stuck_on steps i s first now w h e refused o =
-    let l : Leads s now (applied s now) = (subst (λ (ss : List Step). LeadOn ss now) (next_step steps i s h e) (w.there o)).0 in
+    let l : Leads s.pieces now (applied s.pieces now) = (subst (λ (ss : List Step). LeadOn ss now) (next_step steps i s h e) (w.there o)).0 in
     refused (record { fit = l.fit; made = l.new_is_file })
 
 pub all_gone_on : (steps : List Step) (i : ℕ) (first now : Text) → AreGoneOn steps i first now → length steps ≤ i → LeadOn steps first × (now ≡ last_of steps first)
@@ -95,9 +95,9 @@ pub on_from_first : (steps : List Step) (file : Text) → LeadTo steps file → 
 on_from_first [] file w = (tt, refl)
 on_from_first (s ∷ ss) file w =
     let rest : LeadOn ss (first_of ss file) × (last_of ss (first_of ss file) ≡ file) = on_from_first ss file w.1 in
-    let made : applied s (first_of (s ∷ ss) file) ≡ first_of ss file = w.0.made in (
+    let made : applied s.pieces (first_of (s ∷ ss) file) ≡ first_of ss file = w.0.made in (
       (
-        subst (λ (f : Text). Leads s (first_of (s ∷ ss) file) f) (sym made) w.0,
+        subst (λ (f : Text). Leads s.pieces (first_of (s ∷ ss) file) f) (sym made) w.0,
         subst (λ (f : Text). LeadOn ss f) (sym made) rest.0,
       ),
       ap (last_of ss) made ∙ rest.1,
@@ -107,11 +107,11 @@ on_from_first (s ∷ ss) file w =
 pub to_last : (steps : List Step) (file : Text) → LeadOn steps file → LeadTo steps (last_of steps file) × (first_of steps (last_of steps file) ≡ file)
 to_last [] file w = (tt, refl)
 to_last (s ∷ ss) file w =
-    let rest : LeadTo ss (last_of ss (applied s file)) × (first_of ss (last_of ss (applied s file)) ≡ applied s file) = to_last ss (applied s file) w.1 in
-    let back : before s (applied s file) ≡ file = before-made s file (applied s file) w.0 in
-    let start : before s (first_of ss (last_of ss (applied s file))) ≡ file = ap (before s) rest.1 ∙ back in (
+    let rest : LeadTo ss (last_of ss (applied s.pieces file)) × (first_of ss (last_of ss (applied s.pieces file)) ≡ applied s.pieces file) = to_last ss (applied s.pieces file) w.1 in
+    let back : before s.pieces (applied s.pieces file) ≡ file = before-made s.pieces file (applied s.pieces file) w.0 in
+    let start : before s.pieces (first_of ss (last_of ss (applied s.pieces file))) ≡ file = ap (before s.pieces) rest.1 ∙ back in (
       (
-        subst (λ (f : Text). Leads s f (first_of ss (last_of ss (applied s file)))) (sym start) (subst (λ (f : Text). Leads s file f) (sym rest.1) w.0),
+        subst (λ (f : Text). Leads s.pieces f (first_of ss (last_of ss (applied s.pieces file)))) (sym start) (subst (λ (f : Text). Leads s.pieces file f) (sym rest.1) w.0),
         rest.0,
       ),
       start,

@@ -7,7 +7,7 @@ use Rattle.bib_edit.specs.declared.fault.EditFault.TheVariants as edit_fault
 use Rattle.journal_format.specs.declared.fault.JournalFault.{JournalFault}
 use Rattle.journal_format.specs.declared.fault.JournalFault.TheVariants as journal_fault
 use Rattle.bib_journal.specs.declared.fault.SessionFault.{SessionFault}
-use Rattle.bib_journal.specs.declared.fault.SessionFault.TheVariants.{Unopened, Refused, JournalFull, NothingToUndo, NothingToRedo, BadJournal, JournalMismatch, Memory}
+use Rattle.bib_journal.specs.declared.fault.SessionFault.TheVariants.{Unopened, Refused, JournalFull, NothingToUndo, NothingToRedo, BadJournal, JournalMismatch, StepOpen, NoOpenStep, Memory}
 
 abbrev pub fault_number : SessionFault → ℕ
 fault_number (Unopened fault) = fault.kind
@@ -17,6 +17,8 @@ fault_number NothingToUndo = 51
 fault_number NothingToRedo = 52
 fault_number (BadJournal place) = 53
 fault_number JournalMismatch = 54
+fault_number StepOpen = 55
+fault_number NoOpenStep = 56
 fault_number Memory = 10
 
 -- where bytes can't be opened, or are no journal; nothing else has a place

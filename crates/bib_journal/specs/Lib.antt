@@ -1,8 +1,12 @@
 pub mod Faults
+pub mod OpenSteps
 pub mod Session
 pub mod Kept
 pub mod Loading
 pub mod Runs
 pub mod Turns
+pub mod OneResult
 pub mod Renaming
 pub mod OtherEntries
+pub mod UntouchedItems
+pub mod SavedLoads

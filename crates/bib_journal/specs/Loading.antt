@@ -1,13 +1,14 @@
 -- What a journal is to a session: what is saved, and what is loaded. (dialect)
 use Rattle.std.specs.Prelude.{◌≡◌, ◌<◌, ◌≤◌, List, [], ◌∷◌, length, sum_by, All}
+use Rattle.std.specs.List.{AllByRecursion}
 use Rattle.bib_spec.specs.Bytes.{file_limit}
 use Rattle.bib_spec.specs.Text.{Text}
-use Rattle.bib_spec.specs.Pieces.{IsAscending, applied}
+use Rattle.bib_spec.specs.Pieces.{Piece, IsAscending, applied}
 use Rattle.bib_spec.specs.Texts.{IsOpenable}
-use Rattle.edit_spec.specs.Steps.{Step, KeptSteps, BelongTo}
+use Rattle.history_spec.specs.Steps.{Step, KeptSteps, BelongTo}
 use Rattle.bib_store.specs.Reversing.{new_bytes_limit}
 use Rattle.journal_format.specs.Contents.{Contents, digest_of}
-use Rattle.journal_format.specs.Faults.{IsJournalOf}
+use Rattle.journal_format.specs.Faults.{IsTextOf, IsJournalOf}
 use Rattle.bib_journal.specs.declared.saving.Saved.{Saved}
 
 -- what a session's journal says: the digest of the present file, and the steps
@@ -21,10 +22,10 @@ pub record FitFile (c : Contents) (file : Text) : Type 0 where
   pub digest : c.digest ≡ digest_of file
   pub belong : BelongTo c.past c.future file
 
--- what is kept is in this file and this journal
+-- what is kept is in this file and this journal, which is written in the newest version
 pub record Saves (kept : KeptSteps) (saved : Saved) : Type 0 where
   pub file : saved.file ≡ kept.present
-  pub journal : IsJournalOf (contents_of kept) saved.journal
+  pub journal : IsTextOf (contents_of kept) saved.journal
 
 -- the session has this file, and its journal is this text, which fits the file
 pub record Loads (file text : Text) (kept : KeptSteps) : Type 0 where
@@ -47,10 +48,14 @@ pub record IsMismatch (file text : Text) : Type 0 where
 -- the file to which the steps lead on from this one
 abbrev pub last_of : List Step → Text → Text
 last_of [] file = file
-last_of (step ∷ steps) file = last_of steps (applied step file)
+last_of (step ∷ steps) file = last_of steps (applied step.pieces file)
 
 -- the way back can be computed
-pub record IsTurnable (step : Step) : Type 0 where
-  pub ascending : IsAscending step
-  pub places : All (λ p. p.place ≤ file_limit) step
-  pub new_bytes : sum_by (λ p. length p.new) step < new_bytes_limit
+pub record IsTurnable (pieces : List Piece) : Type 0 where
+  pub ascending : IsAscending pieces
+  pub places : All (λ p. p.place ≤ file_limit) pieces
+  pub new_bytes : sum_by (λ p. length p.new) pieces < new_bytes_limit
+
+-- that of each step can
+abbrev pub AreTurnable : List Step → Type 0
+AreTurnable steps = AllByRecursion (λ step. IsTurnable step.pieces) steps

@@ -5,9 +5,9 @@ use Rattle.bib_spec.specs.Text.{Text}
 use Rattle.bib_spec.specs.Reading.{Reading}
 use Rattle.bib_spec.specs.Records.{entries_of, entry_named}
 use Rattle.edit_spec.specs.OtherLaws.{number_with_one_more, entries_before, KeepsOthers, is_awaited, same_number}
-use Rattle.edit_spec.specs.Steps.{KeptSteps}
 use Rattle.bib_data.specs.declared.edit.Edit.{Edit}
 use Rattle.bib_data.specs.declared.edit.Edit.TheVariants.{AddEntry, AddMany, RemoveEntry}
+use Rattle.bib_journal.specs.OpenSteps.{SessionState}
 use Rattle.bib_journal.specs.Session.{MakesEdit}
 use Rattle.bib_journal.specs.Renaming.{OfReadings}
 
@@ -26,4 +26,4 @@ KeepsOtherEntries other old new = Unit {0}
 
 -- An accepted edit keeps the entries that it is not asked about.
 abbrev pub others_are_kept : Type 0
-others_are_kept = (edit : Edit) (old new : KeptSteps) → MakesEdit edit old new → OfReadings old.present new.present (KeepsOtherEntries edit)
+others_are_kept = (edit : Edit) (old new : SessionState) → MakesEdit edit old new → OfReadings old.steps.present new.steps.present (KeepsOtherEntries edit)

@@ -3,11 +3,11 @@ use Rattle.std.specs.Prelude.{ℕ, ◌≡◌, Bool, true, false, List, [], Optio
 use Rattle.std.specs.List.{list_all}
 use Rattle.bib_spec.specs.Text.{Text}
 use Rattle.bib_spec.specs.Reading.{Reading}
-use Rattle.bib_spec.specs.Records.{Record, entries_of, preambles_of, keys_of, entry_named, parent, expanded, default_depth}
+use Rattle.bib_spec.specs.Records.{Record, entries_of, preambles_of, keys_of, entry_named, parent, expanded}
 use Rattle.bib_spec.specs.MadeKeys.{new_keys}
 use Rattle.edit_spec.specs.Edits.{key_for}
 use Rattle.edit_spec.specs.Laws.{KeepsEntries, KeepsMacros, KeepsCitations, KeepsCitationsByKey, SeesRenamed, SeesInlined, SeesIntroduced, AllDiffer, no_new_key}
-use Rattle.edit_spec.specs.Steps.{KeptSteps, IsSound}
+use Rattle.history_spec.specs.Steps.{IsSound}
 use Rattle.bib_store.specs.Meaning.{OfReading}
 use Rattle.bib_data.specs.declared.edit.Edit.{Edit}
 use Rattle.bib_data.specs.declared.edit.Edit.TheVariants.{RenameKey, RegenerateKeys, RenameMacro, InlineMacro, IntroduceMacro}
@@ -17,6 +17,7 @@ use Rattle.bib_edit.specs.declared.fault.EditFault.{EditFault}
 use Rattle.bib_keys.specs.MadeBase.{made_base}
 use Rattle.bib_journal.specs.declared.fault.SessionFault.{SessionFault}
 use Rattle.bib_journal.specs.declared.fault.SessionFault.TheVariants.{Refused}
+use Rattle.bib_journal.specs.OpenSteps.{SessionState}
 use Rattle.bib_journal.specs.Session.{MakesEdit, RefusesEdit, Performs}
 
 -- ---- one renaming
@@ -25,8 +26,8 @@ use Rattle.bib_journal.specs.Session.{MakesEdit, RefusesEdit, Performs}
 -- what they were, but for the names that it gives. Keys that are made all differ. Of other edits nothing is said here.
 abbrev pub Keeps : Edit → Reading → Reading → Type 0
 Keeps (RenameKey from to) old new = KeepsEntries (key_for (entry_named (entries_of old) from) to) old new × KeepsMacros old new × KeepsCitationsByKey old new
-Keeps RegenerateKeys old new =
-    KeepsEntries (slice_get (new_keys made_base default_depth (entries_of old))) old new × KeepsMacros old new × KeepsCitationsByKey old new × AllDiffer (keys_of (entries_of new))
+Keeps (RegenerateKeys depth) old new =
+    KeepsEntries (slice_get (new_keys made_base depth (entries_of old))) old new × KeepsMacros old new × KeepsCitationsByKey old new × AllDiffer (keys_of (entries_of new))
 Keeps (RenameMacro from to) old new = KeepsEntries no_new_key old new × KeepsCitations old new × SeesRenamed from to old new
 Keeps (InlineMacro name) old new = KeepsEntries no_new_key old new × KeepsCitations old new × SeesInlined name old new
 Keeps (IntroduceMacro name text) old new = KeepsEntries no_new_key old new × KeepsCitations old new × SeesIntroduced name text old new
@@ -38,27 +39,30 @@ OfReadings old new P = OfReading old (λ db. OfReading new (λ db'. P db db'))
 
 -- An accepted renaming keeps every record.
 abbrev pub edit_keeps : Type 0
-edit_keeps = (edit : Edit) (old new : KeptSteps) → MakesEdit edit old new → OfReadings old.present new.present (Keeps edit)
+edit_keeps = (edit : Edit) (old new : SessionState) → MakesEdit edit old new → OfReadings old.steps.present new.steps.present (Keeps edit)
 
 -- ---- making keys again
 
--- Once keys were made, no reason is against making them again, and the file stays as it is.
-pub record MakesNothingAgain (kept : KeptSteps) : Type 0 where
-  pub allowed : (fault : EditFault) → RefusesEdit (Refused fault) RegenerateKeys kept → ⊥
-  pub file : (again : KeptSteps) → MakesEdit RegenerateKeys kept again → again.present ≡ kept.present
+-- Once keys were made, no reason is against making them again at the same depth, and the file stays as it is.
+pub record MakesNothingAgain (depth : ℕ) (state : SessionState) : Type 0 where
+  pub allowed : (fault : EditFault) → RefusesEdit (Refused fault) (RegenerateKeys depth) state → ⊥
+  pub file : (again : SessionState) → MakesEdit (RegenerateKeys depth) state again → again.steps.present ≡ state.steps.present
 
 abbrev pub keys_are_made_once : Type 0
-keys_are_made_once = (old new : KeptSteps) → IsSound old → MakesEdit RegenerateKeys old new → MakesNothingAgain new
+keys_are_made_once = (depth : ℕ) (old new : SessionState) → IsSound old.steps → MakesEdit (RegenerateKeys depth) old new → MakesNothingAgain depth new
 
 -- ---- many renamings
 
--- the request renames a key or a macro, makes all keys anew, writes a macro's text for its uses, or gives a text a name
+-- the request renames a key or a macro, makes all keys anew, writes a macro's text for its uses, or gives a text a name; or it
+-- begins or ends a step of such edits
 abbrev pub is_renaming : Request → Bool
 is_renaming (request.Edit (RenameKey from to)) = true
-is_renaming (request.Edit RegenerateKeys) = true
+is_renaming (request.Edit (RegenerateKeys depth)) = true
 is_renaming (request.Edit (RenameMacro from to)) = true
 is_renaming (request.Edit (InlineMacro name)) = true
 is_renaming (request.Edit (IntroduceMacro name text)) = true
+is_renaming (request.Begin label) = true
+is_renaming request.End = true
 is_renaming other = false
 
 -- the record without its key
@@ -75,5 +79,5 @@ pub record KeepsTexts (old new : Reading) : Type 0 where
 -- However many renamings are asked for, one after another and up to the first that is refused, every record is kept but for
 -- its key.
 abbrev pub requests_keep : Type 0
-requests_keep = (requests : List Request) (done : ℕ) (fault : Option SessionFault) (old new : KeptSteps) → list_all is_renaming requests ≡ true →
-    Performs requests done fault old new → OfReadings old.present new.present KeepsTexts
+requests_keep = (requests : List Request) (done : ℕ) (fault : Option SessionFault) (old new : SessionState) → list_all is_renaming requests ≡ true →
+    Performs requests done fault old new → OfReadings old.steps.present new.steps.present KeepsTexts

@@ -1,7 +1,8 @@
 //! The changes of a file and its journal, listed, taken back or made again, where no session stays open.
 
 ghost use Rattle.std.specs.Prelude.{◌≡◌, ◌-◌, ◌<◌, ◌≤◌, ◌↔◌, [], Some, None, drop, length, option_map, IsTrue, IfOk, IfErr, IfSome};
-ghost use Rattle.edit_spec.specs.Steps.{AreSteps, first_of};
+ghost use Rattle.history_spec.specs.Steps.{AreSteps, first_of};
+ghost use Rattle.bib_data.specs.Depths.{AsksWithDepth};
 ghost use Rattle.journal_format.specs.Contents.{digest_of};
 ghost use Rattle.bib_data.specs.declared.request.Request.TheVariants.{Undo, Redo};
 ghost use Rattle.bib_journal.specs.Kept.{kept};
@@ -19,15 +20,15 @@ use crate::saving::{Saved, saved_back};
 use crate::session::Session;
 use bib_data::Request;
 use bib_scan::{Seq, Text};
-use bib_store::{Database, ItemList, Piece};
-use journal_format::Journal;
+use bib_store::{Database, ItemList};
+use journal_format::{Journal, Step};
 use std::alloc::{AllocError, Global};
 
 /// The changes that a journal keeps: those that can be undone, from the oldest, and those that can be redone, from the next.
 #[derive(Debug, Drop)]
 pub struct Changes {
-    pub past: Seq<Seq<Piece>>,
-    pub future: Seq<Seq<Piece>>,
+    pub past: Seq<Step>,
+    pub future: Seq<Step>,
 }
 
 /// How many changes were taken back or made again, why the next one was not, and what is left of the file and its journal.
@@ -189,7 +190,8 @@ fn turn_opened<L: ItemList>(
     n: usize,
     empty: L,
 ) -> Result<Turned, SessionFault>
-    requires { L.items empty ≡ [] }
+    requires empty { L.items empty ≡ [] }
+    requires depth { AsksWithDepth request.now }
     ensures turned { IfOk result (Turns request.now n file.items (option_map (λ text. text.now) journal.entry)) }
     ensures refused { IfErr result (λ fault. RefusesOpen fault file.items (option_map (λ text. text.now) journal.entry)) }
 {
@@ -209,6 +211,7 @@ fn turn<L: ItemList>(
     request: &Request,
     n: usize,
 ) -> Result<Turned, SessionFault>
+    requires { AsksWithDepth request.now }
     ensures turned { IfOk result (HasTurned request.now n session.old) }
     ensures only { IfErr result (λ fault. fault ≡ Memory) }
 {

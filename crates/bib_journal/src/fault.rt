@@ -22,7 +22,7 @@ pub enum SessionFault {
     /// The edit is refused.
     #[error("{0}")]
     Refused(EditFault),
-    /// 65,535 changes can be undone already, or the texts of their steps would be longer than 67,108,864 bytes.
+    /// 65,535 steps can be undone already, or their texts would be longer than 67,174,399 bytes.
     #[error("41 JournalFull")]
     JournalFull,
     /// There is no change to take back.
@@ -37,6 +37,12 @@ pub enum SessionFault {
     /// The journal does not belong to the file.
     #[error("54 JournalMismatch")]
     JournalMismatch,
+    /// A step is open already; or it is open, and changes can be taken back or made again once it is ended.
+    #[error("55 StepOpen")]
+    StepOpen,
+    /// No step is open that could be ended.
+    #[error("56 NoOpenStep")]
+    NoOpenStep,
     /// A request for memory was refused.
     #[error("10 Memory")]
     Memory,
@@ -55,6 +61,8 @@ impl SessionFault {
             SessionFault::NothingToRedo => 52,
             SessionFault::BadJournal(_) => 53,
             SessionFault::JournalMismatch => 54,
+            SessionFault::StepOpen => 55,
+            SessionFault::NoOpenStep => 56,
             SessionFault::Memory => 10,
         }
     }

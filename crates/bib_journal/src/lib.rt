@@ -6,25 +6,34 @@
 mod changing;
 mod closing;
 mod fault;
+mod growing;
 mod laws;
 mod loading;
+mod open_step;
 mod other_entries;
 mod performing;
 mod renaming;
 mod replay;
+mod saved_loads;
 mod saving;
 mod session;
 mod stepping;
+mod text_len;
+mod untouched_items;
 
-pub use bib_data::Request;
+pub use bib_data::{LABEL_LIMIT, Label, Request, is_label};
 pub use changing::{Changes, Turned, read_changes, redo_changes, undo_changes};
 pub use fault::SessionFault;
-pub use journal_format::{CHANGE_LIMIT, STEP_TEXTS_LIMIT};
-pub use laws::{a_journal_keeps_one_history, several_runs_are_one_session};
+pub use journal_format::{CHANGE_LIMIT, STEP_TEXTS_LIMIT, Step};
+pub use laws::{
+    a_journal_keeps_one_history, requests_have_one_result, several_runs_are_one_session,
+};
 pub use other_entries::other_entries_keep_their_records;
 pub use performing::{Performed, perform, repeat};
 pub use renaming::{
     a_script_of_renamings_keeps_every_record, keys_are_made_once, renaming_keeps_every_record,
 };
+pub use saved_loads::what_is_saved_is_loaded;
 pub use saving::Saved;
 pub use session::Session;
+pub use untouched_items::items_stay_as_they_are;

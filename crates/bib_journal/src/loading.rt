@@ -3,7 +3,7 @@
 ghost use Rattle.std.specs.Prelude.{◌≡◌, ◌↔◌, IsTrue, IfOk, IfErr, OnOk};
 ghost use Rattle.bib_spec.specs.Text.{Text as FileText};
 ghost use Rattle.bib_spec.specs.Texts.{IsOpenable};
-ghost use Rattle.edit_spec.specs.Steps.{AreSteps};
+ghost use Rattle.history_spec.specs.Steps.{AreSteps};
 ghost use Rattle.journal_format.specs.Contents.{digest_of};
 ghost use Rattle.journal_format.specs.Faults.{IsJournalOf};
 ghost use Rattle.bib_journal.specs.Loading.{FitFile, SaysOf};

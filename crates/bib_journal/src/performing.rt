@@ -1,6 +1,7 @@
 //! Doing what is asked of a session, one request after another.
 
-ghost use Rattle.std.specs.Prelude.{◌≡◌, replicate, IfErr, OnOk, OnErr};
+ghost use Rattle.std.specs.Prelude.{◌≡◌, replicate, All, IfErr, OnOk, OnErr};
+ghost use Rattle.bib_data.specs.Depths.{AsksWithDepth};
 ghost use Rattle.bib_journal.specs.Session.{Does, Refuses, Performs};
 
 use crate::fault::SessionFault;
@@ -17,12 +18,15 @@ pub struct Performed {
 
 /// Does one request.
 fn obey<L: ItemList>(session: &mut Session<L>, request: &Request) -> Result<(), SessionFault>
+    requires { AsksWithDepth request.now }
     ensures done { OnOk result (Does request.now session.old session.new) }
     ensures refused { IfErr result (λ fault. Refuses fault request.now session.old) }
     ensures err { OnErr result (session.new ≡ session.old) }
 {
     match request {
         Request::Edit(edit) => session.edit(edit),
+        Request::Begin(label) => session.begin(label.as_slice()),
+        Request::End => session.end(),
         Request::Undo => session.undo(),
         Request::Redo => session.redo(),
     }
@@ -30,6 +34,7 @@ fn obey<L: ItemList>(session: &mut Session<L>, request: &Request) -> Result<(), 
 
 /// Does one request so many times, up to the first refusal, which changes nothing.
 pub fn repeat<L: ItemList>(session: &mut Session<L>, request: &Request, times: usize) -> Performed
+    requires { AsksWithDepth request.now }
     ensures { Performs (replicate times request.now) result.done result.fault session.old session.new }
 {
     'obey: for round in 0..times {
@@ -48,6 +53,7 @@ pub fn repeat<L: ItemList>(session: &mut Session<L>, request: &Request, times: u
 
 /// Does the requests in order, up to the first that is refused; those before it stand, and it changes nothing.
 pub fn perform<L: ItemList>(session: &mut Session<L>, requests: &[Request]) -> Performed
+    requires { All AsksWithDepth requests.now }
     ensures { Performs requests.now result.done result.fault session.old session.new }
 {
     'obey: for n in 0..requests.len() {

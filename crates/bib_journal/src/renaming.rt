@@ -9,8 +9,8 @@ pub fn renaming_keeps_every_record()
     ensures { edit_keeps }
 {}
 
-/// Where `Session::edit` made all keys anew, no reason is against doing so again, and that gives the same bytes. It may still
-/// be refused for want of room or of memory.
+/// Where `Session::edit` made all keys anew, no reason is against doing so again at the same depth, and that gives the same
+/// bytes. It may still be refused for want of room or of memory.
 pub fn keys_are_made_once()
     ensures { keys_are_made_once }
 {}

@@ -1,13 +1,13 @@
 //! Steps of a journal, gone over one by one.
 
 ghost use Rattle.std.specs.Prelude.{◌≡◌, ◌-◌, ◌≤◌, ◌↔◌, None, drop, length, IsTrue, IfOk, IfSome, OnOk};
-ghost use Rattle.std.specs.List.{AllByRecursion};
 ghost use Rattle.bib_spec.specs.Pieces.{applied};
-ghost use Rattle.edit_spec.specs.Steps.{IsAllowed, Leads, LeadTo, LeadOn, BelongTo, before, first_of};
-ghost use Rattle.bib_journal.specs.Loading.{IsTurnable, last_of};
+ghost use Rattle.history_spec.specs.Steps.{IsAllowed, Leads, LeadTo, LeadOn, BelongTo, before, first_of};
+ghost use Rattle.bib_journal.specs.Loading.{IsTurnable, AreTurnable, last_of};
 
-use bib_scan::{Seq, Text};
+use bib_scan::Text;
 use bib_store::{Database, ItemList, Piece, StoreFault, reverse};
+use journal_format::Step;
 use std::alloc::{AllocError, Global};
 
 /// Makes a step, if it is allowed.
@@ -43,15 +43,15 @@ fn try_back<L: ItemList>(
 fn go_back_over<L: ItemList>(
     alloc: Global,
     db: &mut Database<L>,
-    steps: &[Seq<Piece>],
+    steps: &[Step],
 ) -> Result<bool, AllocError>
-    requires { AllByRecursion IsTurnable steps.now }
+    requires { AreTurnable steps.now }
     ensures yes { IfOk result (λ yes. IsTrue yes ↔ LeadTo steps.now db.old) }
     ensures back { IfOk result (λ yes. IsTrue yes → db.new ≡ first_of steps.now db.old) }
 {
     let mut left = steps;
     'step: while let Some((step, others)) = left.split_last() {
-        if !try_back(alloc, db, step.as_slice())? {
+        if !try_back(alloc, db, step.pieces.as_slice())? {
             return Ok(false);
         }
         left = others;
@@ -60,13 +60,13 @@ fn go_back_over<L: ItemList>(
 }
 
 /// Makes the steps one after another, if they lead on from this file.
-fn go_on_over<L: ItemList>(db: &mut Database<L>, steps: &[Seq<Piece>]) -> Result<bool, AllocError>
+fn go_on_over<L: ItemList>(db: &mut Database<L>, steps: &[Step]) -> Result<bool, AllocError>
     ensures yes { IfOk result (λ yes. IsTrue yes ↔ LeadOn steps.now db.old) }
     ensures on { IfOk result (λ yes. IsTrue yes → db.new ≡ last_of steps.now db.old) }
 {
     db.opens();
     'step: for step in steps {
-        if !try_on(db, step.as_slice())? {
+        if !try_on(db, step.pieces.as_slice())? {
             return Ok(false);
         }
     }
@@ -77,9 +77,9 @@ fn go_on_over<L: ItemList>(db: &mut Database<L>, steps: &[Seq<Piece>]) -> Result
 fn lead_to<L: ItemList>(
     alloc: Global,
     db: &mut Database<L>,
-    past: &[Seq<Piece>],
+    past: &[Step],
 ) -> Result<bool, AllocError>
-    requires { AllByRecursion IsTurnable past.now }
+    requires { AreTurnable past.now }
     ensures yes { IfOk result (λ yes. IsTrue yes ↔ LeadTo past.now db.old) }
     ensures same { IfOk result (λ yes. IsTrue yes → db.new ≡ db.old) }
 {
@@ -96,9 +96,9 @@ fn lead_to<L: ItemList>(
 fn lead_on<L: ItemList>(
     alloc: Global,
     db: &mut Database<L>,
-    future: &[Seq<Piece>],
+    future: &[Step],
 ) -> Result<bool, AllocError>
-    requires { AllByRecursion IsTurnable future.now }
+    requires { AreTurnable future.now }
     ensures yes { IfOk result (λ yes. IsTrue yes ↔ LeadOn future.now db.old) }
     ensures same { IfOk result (λ yes. IsTrue yes → db.new ≡ db.old) }
 {
@@ -115,11 +115,11 @@ fn lead_on<L: ItemList>(
 pub(crate) fn belong<L: ItemList>(
     alloc: Global,
     db: &mut Database<L>,
-    past: &[Seq<Piece>],
-    future: &[Seq<Piece>],
+    past: &[Step],
+    future: &[Step],
 ) -> Result<bool, AllocError>
-    requires past { AllByRecursion IsTurnable past.now }
-    requires future { AllByRecursion IsTurnable future.now }
+    requires past { AreTurnable past.now }
+    requires future { AreTurnable future.now }
     ensures yes { IfOk result (λ yes. IsTrue yes ↔ BelongTo past.now future.now db.old) }
     ensures same { IfOk result (λ yes. IsTrue yes → db.new ≡ db.old) }
 {
@@ -136,11 +136,11 @@ pub(crate) fn belong<L: ItemList>(
 pub(crate) fn belong_once<L: ItemList>(
     alloc: Global,
     db: &mut Database<L>,
-    past: &[Seq<Piece>],
-    future: &[Seq<Piece>],
+    past: &[Step],
+    future: &[Step],
 ) -> Result<bool, AllocError>
-    requires past { AllByRecursion IsTurnable past.now }
-    requires future { AllByRecursion IsTurnable future.now }
+    requires past { AreTurnable past.now }
+    requires future { AreTurnable future.now }
     ensures { IfOk result (λ yes. IsTrue yes ↔ BelongTo past.now future.now db.old) }
 {
     if !lead_on(alloc, db, future)? {
@@ -163,10 +163,10 @@ fn bytes_of<L: ItemList>(db: &Database<L>) -> Result<Text, AllocError>
 fn back_to<L: ItemList>(
     alloc: Global,
     db: &mut Database<L>,
-    steps: &[Seq<Piece>],
+    steps: &[Step],
     n: usize,
 ) -> Result<Option<Text>, AllocError>
-    requires turnable { AllByRecursion IsTurnable steps.now }
+    requires turnable { AreTurnable steps.now }
     requires within { n ≤ length steps.now }
     ensures file { IfOk result (λ file. IfSome file (λ file. LeadTo steps.now db.old × (file ≡ first_of (drop (length steps.now - n) steps.now) db.old))) }
     ensures none { IfOk result (λ file. file ≡ None → LeadTo steps.now db.old → ⊥) }
@@ -189,12 +189,12 @@ fn back_to<L: ItemList>(
 pub(crate) fn file_before<L: ItemList>(
     alloc: Global,
     db: &mut Database<L>,
-    past: &[Seq<Piece>],
-    future: &[Seq<Piece>],
+    past: &[Step],
+    future: &[Step],
     n: usize,
 ) -> Result<Option<Text>, AllocError>
-    requires past { AllByRecursion IsTurnable past.now }
-    requires future { AllByRecursion IsTurnable future.now }
+    requires past { AreTurnable past.now }
+    requires future { AreTurnable future.now }
     requires within { n ≤ length past.now }
     ensures file { IfOk result (λ file. IfSome file (λ file. BelongTo past.now future.now db.old × (file ≡ first_of (drop (length past.now - n) past.now) db.old))) }
     ensures none { IfOk result (λ file. file ≡ None → BelongTo past.now future.now db.old → ⊥) }

@@ -4,9 +4,8 @@ ghost use Rattle.std.specs.Prelude.{◌≡◌, ◌-◌, ◌≤◌, ◌++◌, dro
 ghost use Rattle.journal_format.specs.Contents.{digest_of, IsDigest};
 ghost use Rattle.journal_format.specs.JournalText.{journal_text};
 
-use bib_scan::{Seq, Text};
-use bib_store::Piece;
-use journal_format::{Journal, digest, write_journal};
+use bib_scan::Text;
+use journal_format::{Journal, Step, digest, write_journal};
 use std::alloc::{AllocError, Global};
 
 /// A file and its journal, as a run leaves them and a later one loads them.
@@ -20,8 +19,8 @@ pub struct Saved {
 pub(crate) fn journal_of(
     alloc: Global,
     file: &[u8],
-    past: &[Seq<Piece>],
-    undone: &[Seq<Piece>],
+    past: &[Step],
+    undone: &[Step],
 ) -> Result<Text, AllocError>
     ensures text { IfOk result (λ text. text ≡ journal_text (record { digest = digest_of file.now; past = past.now; future = reverse undone.now })) }
     ensures digest { OnOk result (IsDigest (digest_of file.now)) }
@@ -31,11 +30,7 @@ pub(crate) fn journal_of(
 }
 
 /// Moves so many steps from the top of one stack to another.
-fn turn_over(
-    from: &mut Vec<Seq<Piece>>,
-    to: &mut Vec<Seq<Piece>>,
-    n: usize,
-) -> Result<(), AllocError>
+fn turn_over(from: &mut Vec<Step>, to: &mut Vec<Step>, n: usize) -> Result<(), AllocError>
     requires { n ≤ length from.old.items }
     ensures from { OnOk result (from.new.items ≡ take (length from.old.items - n) from.old.items) }
     ensures to { OnOk result (to.new.items ≡ to.old.items ++ reverse (drop (length from.old.items - n) from.old.items)) }

@@ -1,53 +1,66 @@
 //! An open file with its history.
 
-ghost use Rattle.std.specs.Prelude.{◌≡◌, ◌+◌, ◌<◌, ◌++◌, [], length, reverse, slice_get, Some, option_map, IfOk, IfErr, OnOk, OnErr};
+ghost use Rattle.std.specs.Prelude.{◌≡◌, ◌+◌, ◌<◌, ◌++◌, [], length, reverse, slice_get, Some, option_map, IfOk, IfErr, OnOk, OnErr, ◌≢◌, ◌⊎◌};
 ghost use Rattle.bib_spec.specs.Texts.{IsOpenable};
-ghost use Rattle.edit_spec.specs.Steps.{IsSound, AreSteps};
+ghost use Rattle.bib_spec.specs.Pieces.{Piece as FilePiece, applied};
+ghost use Rattle.history_spec.specs.Steps.{IsSound, AreSteps, IsLabel, IsAllowed};
+ghost use Rattle.bib_data.specs.Depths.{HasDepth};
 ghost use Rattle.journal_format.specs.Contents.{digest_of};
-ghost use Rattle.journal_format.specs.Faults.{IsJournalOf};
+ghost use Rattle.journal_format.specs.Faults.{IsTextOf};
 ghost use Rattle.bib_journal.specs.Loading.{Loads, Saves, FitFile, contents_of};
-ghost use Rattle.bib_journal.specs.Session.{started, MakesEdit, Opens, RefusesStart, RefusesLoad, RefusesOpen, RefusesEdit, RefusesUndo, RefusesRedo, TakesBack, MakesAgain};
+ghost use Rattle.bib_journal.specs.OpenSteps.{idle, after_edit, MakesSteps, LacksRoom};
+ghost use Rattle.bib_journal.specs.Session.{started, MakesEdit, IsOpened, Begins, Ends, RefusesStart, RefusesLoad, RefusesOpen, RefusesEdit, RefusesBegin, RefusesEnd, RefusesUndo, RefusesRedo, TakesBack, MakesAgain};
+ghost use Rattle.bib_journal.specs.declared.fault.SessionFault.TheVariants.{JournalFull, Memory};
+ghost use Rattle.bib_journal.specs.declared.open_step.OpenStep.TheVariants.{NoStep, LastStep};
 
 use crate::closing::close;
 use crate::fault::{SessionFault, refused, unopened};
+use crate::growing::grow;
 use crate::loading::{digest_within, said_of};
+use crate::open_step::{OpenStep, next_label, take_label};
 use crate::saving::{Saved, journal_of};
 use crate::stepping::{forget, go_back, go_on, push_within_capacity};
 use bib_edit::{Edit, plan};
 use bib_scan::{Seq, Text};
-use bib_store::{Database, ItemList, Piece};
-use journal_format::{CHANGE_LIMIT, Journal, STEP_TEXTS_LIMIT, step_text_len, step_texts_len};
+use bib_store::{Database, ItemList, Piece, compose};
+use journal_format::{
+    CHANGE_LIMIT, Journal, STEP_TEXTS_LIMIT, Step, step_text_len, step_texts_len,
+};
 use std::alloc::Global;
 use std::marker::Model;
 
 /// An open file, with the steps that led to it and those that were taken back. It keeps the pieces of each step and no
-/// old file. A contract sees the past steps from the oldest, the present file, and the future steps from the next one.
+/// old file. A contract sees the past steps from the oldest, the present file, and the future steps from the next one; and
+/// which step is open.
 #[derive(Drop)]
 pub struct Session<L: ItemList> {
     alloc: Global,
     database: Database<L>,
-    past: Vec<Seq<Piece>>,
-    undone: Vec<Seq<Piece>>,
+    past: Vec<Step>,
+    undone: Vec<Step>,
     past_len: u64,
+    current: OpenStep,
+    // where the pieces of the step that is open end in the present file, or none, if it has one edit or is not open
+    ends: Vec<u64>,
 }
 
 impl<L: ItemList> Model for Session<L> {
     ghost use Rattle.std.specs.Prelude.{reverse};
-    ghost use Rattle.edit_spec.specs.Steps.{KeptSteps};
     ghost use Rattle.bib_journal.specs.Kept.{kept, IsKept};
+    ghost use Rattle.bib_journal.specs.OpenSteps.{SessionState};
 
-    ghost Value = { KeptSteps };
+    ghost Value = { SessionState };
 
-    ghost view = { λ s. kept s.past.items s.database (reverse s.undone.items) };
+    ghost view = { λ s. record { steps = kept s.past.items s.database (reverse s.undone.items); current = s.current } };
 
-    ghost invariant = { λ s. IsKept (kept s.past.items s.database (reverse s.undone.items)) s.past_len };
+    ghost invariant = { λ s. IsKept (record { steps = kept s.past.items s.database (reverse s.undone.items); current = s.current }) s.past_len s.ends.items };
 }
 
 /// A session of the open file, with the steps that a journal says, which fit it.
 fn with_steps<L: ItemList>(alloc: Global, database: Database<L>, said: Journal) -> Session<L>
     requires fit { FitFile said database }
     requires steps { AreSteps said.past said.future }
-    ensures { result ≡ record { past = said.past; present = database; future = said.future } }
+    ensures { result ≡ idle (record { past = said.past; present = database; future = said.future }) }
 {
     let past = said.past.into_vec();
     let mut undone = said.future.into_vec();
@@ -59,6 +72,8 @@ fn with_steps<L: ItemList>(alloc: Global, database: Database<L>, said: Journal) 
         past,
         undone,
         past_len,
+        current: OpenStep::NoStep,
+        ends: Vec::new(alloc),
     }
 }
 
@@ -70,7 +85,8 @@ fn loaded<L: ItemList>(
     journal: &[u8],
 ) -> Result<Session<L>, SessionFault>
     requires { digest.now ≡ digest_of database }
-    ensures loaded { IfOk result (λ session. Loads database journal.now session) }
+    ensures loaded { IfOk result (λ session. Loads database journal.now session.steps) }
+    ensures closed { IfOk result (λ session. session.current ≡ NoStep) }
     ensures refused { IfErr result (λ fault. RefusesLoad fault database journal.now) }
 {
     let mut database = database;
@@ -87,7 +103,7 @@ impl<L: ItemList> Session<L> {
     /// Opens the file that these bytes are, to which nothing was done yet. The list that is handed in holds no item.
     pub fn start(alloc: Global, bytes: &[u8], empty: L) -> Result<Session<L>, SessionFault>
         requires { L.items empty ≡ [] }
-        ensures started { IfOk result (λ session. session ≡ started bytes.now) }
+        ensures started { IfOk result (λ session. session ≡ idle (started bytes.now)) }
         ensures opens { OnOk result (IsOpenable bytes.now) }
         ensures refused { IfErr result (λ fault. RefusesStart fault bytes.now) }
     {
@@ -100,7 +116,8 @@ impl<L: ItemList> Session<L> {
         }
     }
 
-    /// Closes the file, and forgets its steps, as dropping the session does.
+    /// Closes the file, and forgets its steps, as dropping the session does. Nothing is left of which a clause could speak, so
+    /// it has none.
     pub fn close(self) {
         let Session {
             alloc: _,
@@ -108,13 +125,15 @@ impl<L: ItemList> Session<L> {
             past: _past,
             undone: _undone,
             past_len: _,
+            current: _open,
+            ends: _ends,
         } = self;
         close(database);
     }
 
     /// The session of an open file, to which nothing was done yet.
     fn begun(alloc: Global, database: Database<L>) -> Session<L>
-        ensures { result ≡ started database }
+        ensures { result ≡ idle (started database) }
     {
         database.opens();
         Session {
@@ -123,13 +142,15 @@ impl<L: ItemList> Session<L> {
             past: Vec::new(alloc),
             undone: Vec::new(alloc),
             past_len: 0,
+            current: OpenStep::NoStep,
+            ends: Vec::new(alloc),
         }
     }
 
     /// Opens the file as `start` does. The list may keep the file's memory in place of copies of its items.
     fn start_file(alloc: Global, file: Vec<u8>, empty: L) -> Result<Session<L>, SessionFault>
         requires { L.items empty ≡ [] }
-        ensures started { IfOk result (λ session. session ≡ started file.items) }
+        ensures started { IfOk result (λ session. session ≡ idle (started file.items)) }
         ensures opens { OnOk result (IsOpenable file.items) }
         ensures refused { IfErr result (λ fault. RefusesStart fault file.items) }
     {
@@ -152,7 +173,8 @@ impl<L: ItemList> Session<L> {
         empty: L,
     ) -> Result<Session<L>, SessionFault>
         requires { L.items empty ≡ [] }
-        ensures loaded { IfOk result (λ session. Loads bytes.now journal.now session) }
+        ensures loaded { IfOk result (λ session. Loads bytes.now journal.now session.steps) }
+        ensures closed { IfOk result (λ session. session.current ≡ NoStep) }
         ensures refused { IfErr result (λ fault. RefusesLoad fault bytes.now journal.now) }
     {
         let digest = digest_within(alloc, bytes)?;
@@ -170,7 +192,8 @@ impl<L: ItemList> Session<L> {
         empty: L,
     ) -> Result<Session<L>, SessionFault>
         requires { L.items empty ≡ [] }
-        ensures loaded { IfOk result (λ session. Loads file.items journal.now session) }
+        ensures loaded { IfOk result (λ session. Loads file.items journal.now session.steps) }
+        ensures closed { IfOk result (λ session. session.current ≡ NoStep) }
         ensures refused { IfErr result (λ fault. RefusesLoad fault file.items journal.now) }
     {
         let digest = digest_within(alloc, file.as_slice())?;
@@ -188,7 +211,7 @@ impl<L: ItemList> Session<L> {
         empty: L,
     ) -> Result<Session<L>, SessionFault>
         requires { L.items empty ≡ [] }
-        ensures opened { IfOk result (Opens bytes.now (option_map (λ text. text.now) journal.entry)) }
+        ensures opened { IfOk result (IsOpened bytes.now (option_map (λ text. text.now) journal.entry)) }
         ensures refused { IfErr result (λ fault. RefusesOpen fault bytes.now (option_map (λ text. text.now) journal.entry)) }
     {
         match journal {
@@ -205,7 +228,7 @@ impl<L: ItemList> Session<L> {
         empty: L,
     ) -> Result<Session<L>, SessionFault>
         requires { L.items empty ≡ [] }
-        ensures opened { IfOk result (Opens file.items (option_map (λ text. text.now) journal.entry)) }
+        ensures opened { IfOk result (IsOpened file.items (option_map (λ text. text.now) journal.entry)) }
         ensures refused { IfErr result (λ fault. RefusesOpen fault file.items (option_map (λ text. text.now) journal.entry)) }
     {
         match journal {
@@ -214,9 +237,39 @@ impl<L: ItemList> Session<L> {
         }
     }
 
-    /// Makes an edit. What could be made again is forgotten. It takes time and memory as `plan` and `Database::splice`
-    /// do.
+    /// Begins a step of several edits, with this label, which may be empty: the edits up to its end are one change. Until the
+    /// first of them it is no change.
+    pub fn begin(&mut self, label: &[u8]) -> Result<(), SessionFault>
+        requires { IsLabel label.now }
+        ensures begun { OnOk result (Begins label.now self.old self.new) }
+        ensures refused { IfErr result (λ fault. RefusesBegin fault self.old) }
+        ensures err { OnErr result (self.new ≡ self.old) }
+    {
+        if !self.current.is_none() {
+            return Err(SessionFault::StepOpen);
+        }
+        self.current = OpenStep::NewStep(Seq::from_vec(label.to_vec(self.alloc)?));
+        Ok(())
+    }
+
+    /// Ends the step that is open. One without an edit is forgotten. It takes no memory.
+    pub fn end(&mut self) -> Result<(), SessionFault>
+        ensures ended { OnOk result (Ends self.old self.new) }
+        ensures refused { IfErr result (λ fault. RefusesEnd fault self.old) }
+        ensures err { OnErr result (self.new ≡ self.old) }
+    {
+        if self.current.is_none() {
+            return Err(SessionFault::NoOpenStep);
+        }
+        self.current = OpenStep::NoStep;
+        Ok(())
+    }
+
+    /// Makes an edit: a step by itself, or one of the edits of the step that is open. What could be made again is forgotten. It
+    /// takes time and memory as `plan` and `Database::splice` do; where the step that is open has edits, also for those of its
+    /// pieces that the edit lies near, and it moves the others as memory.
     pub fn edit(&mut self, edit: &Edit) -> Result<(), SessionFault>
+        requires { HasDepth edit.now }
         ensures made { OnOk result (MakesEdit edit.now self.old self.new) }
         ensures refused { IfErr result (λ fault. RefusesEdit fault edit.now self.old) }
         ensures err { OnErr result (self.new ≡ self.old) }
@@ -225,61 +278,113 @@ impl<L: ItemList> Session<L> {
             Ok(pieces) => pieces,
             Err(fault) => return Err(refused(fault)),
         };
-        let len = self
-            .past_len
-            .saturating_add(step_text_len(pieces.as_slice()));
+        if self.current.is_last() {
+            self.join(pieces)
+        } else {
+            self.add(pieces)
+        }
+    }
+
+    /// Makes these pieces a step of their own.
+    fn add(&mut self, pieces: Seq<Piece>) -> Result<(), SessionFault>
+        requires allowed { IsAllowed pieces self.old.steps.present }
+        requires none { self.old.current ≢ LastStep }
+        ensures added { OnOk result (MakesSteps self.old.current pieces self.old.steps self.new.steps) }
+        ensures current { OnOk result (self.new.current ≡ after_edit self.old.current) }
+        ensures room { OnOk result (LacksRoom self.old.current pieces self.old.steps → ⊥) }
+        ensures full { result ≡ Err JournalFull → LacksRoom self.old.current pieces self.old.steps }
+        ensures only { IfErr result (λ fault. (fault ≡ JournalFull) ⊎ (fault ≡ Memory)) }
+        ensures err { OnErr result (self.new ≡ self.old) }
+    {
+        let text_len = step_text_len(next_label(&self.current), pieces.as_slice());
+        let len = self.past_len.saturating_add(text_len);
         if self.past.len() >= CHANGE_LIMIT || len > STEP_TEXTS_LIMIT {
             return Err(SessionFault::JournalFull);
         }
         self.past.reserve(1)?;
         go_on(&mut self.database, pieces.as_slice())?;
-        push_within_capacity(&mut self.past, pieces);
+        let label = take_label(self.alloc, &mut self.current);
+        push_within_capacity(&mut self.past, Step { label, pieces });
         self.past_len = len;
+        self.ends.clear();
         forget(&mut self.undone);
         Ok(())
     }
 
-    /// Takes the last change back.
+    /// Makes these pieces a part of the last step of the past.
+    fn join(&mut self, pieces: Seq<Piece>) -> Result<(), SessionFault>
+        requires allowed { IsAllowed pieces self.old.steps.present }
+        requires last { self.old.current ≡ LastStep }
+        ensures joined { OnOk result (MakesSteps self.old.current pieces self.old.steps self.new.steps) }
+        ensures current { OnOk result (self.new.current ≡ after_edit self.old.current) }
+        ensures room { OnOk result (LacksRoom self.old.current pieces self.old.steps → ⊥) }
+        ensures full { result ≡ Err JournalFull → LacksRoom self.old.current pieces self.old.steps }
+        ensures only { IfErr result (λ fault. (fault ≡ JournalFull) ⊎ (fault ≡ Memory)) }
+        ensures err { OnErr result (self.new ≡ self.old) }
+    {
+        let Some(mut step) = self.past.pop() else {
+            unreachable!()
+        };
+        let grown = grow(
+            self.alloc,
+            &mut self.database,
+            &mut step,
+            &mut self.ends,
+            pieces.as_slice(),
+            self.past_len,
+        );
+        push_within_capacity(&mut self.past, step);
+        self.past_len = grown?;
+        Ok(())
+    }
+
+    /// Takes the last step back.
     pub fn undo(&mut self) -> Result<(), SessionFault>
         ensures back { OnOk result (TakesBack self.old self.new) }
         ensures refused { IfErr result (λ fault. RefusesUndo fault self.old) }
         ensures err { OnErr result (self.new ≡ self.old) }
     {
+        if !self.current.is_none() {
+            return Err(SessionFault::StepOpen);
+        }
         let Some(step) = self.past.last() else {
             return Err(SessionFault::NothingToUndo);
         };
         self.undone.reserve(1)?;
-        go_back(self.alloc, &mut self.database, step.as_slice())?;
+        go_back(self.alloc, &mut self.database, step.pieces.as_slice())?;
         let Some(step) = self.past.pop() else {
             unreachable!()
         };
-        self.past_len -= step_text_len(step.as_slice());
+        self.past_len -= step_text_len(step.label.as_slice(), step.pieces.as_slice());
         push_within_capacity(&mut self.undone, step);
         Ok(())
     }
 
-    /// Makes the change again that was taken back last.
+    /// Makes the step again that was taken back last.
     pub fn redo(&mut self) -> Result<(), SessionFault>
         ensures again { OnOk result (MakesAgain self.old self.new) }
         ensures refused { IfErr result (λ fault. RefusesRedo fault self.old) }
         ensures err { OnErr result (self.new ≡ self.old) }
     {
+        if !self.current.is_none() {
+            return Err(SessionFault::StepOpen);
+        }
         let Some(step) = self.undone.last() else {
             return Err(SessionFault::NothingToRedo);
         };
         self.past.reserve(1)?;
-        go_on(&mut self.database, step.as_slice())?;
+        go_on(&mut self.database, step.pieces.as_slice())?;
         let Some(step) = self.undone.pop() else {
             unreachable!()
         };
-        self.past_len += step_text_len(step.as_slice());
+        self.past_len += step_text_len(step.label.as_slice(), step.pieces.as_slice());
         push_within_capacity(&mut self.past, step);
         Ok(())
     }
 
     /// The present file's bytes.
     pub fn bytes(&self) -> Result<Text, SessionFault>
-        ensures bytes { IfOk result (λ text. text ≡ self.now.present) }
+        ensures bytes { IfOk result (λ text. text ≡ self.now.steps.present) }
         ensures only { IfErr result (λ fault. fault ≡ SessionFault.Memory) }
     {
         match self.database.bytes() {
@@ -290,7 +395,7 @@ impl<L: ItemList> Session<L> {
 
     /// The present file and its journal, as a later run loads them. It takes memory for both texts, and time in their length.
     pub fn saved(&self) -> Result<Saved, SessionFault>
-        ensures saved { IfOk result (Saves self.now) }
+        ensures saved { IfOk result (Saves self.now.steps) }
         ensures only { IfErr result (λ fault. fault ≡ SessionFault.Memory) }
     {
         let file = self.bytes()?;
@@ -302,49 +407,65 @@ impl<L: ItemList> Session<L> {
 
     /// The journal of the present file. It takes memory for a copy of the file and for the text, and time in their length.
     pub fn save(&self) -> Result<Text, SessionFault>
-        ensures saved { IfOk result (IsJournalOf (contents_of self.now)) }
+        ensures saved { IfOk result (IsTextOf (contents_of self.now.steps)) }
         ensures only { IfErr result (λ fault. fault ≡ SessionFault.Memory) }
     {
         Ok(self.saved()?.journal)
     }
 
+    /// Step `n`, counted from 0: the past steps from the oldest, then the future ones from the next to be redone.
+    fn step_at(&self, n: usize) -> &Step
+        requires { n < length self.now.steps.past + length self.now.steps.future }
+        ensures { slice_get (self.now.steps.past ++ self.now.steps.future) n ≡ Some result.now }
+    {
+        if n < self.past.len() {
+            return &self.past[n];
+        }
+        let next = n - self.past.len();
+        &self.undone[self.undone.len() - 1 - next]
+    }
+
     /// The pieces of step `n`, counted from 0: the past steps from the oldest, then the future ones from the next to be
     /// redone. It takes no memory.
     pub fn step(&self, n: usize) -> &[Piece]
-        requires { n < length self.now.past + length self.now.future }
-        ensures { slice_get (self.now.past ++ self.now.future) n ≡ Some result.now }
+        requires { n < length self.now.steps.past + length self.now.steps.future }
+        ensures { option_map (λ step. step.pieces) (slice_get (self.now.steps.past ++ self.now.steps.future) n) ≡ Some result.now }
     {
-        if n < self.past.len() {
-            return self.past[n].as_slice();
-        }
-        let next = n - self.past.len();
-        self.undone[self.undone.len() - 1 - next].as_slice()
+        self.step_at(n).pieces.as_slice()
+    }
+
+    /// The label of step `n`, counted as `step` counts them; it may be empty. It takes no memory.
+    pub fn label(&self, n: usize) -> &[u8]
+        requires { n < length self.now.steps.past + length self.now.steps.future }
+        ensures { option_map (λ step. step.label) (slice_get (self.now.steps.past ++ self.now.steps.future) n) ≡ Some result.now }
+    {
+        self.step_at(n).label.as_slice()
     }
 
     /// How many changes can be taken back.
     pub fn undo_count(&self) -> usize
-        ensures { result ≡ length self.now.past }
+        ensures { result ≡ length self.now.steps.past }
     {
         self.past.len()
     }
 
     /// How many changes can be made again.
     pub fn redo_count(&self) -> usize
-        ensures { result ≡ length self.now.future }
+        ensures { result ≡ length self.now.steps.future }
     {
         self.undone.len()
     }
 
     /// The present file, open.
     pub fn database(&self) -> &Database<L>
-        ensures { result.now ≡ self.now.present }
+        ensures { result.now ≡ self.now.steps.present }
     {
         &self.database
     }
 
     /// What a session keeps is sound: the present is a file, from which the steps lead back and on from file to file.
     pub fn is_sound(&self)
-        ensures { IsSound self.now }
+        ensures { IsSound self.now.steps }
     {
         let _ = &self.past;
     }

@@ -2,10 +2,10 @@
 
 ghost use Rattle.std.specs.Prelude.{◌≡◌, ◌+◌, ◌<◌, ◌≤◌, ◌∷◌, ◌++◌, [], vec_len, vec_capacity, OnOk, OnErr};
 ghost use Rattle.bib_spec.specs.Pieces.{applied};
-ghost use Rattle.edit_spec.specs.Steps.{IsAllowed, Leads, before};
+ghost use Rattle.history_spec.specs.Steps.{IsAllowed, Leads, before};
 
-use bib_scan::Seq;
 use bib_store::{Database, ItemList, Piece, StoreFault, reverse};
+use journal_format::Step;
 use std::alloc::{AllocError, Global};
 
 /// Adds an item at the end, where there is room.
@@ -22,7 +22,7 @@ pub(crate) fn push_within_capacity<T: Drop>(items: &mut Vec<T>, item: T)
 }
 
 /// Forgets steps. It asks for no memory.
-pub(crate) fn forget(steps: &mut Vec<Seq<Piece>>)
+pub(crate) fn forget(steps: &mut Vec<Step>)
     ensures { steps.new.items ≡ [] }
 {
     steps.clear();

@@ -7,7 +7,7 @@ use Rattle.std.proofs.lemmas.List.{length-map}
 use Rattle.std.proofs.lemmas.List.FromFn.{length-enumerate_from}
 use Rattle.bib_spec.specs.Bytes.{name_limit}
 use Rattle.bib_spec.specs.Text.{Text}
-use Rattle.bib_spec.specs.Records.{EntryTexts, Record, record_of, default_depth, expanded}
+use Rattle.bib_spec.specs.Records.{EntryTexts, record_of}
 use Rattle.bib_spec.specs.MadeKeys.{free_key, made_keys, bases}
 use Rattle.bib_keys.specs.MadeBase.{made_base}
 use Rattle.bib_keys.specs.TakenKeys.{AreTaken}
@@ -24,22 +24,18 @@ numbered f m (x ∷ xs) (suc n) = numbered f (m + 1) xs n ∙ ap (λ (k : ℕ). 
     further : (m n : ℕ) → m + 1 + n ≡ m + suc n
     further m n = omega arith
 
-abbrev pub bases_of : List EntryTexts → List Text
-bases_of entries = bases made_base default_depth entries
+abbrev pub bases_of : ℕ → List EntryTexts → List Text
+bases_of depth entries = bases made_base depth entries
 
-pub length-bases : (entries : List EntryTexts) → length (bases_of entries) ≡ length entries
-length-bases entries = length-map (enumerate_from 0 entries) (λ p. made_base (record_of default_depth entries p.0 p.1)) ∙ length-enumerate_from 0 entries
-
--- the base of the record that an entry has
-pub base-of : (entries : List EntryTexts) (n : ℕ) (r : Record) → expanded default_depth entries n ≡ Some r → (entry : EntryTexts) → slice_get entries n ≡ Some entry → made_base r ≡ made_base (record_of default_depth entries n entry)
-base-of entries n r is entry at = ap made_base (same_Some r (record_of default_depth entries n entry) (sym is ∙ ap (option_map (record_of default_depth entries n)) at))
+pub length-bases : (depth : ℕ) (entries : List EntryTexts) → length (bases_of depth entries) ≡ length entries
+length-bases depth entries = length-map (enumerate_from 0 entries) (λ p. made_base (record_of depth entries p.0 p.1)) ∙ length-enumerate_from 0 entries
 
 -- the base of entry n is that of its record
-pub base-at : (entries : List EntryTexts) (n : ℕ) (entry : EntryTexts) → slice_get entries n ≡ Some entry → slice_get (bases_of entries) n ≡ Some (made_base (record_of default_depth entries n entry))
-base-at entries n entry at =
-    numbered (λ p. made_base (record_of default_depth entries p.0 p.1)) 0 entries n
-    ∙ ap (λ o. option_map (λ e. made_base (record_of default_depth entries (0 + n) e)) o) at
-    ∙ ap (λ (k : ℕ). Some (made_base (record_of default_depth entries k entry))) (zero-add n)
+pub base-at : (depth : ℕ) (entries : List EntryTexts) (n : ℕ) (entry : EntryTexts) → slice_get entries n ≡ Some entry → slice_get (bases_of depth entries) n ≡ Some (made_base (record_of depth entries n entry))
+base-at depth entries n entry at =
+    numbered (λ p. made_base (record_of depth entries p.0 p.1)) 0 entries n
+    ∙ ap (λ o. option_map (λ e. made_base (record_of depth entries (0 + n) e)) o) at
+    ∙ ap (λ (k : ℕ). Some (made_base (record_of depth entries k entry))) (zero-add n)
 
 -- ---- the walk over the bases
 

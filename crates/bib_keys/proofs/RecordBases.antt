@@ -1,42 +1,58 @@
--- The label base of a record is made of some fields alone.
-use Rattle.std.proofs.Common.{◌≡◌, ◌∙◌, ℕ, List, [], ◌++◌, Option, Some, None, option_map, slice_get, sym, ap, append-nil}
+-- The label base of a record is made of some fields alone, and of what each of its ancestors gives to a label.
+use Rattle.std.proofs.Common.{◌≡◌, ◌∙◌, ℕ, List, [], ◌∷◌, ◌++◌, Some, fold, option_map, slice_get, refl, sym, ap}
 use Rattle.std.proofs.lemmas.Option.{same_Some}
 use Rattle.bib_spec.specs.Text.{Text}
-use Rattle.bib_spec.specs.Records.{EntryTexts, Record, default_depth, record_of, expanded, parent, fields_at, missing}
-use Rattle.bib_store.specs.Choosing.{chosen, with_chosen}
+use Rattle.bib_spec.specs.Records.{EntryTexts, Record, record_of, parent, fields_at, missing, with_inherited}
+use Rattle.bib_spec.specs.Lineages.{lineage}
+use Rattle.bib_store.specs.Choosing.{chosen}
 use Rattle.bib_store.proofs.ChosenFields.{chosen_inherited}
-use Rattle.bib_store.proofs.Inherited.{record_with, expanded_alone, expanded_with}
+use Rattle.bib_store.proofs.Inherited.{record_with, fields_along, expanded_along}
 use Rattle.bib_names.specs.Label.{Fields, label_names, label_base}
+use Rattle.bib_names.specs.LabelParts.{parts_of, no_parts, parts_with, base_from}
+use Rattle.bib_names.specs.declared.parts.LabelParts.{LabelParts}
 use Rattle.bib_names.proofs.LabelFields.{base_kept}
-use Rattle.bib_keys.specs.Parents.{label_fields}
+use Rattle.bib_names.proofs.LabelPartLaws.{base_of_parts, parts_inherited, parts_alone, parts_further}
+use Rattle.bib_keys.specs.Parents.{label_fields, with_parent, parts_along}
 
--- the label base of an entry, from what was gathered of its record
-base_chosen : (names : List Text) (entries : List EntryTexts) (n : ℕ) (entry : EntryTexts) (gathered : Record) → names ≡ label_names → slice_get entries n ≡ Some entry →
-    option_map (with_chosen names) (expanded default_depth entries n) ≡ Some gathered → label_base gathered.fields ≡ label_base (record_of default_depth entries n entry).fields
-base_chosen names entries n entry gathered are at is =
-    let rec : Record = record_of default_depth entries n entry in
-    let found : Some (with_chosen label_names rec) ≡ Some gathered =
-    ap (λ (o : Option EntryTexts). option_map (with_chosen label_names) (option_map (record_of default_depth entries n) o)) (sym at)
-    ∙ ap (λ (ns : List Text). option_map (with_chosen ns) (expanded default_depth entries n)) (sym are) ∙ is in
-    ap (λ (r : Record). label_base r.fields) (sym (same_Some (with_chosen label_names rec) gathered found)) ∙ base_kept rec.fields
+module _ (entries : List EntryTexts) where
+  -- the fields, and those that are missing of entry n that labels are made of
+  abbrev with_its : Fields → ℕ → Fields
+  with_its fields n = fields ++ missing fields (label_fields entries n)
 
--- the same from its own fields alone, where it has no parent
-pub base_alone : (names : List Text) (entries : List EntryTexts) (n : ℕ) (entry : EntryTexts) (fields : Fields) → names ≡ label_names → slice_get entries n ≡ Some entry →
-    parent entries n ≡ None → fields ≡ chosen names (fields_at entries n) → label_base (fields ++ missing fields []) ≡ label_base (record_of default_depth entries n entry).fields
-base_alone names entries n entry fields are at none is =
-    ap label_base (append-nil fields ∙ is)
-    ∙ base_chosen names entries n entry (with_chosen names (record_with entry (fields_at entries n))) are at
-    (ap (option_map (with_chosen names)) (expanded_alone entries n entry at none))
+  chosen_along : (own : Fields) (ns : List ℕ) → chosen label_names (with_inherited entries own ns) ≡ fold with_its (chosen label_names own) ns
+  chosen_along own [] = refl
+  chosen_along own (n ∷ ns) =
+      chosen_along (own ++ missing own (fields_at entries n)) ns ∙ ap (λ (fields : Fields). fold with_its fields ns) (chosen_inherited label_names own (fields_at entries n))
 
--- the same from its own fields and those of its parent
-pub base_inheriting : (names : List Text) (entries : List EntryTexts) (n p : ℕ) (entry : EntryTexts) (fields : Fields) → names ≡ label_names → slice_get entries n ≡ Some entry →
-    parent entries n ≡ Some p → fields ≡ chosen names (fields_at entries n) →
-    label_base (fields ++ missing fields (label_fields entries p)) ≡ label_base (record_of default_depth entries n entry).fields
-base_inheriting names entries n p entry fields are at one is =
-    let own : Fields = fields_at entries n in
-    let others : Fields = fields_at entries p in
-    ap (λ (fs : Fields). label_base (fs ++ missing fs (chosen label_names others))) is
-    ∙ sym (ap (λ (ns : List Text). label_base (chosen names own ++ missing (chosen names own) (chosen ns others))) are)
-    ∙ sym (ap label_base (chosen_inherited names own others))
-    ∙ base_chosen names entries n entry (with_chosen names (record_with entry (own ++ missing own others))) are at
-    (ap (option_map (with_chosen names)) (expanded_with entries n p entry at one))
+  given_along : (fields : Fields) (ns : List ℕ) → parts_of (fold with_its fields ns) ≡ fold (with_parent entries) (parts_of fields) ns
+  given_along fields [] = refl
+  given_along fields (n ∷ ns) =
+      given_along (with_its fields n) ns ∙ ap (λ (parts : LabelParts). fold (with_parent entries) parts ns) (parts_inherited fields (label_fields entries n))
+
+  joined : (a b : LabelParts) (ns : List ℕ) → fold (with_parent entries) (parts_with a b) ns ≡ parts_with a (fold (with_parent entries) b ns)
+  joined a b [] = refl
+  joined a b (n ∷ ns) =
+      ap (λ (parts : LabelParts). fold (with_parent entries) parts ns) (parts_further a b (parts_of (label_fields entries n))) ∙ joined a (with_parent entries b n) ns
+
+  -- what own fields give with what is inherited is what all that is gathered gives
+  own_and_along : (fields : Fields) (ns : List ℕ) → parts_with (parts_of fields) (parts_along entries ns) ≡ parts_of (fold with_its fields ns)
+  own_and_along fields ns =
+      sym (joined (parts_of fields) no_parts ns)
+      ∙ ap (λ (parts : LabelParts). fold (with_parent entries) parts ns) (parts_alone (parts_of fields))
+      ∙ sym (given_along fields ns)
+
+-- the label base of an entry's record, from its own fields and from what is given along its lineage
+pub base_along : (names : List Text) (entries : List EntryTexts) (depth n : ℕ) (entry : EntryTexts) (fields : Fields) → names ≡ label_names → slice_get entries n ≡ Some entry
+    → fields ≡ chosen names (fields_at entries n)
+    → base_from (parts_with (parts_of fields) (parts_along entries (lineage (parent entries) depth n))) ≡ label_base (record_of depth entries n entry).fields
+base_along names entries depth n entry fields are at is =
+    let line : List ℕ = lineage (parent entries) depth n in
+    let own : fields ≡ label_fields entries n = is ∙ ap (λ (ns : List Text). chosen ns (fields_at entries n)) are in
+    let whole : record_with entry (fields_along entries depth n) ≡ record_of depth entries n entry =
+    same_Some (record_with entry (fields_along entries depth n)) (record_of depth entries n entry) (sym (expanded_along entries depth n entry at) ∙ ap (option_map (record_of depth entries n)) at) in
+    ap (λ (f : Fields). base_from (parts_with (parts_of f) (parts_along entries line))) own
+    ∙ ap base_from (own_and_along entries (label_fields entries n) line)
+    ∙ base_of_parts (fold (with_its entries) (label_fields entries n) line)
+    ∙ ap label_base (sym (chosen_along entries (fields_at entries n) line))
+    ∙ base_kept (fields_along entries depth n)
+    ∙ ap (λ (r : Record). label_base r.fields) whole

@@ -4,7 +4,7 @@ ghost use Rattle.std.specs.Prelude.{◌≡◌, ◌≤◌, ◌<◌, ◌+◌, ◌*
 ghost use Rattle.std.specs.List.{AllByRecursion};
 ghost use Rattle.bib_spec.specs.Bytes.{name_limit, file_limit};
 ghost use Rattle.bib_spec.specs.Text.{Text as Bytes};
-ghost use Rattle.bib_spec.specs.Records.{EntryTexts, entries_of, record_of, default_depth};
+ghost use Rattle.bib_spec.specs.Records.{EntryTexts, entries_of, record_of, IsDepth};
 ghost use Rattle.bib_spec.specs.MadeKeys.{free_key, made_keys, new_keys, base_limit};
 ghost use Rattle.bib_store.specs.Meaning.{OfReading, IsEntryNumber};
 ghost use Rattle.bib_names.specs.Label.{label_names};
@@ -19,22 +19,24 @@ use bib_scan::{Seq, Text};
 use bib_store::{Database, ItemList};
 use std::alloc::{AllocError, Global};
 
-/// The base of the key that is made for entry `n`.
+/// The base of the key that is made for entry `n` from its record at this depth.
 fn base_of<L: ItemList>(
     alloc: Global,
     db: &Database<L>,
     n: usize,
+    depth: u8,
     names: &[&[u8]],
     parents: &mut Parents,
 ) -> Result<Text, AllocError>
     requires number { IsEntryNumber db.now n }
+    requires depth { IsDepth depth }
     requires names { map (λ name. name.now) names.now ≡ label_names }
     requires parents { AreParents db.now parents.old }
     ensures parents { OnOk result (AreParents db.now parents.new) }
-    ensures base { IfOk result (λ base. OfReading db.now (λ r. (entry : EntryTexts) → slice_get (entries_of r) n ≡ Some entry → base ≡ made_base (record_of default_depth (entries_of r) n entry))) }
+    ensures base { IfOk result (λ base. OfReading db.now (λ r. (entry : EntryTexts) → slice_get (entries_of r) n ≡ Some entry → base ≡ made_base (record_of depth (entries_of r) n entry))) }
     ensures short { IfOk result (λ base. length base ≤ base_limit) }
 {
-    let label_base = parents.label_base(alloc, db, n, names)?;
+    let label_base = parents.label_base(alloc, db, n, depth, names)?;
     key_letters(alloc, label_base.as_slice())
 }
 
@@ -43,21 +45,23 @@ fn make_key<L: ItemList>(
     alloc: Global,
     db: &Database<L>,
     n: usize,
+    depth: u8,
     names: &[&[u8]],
     taken: &mut TakenKeys,
     parents: &mut Parents,
 ) -> Result<Text, AllocError>
     requires number { IsEntryNumber db.now n }
+    requires depth { IsDepth depth }
     requires names { map (λ name. name.now) names.now ≡ label_names }
     requires parents { AreParents db.now parents.old }
     requires count { taken.old.count + 1 < 2 ^ 64 }
     ensures parents { OnOk result (AreParents db.now parents.new) }
-    ensures key { IfOk result (λ key. OfReading db.now (λ r. (entry : EntryTexts) → slice_get (entries_of r) n ≡ Some entry → (keys : List Bytes) → AreTaken keys taken.old → key ≡ free_key keys (made_base (record_of default_depth (entries_of r) n entry)))) }
+    ensures key { IfOk result (λ key. OfReading db.now (λ r. (entry : EntryTexts) → slice_get (entries_of r) n ≡ Some entry → (keys : List Bytes) → AreTaken keys taken.old → key ≡ free_key keys (made_base (record_of depth (entries_of r) n entry)))) }
     ensures taken { IfOk result (λ key. (keys : List Bytes) → AreTaken keys taken.old → AreTaken (key ∷ keys) taken.new) }
     ensures count { OnOk result (taken.new.count ≡ taken.old.count + 1) }
     ensures short { IfOk result (λ key. length key ≤ name_limit) }
 {
-    let base = base_of(alloc, db, n, names, parents)?;
+    let base = base_of(alloc, db, n, depth, names, parents)?;
     taken.take_free(base.as_slice())
 }
 
@@ -70,10 +74,15 @@ fn push_made(keys: &mut Vec<Text>, made: Result<Text, AllocError>) -> Result<(),
 }
 
 /// The made keys of all entries: for each in turn the first candidate of its base that is neither an earlier entry's made
-/// key nor the text of a dangling crossref. It takes time in the number of entries and in their bytes, and memory for the
-/// keys and for what parents give.
-pub fn made_keys<L: ItemList>(alloc: Global, db: &Database<L>) -> Result<Seq<Text>, AllocError>
-    ensures keys { IfOk result (λ keys. OfReading db.now (λ r. keys ≡ new_keys made_base default_depth (entries_of r))) }
+/// key nor the text of a dangling crossref; its base is that of its record at this depth. It takes time in the number of
+/// entries, once for each parent that is looked at, and in their bytes, and memory for the keys and for what parents give.
+pub fn made_keys<L: ItemList>(
+    alloc: Global,
+    db: &Database<L>,
+    depth: u8,
+) -> Result<Seq<Text>, AllocError>
+    requires { IsDepth depth }
+    ensures keys { IfOk result (λ keys. OfReading db.now (λ r. keys ≡ new_keys made_base depth (entries_of r))) }
     ensures short { IfOk result (AllByRecursion (λ key. length key ≤ name_limit)) }
 {
     db.opens();
@@ -85,7 +94,7 @@ pub fn made_keys<L: ItemList>(alloc: Global, db: &Database<L>) -> Result<Seq<Tex
     'entries: for n in 0..db.entry_count() {
         push_made(
             &mut keys,
-            make_key(alloc, db, n, names, &mut taken, &mut parents),
+            make_key(alloc, db, n, depth, names, &mut taken, &mut parents),
         )?;
     }
     Ok(Seq::from_vec(keys))

@@ -1,22 +1,25 @@
 //! The label bases of entries, and what parents give to them.
 
-ghost use Rattle.std.specs.Prelude.{◌≡◌, ◌<◌, ◌++◌, length, map, IfOk, OnOk};
-ghost use Rattle.bib_spec.specs.Records.{entries_of, missing};
+ghost use Rattle.std.specs.Prelude.{◌≡◌, ◌<◌, length, map, IfOk, OnOk};
+ghost use Rattle.bib_spec.specs.Records.{entries_of};
 ghost use Rattle.bib_store.specs.Meaning.{OfReading, IsEntryNumber};
-ghost use Rattle.bib_names.specs.Label.{Fields, label_names, label_base};
-ghost use Rattle.bib_names.specs.LabelParts.{parts_of};
+ghost use Rattle.bib_names.specs.Label.{label_names};
+ghost use Rattle.bib_names.specs.LabelParts.{parts_of, parts_with, base_from};
 ghost use Rattle.bib_keys.specs.Parents.{label_fields, KeepTheSame};
 
-use bib_names::{LabelParts, label_base_with, label_parts};
+use bib_names::{Inherited, LabelParts, label_base_with, label_parts};
 use bib_scan::Text;
 use bib_store::{Database, ItemList};
 use std::alloc::{AllocError, Global};
 
-/// What the own fields of parents give to the labels of their children, by the parents' numbers, as far as it was asked
-/// for. So the fields of a parent are read once, however many children it has and in whatever order they stand.
+/// What the own fields of parents give to the labels of their descendants, by the parents' numbers, as far as it was asked
+/// for. So the fields of a parent are read once, however many descendants it has, at whatever depth, and in whatever order
+/// they stand.
 #[derive(Drop)]
 pub struct Parents {
     known: Vec<Option<Box<LabelParts>>>,
+    // the parent of the entry that was asked for last, the parent's parent and so on
+    line: Vec<usize>,
 }
 
 /// Makes room for what entry `n` gives.
@@ -54,9 +57,9 @@ fn parts_of<L: ItemList>(
 fn base_with(
     alloc: Global,
     fields: &[(Text, Text)],
-    inherited: &LabelParts,
+    inherited: &Inherited<'_>,
 ) -> Result<Text, AllocError>
-    ensures { IfOk result (λ base. (others : Fields) → inherited.now ≡ parts_of others → base ≡ label_base (fields.now ++ missing fields.now others)) }
+    ensures { IfOk result (λ base. base ≡ base_from (parts_with (parts_of fields.now) inherited.now)) }
 {
     match label_base_with(alloc, fields, inherited) {
         Ok(base) => Ok(base),
@@ -65,13 +68,14 @@ fn base_with(
 }
 
 impl Parents {
-    ghost use Rattle.std.specs.Prelude.{◌≡◌, map, slice_get, Some, IsSome, IfOk, OnOk};
+    ghost use Rattle.std.specs.Prelude.{◌≡◌, ℕ, [], map, slice_get, Some, IsSome, IfOk, OnOk};
     ghost use Rattle.std.specs.Option.{option_copied, option_map};
     ghost use Rattle.bib_spec.specs.Text.{Text as Bytes};
-    ghost use Rattle.bib_spec.specs.Records.{EntryTexts, entries_of, record_of, default_depth};
+    ghost use Rattle.bib_spec.specs.Records.{EntryTexts, entries_of, parent, record_of, IsDepth};
+    ghost use Rattle.bib_spec.specs.Lineages.{lineage};
     ghost use Rattle.bib_store.specs.Meaning.{OfReading, IsEntryNumber};
     ghost use Rattle.bib_names.specs.Label.{label_names, label_base};
-    ghost use Rattle.bib_keys.specs.Parents.{AreParents, kept_of};
+    ghost use Rattle.bib_keys.specs.Parents.{AreParents, AreKnown, kept_of, parts_along};
 
     /// None is known. It takes no memory.
     pub fn none(alloc: Global) -> Self
@@ -79,6 +83,7 @@ impl Parents {
     {
         Parents {
             known: Vec::new(alloc),
+            line: Vec::new(alloc),
         }
     }
 
@@ -105,6 +110,8 @@ impl Parents {
         requires parents { AreParents db.now self.old }
         ensures parents { AreParents db.now self.new }
         ensures known { OnOk result (IsSome (kept_of self.new.known.items n)) }
+        ensures kept { (m : ℕ) → IsSome (kept_of self.old.known.items m) → IsSome (kept_of self.new.known.items m) }
+        ensures line { self.new.line ≡ self.old.line }
     {
         make_room(&mut self.known, n)?;
         if self.known[n].is_some() {
@@ -115,33 +122,74 @@ impl Parents {
         Ok(())
     }
 
-    /// The label base of entry `n`, which is that of its record. It gathers no other fields than those of these names, which
-    /// are all that labels are made of. It takes time in their bytes, and in those of its parent where it is the first
-    /// child that is asked for; memory for the letters and digits that parents give, and a word for each entry up to the
-    /// last parent. The one refusal is want of memory.
+    /// Finds from which entries entry `n` inherits at this depth, and gets to know what they give. What is refused keeps
+    /// what is known.
+    fn find_line<L: ItemList>(
+        &mut self,
+        alloc: Global,
+        db: &Database<L>,
+        n: usize,
+        depth: u8,
+        names: &[&[u8]],
+    ) -> Result<(), AllocError>
+        requires number { IsEntryNumber db.now n }
+        requires names { map (λ name. name.now) names.now ≡ label_names }
+        requires parents { AreParents db.now self.old }
+        ensures parents { AreParents db.now self.new }
+        ensures line { OnOk result (OfReading db.now (λ r. self.new.line.items ≡ lineage (parent (entries_of r)) depth n)) }
+        ensures known { OnOk result (AreKnown self.new.known.items self.new.line.items) }
+    {
+        self.line.clear();
+        let mut heir = n;
+        'find: for _ in 0..depth {
+            let Some(parent) = db.parent(heir) else {
+                return Ok(());
+            };
+            self.learn(alloc, db, parent, names)?;
+            self.line.push(parent)?;
+            heir = parent;
+        }
+        Ok(())
+    }
+
+    /// What the entries of the line give.
+    fn inherited(&self) -> Inherited<'_>
+        requires { AreKnown self.now.known.items self.now.line.items }
+        ensures { (file : Bytes) → AreParents file self.now → OfReading file (λ r. result ≡ parts_along (entries_of r) self.now.line.items) }
+    {
+        let mut inherited = Inherited::none();
+        'join: for n in &self.line {
+            match self.parts(*n) {
+                Some(parts) => inherited = inherited.with(parts),
+                None => unreachable!(),
+            }
+        }
+        inherited
+    }
+
+    /// The label base of entry `n`, which is that of its record at this depth. It gathers no other fields than those of these
+    /// names, which are all that labels are made of. It takes time in their bytes, and in those of each entry from which it
+    /// inherits where that is asked for first; memory for the letters and digits that parents give, and a word for each
+    /// entry up to the last parent. The one refusal is want of memory.
     pub fn label_base<L: ItemList>(
         &mut self,
         alloc: Global,
         db: &Database<L>,
         n: usize,
+        depth: u8,
         names: &[&[u8]],
     ) -> Result<Text, AllocError>
         requires number { IsEntryNumber db.now n }
+        requires depth { IsDepth depth }
         requires names { map (λ name. name.now) names.now ≡ label_names }
         requires parents { AreParents db.now self.old }
         ensures parents { AreParents db.now self.new }
-        ensures base { IfOk result (λ base. OfReading db.now (λ r. (entry : EntryTexts) → slice_get (entries_of r) n ≡ Some entry → base ≡ label_base (record_of default_depth (entries_of r) n entry).fields)) }
+        ensures base { IfOk result (λ base. OfReading db.now (λ r. (entry : EntryTexts) → slice_get (entries_of r) n ≡ Some entry → base ≡ label_base (record_of depth (entries_of r) n entry).fields)) }
     {
         let Ok(fields) = db.own_fields_with(n, names) else {
             return Err(AllocError);
         };
-        let Some(parent) = db.parent(n) else {
-            return base_with(alloc, fields.as_slice(), &LabelParts::none(alloc));
-        };
-        self.learn(alloc, db, parent, names)?;
-        match self.parts(parent) {
-            Some(inherited) => base_with(alloc, fields.as_slice(), inherited),
-            None => unreachable!(),
-        }
+        self.find_line(alloc, db, n, depth, names)?;
+        base_with(alloc, fields.as_slice(), &self.inherited())
     }
 }

@@ -29,6 +29,6 @@ pub use labelling::{labels, labels_of};
 pub use made_key::{BASE_LIMIT, candidate, key_base, key_bases_are_keys, key_letters};
 pub use name::{Name, split_name};
 pub use name_list::split_names;
-pub use parts::{LabelParts, label_base_with, label_parts};
+pub use parts::{Inherited, LabelParts, label_base_with, label_parts};
 pub use template::{Template, one_template};
 pub use word::Word;

@@ -1,9 +1,9 @@
 //! What each field gives to a label, so that what many entries inherit is read once.
 
-ghost use Rattle.std.specs.Prelude.{◌≡◌, ◌++◌, [], IfOk, IfErr, OnOk, codes, map};
-ghost use Rattle.bib_spec.specs.Records.{missing};
-ghost use Rattle.bib_names.specs.Label.{Fields, first_three, label_base};
-ghost use Rattle.bib_names.specs.LabelParts.{letters_if_any, letters_in, year_digits, parts_of, parts_with, letters_from, base_from, has_field, given_or};
+ghost use Rattle.std.specs.Prelude.{◌≡◌, ◌++◌, [], IfOk, IfErr, OnOk, codes, map, unwrap_or};
+ghost use Rattle.std.specs.Option.{option_copied, option_flatten, option_or};
+ghost use Rattle.bib_names.specs.Label.{first_three, label_base};
+ghost use Rattle.bib_names.specs.LabelParts.{letters_if_any, letters_in, year_digits, parts_of, parts_with, letters_from, base_from, has_field, given};
 
 use crate::fault::NameFault;
 use crate::label::{
@@ -12,30 +12,62 @@ use crate::label::{
 };
 use bib_scan::{Seq, Text, same_folded};
 use std::alloc::{AllocError, Global};
+use std::marker::Model;
 
-/// What fields give to a label: the letters of author and of editor, where they list names; the first three characters of
-/// `key`; the last two digits of the year.
+/// What fields give to a label, each part where there is such a field: the letters of author and of editor, if they list
+/// names; the first three characters of `key`; the last two digits of the year.
 #[derive(Debug, Drop)]
 pub struct LabelParts {
-    pub author: Option<Text>,
-    pub editor: Option<Text>,
-    pub key: Text,
-    pub year: Text,
+    pub author: Option<Option<Text>>,
+    pub editor: Option<Option<Text>>,
+    pub key: Option<Text>,
+    pub year: Option<Text>,
 }
 
-impl LabelParts {
-    ghost use Rattle.std.specs.Prelude.{◌≡◌, []};
-    ghost use Rattle.bib_names.specs.LabelParts.{parts_of};
+/// What an entry inherits for its label, each part from the nearest of its ancestors that gives it. A contract sees the
+/// parts.
+#[derive(Drop)]
+pub struct Inherited<'a> {
+    author: Option<&'a Option<Text>>,
+    editor: Option<&'a Option<Text>>,
+    key: Option<&'a Text>,
+    year: Option<&'a Text>,
+}
 
-    /// What no fields give. It takes no memory.
-    pub fn none(alloc: Global) -> Self
-        ensures { result ≡ parts_of [] }
+impl<'a> Model for Inherited<'a> {
+    ghost use Rattle.std.specs.Option.{option_copied};
+    ghost use Rattle.bib_names.specs.declared.parts.LabelParts.{LabelParts};
+
+    ghost Value = { LabelParts };
+
+    ghost view = { λ i. record { author = option_copied i.author; editor = option_copied i.editor; key = option_copied i.key; year = option_copied i.year } };
+}
+
+impl<'a> Inherited<'a> {
+    ghost use Rattle.std.specs.Prelude.{◌≡◌};
+    ghost use Rattle.bib_names.specs.LabelParts.{no_parts, parts_with};
+
+    /// Nothing. It takes no memory.
+    pub fn none() -> Self
+        ensures { result ≡ no_parts }
     {
-        LabelParts {
+        Inherited {
             author: None,
             editor: None,
-            key: Seq::from_vec(Vec::new(alloc)),
-            year: Seq::from_vec(Vec::new(alloc)),
+            key: None,
+            year: None,
+        }
+    }
+
+    /// This, and what the next ancestor gives where nothing is given yet. It takes no memory.
+    pub fn with(self, parts: &'a LabelParts) -> Self
+        ensures { result ≡ parts_with self.entry parts.now }
+    {
+        Inherited {
+            author: self.author.or(parts.author.as_ref()),
+            editor: self.editor.or(parts.editor.as_ref()),
+            key: self.key.or(parts.key.as_ref()),
+            year: self.year.or(parts.year.as_ref()),
         }
     }
 }
@@ -91,6 +123,43 @@ fn copied_if_any(alloc: Global, text: &Option<Text>) -> Result<Option<Text>, All
     }
 }
 
+/// The letters of the names in the field of this name, if there is one.
+fn letters_given(
+    alloc: Global,
+    fields: &[(Text, Text)],
+    name: &[u8],
+) -> Result<Option<Option<Text>>, AllocError>
+    ensures { IfOk result (λ letters. letters ≡ given letters_in fields.now name.now) }
+{
+    if has_field(fields, name) {
+        Ok(Some(letters_in(alloc, text_in(fields, name))?))
+    } else {
+        Ok(None)
+    }
+}
+
+/// The first three characters of `key`, if there is one.
+fn key_given(alloc: Global, fields: &[(Text, Text)]) -> Result<Option<Text>, AllocError>
+    ensures { IfOk result (λ key. key ≡ given first_three fields.now (codes "key")) }
+{
+    if has_field(fields, b"key") {
+        Ok(Some(first_three(alloc, text_in(fields, b"key"))?))
+    } else {
+        Ok(None)
+    }
+}
+
+/// The last two digits of the year, if there is one.
+fn year_given(alloc: Global, fields: &[(Text, Text)]) -> Result<Option<Text>, AllocError>
+    ensures { IfOk result (λ year. year ≡ given year_digits fields.now (codes "year")) }
+{
+    if has_field(fields, b"year") {
+        Ok(Some(year_digits(alloc, text_in(fields, b"year"))?))
+    } else {
+        Ok(None)
+    }
+}
+
 /// What fields give to a label. It takes time in the lengths of the fields, and memory for the names of author and of
 /// editor, which are both read. The one refusal is want of memory.
 pub fn label_parts(alloc: Global, fields: &[(Text, Text)]) -> Result<LabelParts, NameFault>
@@ -98,11 +167,24 @@ pub fn label_parts(alloc: Global, fields: &[(Text, Text)]) -> Result<LabelParts,
     ensures memory { IfErr result (λ fault. fault ≡ NameFault.Memory) }
 {
     Ok(LabelParts {
-        author: letters_in(alloc, text_in(fields, b"author"))?,
-        editor: letters_in(alloc, text_in(fields, b"editor"))?,
-        key: first_three(alloc, text_in(fields, b"key"))?,
-        year: year_digits(alloc, text_in(fields, b"year"))?,
+        author: letters_given(alloc, fields, b"author")?,
+        editor: letters_given(alloc, fields, b"editor")?,
+        key: key_given(alloc, fields)?,
+        year: year_given(alloc, fields)?,
     })
+}
+
+/// The letters that are inherited, if there are any.
+fn inherited_letters(
+    alloc: Global,
+    inherited: Option<&Option<Text>>,
+) -> Result<Option<Text>, AllocError>
+    ensures { IfOk result (λ letters. letters ≡ option_flatten (option_copied inherited.entry)) }
+{
+    match inherited {
+        Some(letters) => copied_if_any(alloc, letters),
+        None => Ok(None),
+    }
 }
 
 /// The letters of the names in a field, or what is inherited where there is no such field.
@@ -110,25 +192,37 @@ fn letters_or(
     alloc: Global,
     fields: &[(Text, Text)],
     name: &[u8],
-    inherited: &Option<Text>,
+    inherited: Option<&Option<Text>>,
 ) -> Result<Option<Text>, AllocError>
-    ensures { IfOk result (λ letters. letters ≡ given_or letters_in fields.now name.now inherited.now) }
+    ensures { IfOk result (λ letters. letters ≡ option_flatten (option_or (given letters_in fields.now name.now) (option_copied inherited.entry))) }
 {
-    if has_field(fields, name) {
-        letters_in(alloc, text_in(fields, name))
-    } else {
-        copied_if_any(alloc, inherited)
+    match letters_given(alloc, fields, name)? {
+        Some(letters) => Ok(letters),
+        None => inherited_letters(alloc, inherited),
+    }
+}
+
+/// What is inherited, or nothing.
+fn or_empty<'a>(inherited: Option<&'a Text>) -> &'a [u8]
+    ensures { result.now ≡ unwrap_or (option_copied inherited.entry) [] }
+{
+    match inherited {
+        Some(text) => text.as_slice(),
+        None => b"",
     }
 }
 
 /// The first three characters of `key`, or what is inherited where there is no such field.
-fn key_or(alloc: Global, fields: &[(Text, Text)], inherited: &[u8]) -> Result<Text, AllocError>
-    ensures { IfOk result (λ key. key ≡ given_or first_three fields.now (codes "key") inherited.now) }
+fn key_or(
+    alloc: Global,
+    fields: &[(Text, Text)],
+    inherited: Option<&Text>,
+) -> Result<Text, AllocError>
+    ensures { IfOk result (λ key. key ≡ unwrap_or (option_or (given first_three fields.now (codes "key")) (option_copied inherited.entry)) []) }
 {
-    if has_field(fields, b"key") {
-        first_three(alloc, text_in(fields, b"key"))
-    } else {
-        copied(alloc, inherited)
+    match key_given(alloc, fields)? {
+        Some(key) => Ok(key),
+        None => copied(alloc, or_empty(inherited)),
     }
 }
 
@@ -137,15 +231,15 @@ fn add_year(
     alloc: Global,
     out: &mut Vec<u8>,
     fields: &[(Text, Text)],
-    inherited: &[u8],
+    inherited: Option<&Text>,
 ) -> Result<(), AllocError>
-    ensures { OnOk result (out.new.items ≡ out.old.items ++ given_or year_digits fields.now (codes "year") inherited.now) }
+    ensures { OnOk result (out.new.items ≡ out.old.items ++ unwrap_or (option_or (given year_digits fields.now (codes "year")) (option_copied inherited.entry)) []) }
 {
     if has_field(fields, b"year") {
         let digits = digits_of(alloc, text_in(fields, b"year"))?;
         out.extend_from_slice(last_two(digits.as_slice()))
     } else {
-        out.extend_from_slice(inherited)
+        out.extend_from_slice(or_empty(inherited))
     }
 }
 
@@ -153,30 +247,30 @@ fn add_year(
 fn letters_with(
     alloc: Global,
     fields: &[(Text, Text)],
-    inherited: &LabelParts,
+    inherited: &Inherited<'_>,
 ) -> Result<Text, AllocError>
-    ensures { IfOk result (λ letters. letters ≡ letters_from (parts_with fields.now inherited.now)) }
+    ensures { IfOk result (λ letters. letters ≡ letters_from (parts_with (parts_of fields.now) inherited.now)) }
 {
-    if let Some(letters) = letters_or(alloc, fields, b"author", &inherited.author)? {
+    if let Some(letters) = letters_or(alloc, fields, b"author", inherited.author)? {
         return Ok(letters);
     }
-    if let Some(letters) = letters_or(alloc, fields, b"editor", &inherited.editor)? {
+    if let Some(letters) = letters_or(alloc, fields, b"editor", inherited.editor)? {
         return Ok(letters);
     }
-    key_or(alloc, fields, inherited.key.as_slice())
+    key_or(alloc, fields, inherited.key)
 }
 
 /// The label base of fields together with what is inherited.
 fn base_with(
     alloc: Global,
     fields: &[(Text, Text)],
-    inherited: &LabelParts,
+    inherited: &Inherited<'_>,
 ) -> Result<Text, AllocError>
-    ensures { IfOk result (λ base. base ≡ base_from (parts_with fields.now inherited.now)) }
+    ensures { IfOk result (λ base. base ≡ base_from (parts_with (parts_of fields.now) inherited.now)) }
 {
     let letters = letters_with(alloc, fields, inherited)?;
     let mut out = or_anon(alloc, letters.into_vec())?;
-    add_year(alloc, &mut out, fields, inherited.year.as_slice())?;
+    add_year(alloc, &mut out, fields, inherited.year)?;
     Ok(Seq::from_vec(out))
 }
 
@@ -184,18 +278,18 @@ fn base_with(
 pub(crate) fn base_of(alloc: Global, fields: &[(Text, Text)]) -> Result<Text, AllocError>
     ensures { IfOk result (λ base. base ≡ label_base fields.now) }
 {
-    base_with(alloc, fields, &LabelParts::none(alloc))
+    base_with(alloc, fields, &Inherited::none())
 }
 
-/// The label base of a record that has these fields of its own, and inherits those that are missing from others, of which
-/// it needs no more than what they give to a label. So what many entries inherit is read once. It takes time in the
-/// lengths of these fields and of the letters that are given. The one refusal is want of memory.
+/// The label base of a record that has these fields of its own, and inherits others, of which it needs no more than what
+/// they give to a label. So what many entries inherit is read once. It takes time in the lengths of these fields and of the
+/// letters that are given. The one refusal is want of memory.
 pub fn label_base_with(
     alloc: Global,
     fields: &[(Text, Text)],
-    inherited: &LabelParts,
+    inherited: &Inherited<'_>,
 ) -> Result<Text, NameFault>
-    ensures base { IfOk result (λ base. (others : Fields) → inherited.now ≡ parts_of others → base ≡ label_base (fields.now ++ missing fields.now others)) }
+    ensures base { IfOk result (λ base. base ≡ base_from (parts_with (parts_of fields.now) inherited.now)) }
     ensures memory { IfErr result (λ fault. fault ≡ NameFault.Memory) }
 {
     Ok(base_with(alloc, fields, inherited)?)

@@ -60,7 +60,8 @@ impl Order {
         }
     }
 
-    /// Makes room for so many ids more, as far as there is memory for it. The order stays as it is.
+    /// Makes room for so many ids more, as far as there is memory for it. The order stays as it is: the room is no promise,
+    /// and saves time alone.
     pub fn prepare(&mut self, additional: usize)
         ensures { self.new ≡ self.old }
     {

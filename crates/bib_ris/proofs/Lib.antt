@@ -1,3 +1,4 @@
+pub mod EntriesDropped
 pub mod EntriesRis
 pub mod RisFields
 pub mod GivenKeys

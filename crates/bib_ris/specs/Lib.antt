@@ -2,3 +2,4 @@ pub mod Export
 pub mod Faults
 pub mod Import
 pub mod Drafts
+pub mod Dropped

@@ -19,7 +19,7 @@ use crate::fault::ImportFault;
 use bib_data::{NewEntry, Record};
 use bib_names::key_base;
 use bib_scan::{Seq, Text, is_key};
-use ris_format::{MappingFault, from_ris, to_entry};
+use ris_format::{MappingFault, from_ris, into_entry};
 use ris_text::{RisFault, RisRecord, Unread};
 use std::alloc::{AllocError, Global};
 
@@ -89,7 +89,7 @@ impl Drafts {
     {
         let entry = from_ris(alloc, ris)?;
         self.add_base(alloc, &entry)?;
-        match to_entry(alloc, entry) {
+        match into_entry(alloc, entry) {
             Ok(draft) => {
                 self.entries.push(draft)?;
                 Ok(true)

@@ -2,7 +2,7 @@
 
 ghost use Rattle.std.specs.Prelude.{◌≡◌, ◌<◌, ◌++◌, [], length, map, All, IfOk, IfErr, OnOk};
 ghost use Rattle.std.specs.Option.{option_map_or};
-ghost use Rattle.bib_spec.specs.Records.{entries_of, default_depth, expanded};
+ghost use Rattle.bib_spec.specs.Records.{entries_of, expanded, IsDepth};
 ghost use Rattle.bib_store.specs.Meaning.{OfReading, IsEntryNumber};
 ghost use Rattle.ris_text.specs.Writing.{record_text};
 ghost use Rattle.ris_format.specs.Mapping.{ris, ris_names};
@@ -14,43 +14,48 @@ use bib_store::{Database, ItemList};
 use ris_format::{MappingFault, given_records_fit, ris_names, write_entry};
 use std::alloc::Global;
 
-/// Puts the RIS text of entry `n`, with what it inherits, after a text. Of its fields those with these names are gathered.
+/// Puts the RIS text of entry `n`, with what it inherits at this depth, after a text. Of its fields those with these names
+/// are gathered.
 fn add_entry<L: ItemList>(
     alloc: Global,
     text: &mut Vec<u8>,
     db: &Database<L>,
     names: &[&[u8]],
     n: usize,
+    depth: u8,
 ) -> Result<(), MappingFault>
     requires number { IsEntryNumber db.now n }
+    requires depth { IsDepth depth }
     requires names { map (λ name. name.now) names.now ≡ ris_names }
-    ensures text { OnOk result (OfReading db.now (λ r. text.new.items ≡ text.old.items ++ option_map_or (λ entry. record_text (ris entry)) (expanded default_depth (entries_of r) n) [])) }
+    ensures text { OnOk result (OfReading db.now (λ r. text.new.items ≡ text.old.items ++ option_map_or (λ entry. record_text (ris entry)) (expanded depth (entries_of r) n) [])) }
     ensures memory { IfErr result (λ fault. fault ≡ Memory) }
 {
     db.opens();
     given_records_fit();
-    let Ok(entry) = db.expanded_with(n, names) else {
+    let Ok(entry) = db.expanded_with(n, depth, names) else {
         return Err(MappingFault::Memory);
     };
     write_entry(alloc, text, &entry)?;
     Ok(())
 }
 
-/// The RIS text of these entries, each with what it inherits, in this order. What RIS has no place for is left out. It
-/// takes time in the lengths of the entries, and memory for the text. The one refusal is want of memory.
+/// The RIS text of these entries, each with what it inherits at this depth, in this order. What RIS has no place for is left
+/// out. It takes time in the lengths of the entries, and memory for the text. The one refusal is want of memory.
 pub fn entries_ris<L: ItemList>(
     alloc: Global,
     db: &Database<L>,
     list: &[usize],
+    depth: u8,
 ) -> Result<Text, MappingFault>
-    requires { OfReading db.now (λ r. All (λ n. n < length (entries_of r)) list.now) }
-    ensures text { IfOk result (λ text. OfReading db.now (λ r. text ≡ entries_ris (entries_of r) list.now)) }
+    requires numbers { OfReading db.now (λ r. All (λ n. n < length (entries_of r)) list.now) }
+    requires depth { IsDepth depth }
+    ensures text { IfOk result (λ text. OfReading db.now (λ r. text ≡ entries_ris depth (entries_of r) list.now)) }
     ensures memory { IfErr result (λ fault. fault ≡ Memory) }
 {
     let names = ris_names();
     let mut text = Vec::new(alloc);
     'entries: for n in list {
-        add_entry(alloc, &mut text, db, &names, *n)?;
+        add_entry(alloc, &mut text, db, &names, *n, depth)?;
     }
     Ok(Seq::from_vec(text))
 }

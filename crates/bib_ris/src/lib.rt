@@ -1,13 +1,15 @@
 //! What stands between RIS and an open file. It knows which entries of a file become which RIS records, and which entries
 //! with which keys RIS records add to it; it does not know the lines of RIS, edits, nor commands. It promises the RIS
-//! text of entries, and the entries of a RIS text.
+//! text of entries, the fields that it leaves out, and the entries of a RIS text.
 #![tactic(auto)]
 
 mod drafts;
+mod dropping;
 mod exporting;
 mod fault;
 mod importing;
 
+pub use dropping::entries_dropped;
 pub use exporting::entries_ris;
 pub use fault::ImportFault;
 pub use importing::{Additions, import};

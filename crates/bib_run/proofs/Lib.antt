@@ -4,4 +4,7 @@ pub mod Progress
 pub mod Endings
 -- ---- sessions
 pub mod SessionAnswers
+pub mod OpenLemmas
 pub mod LogLemmas
+pub mod StoredRuns
+pub mod OneAnswer

@@ -10,7 +10,7 @@ use Rattle.std.proofs.lemmas.List.Elements.{All-from_recursion, All-get_or}
 use Rattle.std.proofs.lemmas.List.Sums.{sum_by-le}
 use Rattle.bib_spec.specs.Text.{Text}
 use Rattle.bib_spec.specs.Pieces.{Piece}
-use Rattle.edit_spec.specs.Steps.{Step, IsStep, AreSteps, HasSmallNumbers, number_limit}
+use Rattle.history_spec.specs.Steps.{Step, AreWritable, IsStep, AreSteps, HasSmallNumbers, number_limit}
 use Rattle.bib_run.specs.Log.{old_len, new_len, step_line}
 
 pub past_between : (past future : List Step) → between 0 (length past) (past ++ future) ≡ past
@@ -60,20 +60,20 @@ new_small (p ∷ ps) h = (h.0.new, new_small ps h.1)
 few_small : (n sum : ℕ) → n ≤ number_limit → sum ≤ n * number_limit → sum < 2 ^ 64
 few_small n sum few small = omega (arith, few, small)
 
-pub old_len_small : (step : Step) → IsStep step → old_len step < 2 ^ 64
-old_len_small step s =
-    few_small (length step) (old_len step) s.few (sum_by-le (λ (p : Piece). length p.old) number_limit step (All-from_recursion (λ (p : Piece). length p.old ≤ number_limit) step (old_small step s.small)))
+pub old_len_small : (pieces : List Piece) → AreWritable pieces → old_len pieces < 2 ^ 64
+old_len_small pieces s =
+    few_small (length pieces) (old_len pieces) s.few (sum_by-le (λ (p : Piece). length p.old) number_limit pieces (All-from_recursion (λ (p : Piece). length p.old ≤ number_limit) pieces (old_small pieces s.small)))
 
-pub new_len_small : (step : Step) → IsStep step → new_len step < 2 ^ 64
-new_len_small step s =
-    few_small (length step) (new_len step) s.few (sum_by-le (λ (p : Piece). length p.new) number_limit step (All-from_recursion (λ (p : Piece). length p.new ≤ number_limit) step (new_small step s.small)))
+pub new_len_small : (pieces : List Piece) → AreWritable pieces → new_len pieces < 2 ^ 64
+new_len_small pieces s =
+    few_small (length pieces) (new_len pieces) s.few (sum_by-le (λ (p : Piece). length p.new) number_limit pieces (All-from_recursion (λ (p : Piece). length p.new ≤ number_limit) pieces (new_small pieces s.small)))
 
 -- so a step's lengths are shown as they are
 shown_whole : (n : ℕ) → n < 2 ^ 64 → min n (2 ^ 64 - 1) ≡ n
 shown_whole n small = min-eq_left (omega (arith, small))
 
-pub old_len_shown : (step : Step) → IsStep step → min (old_len step) (2 ^ 64 - 1) ≡ old_len step
-old_len_shown step s = shown_whole (old_len step) (old_len_small step s)
+pub old_len_shown : (pieces : List Piece) → AreWritable pieces → min (old_len pieces) (2 ^ 64 - 1) ≡ old_len pieces
+old_len_shown pieces s = shown_whole (old_len pieces) (old_len_small pieces s)
 
-pub new_len_shown : (step : Step) → IsStep step → min (new_len step) (2 ^ 64 - 1) ≡ new_len step
-new_len_shown step s = shown_whole (new_len step) (new_len_small step s)
+pub new_len_shown : (pieces : List Piece) → AreWritable pieces → min (new_len pieces) (2 ^ 64 - 1) ≡ new_len pieces
+new_len_shown pieces s = shown_whole (new_len pieces) (new_len_small pieces s)

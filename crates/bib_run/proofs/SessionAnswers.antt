@@ -17,8 +17,8 @@ abbrev pub Tells : SessionFault → Answer → Type 0
 Tells fault answer = (file : Text) (journal : Option Text) → RefusesOpen fault file journal → IsUnopenedAnswer file journal answer
 
 file_refused : (fault : ReadFault) (file : Text) (journal : Option Text) → RefusesOpen (Unopened fault) file journal → IsOpenFault file fault.kind fault.place
-file_refused fault file None refuses = refuses
-file_refused fault file (Some text) refuses = refuses
+file_refused fault file None refuses = refuses.1
+file_refused fault file (Some text) refuses = refuses.1
 
 pub tells_file : (fault : ReadFault) (answer : Answer) → fault.kind ≢ 10 → answer ≡ answer_of [] (refusal_line fault.kind fault.place) 1 → Tells (Unopened fault) answer
 tells_file fault answer told is file journal refuses = record {

@@ -1,8 +1,8 @@
 -- What was read up to the limit tells of the whole file.
-use Rattle.std.proofs.Common.{◌≡◌, ◌≢◌, ℕ, ◌+◌, ◌<◌, ◌≤◌, [], ◌++◌, length, take, Option, Some, None, subst, refl, arith, inl, inr, sym, append-nil, length-append, codes}
+use Rattle.std.proofs.Common.{◌≡◌, ◌≢◌, ◌∙◌, Bool, ℕ, ◌+◌, ◌<◌, ◌≤◌, [], ◌++◌, length, take, drop, fold, ap, Option, Some, None, subst, refl, arith, inl, inr, sym, append-nil, length-append, codes}
 use Rattle.std.proofs.lemmas.List.{take_all, length-take-le}
 use Rattle.std.proofs.lemmas.Bool.{cases_eq, cases_lt}
-use Rattle.std.proofs.Math.Seq.{take-append_seam}
+use Rattle.std.proofs.Math.Seq.{take-add, take-append_seam}
 use Rattle.std.specs.Io.KnownBytes.{Consumes}
 use Rattle.bib_spec.specs.Bytes.{file_limit}
 use Rattle.bib_spec.specs.Text.{Text}
@@ -11,22 +11,27 @@ use Rattle.bib_words.specs.declared.commands.Command.{Command}
 use Rattle.bib_answers.specs.declared.answers.Answer.{Answer}
 use Rattle.bib_run.specs.Transfers.{ReadsUpTo, HasBytes}
 use Rattle.bib_spec.specs.Reading.{Reading}
-use Rattle.edit_spec.specs.Steps.{KeptSteps}
+use Rattle.history_spec.specs.Steps.{KeptSteps}
 use Rattle.bib_data.specs.declared.request.Request.{Request}
 use Rattle.bib_data.specs.declared.request.Request.TheVariants.{Undo, Redo}
+use Rattle.bib_journal.specs.OpenSteps.{SessionState}
 use Rattle.bib_journal.specs.Session.{Opens}
 use Rattle.bib_store.specs.Meaning.{IsOpenFault}
 use Rattle.bib_answers.specs.Opened as opening
 use Rattle.bib_answers.specs.Opened.{AnswersFile, opened}
 use Rattle.bib_answers.specs.Cat.{IsCatAnswer, copied, refused}
-use Rattle.bib_run.specs.Answers.{IsAnswer, cat, of_reading, edit, import, undo, redo, log, forget}
-use Rattle.bib_script.specs.Script.{said_of}
+use Rattle.bib_answers.specs.Lint as linting
+use Rattle.bib_answers.specs.Lint.{IsLintAnswer, error_line}
+use Rattle.bib_answers.specs.Outcome.{answer_of}
+use Rattle.bib_answers.specs.Positions.{position, behind, position_of}
+use Rattle.bib_answers.specs.declared.positions.Position.{Position}
+use Rattle.bib_run.specs.Answers.{IsAnswer, IsStoredAnswer, key_words, cat, of_reading, edit, edit_words, import, undo, redo, log, forget, lint, explain, first_word}
 use Rattle.bib_run.specs.Inputs as inputs
-use Rattle.bib_run.specs.Inputs.{AnswersInput, answered}
-use Rattle.bib_run.specs.EditAnswer.{HasEdited}
+use Rattle.bib_run.specs.Inputs.{AnswersSession, AnswersInput, answered}
+use Rattle.bib_run.specs.EditAnswer.{HasEditedBy, HasEditedByWords}
 use Rattle.bib_run.specs.ImportAnswer.{HasImported}
 use Rattle.bib_run.specs.Sessions as why
-use Rattle.bib_run.specs.Sessions.{IsUnopened, IsUnopenedAnswer}
+use Rattle.bib_run.specs.Sessions.{IsUnopened, IsUnopenedAnswer, OpensWith, judged_journal}
 use Rattle.bib_run.specs.Turns as turning
 use Rattle.bib_run.specs.Turns.{IsTurnAnswer}
 use Rattle.bib_run.specs.Log as logging
@@ -111,11 +116,14 @@ IsUnopenedAnswer-long : (bytes : Text) (journal : Option Text) (answer : Answer)
     → IsUnopenedAnswer (take (file_limit + 1) bytes) journal answer → IsUnopenedAnswer bytes journal answer
 IsUnopenedAnswer-long bytes journal answer long w = record { message = w.message; why = IsUnopened-long bytes journal w.message long w.why; answered = w.answered }
 
-AnswersInput-long : (answers : Text → KeptSteps → Answer → Type 0) (bytes : Text) (journal : Option Text) (input : Text) (answer : Answer) → file_limit < length bytes
-    → AnswersInput answers (take (file_limit + 1) bytes) journal input answer → AnswersInput answers bytes journal input answer
-AnswersInput-long answers bytes journal input answer long (answered kept opens short has) = absurd (not_opened bytes journal kept long opens)
-AnswersInput-long answers bytes journal input answer long (inputs.too_long kept opens over made) = absurd (not_opened bytes journal kept long opens)
-AnswersInput-long answers bytes journal input answer long (inputs.unopened w) = inputs.unopened (IsUnopenedAnswer-long bytes journal answer long w)
+not_opened_with : (new_journal : Bool) (bytes : Text) (journal : Option Text) (state : SessionState) → file_limit < length bytes → OpensWith new_journal (take (file_limit + 1) bytes) journal state → ⊥
+not_opened_with new_journal bytes journal state long (why.fitting opens) = not_opened bytes journal state.steps long opens.opens
+not_opened_with new_journal bytes journal state long (why.begun text anew is unfit opens) = not_opened bytes None state.steps long opens.opens
+
+AnswersSession-long : (new_journal : Bool) (answers : SessionState → Answer → Type 0) (bytes : Text) (journal : Option Text) (answer : Answer) → file_limit < length bytes
+    → AnswersSession new_journal answers (take (file_limit + 1) bytes) journal answer → AnswersSession new_journal answers bytes journal answer
+AnswersSession-long new_journal answers bytes journal answer long (answered state opens has) = absurd (not_opened_with new_journal bytes journal state long opens)
+AnswersSession-long new_journal answers bytes journal answer long (inputs.unopened w) = inputs.unopened (IsUnopenedAnswer-long bytes (judged_journal new_journal journal) answer long w)
 
 IsTurnAnswer-long : (word : Text) (request : Request) (n : ℕ) (bytes : Text) (journal : Option Text) (answer : Answer) → file_limit < length bytes
     → IsTurnAnswer word request n (take (file_limit + 1) bytes) journal answer → IsTurnAnswer word request n bytes journal answer
@@ -131,47 +139,81 @@ IsForgetAnswer-long : (bytes : Text) (answer : Answer) → file_limit < length b
 IsForgetAnswer-long bytes answer long (logging.forgot saved opens saves is) = absurd (front_is_long bytes long opens.1.short)
 IsForgetAnswer-long bytes answer long (logging.unforgotten w) = logging.unforgotten (IsUnopenedAnswer-long bytes None answer long w)
 
-IsAnswer-long : (command : Command) (bytes : Text) (journal : Option Text) (input : Text) (answer : Answer) → file_limit < length bytes
-    → IsAnswer command (take (file_limit + 1) bytes) journal input answer → IsAnswer command bytes journal input answer
-IsAnswer-long command bytes journal input answer long (cat named answers) = cat named (IsCatAnswer-long bytes answer long answers)
-IsAnswer-long command bytes journal input answer long (of_reading answers is given) = of_reading answers is (AnswersFile-long answers bytes answer long given)
-IsAnswer-long command bytes journal input answer long (edit named answers) = edit named (AnswersInput-long (λ text. HasEdited (said_of text)) bytes journal input answer long answers)
-IsAnswer-long command bytes journal input answer long (import named answers) = import named (AnswersInput-long HasImported bytes journal input answer long answers)
-IsAnswer-long command bytes journal input answer long (undo named answers) = undo named (IsTurnAnswer-long (codes "undone") Undo command.n bytes journal answer long answers)
-IsAnswer-long command bytes journal input answer long (redo named answers) = redo named (IsTurnAnswer-long (codes "redone") Redo command.n bytes journal answer long answers)
-IsAnswer-long command bytes journal input answer long (log named answers) = log named (IsLogAnswer-long bytes journal answer long answers)
-IsAnswer-long command bytes journal input answer long (forget named answers) = forget named (IsForgetAnswer-long bytes answer long answers)
+-- the place of a file that is too long has the position that it has in the front
+fault_position : (bytes : Text) (kind place : ℕ) → file_limit < length bytes → IsOpenFault (take (file_limit + 1) bytes) kind place → position_of (take (file_limit + 1) bytes) place ≡ position_of bytes place
+fault_position bytes kind place long (inl (too_long over)) = ap (fold behind (position 1 1)) (
+    ap (take file_limit) (take-add file_limit 1 bytes)
+    ∙ subst (λ n. take n (take file_limit bytes ++ take 1 (drop file_limit bytes)) ≡ take file_limit bytes) (length-take-le file_limit bytes (omega (arith, long)))
+    (take-append_seam (take file_limit bytes) (take 1 (drop file_limit bytes))))
+fault_position bytes kind place long (inl (no_reading fault at within failing wrong)) = absurd (front_is_long bytes long within)
+fault_position bytes kind place long (inl (no_memory within)) = absurd (front_is_long bytes long within)
+fault_position bytes kind place long (inr fault) = absurd (front_is_long bytes long fault.short)
+
+IsLintAnswer-long : (name bytes : Text) (answer : Answer) → file_limit < length bytes → IsLintAnswer name (take (file_limit + 1) bytes) answer → IsLintAnswer name bytes answer
+IsLintAnswer-long name bytes answer long (linting.opened db opens is) = absurd (front_is_long bytes long opens.short)
+IsLintAnswer-long name bytes answer long (linting.refused kind place other fault is) =
+    linting.refused kind place other (IsOpenFault-long bytes kind place long fault)
+    (is ∙ ap (λ (at : Position). answer_of (error_line name at kind) [] 1) (fault_position bytes kind place long fault))
+
+IsStoredAnswer-long : (command : Command) (bytes : Text) (journal : Option Text) (input : Text) (answer : Answer) → file_limit < length bytes
+    → IsStoredAnswer command (take (file_limit + 1) bytes) journal input answer → IsStoredAnswer command bytes journal input answer
+IsStoredAnswer-long command bytes journal input answer long (cat named answers) = cat named (IsCatAnswer-long bytes answer long answers)
+IsStoredAnswer-long command bytes journal input answer long (of_reading answers is given) = of_reading answers is (AnswersFile-long answers bytes answer long given)
+IsStoredAnswer-long command bytes journal input answer long (lint named answers) = lint named (IsLintAnswer-long (first_word command) bytes answer long answers)
+IsStoredAnswer-long command bytes journal input answer long (explain named answers) = explain named answers
+IsStoredAnswer-long command bytes journal input answer long (edit named alone answers) =
+    edit named alone (AnswersSession-long command.new_journal (AnswersInput HasEditedBy input) bytes journal answer long answers)
+IsStoredAnswer-long command bytes journal input answer long (edit_words named worded answers) =
+    edit_words named worded (AnswersSession-long command.new_journal (HasEditedByWords (key_words command)) bytes journal answer long answers)
+IsStoredAnswer-long command bytes journal input answer long (import named answers) =
+    import named (AnswersSession-long command.new_journal (AnswersInput HasImported input) bytes journal answer long answers)
+IsStoredAnswer-long command bytes journal input answer long (undo named answers) = undo named (IsTurnAnswer-long (codes "undone") Undo command.n bytes journal answer long answers)
+IsStoredAnswer-long command bytes journal input answer long (redo named answers) = redo named (IsTurnAnswer-long (codes "redone") Redo command.n bytes journal answer long answers)
+IsStoredAnswer-long command bytes journal input answer long (log named answers) = log named (IsLogAnswer-long bytes journal answer long answers)
+IsStoredAnswer-long command bytes journal input answer long (forget named answers) = forget named (IsForgetAnswer-long bytes answer long answers)
+
+IsStoredAnswer-front : (command : Command) (bytes : Text) (journal : Option Text) (input : Text) (answer : Answer)
+    → IsStoredAnswer command (take (file_limit + 1) bytes) journal input answer → IsStoredAnswer command bytes journal input answer
+IsStoredAnswer-front command bytes journal input answer answers = elim (cases_lt file_limit (length bytes)) [
+  | inl long ↦ IsStoredAnswer-long command bytes journal input answer long answers
+  | inr short ↦ subst (λ t. IsStoredAnswer command t journal input answer) (take_all (file_limit + 1) bytes (omega (arith, short))) answers
+]
 
 -- the answer to what was read of a file is the answer to the file
 pub IsAnswer-front : (command : Command) (bytes : Text) (journal : Option Text) (input : Text) (answer : Answer)
     → IsAnswer command (take (file_limit + 1) bytes) journal input answer → IsAnswer command bytes journal input answer
-IsAnswer-front command bytes journal input answer answers = elim (cases_lt file_limit (length bytes)) [
-  | inl long ↦ IsAnswer-long command bytes journal input answer long answers
-  | inr short ↦ subst (λ t. IsAnswer command t journal input answer) (take_all (file_limit + 1) bytes (omega (arith, short))) answers
-]
+IsAnswer-front command bytes journal input answer a = record { stored = a.stored; answers = IsStoredAnswer-front command bytes journal input a.stored a.answers; shown = a.shown }
 
 -- an input that is too long is refused as its front is
-AnswersInput-input : (answers : Text → KeptSteps → Answer → Type 0) (file : Text) (journal : Option Text) (input : Text) (answer : Answer) → file_limit < length input
-    → AnswersInput answers file journal (take (file_limit + 1) input) answer → AnswersInput answers file journal input answer
-AnswersInput-input answers file journal input answer long (answered kept opens short has) = absurd (front_is_long input long short)
-AnswersInput-input answers file journal input answer long (inputs.too_long kept opens over made) = inputs.too_long kept opens long made
-AnswersInput-input answers file journal input answer long (inputs.unopened w) = inputs.unopened w
+AnswersSession-input : (new_journal : Bool) (answers : Text → SessionState → Answer → Type 0) (file : Text) (journal : Option Text) (input : Text) (answer : Answer) → file_limit < length input
+    → AnswersSession new_journal (AnswersInput answers (take (file_limit + 1) input)) file journal answer → AnswersSession new_journal (AnswersInput answers input) file journal answer
+AnswersSession-input new_journal answers file journal input answer long (answered state opens (inputs.within short has)) = absurd (front_is_long input long short)
+AnswersSession-input new_journal answers file journal input answer long (answered state opens (inputs.too_long over made)) = answered state opens (inputs.too_long long made)
+AnswersSession-input new_journal answers file journal input answer long (inputs.unopened w) = inputs.unopened w
 
-IsAnswer-input : (command : Command) (file : Text) (journal : Option Text) (input : Text) (answer : Answer) → file_limit < length input
-    → IsAnswer command file journal (take (file_limit + 1) input) answer → IsAnswer command file journal input answer
-IsAnswer-input command file journal input answer long (cat named answers) = cat named answers
-IsAnswer-input command file journal input answer long (of_reading answers is given) = of_reading answers is given
-IsAnswer-input command file journal input answer long (edit named answers) = edit named (AnswersInput-input (λ text. HasEdited (said_of text)) file journal input answer long answers)
-IsAnswer-input command file journal input answer long (import named answers) = import named (AnswersInput-input HasImported file journal input answer long answers)
-IsAnswer-input command file journal input answer long (undo named answers) = undo named answers
-IsAnswer-input command file journal input answer long (redo named answers) = redo named answers
-IsAnswer-input command file journal input answer long (log named answers) = log named answers
-IsAnswer-input command file journal input answer long (forget named answers) = forget named answers
+IsStoredAnswer-input : (command : Command) (file : Text) (journal : Option Text) (input : Text) (answer : Answer) → file_limit < length input
+    → IsStoredAnswer command file journal (take (file_limit + 1) input) answer → IsStoredAnswer command file journal input answer
+IsStoredAnswer-input command file journal input answer long (cat named answers) = cat named answers
+IsStoredAnswer-input command file journal input answer long (of_reading answers is given) = of_reading answers is given
+IsStoredAnswer-input command file journal input answer long (lint named answers) = lint named answers
+IsStoredAnswer-input command file journal input answer long (explain named answers) = explain named answers
+IsStoredAnswer-input command file journal input answer long (edit named alone answers) = edit named alone (AnswersSession-input command.new_journal HasEditedBy file journal input answer long answers)
+IsStoredAnswer-input command file journal input answer long (edit_words named worded answers) = edit_words named worded answers
+IsStoredAnswer-input command file journal input answer long (import named answers) = import named (AnswersSession-input command.new_journal HasImported file journal input answer long answers)
+IsStoredAnswer-input command file journal input answer long (undo named answers) = undo named answers
+IsStoredAnswer-input command file journal input answer long (redo named answers) = redo named answers
+IsStoredAnswer-input command file journal input answer long (log named answers) = log named answers
+IsStoredAnswer-input command file journal input answer long (forget named answers) = forget named answers
+
+IsStoredAnswer-input_front : (command : Command) (file : Text) (journal : Option Text) (input : Text) (answer : Answer)
+    → IsStoredAnswer command file journal (take (file_limit + 1) input) answer → IsStoredAnswer command file journal input answer
+IsStoredAnswer-input_front command file journal input answer answers = elim (cases_lt file_limit (length input)) [
+  | inl long ↦ IsStoredAnswer-input command file journal input answer long answers
+  | inr short ↦ subst (λ t. IsStoredAnswer command file journal t answer) (take_all (file_limit + 1) input (omega (arith, short))) answers
+]
 
 -- the answer to what was read of an input is the answer to the input
 pub IsAnswer-input_front : (command : Command) (file : Text) (journal : Option Text) (input : Text) (answer : Answer)
     → IsAnswer command file journal (take (file_limit + 1) input) answer → IsAnswer command file journal input answer
-IsAnswer-input_front command file journal input answer answers = elim (cases_lt file_limit (length input)) [
-  | inl long ↦ IsAnswer-input command file journal input answer long answers
-  | inr short ↦ subst (λ t. IsAnswer command file journal t answer) (take_all (file_limit + 1) input (omega (arith, short))) answers
-]
+IsAnswer-input_front command file journal input answer a =
+    record { stored = a.stored; answers = IsStoredAnswer-input_front command file journal input a.stored a.answers; shown = a.shown }

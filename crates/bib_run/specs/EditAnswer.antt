@@ -1,34 +1,38 @@
--- `edit`: what a script makes of a file. (dialect)
-use Rattle.std.specs.Prelude.{ℕ, ◌≡◌, ◌≢◌, ◌++◌, slice_index_or, Option, Some, None, option_map, codes}
+-- `edit`: what a script, or the words of one edit, make of a file. (dialect)
+use Rattle.std.specs.Prelude.{ℕ, Bool, ◌≡◌, ◌≢◌, List, ◌++◌, take, sum_by, slice_index_or, Option, Some, None, option_map, codes}
 use Rattle.std.specs.Fmt.{decimal}
 use Rattle.bib_spec.specs.Text.{Text}
-use Rattle.edit_spec.specs.Steps.{KeptSteps}
+use Rattle.bib_data.specs.declared.request.Request.{Request}
+use Rattle.bib_data.specs.declared.request.Request.TheVariants as request
 use Rattle.bib_journal.specs.declared.fault.SessionFault.{SessionFault}
 use Rattle.bib_journal.specs.declared.fault.SessionFault.TheVariants.{Memory}
 use Rattle.bib_journal.specs.declared.saving.Saved.{Saved}
 use Rattle.bib_journal.specs.Faults.{fault_number}
 use Rattle.bib_journal.specs.Loading.{Saves}
+use Rattle.bib_journal.specs.OpenSteps.{SessionState}
 use Rattle.bib_journal.specs.Session.{Performs}
 use Rattle.bib_script.specs.Script.{Said, said_of}
+use Rattle.bib_script.specs.Words.{asked_by_words}
 use Rattle.bib_answers.specs.declared.answers.Answer.{Answer}
 use Rattle.bib_run.specs.SessionNames.{session_fault_name}
-use Rattle.bib_run.specs.Sessions.{outcome_left}
-use Rattle.bib_run.specs.Inputs.{AnswersInput}
+use Rattle.bib_answers.specs.Outcome.{answer_of}
+use Rattle.bib_run.specs.Sessions.{fault_line, outcome_left}
+use Rattle.bib_run.specs.Inputs.{AnswersSession, AnswersInput}
 
 -- `bibkeep: line L: N Name`, a line
 abbrev pub script_line : ℕ → ℕ → Text → Text
 script_line line number name =
     codes "bibkeep: line " ++ (decimal line ++ (codes ": " ++ (decimal number ++ (codes " " ++ (name ++ codes "\n")))))
 
--- the line of a script, and the fault of its edit
+-- the line of a script, and the fault of its request
 abbrev pub refused_line : ℕ → SessionFault → Text
 refused_line line fault = script_line line (fault_number fault) (session_fault_name (fault_number fault))
 
--- the line of a script that says no edit
+-- the line of a script that asks for nothing
 abbrev pub bad_line : ℕ → Text
 bad_line line = script_line line 71 (codes "BadScript")
 
--- Why a script stopped after so many edits, if it did: the next one is refused, or else a line says none.
+-- Why a script stopped after so many requests, if it did: the next one is refused, or else a line says none.
 abbrev pub stop_line : Said → ℕ → Option SessionFault → Option Text
 stop_line said done (Some fault) = Some (refused_line (slice_index_or said.lines done 0) fault)
 stop_line said done None = option_map bad_line said.bad_line
@@ -37,21 +41,62 @@ stop_line said done None = option_map bad_line said.bad_line
 abbrev pub applied_line : ℕ → Text
 applied_line done = codes "applied " ++ (decimal done ++ codes "\n")
 
--- the answer to a script of which so many edits were made, with this fault of the next, and this file and journal afterwards
-abbrev pub edited_answer : Said → ℕ → Option SessionFault → Saved → Answer
-edited_answer said done fault saved = record { output = applied_line done; outcome = outcome_left done (stop_line said done fault) saved }
+-- an edit is a change; the begin and the end of a step are none
+abbrev pub changes_of : Request → ℕ
+changes_of (request.Edit edit) = 1
+changes_of other = 0
 
--- the answer to a script of a session that was opened with these steps
-pub record HasEdited (said : Said) (opened : KeptSteps) (answer : Answer) : Type 0 where
+-- how many edits there are among the requests
+abbrev pub edits_in : List Request → ℕ
+edits_in requests = sum_by changes_of requests
+
+-- ---- answers
+
+-- the answer where so many of the requests were done, this is said of what stopped them, if anything did, and this file and journal
+-- are left
+abbrev pub edited_answer : List Request → ℕ → Option Text → Saved → Answer
+edited_answer requests done message saved =
+    let made = edits_in (take done requests) in
+    record { output = applied_line made; outcome = outcome_left made message saved }
+
+-- the answer of a session that was opened so to requests: they are done in order, up to the first that is refused, and `message` is
+-- what is said where so many were done and the next has this fault
+pub record HasEdited (requests : List Request) (message : ℕ → Option SessionFault → Option Text) (opened : SessionState) (answer : Answer) : Type 0 where
   pub done : ℕ
   pub fault : Option SessionFault
-  pub closed : KeptSteps
+  pub closed : SessionState
   pub saved : Saved
   pub told : fault ≢ Some Memory
-  pub performs : Performs said.requests done fault opened closed
-  pub saves : Saves closed saved
-  pub answered : answer ≡ edited_answer said done fault saved
+  pub performs : Performs requests done fault opened closed
+  pub saves : Saves closed.steps saved
+  pub answered : answer ≡ edited_answer requests done (message done fault) saved
 
--- `edit F`: the edits of the script in order, up to the first line that is refused or says none
-abbrev pub IsEditAnswer : Text → Option Text → Text → Answer → Type 0
-IsEditAnswer = AnswersInput (λ input. HasEdited (said_of input))
+-- ---- `edit F`
+
+-- the answer to a script
+abbrev pub HasEditedBy : Text → SessionState → Answer → Type 0
+HasEditedBy script = HasEdited (said_of script).requests (stop_line (said_of script))
+
+-- `edit F`: the requests of the script in order, up to the first line that is refused or asks for nothing; a step that is open
+-- then is ended
+abbrev pub IsEditAnswer : Bool → Text → Option Text → Text → Answer → Type 0
+IsEditAnswer new_journal file journal input = AnswersSession new_journal (AnswersInput HasEditedBy input) file journal
+
+-- ---- `edit F WORD..`
+
+-- the words say no edit
+abbrev pub bad_words_line : Text
+bad_words_line = codes "bibkeep: 71 BadScript\n"
+
+-- what is said of a fault, if there is one
+abbrev pub fault_message : ℕ → Option SessionFault → Option Text
+fault_message done fault = option_map fault_line fault
+
+-- the answer to the words of one edit: a step of that edit is made, whose label they are; or they say none
+pub data HasEditedByWords (words : List Text) (opened : SessionState) (answer : Answer) : Type 0 where
+  said : (requests : List Request) → asked_by_words words ≡ Some requests → HasEdited requests fault_message opened answer → HasEditedByWords words opened answer
+  bad : asked_by_words words ≡ None → answer ≡ answer_of (applied_line 0) bad_words_line 1 → HasEditedByWords words opened answer
+
+-- `edit F WORD..`
+abbrev pub IsWordsAnswer : Bool → List Text → Text → Option Text → Answer → Type 0
+IsWordsAnswer new_journal words = AnswersSession new_journal (HasEditedByWords words)

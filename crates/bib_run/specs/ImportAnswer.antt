@@ -1,8 +1,8 @@
 -- `import`: what a RIS text adds to a file. (dialect)
-use Rattle.std.specs.Prelude.{ℕ, ◌≡◌, ◌≢◌, [], ◌++◌, length, Option, None, codes}
+use Rattle.std.specs.Prelude.{ℕ, Bool, ◌≡◌, ◌≢◌, [], ◌++◌, length, Option, None, codes}
 use Rattle.std.specs.Fmt.{decimal}
 use Rattle.bib_spec.specs.Text.{Text}
-use Rattle.edit_spec.specs.Steps.{KeptSteps}
+use Rattle.bib_journal.specs.OpenSteps.{SessionState}
 use Rattle.bib_data.specs.declared.edit.Edit.TheVariants.{AddMany}
 use Rattle.bib_journal.specs.declared.fault.SessionFault.{SessionFault}
 use Rattle.bib_journal.specs.declared.fault.SessionFault.TheVariants.{Memory}
@@ -19,7 +19,7 @@ use Rattle.bib_answers.specs.declared.answers.Answer.{Answer}
 use Rattle.bib_answers.specs.Messages.{placed_line}
 use Rattle.bib_answers.specs.Outcome.{answer_of}
 use Rattle.bib_run.specs.Sessions.{fault_line, outcome_left}
-use Rattle.bib_run.specs.Inputs.{AnswersInput}
+use Rattle.bib_run.specs.Inputs.{AnswersSession, AnswersInput}
 
 -- ---- messages
 
@@ -47,16 +47,16 @@ abbrev pub added_answer : ℕ → ℕ → Saved → Answer
 added_answer added skipped saved = record { output = added_line added skipped; outcome = outcome_left 1 None saved }
 
 -- The entries are added all at once, which is one step; or why they cannot be.
-pub data HasAdded (a : Additions) (opened : KeptSteps) (answer : Answer) : Type 0 where
-  added : (closed : KeptSteps) (saved : Saved) → MakesEdit (AddMany a.entries) opened closed → Saves closed saved → answer ≡ added_answer (length a.entries) a.skipped saved
+pub data HasAdded (a : Additions) (opened : SessionState) (answer : Answer) : Type 0 where
+  added : (closed : SessionState) (saved : Saved) → MakesEdit (AddMany a.entries) opened closed → Saves closed.steps saved → answer ≡ added_answer (length a.entries) a.skipped saved
       → HasAdded a opened answer
   refused : (fault : SessionFault) → fault ≢ Memory → RefusesEdit fault (AddMany a.entries) opened → answer ≡ answer_of [] (fault_line fault) 1 → HasAdded a opened answer
 
 -- the answer to a RIS text of a session that was opened with these steps: its entries are added, or why it gives none
-pub data HasImported (text : Text) (opened : KeptSteps) (answer : Answer) : Type 0 where
-  read : (a : Additions) → AreAdditions opened.present text a → HasAdded a opened answer → HasImported text opened answer
+pub data HasImported (text : Text) (opened : SessionState) (answer : Answer) : Type 0 where
+  read : (a : Additions) → AreAdditions opened.steps.present text a → HasAdded a opened answer → HasImported text opened answer
   unread : (fault : ImportFault) → fault ≢ import_fault.Memory → RefusesImport fault text → answer ≡ answer_of [] (import_fault_line fault) 1 → HasImported text opened answer
 
 -- `import F`: the records of the text are added to the file as entries
-abbrev pub IsImportAnswer : Text → Option Text → Text → Answer → Type 0
-IsImportAnswer = AnswersInput HasImported
+abbrev pub IsImportAnswer : Bool → Text → Option Text → Text → Answer → Type 0
+IsImportAnswer new_journal file journal input = AnswersSession new_journal (AnswersInput HasImported input) file journal

@@ -6,8 +6,12 @@ pub mod Lent
 pub mod SessionNames
 pub mod Sessions
 pub mod Inputs
+pub mod Shown
 pub mod EditAnswer
 pub mod ImportAnswer
 pub mod Turns
 pub mod Log
 pub mod Ris
+pub mod StoredRuns
+pub mod OneAnswer
+pub mod Explaining

@@ -1,9 +1,10 @@
 -- `log`: the changes that can be undone and redone. `forget`: a new journal. (dialect)
-use Rattle.std.specs.Prelude.{ℕ, ◌≡◌, [], ◌++◌, length, sum_by, Option, Some, None, codes}
+use Rattle.std.specs.Prelude.{ℕ, ◌≡◌, List, [], ◌∷◌, ◌++◌, length, sum_by, Option, Some, None, codes}
 use Rattle.std.specs.Fmt.{decimal}
 use Rattle.std.specs.List.{flat_map}
 use Rattle.bib_spec.specs.Text.{Text}
-use Rattle.edit_spec.specs.Steps.{Step, KeptSteps}
+use Rattle.bib_spec.specs.Pieces.{Piece}
+use Rattle.history_spec.specs.Steps.{Step, KeptSteps}
 use Rattle.bib_spec.specs.Texts.{IsOpenable}
 use Rattle.bib_journal.specs.declared.saving.Saved.{Saved}
 use Rattle.bib_journal.specs.Loading.{Saves}
@@ -13,18 +14,27 @@ use Rattle.bib_answers.specs.declared.answers.Answer.{Answer}
 use Rattle.bib_run.specs.Sessions.{IsUnopenedAnswer}
 use Rattle.bib_answers.specs.Outcome.{answer_of}
 
--- how many bytes a step takes away
-abbrev pub old_len : Step → ℕ
-old_len step = sum_by (λ p. length p.old) step
+-- how many bytes pieces take away
+abbrev pub old_len : List Piece → ℕ
+old_len pieces = sum_by (λ p. length p.old) pieces
 
--- how many bytes it puts in
-abbrev pub new_len : Step → ℕ
-new_len step = sum_by (λ p. length p.new) step
+-- how many bytes they put in
+abbrev pub new_len : List Piece → ℕ
+new_len pieces = sum_by (λ p. length p.new) pieces
 
--- the word, and how many pieces, old bytes and new bytes the step has, a line
+-- a space and the label; nothing for the empty one
+abbrev pub label_part : Text → Text
+label_part [] = []
+label_part (b ∷ label) = codes " " ++ (b ∷ label)
+
+-- the word, and how many pieces, old bytes and new bytes there are
+abbrev pub counts_part : Text → List Piece → Text
+counts_part word pieces =
+    word ++ (codes " " ++ (decimal (length pieces) ++ (codes " " ++ (decimal (old_len pieces) ++ (codes " " ++ decimal (new_len pieces))))))
+
+-- the word, how many pieces, old bytes and new bytes the step has, and its label, a line
 abbrev pub step_line : Text → Step → Text
-step_line word step =
-    word ++ (codes " " ++ (decimal (length step) ++ (codes " " ++ (decimal (old_len step) ++ (codes " " ++ (decimal (new_len step) ++ codes "\n"))))))
+step_line word step = counts_part word step.pieces ++ (label_part step.label ++ codes "\n")
 
 -- a line for each past step from the oldest, and then for each future step from the next
 abbrev pub log_text : KeptSteps → Text

@@ -1,11 +1,17 @@
 -- `ris`: entries for other programs. (dialect)
-use Rattle.std.specs.Prelude.{List}
+use Rattle.std.specs.Prelude.{ℕ, Bool, List, if◌then◌else◌}
 use Rattle.bib_spec.specs.Text.{Text}
 use Rattle.bib_spec.specs.Reading.{Reading}
+use Rattle.bib_spec.specs.Records.{EntryTexts}
+use Rattle.bib_ris.specs.Dropped.{entries_dropped}
 use Rattle.bib_ris.specs.Export.{entries_ris}
 use Rattle.bib_answers.specs.declared.answers.Answer.{Answer}
 use Rattle.bib_answers.specs.Cited.{cited_answer}
 
--- `ris F KEY..`: the RIS text of the entries that the keys cite
-abbrev pub ris_answer : List Text → Reading → Answer
-ris_answer = cited_answer entries_ris
+-- the RIS text of entries at this depth, or what it leaves out
+abbrev pub ris_told : Bool → ℕ → List EntryTexts → List ℕ → Text
+ris_told dropped depth entries list = if dropped then entries_dropped depth entries list else entries_ris depth entries list
+
+-- `ris F KEY..`: the RIS text of the entries that the keys cite, at this depth, or with `--dropped` what it leaves out
+abbrev pub ris_answer : Bool → ℕ → List Text → Reading → Answer
+ris_answer dropped depth = cited_answer (ris_told dropped depth)

@@ -1,5 +1,5 @@
 -- How a run ends.
-use Rattle.std.specs.Prelude.{◌≡◌, ◌+◌, ◌⊎◌, Bool, true, false, [], Option, Some, None}
+use Rattle.std.specs.Prelude.{◌≡◌, ◌+◌, Bool, true, false, [], Option, Some, None, option_map}
 use Rattle.std.specs.Io.KnownBytes.{Appends}
 use Rattle.bib_spec.specs.Bytes.{file_limit}
 use Rattle.bib_spec.specs.Text.{Text}
@@ -90,6 +90,13 @@ pub record AreSound (old new : TapsView) : Type 0 where
   pub journal : has_any_failed new.journal ≡ has_any_failed old.journal
   pub input : new.input.failed ≡ old.input.failed
 
+-- A call on a source failed. The sources are read in order, the file, the journal and the input: no call failed on a source
+-- before it, and none was made on one after it.
+pub data HasFailed (old new : TapsView) : Type 0 where
+  file : new.file.failed ≡ true → new.journal ≡ old.journal → new.input ≡ old.input → HasFailed old new
+  journal : new.file.failed ≡ old.file.failed → has_any_failed new.journal ≡ true → new.input ≡ old.input → HasFailed old new
+  input : new.file.failed ≡ old.file.failed → has_any_failed new.journal ≡ has_any_failed old.journal → new.input.failed ≡ true → HasFailed old new
+
 -- How a run of a command ends, told by its outcome, and by its taps before and after it. (dialect)
 pub data IsRun (command : Command) (old new : TapsView) : Outcome → Type 0 where
   -- no call failed, and the answer's output was written whole
@@ -97,11 +104,23 @@ pub data IsRun (command : Command) (old new : TapsView) : Outcome → Type 0 whe
       → Appends old.out.bytes new.out.bytes answer.output → new.out.failed ≡ old.out.failed
       → IsRun command old new answer.outcome
   -- a call on a source failed, and nothing was written
-  read_fault : (new.file.failed ≡ true) ⊎ ((has_any_failed new.journal ≡ true) ⊎ (new.input.failed ≡ true)) → new.out ≡ old.out
-      → IsRun command old new (outcome_of read_fault_line 3)
+  read_fault : HasFailed old new → new.out ≡ old.out → IsRun command old new (outcome_of read_fault_line 3)
   -- a call on the output failed, and a prefix of the answer's output was written
   write_fault : (answer : Answer) → HasAnswer command old new answer
       → WritesPrefix old.out.bytes new.out.bytes answer.output false → new.out.failed ≡ true
       → IsRun command old new (outcome_of write_fault_line 3)
   -- no call failed, and nothing was written
   no_memory : AreSound old new → new.out ≡ old.out → IsRun command old new (outcome_of [] 4)
+
+-- ---- new taps
+
+-- a tap that was not called yet, of a reader or a writer that tells these bytes
+abbrev pub fresh : Option Text → TapView
+fresh bytes = record { bytes = bytes; failed = false }
+
+-- a run of the command over new taps: of a file and a journal that tell these bytes, and of some input and some output
+pub record RanOver (command : Command) (file : Option Text) (journal : Option (Option Text)) (outcome : Outcome) : Type 0 where
+  pub input : Option Text
+  pub out : Option Text
+  pub now : TapsView
+  pub ran : IsRun command (taps (fresh file) (option_map fresh journal) (fresh input) (fresh out)) now outcome

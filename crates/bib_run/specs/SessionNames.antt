@@ -21,4 +21,6 @@ session_fault_name number =
     else if number == 52 then codes "NothingToRedo"
     else if number == 53 then codes "BadJournal"
     else if number == 54 then codes "JournalMismatch"
+    else if number == 55 then codes "StepOpen"
+    else if number == 56 then codes "NoOpenStep"
     else fault_name number

@@ -1,14 +1,17 @@
 -- A session over a file and its journal: why none is opened, and what is left. (dialect)
-use Rattle.std.specs.Prelude.{ℕ, ◌≡◌, ◌≢◌, ◌==◌, if◌then◌else◌, [], ◌++◌, Option, Some, None, codes}
+use Rattle.std.specs.Prelude.{ℕ, Bool, true, false, ◌≡◌, ◌≢◌, ◌==◌, if◌then◌else◌, [], ◌++◌, Option, Some, None, codes}
 use Rattle.std.specs.Fmt.{decimal}
 use Rattle.bib_spec.specs.Text.{Text}
 use Rattle.bib_spec.specs.Texts.{IsOpenable}
 use Rattle.bib_store.specs.Meaning.{IsOpenFault}
 use Rattle.journal_format.specs.Faults.{IsNoJournal}
 use Rattle.bib_journal.specs.declared.fault.SessionFault.{SessionFault}
+use Rattle.bib_journal.specs.declared.fault.SessionFault.TheVariants.{BadJournal, JournalMismatch}
 use Rattle.bib_journal.specs.declared.saving.Saved.{Saved}
 use Rattle.bib_journal.specs.Faults.{fault_number}
 use Rattle.bib_journal.specs.Loading.{IsMismatch}
+use Rattle.bib_journal.specs.OpenSteps.{SessionState}
+use Rattle.bib_journal.specs.Session.{IsOpened}
 use Rattle.bib_answers.specs.declared.answers.Outcome.{Outcome}
 use Rattle.bib_answers.specs.declared.answers.Answer.{Answer}
 use Rattle.bib_answers.specs.Messages.{refusal_line}
@@ -42,6 +45,28 @@ pub record IsUnopenedAnswer (file : Text) (journal : Option Text) (answer : Answ
   pub message : Text
   pub why : IsUnopened file journal message
   pub answered : answer ≡ answer_of [] message 1
+
+-- ---- `--new-journal`
+
+-- the text is not a journal, or it does not fit the file
+pub data IsUnfit (file text : Text) : Type 0 where
+  none : (place : ℕ) → IsNoJournal text place → IsUnfit file text
+  mismatch : IsMismatch file text → IsUnfit file text
+
+-- A session is opened with the journal. With `--new-journal` it is opened without one that is unfit: then nothing was done to the file.
+pub data OpensWith (new_journal : Bool) (file : Text) (journal : Option Text) (opened : SessionState) : Type 0 where
+  fitting : IsOpened file journal opened → OpensWith new_journal file journal opened
+  begun : (text : Text) → new_journal ≡ true → journal ≡ Some text → IsUnfit file text → IsOpened file None opened → OpensWith new_journal file journal opened
+
+-- the journal that can be refused: with `--new-journal` there is none
+abbrev pub judged_journal : Bool → Option Text → Option Text
+judged_journal new_journal given = if new_journal then None else given
+
+-- whether the journal is at fault, and not the file
+abbrev pub is_of_journal : SessionFault → Bool
+is_of_journal (BadJournal place) = true
+is_of_journal JournalMismatch = true
+is_of_journal other = false
 
 -- ---- leaving
 

@@ -1,5 +1,5 @@
 -- What was read of a source, and what was written to a sink.
-use Rattle.std.specs.Prelude.{◌≡◌, ℕ, ◌<◌, ◌≤◌, ◌≢◌, Bool, true, length, take, Option, IfSome}
+use Rattle.std.specs.Prelude.{◌≡◌, ℕ, ◌<◌, ◌≤◌, ◌≢◌, Bool, true, false, length, take, Option, IfSome}
 use Rattle.std.specs.Io.KnownBytes.{Appends, Consumes, IsAtEnd}
 use Rattle.bib_spec.specs.Text.{Text}
 
@@ -21,3 +21,9 @@ pub record WritesPrefix (before after : Option Text) (bytes : Text) (done : Bool
   pub within : count ≤ length bytes
   pub given : Appends before after (take count bytes)
   pub whole : done ≡ true → count ≡ length bytes
+
+-- the text was written, or a prefix of it where a call failed
+pub record Tells (before after : Option Text) (text : Text) (failed : Bool) : Type 0 where
+  pub done : Bool
+  pub written : WritesPrefix before after text done
+  pub fault : done ≡ false → failed ≡ true

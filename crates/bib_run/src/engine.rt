@@ -1,17 +1,19 @@
 //! One run of a command: all sources are read, then the answer is made, then it is written.
 
-ghost use Rattle.std.specs.Prelude.{◌≡◌, ◌≢◌, ◌⊎◌, true, Option, IfOk, OnErr, Err, option_map};
+ghost use Rattle.std.specs.Prelude.{◌≡◌, ◌≢◌, ◌≤◌, true, Option, IfOk, OnErr, Err, option_map, codes, length};
 ghost use Rattle.bib_words.specs.Command.{IsCommand, ReadsJournal, TakesInput};
-ghost use Rattle.bib_run.specs.Answers.{IsAnswer};
+ghost use Rattle.bib_run.specs.Answers.{IsAnswer, IsStoredAnswer};
+ghost use Rattle.bib_run.specs.Shown.{printed, shown};
 ghost use Rattle.bib_answers.specs.Outcome.{outcome_of};
 ghost use Rattle.bib_run.specs.Lent.{held_before, held_after};
-ghost use Rattle.bib_run.specs.Runs.{TapView, IsRun, HasAnswer, HasSources, HasJournal, ReadsInput, taps, view_of, held, has_any_failed};
+ghost use Rattle.bib_run.specs.Runs.{TapView, IsRun, HasAnswer, HasFailed, HasSources, HasJournal, ReadsInput, taps, view_of, held, has_any_failed};
 ghost use Rattle.bib_run.specs.Messages.{write_fault_line};
 ghost use Rattle.bib_taps.specs.Taps.{has_failed};
 ghost use Rattle.bib_run.specs.declared.source.SourceFault.TheVariants.{Failed, OutOfMemory};
 
 use crate::Tap;
-use crate::commands::edit::answer_edit;
+use crate::commands::edit::{answer_edit, answer_words};
+use crate::commands::explain::answer_explain;
 use crate::commands::import::answer_import;
 use crate::commands::log::{answer_forget, answer_log};
 use crate::commands::ris::answer_ris;
@@ -20,8 +22,8 @@ use crate::messages::{READ_FAULT, WRITE_FAULT};
 use crate::sink::write_whole;
 use crate::source::{SourceFault, read_up_to};
 use bib_answers::{
-    Answer, Outcome, answer_cat, answer_check, answer_cite, answer_labels, answer_names,
-    answer_show, outcome_of,
+    Answer, Outcome, answer_cat, answer_check, answer_cite, answer_json, answer_labels,
+    answer_lint, answer_names, answer_newkeys, answer_show, outcome_of,
 };
 use bib_scan::{FILE_LIMIT, Text};
 use bib_words::{Command, status};
@@ -176,8 +178,9 @@ fn read_sources<F: Read, J: Read, I: Read>(
         (taps (view_of F.remaining file.old) (held has_journal (view_of J.remaining journal.old)) (view_of I.remaining input.old) before)
         (taps (view_of F.remaining file.new) (held has_journal (view_of J.remaining journal.new)) (view_of I.remaining input.new) after)
         sources.file.items (option_map (λ bytes. bytes.items) sources.journal) sources.input.items) }
-    ensures failed { result ≡ Err Failed → (has_failed file.new ≡ true)
-        ⊎ ((has_any_failed (held has_journal (view_of J.remaining journal.new)) ≡ true) ⊎ (has_failed input.new ≡ true)) }
+    ensures failed { result ≡ Err Failed → (before after : TapView) → HasFailed
+        (taps (view_of F.remaining file.old) (held has_journal (view_of J.remaining journal.old)) (view_of I.remaining input.old) before)
+        (taps (view_of F.remaining file.new) (held has_journal (view_of J.remaining journal.new)) (view_of I.remaining input.new) after) }
     ensures file { result ≡ Err OutOfMemory → has_failed file.new ≡ has_failed file.old }
     ensures journal { result ≢ Err Failed → has_failed journal.new ≡ has_failed journal.old }
     ensures memory { result ≡ Err OutOfMemory → has_failed input.new ≡ has_failed input.old }
@@ -266,6 +269,47 @@ fn answer_of(
     requires { IsCommand command.now }
     ensures { IfOk result (IsAnswer command.now file.items (option_map (λ text. text.now) journal.entry) input.now) }
 {
+    let stored = stored_answer_of(alloc, command, file, journal, input)?;
+    Ok(shown(alloc, command.print, stored))
+}
+
+/// The answer as a command shows it, with `--print` or without.
+fn shown(alloc: Global, print: bool, answer: Answer) -> Answer
+    ensures { result ≡ shown print answer }
+{
+    if print {
+        return printed(alloc, answer);
+    }
+    answer
+}
+
+/// The new file is the output, if there is one, and nothing is left to be stored.
+fn printed(alloc: Global, answer: Answer) -> Answer
+    ensures { result ≡ printed answer }
+{
+    let Outcome {
+        file,
+        journal: _journal,
+        message,
+        status,
+    } = answer.outcome;
+    Answer {
+        output: file.unwrap_or(Text::from_vec(Vec::new(alloc))),
+        outcome: outcome_of(message, status),
+    }
+}
+
+/// The command's answer if what is new is stored.
+fn stored_answer_of(
+    alloc: Global,
+    command: &Command,
+    file: Vec<u8>,
+    journal: Option<&[u8]>,
+    input: &[u8],
+) -> Result<Answer, AllocError>
+    requires { IsCommand command.now }
+    ensures { IfOk result (IsStoredAnswer command.now file.items (option_map (λ text. text.now) journal.entry) input.now) }
+{
     if command.is_named(b"cat") {
         return answer_cat(alloc, file);
     }
@@ -273,23 +317,29 @@ fn answer_of(
         return answer_check(alloc, file);
     }
     if command.is_named(b"edit") {
-        return answer_edit(alloc, file, journal, input);
+        return answer_edits(alloc, command, file, journal, input);
     }
     let words = command.words.as_slice();
     if command.is_named(b"show") {
-        return answer_show(alloc, file, words[1].as_slice());
+        return answer_show(alloc, file, words[1].as_slice(), command.depth);
     }
     if command.is_named(b"cite") {
         return answer_cite(alloc, file, &words[1..], command.n);
     }
     if command.is_named(b"labels") {
-        return answer_labels(alloc, file, &words[1..]);
+        return answer_labels(alloc, file, &words[1..], command.depth);
     }
     if command.is_named(b"ris") {
-        return answer_ris(alloc, file, &words[1..]);
+        return answer_ris(alloc, file, &words[1..], command.depth, command.dropped);
     }
     if command.is_named(b"names") {
-        return answer_names(alloc, file, words[1].as_slice(), words[2].as_slice());
+        return answer_names(
+            alloc,
+            file,
+            words[1].as_slice(),
+            command.depth,
+            words[2].as_slice(),
+        );
     }
     if command.is_named(b"undo") {
         return answer_undo(alloc, file, journal, command.n as usize);
@@ -304,7 +354,38 @@ fn answer_of(
         return answer_forget(alloc, file);
     }
     if command.is_named(b"import") {
-        return answer_import(alloc, file, journal, input);
+        return answer_import(alloc, file, journal, command.new_journal, input);
+    }
+    if command.is_named(b"lint") {
+        return answer_lint(alloc, words[0].as_slice(), file.as_slice());
+    }
+    if command.is_named(b"json") {
+        return answer_json(alloc, file, &words[1..], command.depth);
+    }
+    if command.is_named(b"newkeys") {
+        return answer_newkeys(alloc, file, command.depth);
+    }
+    if command.is_named(b"explain") {
+        return answer_explain(alloc, words[0].as_slice());
     }
     unreachable!()
+}
+
+/// What `edit` answers: by the words of one edit, or by a script where there are none.
+fn answer_edits(
+    alloc: Global,
+    command: &Command,
+    file: Vec<u8>,
+    journal: Option<&[u8]>,
+    input: &[u8],
+) -> Result<Answer, AllocError>
+    requires named { command.now.name ≡ codes "edit" }
+    requires words { 1 ≤ length command.now.words }
+    ensures { IfOk result (IsStoredAnswer command.now file.items (option_map (λ text. text.now) journal.entry) input.now) }
+{
+    let words = command.words.as_slice();
+    if words.len() == 1 {
+        return answer_edit(alloc, file, journal, command.new_journal, input);
+    }
+    answer_words(alloc, file, journal, command.new_journal, &words[1..])
 }

@@ -5,6 +5,7 @@
 
 mod commands;
 mod engine;
+mod laws;
 mod messages;
 mod sessions;
 mod sink;
@@ -12,5 +13,8 @@ mod source;
 
 pub use bib_answers::Outcome;
 pub use bib_taps::Tap;
+pub use bib_words::Command;
 pub use engine::run;
+pub use laws::{a_command_has_one_answer, runs_of_the_program_are_one_session};
 pub use messages::{READ_FAULT, WRITE_FAULT};
+pub use sink::write_whole;

@@ -1,18 +1,64 @@
-//! A session over a file and its journal: why none is opened, and what is left of one.
+//! A session over a file and its journal: how it is opened, why none is, and what is left of one.
 
-ghost use Rattle.std.specs.Prelude.{◌≡◌, Option, IfOk};
+ghost use Rattle.std.specs.Prelude.{◌≡◌, true, Option, None, IfOk, IfErr, option_map};
 ghost use Rattle.bib_spec.specs.Text.{Text as FileText};
 ghost use Rattle.bib_journal.specs.Session.{RefusesOpen};
 ghost use Rattle.bib_answers.specs.Messages.{fault_name};
-ghost use Rattle.bib_run.specs.Sessions.{IsUnopenedAnswer, bad_journal_line, fault_line, outcome_left};
+ghost use Rattle.bib_run.specs.Sessions.{IsUnopenedAnswer, OpensWith, judged_journal, is_of_journal, bad_journal_line, fault_line, outcome_left};
 ghost use Rattle.bib_run.specs.SessionNames.{session_fault_name};
 
 use crate::messages::JOURNAL_MISMATCH;
 use bib_answers::{Answer, Outcome, fault_name, outcome_of, refused, unread};
-use bib_journal::{Saved, SessionFault};
+use bib_journal::{Saved, Session, SessionFault};
 use bib_scan::Text;
+use bib_store::Paged;
 use bib_words::status;
 use std::alloc::{AllocError, Global};
+
+/// Opens the file with its journal. With `--new-journal` it is opened as a file to which nothing was done, if the journal is
+/// unfit; a copy of the file is made then.
+pub fn open_with(
+    alloc: Global,
+    file: Vec<u8>,
+    journal: Option<&[u8]>,
+    new_journal: bool,
+) -> Result<Session<Paged>, SessionFault>
+    ensures opened { IfOk result (OpensWith new_journal file.items (option_map (λ text. text.now) journal.entry)) }
+    ensures refused { IfErr result (λ fault. RefusesOpen fault file.items (judged_journal new_journal (option_map (λ text. text.now) journal.entry))) }
+{
+    if !new_journal {
+        return Session::open_file(alloc, file, journal, Paged::new(alloc));
+    }
+    match Session::open(alloc, file.as_slice(), journal, Paged::new(alloc)) {
+        Ok(session) => Ok(session),
+        Err(fault) => open_anew(alloc, file, fault),
+    }
+}
+
+/// Opens the file as one to which nothing was done, if its journal is at fault.
+fn open_anew(
+    alloc: Global,
+    file: Vec<u8>,
+    fault: SessionFault,
+) -> Result<Session<Paged>, SessionFault>
+    ensures opened { IfOk result (λ session. (journal : Option FileText) → RefusesOpen fault file.items journal → OpensWith true file.items journal session) }
+    ensures refused { IfErr result (λ why. (journal : Option FileText) → RefusesOpen fault file.items journal → RefusesOpen why file.items None) }
+{
+    if is_of_journal(fault) {
+        return Session::open_file(alloc, file, None, Paged::new(alloc));
+    }
+    Err(fault)
+}
+
+/// Whether the journal is at fault, and not the file.
+fn is_of_journal(fault: SessionFault) -> bool
+    ensures { result ≡ is_of_journal fault }
+{
+    match fault {
+        SessionFault::BadJournal(_) | SessionFault::JournalMismatch => true,
+        _ => false,
+    }
+}
 
 /// Nothing is output, and the message says why no session is opened; want of memory is no answer.
 pub fn unopened(alloc: Global, fault: SessionFault) -> Result<Answer, AllocError>
@@ -68,6 +114,16 @@ pub fn fault_line(alloc: Global, fault: SessionFault) -> Result<Text, AllocError
     Ok(Text::from_vec(line.into_bytes()))
 }
 
+/// What is said of a refusal, if there is one.
+pub fn message_of(alloc: Global, fault: Option<SessionFault>) -> Result<Option<Text>, AllocError>
+    ensures { IfOk result (λ message. message ≡ option_map fault_line fault) }
+{
+    match fault {
+        Some(fault) => Ok(Some(fault_line(alloc, fault)?)),
+        None => Ok(None),
+    }
+}
+
 /// The name of a fault of an edit or a session, by its number.
 pub fn session_fault_name(number: u16) -> &'static str
     ensures { result.now ≡ session_fault_name number }
@@ -88,6 +144,8 @@ pub fn session_fault_name(number: u16) -> &'static str
         52 => "NothingToRedo",
         53 => "BadJournal",
         54 => "JournalMismatch",
+        55 => "StepOpen",
+        56 => "NoOpenStep",
         _ => other_fault_name(number),
     }
 }

@@ -129,7 +129,8 @@ fn inside(text: &[u8]) -> &[u8]
 }
 
 /// The one part of a value in whose bytes no `#` stands. Where one does, there may be more, and the answer is None. It
-/// takes time in the length of the bytes, and no memory.
+/// takes time in the length of the bytes, and no memory. None promises nothing: a caller then takes the value apart, which
+/// costs time alone.
 pub fn only_part(bytes: &[u8]) -> Option<Part<'_>>
     ensures { IfSome result (λ part. (v : Value) → IsValue name_limit v → value_bytes v ≡ bytes.now → parts_of v ≡ part_view part ∷ []) }
 {

@@ -1,2 +1,4 @@
 pub mod PartedLemmas
 pub mod SaidLemmas
+pub mod Depths
+pub mod LabelLemmas

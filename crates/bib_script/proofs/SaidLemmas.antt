@@ -2,11 +2,9 @@
 use Rattle.std.proofs.Common.{◌≡◌, ℕ, suc, ◌<◌, List, [], ◌∷◌, ◌++◌, length, Option, Some, None, refl, sym, ◌∙◌, ap, arith, append-nil}
 use Rattle.std.proofs.lemmas.List.{append_assoc}
 use Rattle.bib_spec.specs.Text.{Text}
-use Rattle.bib_data.specs.declared.edit.Edit.{Edit}
 use Rattle.bib_data.specs.declared.request.Request.{Request}
-use Rattle.bib_data.specs.declared.request.Request.TheVariants as request
 use Rattle.bib_script.specs.Parting.{words_of, lines_of}
-use Rattle.bib_script.specs.Script.{Said, said, nothing_said, said_first, said_by, edit_of}
+use Rattle.bib_script.specs.Script.{Said, said, nothing_said, said_first, said_by, request_of}
 
 -- what was said, before what the rest says
 abbrev pub before : List Request → List ℕ → Said → Said
@@ -22,24 +20,24 @@ pub says_nothing : (all : Said) (requests : List Request) (lines : List ℕ) (nu
 says_nothing all requests lines number text [] rest so_far first none = ap (λ (ls : List Text). before requests lines (said_by (suc number) ls)) (sym first) ∙ so_far
 says_nothing all requests lines number text (b ∷ line) rest so_far first none = absurd (omega (arith, none))
 
-edit_says : (number : ℕ) (line : Text) (others : List Text) (edit : Edit) → 0 < length line → edit_of (words_of line) ≡ Some edit
-    → said_by number (line ∷ others) ≡ said_first number edit (said_by (suc number) others)
-edit_says number [] others edit some says = absurd (omega (arith, some))
-edit_says number (b ∷ line) others edit some says = rw says refl
+asked_says : (number : ℕ) (line : Text) (others : List Text) (asked : Request) → 0 < length line → request_of (words_of line) ≡ Some asked
+    → said_by number (line ∷ others) ≡ said_first number asked (said_by (suc number) others)
+asked_says number [] others asked some says = absurd (omega (arith, some))
+asked_says number (b ∷ line) others asked some says = rw says refl
 
--- a line that says an edit
-pub says_edit : (all : Said) (requests requests' : List Request) (lines lines' : List ℕ) (number : ℕ) (text line rest : Text) (edit : Edit) → SaysOn all requests lines number text
-    → lines_of text ≡ line ∷ lines_of rest → 0 < length line → edit_of (words_of line) ≡ Some edit → requests' ≡ requests ++ request.Edit edit ∷ [] → lines' ≡ lines ++ suc number ∷ []
+-- a line that asks for something
+pub says_asked : (all : Said) (requests requests' : List Request) (lines lines' : List ℕ) (number : ℕ) (text line rest : Text) (asked : Request) → SaysOn all requests lines number text
+    → lines_of text ≡ line ∷ lines_of rest → 0 < length line → request_of (words_of line) ≡ Some asked → requests' ≡ requests ++ asked ∷ [] → lines' ≡ lines ++ suc number ∷ []
     → SaysOn all requests' lines' (suc number) rest
-says_edit all requests requests' lines lines' number text line rest edit so_far first some says pushed counted =
+says_asked all requests requests' lines lines' number text line rest asked so_far first some says pushed counted =
     let later : Said = said_by (suc (suc number)) (lines_of rest) in
-    ap (λ (es : List Request). before es lines' later) pushed ∙ ap (λ (ls : List ℕ). before (requests ++ request.Edit edit ∷ []) ls later) counted
-    ∙ ap (λ (es : List Request). said es ((lines ++ suc number ∷ []) ++ later.lines) later.bad_line) (append_assoc requests (request.Edit edit ∷ []) later.requests)
-    ∙ ap (λ (ls : List ℕ). said (requests ++ request.Edit edit ∷ later.requests) ls later.bad_line) (append_assoc lines (suc number ∷ []) later.lines)
-    ∙ ap (λ (s : Said). before requests lines s) (sym (edit_says (suc number) line (lines_of rest) edit some says))
+    ap (λ (es : List Request). before es lines' later) pushed ∙ ap (λ (ls : List ℕ). before (requests ++ asked ∷ []) ls later) counted
+    ∙ ap (λ (es : List Request). said es ((lines ++ suc number ∷ []) ++ later.lines) later.bad_line) (append_assoc requests (asked ∷ []) later.requests)
+    ∙ ap (λ (ls : List ℕ). said (requests ++ asked ∷ later.requests) ls later.bad_line) (append_assoc lines (suc number ∷ []) later.lines)
+    ∙ ap (λ (s : Said). before requests lines s) (sym (asked_says (suc number) line (lines_of rest) asked some says))
     ∙ ap (λ (ls : List Text). before requests lines (said_by (suc number) ls)) (sym first) ∙ so_far
 
-none_says : (number : ℕ) (line : Text) (others : List Text) → 0 < length line → edit_of (words_of line) ≡ None → said_by number (line ∷ others) ≡ nothing_said (Some number)
+none_says : (number : ℕ) (line : Text) (others : List Text) → 0 < length line → request_of (words_of line) ≡ None → said_by number (line ∷ others) ≡ nothing_said (Some number)
 none_says number [] others some says = absurd (omega (arith, some))
 none_says number (b ∷ line) others some says = rw says refl
 
@@ -49,7 +47,7 @@ before_nothing requests lines bad_line =
 
 -- a line that says none
 pub says_none : (all : Said) (requests : List Request) (lines : List ℕ) (number : ℕ) (text line rest : Text) → SaysOn all requests lines number text
-    → lines_of text ≡ line ∷ lines_of rest → 0 < length line → edit_of (words_of line) ≡ None → said requests lines (Some (suc number)) ≡ all
+    → lines_of text ≡ line ∷ lines_of rest → 0 < length line → request_of (words_of line) ≡ None → said requests lines (Some (suc number)) ≡ all
 says_none all requests lines number text line rest so_far first some says =
     before_nothing requests lines (Some (suc number))
     ∙ ap (λ (s : Said). before requests lines s) (sym (none_says (suc number) line (lines_of rest) some says))

@@ -1,2 +1,3 @@
 pub mod Parting
 pub mod Script
+pub mod Words

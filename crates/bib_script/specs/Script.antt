@@ -1,10 +1,12 @@
--- The edits that the lines of a script say. (dialect)
+-- What the lines of a script ask for. (dialect)
 use Rattle.std.specs.Prelude.{ℕ, suc, ◌+◌, ◌-◌, ◌*◌, ◌&&◌, nat_le, if◌then◌else◌, List, [], ◌∷◌, length, Option, Some, None, option_map, option_and_then, bytes_eq, codes, fold}
 use Rattle.std.specs.List.{list_all}
 use Rattle.std.specs.Option.{option_map_or}
 use Rattle.std.specs.Char.{is_ascii_digit}
 use Rattle.bib_spec.specs.Text.{Text}
 use Rattle.bib_spec.specs.Texts.{is_empty}
+use Rattle.bib_spec.specs.Records.{default_depth}
+use Rattle.history_spec.specs.Steps.{label_of}
 use Rattle.bib_data.specs.declared.edit.Edit.{Edit}
 use Rattle.bib_data.specs.declared.edit.Edit.TheVariants.{SetField, DropField, AddEntry, RemoveEntry, MoveEntry, RenameKey, RenameMacro, InlineMacro, IntroduceMacro, RegenerateKeys}
 use Rattle.bib_data.specs.declared.edit.NewEntry.{NewEntry}
@@ -78,9 +80,15 @@ abbrev pub introduce_of : List Text → Option Edit
 introduce_of (name ∷ text ∷ []) = Some (IntroduceMacro name text)
 introduce_of _ = None
 
--- `regenerate`
+-- the depth that one digit from 1 to 8 says
+abbrev pub depth_of : Text → Option ℕ
+depth_of (digit ∷ []) = if nat_le 49 digit && nat_le digit 56 then Some (digit - 48) else None
+depth_of _ = None
+
+-- `regenerate [DEPTH]`
 abbrev pub regenerate_of : List Text → Option Edit
-regenerate_of [] = Some RegenerateKeys
+regenerate_of [] = Some (RegenerateKeys default_depth)
+regenerate_of (depth ∷ []) = option_map RegenerateKeys (depth_of depth)
 regenerate_of _ = None
 
 -- the edit of keys or macros that a verb and the words after it say
@@ -104,6 +112,24 @@ edit_of (verb ∷ words) =
     else if bytes_eq verb (codes "move") then move_of words
     else renaming_of verb words
 
+-- `group LABEL`
+abbrev pub group_of : List Text → Option Request
+group_of (label ∷ []) = option_map request.Begin (label_of label)
+group_of _ = None
+
+-- `end`
+abbrev pub end_of : List Text → Option Request
+end_of [] = Some request.End
+end_of _ = None
+
+-- what a line's words ask for: an edit, or that a step of several edits begins or ends
+abbrev pub request_of : List Text → Option Request
+request_of [] = None
+request_of (verb ∷ words) =
+    if bytes_eq verb (codes "group") then group_of words
+    else if bytes_eq verb (codes "end") then end_of words
+    else option_map request.Edit (edit_of (verb ∷ words))
+
 -- ---- lines
 
 -- what a script says: what it asks for, in order, the number of the line of each, counted from 1, and the line that says
@@ -119,15 +145,15 @@ said requests lines bad_line = record { requests = requests; lines = lines; bad_
 abbrev pub nothing_said : Option ℕ → Said
 nothing_said bad_line = said [] [] bad_line
 
-abbrev pub said_first : ℕ → Edit → Said → Said
-said_first line edit rest = said (request.Edit edit ∷ rest.requests) (line ∷ rest.lines) rest.bad_line
+abbrev pub said_first : ℕ → Request → Said → Said
+said_first line request rest = said (request ∷ rest.requests) (line ∷ rest.lines) rest.bad_line
 
 -- what the lines say, where the first has this number; an empty line says nothing
 abbrev pub said_by : ℕ → List Text → Said
 said_by n [] = nothing_said None
 said_by n (line ∷ lines) =
     if is_empty line then said_by (suc n) lines
-    else option_map_or (λ edit. said_first n edit (said_by (suc n) lines)) (edit_of (words_of line)) (nothing_said (Some n))
+    else option_map_or (λ asked. said_first n asked (said_by (suc n) lines)) (request_of (words_of line)) (nothing_said (Some n))
 
 -- what the script says
 abbrev pub said_of : Text → Said

@@ -1,11 +1,15 @@
-//! Reads scripts: lines of words, of which each says one edit. It knows the words of each edit, and not what an edit
-//! means or whether it is refused. It promises the edits that the lines say, up to the first line that says none.
+//! Reads scripts: lines of words, of which each says one edit; and the words of one edit by themselves. It knows the words of
+//! each edit, and not what an edit means or whether it is refused. It promises the edits that the lines or the words say, up to
+//! the first line that says none.
 #![tactic(auto)]
 
 mod fields;
+mod labels;
 mod lines;
 mod numbers;
 mod script;
+mod steps;
 mod verbs;
 
 pub use script::{Script, read_script};
+pub use steps::read_words;

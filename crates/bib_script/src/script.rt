@@ -1,13 +1,13 @@
 //! A script, line by line.
 
-ghost use Rattle.std.specs.Prelude.{◌≡◌, ◌++◌, ◌∷◌, [], IfOk, OnOk};
-ghost use Rattle.bib_data.specs.declared.request.Request.TheVariants as request;
+ghost use Rattle.std.specs.Prelude.{◌≡◌, ◌++◌, ◌∷◌, [], All, IfOk, OnOk};
+ghost use Rattle.bib_data.specs.Depths.{AsksWithDepth};
 ghost use Rattle.bib_script.specs.Parting.{words_of};
-ghost use Rattle.bib_script.specs.Script.{edit_of, said, said_of};
+ghost use Rattle.bib_script.specs.Script.{request_of, said, said_of};
 
 use crate::lines::{split_line, words_of};
-use crate::verbs::edit_of;
-use bib_data::{Edit, Request};
+use crate::verbs::request_of;
+use bib_data::Request;
 use bib_scan::Seq;
 use std::alloc::{AllocError, Global};
 use std::marker::Model;
@@ -40,33 +40,35 @@ fn said(requests: Vec<Request>, lines: Vec<usize>, bad_line: Option<usize>) -> S
     }
 }
 
-/// The edit that a line says, if it says one.
-fn edit_on(alloc: Global, line: &[u8]) -> Result<Option<Edit>, AllocError>
-    ensures { IfOk result (λ edit. edit ≡ edit_of (words_of line.now)) }
+/// What a line asks for, if it asks for something.
+fn request_on(alloc: Global, line: &[u8]) -> Result<Option<Request>, AllocError>
+    ensures { IfOk result (λ asked. asked ≡ request_of (words_of line.now)) }
 {
-    edit_of(alloc, words_of(alloc, line)?.as_slice())
+    request_of(alloc, words_of(alloc, line)?.as_slice())
 }
 
-/// Puts an edit after what is asked for, and the number of its line after theirs.
-fn push_edit(
+/// Puts a request after those that are there, and the number of its line after theirs.
+fn push_request(
     requests: &mut Vec<Request>,
     lines: &mut Vec<usize>,
-    edit: Edit,
+    request: Request,
     number: usize,
 ) -> Result<(), AllocError>
-    ensures requests { OnOk result (requests.new.items ≡ requests.old.items ++ request.Edit edit ∷ []) }
+    ensures requests { OnOk result (requests.new.items ≡ requests.old.items ++ request ∷ []) }
     ensures lines { OnOk result (lines.new.items ≡ lines.old.items ++ number ∷ []) }
 {
-    requests.push(Request::Edit(edit))?;
+    requests.push(request)?;
     lines.push(number)?;
     Ok(())
 }
 
-/// Reads a script: each line is words parted by tabs, and says an edit; an empty line says nothing and is counted. A
+/// Reads a script: each line is words parted by tabs, and says an edit, or that a step of several edits begins or ends; an empty line says
+/// nothing and is counted. A
 /// carriage return before a line feed is dropped, and the last line may lack its line feed. It takes time in the
 /// length of the script, and memory for what it asks for. (dialect)
 pub fn read_script(alloc: Global, script: &[u8]) -> Result<Script, AllocError>
-    ensures { IfOk result (λ said. said ≡ said_of script.now) }
+    ensures said { IfOk result (λ said. said ≡ said_of script.now) }
+    ensures depths { IfOk result (λ said. All AsksWithDepth said.requests) }
 {
     let mut requests = Vec::new(alloc);
     let mut lines = Vec::new(alloc);
@@ -76,8 +78,8 @@ pub fn read_script(alloc: Global, script: &[u8]) -> Result<Script, AllocError>
         let (line, behind) = split_line(rest);
         number += 1;
         if !line.is_empty() {
-            match edit_on(alloc, line)? {
-                Some(edit) => push_edit(&mut requests, &mut lines, edit, number)?,
+            match request_on(alloc, line)? {
+                Some(request) => push_request(&mut requests, &mut lines, request, number)?,
                 None => return Ok(said(requests, lines, Some(number))),
             }
         }

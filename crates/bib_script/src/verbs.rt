@@ -1,12 +1,16 @@
 //! The words of each edit.
 
 ghost use Rattle.std.specs.Prelude.{◌≡◌, bytes_eq, map, option_map, IfOk};
-ghost use Rattle.bib_script.specs.Script.{fields_of, new_entry, set_of, drop_of, add_of, remove_of, move_of, rename_key_of, rename_macro_of, inline_of, introduce_of, regenerate_of, renaming_of, edit_of};
+ghost use Rattle.bib_data.specs.declared.request.Request.TheVariants as request;
+ghost use Rattle.bib_script.specs.Script.{fields_of, new_entry, set_of, drop_of, add_of, remove_of, move_of, rename_key_of, rename_macro_of, inline_of, introduce_of, depth_of, regenerate_of, renaming_of, edit_of, group_of, end_of, request_of};
 
 use crate::fields::{copied, fields_of};
 use crate::numbers::number_of;
-use bib_data::{Edit, NewEntry};
+use bib_data::{Edit, Label, NewEntry, Request};
 use std::alloc::{AllocError, Global};
+
+/// How far records reach where a line does not say it: to the parents alone.
+const DEFAULT_DEPTH: u8 = 1;
 
 /// Whether the word is this verb, byte for byte.
 fn is(word: &[u8], verb: &[u8]) -> bool
@@ -65,14 +69,14 @@ fn entry_of(
 fn add_of(alloc: Global, words: &[&[u8]]) -> Result<Option<Edit>, AllocError>
     ensures { IfOk result (λ edit. edit ≡ add_of (map (λ w. w.now) words.now)) }
 {
-    let [position, kind_name, key, fields @ ..] = words else {
+    let [place, kind_name, key, fields @ ..] = words else {
         return Ok(None);
     };
-    let Some(position) = number_of(position) else {
+    let Some(place) = number_of(place) else {
         return Ok(None);
     };
     match entry_of(alloc, kind_name, key, fields)? {
-        Some(entry) => Ok(Some(Edit::AddEntry { position, entry })),
+        Some(entry) => Ok(Some(Edit::AddEntry { place, entry })),
         None => Ok(None),
     }
 }
@@ -93,15 +97,15 @@ fn remove_of(alloc: Global, words: &[&[u8]]) -> Result<Option<Edit>, AllocError>
 fn move_of(alloc: Global, words: &[&[u8]]) -> Result<Option<Edit>, AllocError>
     ensures { IfOk result (λ edit. edit ≡ move_of (map (λ w. w.now) words.now)) }
 {
-    let [key, position] = words else {
+    let [key, place] = words else {
         return Ok(None);
     };
-    let Some(position) = number_of(position) else {
+    let Some(place) = number_of(place) else {
         return Ok(None);
     };
     Ok(Some(Edit::MoveEntry {
         key: copied(alloc, key)?,
-        position,
+        place,
     }))
 }
 
@@ -156,14 +160,29 @@ fn introduce_of(alloc: Global, words: &[&[u8]]) -> Result<Option<Edit>, AllocErr
     }))
 }
 
-/// `regenerate`
+/// The depth that one digit from 1 to 8 says.
+fn depth_of(word: &[u8]) -> Option<u8>
+    ensures { result ≡ depth_of word.now }
+{
+    match word {
+        [digit] if (b'1'..=b'8').contains(digit) => Some(*digit - b'0'),
+        _ => None,
+    }
+}
+
+/// `regenerate [DEPTH]`
 fn regenerate_of(words: &[&[u8]]) -> Option<Edit>
     ensures { result ≡ regenerate_of (map (λ w. w.now) words.now) }
 {
-    if words.is_empty() {
-        Some(Edit::RegenerateKeys)
-    } else {
-        None
+    match words {
+        [] => Some(Edit::RegenerateKeys {
+            depth: DEFAULT_DEPTH,
+        }),
+        [depth] => match depth_of(depth) {
+            Some(depth) => Some(Edit::RegenerateKeys { depth }),
+            None => None,
+        },
+        _ => None,
     }
 }
 
@@ -186,7 +205,7 @@ fn renaming_of(alloc: Global, verb: &[u8], words: &[&[u8]]) -> Result<Option<Edi
     }
 }
 
-/// The edit that a line's words say.
+/// The edit that words say, as those of a line.
 pub(crate) fn edit_of(alloc: Global, words: &[&[u8]]) -> Result<Option<Edit>, AllocError>
     ensures { IfOk result (λ edit. edit ≡ edit_of (map (λ w. w.now) words.now)) }
 {
@@ -205,5 +224,55 @@ pub(crate) fn edit_of(alloc: Global, words: &[&[u8]]) -> Result<Option<Edit>, Al
         move_of(alloc, words)
     } else {
         renaming_of(alloc, verb, words)
+    }
+}
+
+/// `group LABEL`
+fn group_of(alloc: Global, words: &[&[u8]]) -> Result<Option<Request>, AllocError>
+    ensures { IfOk result (λ asked. asked ≡ group_of (map (λ w. w.now) words.now)) }
+{
+    let [label] = words else {
+        return Ok(None);
+    };
+    match Label::read(alloc, label)? {
+        Some(label) => Ok(Some(Request::Begin(label))),
+        None => Ok(None),
+    }
+}
+
+/// `end`
+fn end_of(words: &[&[u8]]) -> Option<Request>
+    ensures { result ≡ end_of (map (λ w. w.now) words.now) }
+{
+    if words.is_empty() {
+        Some(Request::End)
+    } else {
+        None
+    }
+}
+
+/// The edit that a line's words say, asked for.
+fn edit_asked(alloc: Global, words: &[&[u8]]) -> Result<Option<Request>, AllocError>
+    ensures { IfOk result (λ asked. asked ≡ option_map request.Edit (edit_of (map (λ w. w.now) words.now))) }
+{
+    match edit_of(alloc, words)? {
+        Some(edit) => Ok(Some(Request::Edit(edit))),
+        None => Ok(None),
+    }
+}
+
+/// What a line's words ask for.
+pub(crate) fn request_of(alloc: Global, words: &[&[u8]]) -> Result<Option<Request>, AllocError>
+    ensures { IfOk result (λ asked. asked ≡ request_of (map (λ w. w.now) words.now)) }
+{
+    let [verb, others @ ..] = words else {
+        return Ok(None);
+    };
+    if is(verb, b"group") {
+        group_of(alloc, others)
+    } else if is(verb, b"end") {
+        Ok(end_of(others))
+    } else {
+        edit_asked(alloc, words)
     }
 }

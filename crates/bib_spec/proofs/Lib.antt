@@ -10,6 +10,9 @@ pub mod Places
 pub mod Keys
 pub mod Counts
 pub mod Parents
+-- ---- what entries inherit
+pub mod Missing
+pub mod Lineages
 -- ---- files that are accepted, and free keys
 pub mod Accepted
 pub mod FreeKeys

@@ -6,5 +6,6 @@ pub mod Reading
 pub mod Fault
 pub mod Texts
 pub mod Records
+pub mod Lineages
 pub mod Pieces
 pub mod MadeKeys

@@ -1,51 +1,32 @@
--- Records with what they inherit from the parent alone.
-use Rattle.std.proofs.Common.{◌≡◌, ℕ, ◌==◌, ◌||◌, false, cond, List, [], ◌∷◌, ◌++◌, Some, None, option_map, option_and_then, slice_get, sym, ◌∙◌, ap, ⊎_elim, ne_eqb}
+-- Records with what they inherit, from one parent after another.
+use Rattle.std.proofs.Common.{◌≡◌, ℕ, ◌+◌, ◌-◌, ◌<◌, ◌≤◌, List, [], ◌++◌, Some, None, option_map, slice_get, sym, ◌∙◌, ap, arith}
 use Rattle.std.specs.Option.{option_map_or}
-use Rattle.std.proofs.lemmas.Bool.{cases_Bool, cond-true, cond-false, eqb-false}
-use Rattle.std.proofs.lemmas.Option.{none-some, same_Some, option_and_then_some}
 use Rattle.bib_spec.specs.Text.{Text, folded}
 use Rattle.bib_spec.specs.Tree.{Tree, Entry, EntryTree}
 use Rattle.bib_spec.specs.Reading.{Item}
 use Rattle.bib_spec.specs.Texts.{Macros}
 use Rattle.bib_scan.specs.View.{View, view_of, head_of, key_of}
-use Rattle.bib_spec.specs.Records.{EntryTexts, texts_of, Record, RecordField, target, other_than, parent, unvisited, ancestors, own_fields, missing, fields_at, with_inherited, default_depth, record_of, expanded}
-
--- the parent is another entry
-pub parent_other : (entries : List EntryTexts) (n m : ℕ) → parent entries n ≡ Some m → (n == m) ≡ false
-parent_other entries n m e =
-    option_and_then_some (other_than n) (target entries n) m e (λ k found other.
-    ⊎_elim
-    (λ t. absurd (none-some m (sym (cond-true (k == n) None (Some k) t) ∙ other)))
-    (λ f.
-    let is = same_Some k m (sym (cond-false (k == n) None (Some k) f) ∙ other) in
-    ne_eqb n m (λ same. eqb-false k n f (is ∙ sym same)))
-    (cases_Bool (k == n)))
-
-ancestors_none : (entries : List EntryTexts) (n : ℕ) → parent entries n ≡ None → ancestors entries default_depth n ≡ []
-ancestors_none entries n e = ap (λ o. option_map_or (λ m. m ∷ []) (option_and_then (unvisited (n ∷ [])) o) []) e
-
-ancestors_one : (entries : List EntryTexts) (n m : ℕ) → parent entries n ≡ Some m → ancestors entries default_depth n ≡ m ∷ []
-ancestors_one entries n m e =
-    ap (λ o. option_map_or (λ k. k ∷ []) (option_and_then (unvisited (n ∷ [])) o) []) e
-    ∙ ap (λ b. option_map_or (λ k. k ∷ []) (cond (b || false) None (Some m)) []) (parent_other entries n m e)
+use Rattle.bib_spec.specs.Records.{EntryTexts, texts_of, Record, RecordField, parent, ancestors, own_fields, missing, fields_at, with_inherited, record_of, expanded}
+use Rattle.bib_spec.specs.Lineages.{lineage}
+use Rattle.bib_spec.proofs.Lineages.{lineage_more, lineage_none, lineage_done, rings-give-nothing-more}
 
 -- the record of an entry with these fields
 abbrev pub record_with : EntryTexts → List RecordField → Record
 record_with entry fields = record { kind_name = folded entry.kind; key = entry.key; fields = fields }
 
-pub expanded_alone : (entries : List EntryTexts) (n : ℕ) (entry : EntryTexts) → slice_get entries n ≡ Some entry → parent entries n ≡ None
-    → expanded default_depth entries n ≡ Some (record_with entry (fields_at entries n))
-expanded_alone entries n entry at none =
-    ap (option_map (record_of default_depth entries n)) at
-    ∙ ap (λ ns. Some (record_with entry (with_inherited entries (own_fields entry) ns))) (ancestors_none entries n none)
-    ∙ ap (λ o. Some (record_with entry (option_map_or own_fields o []))) (sym at)
+-- these fields with what entry n inherits along its lineage
+abbrev pub with_lineage : List EntryTexts → ℕ → ℕ → List RecordField → List RecordField
+with_lineage entries depth n fields = with_inherited entries fields (lineage (parent entries) depth n)
 
-pub expanded_with : (entries : List EntryTexts) (n m : ℕ) (entry : EntryTexts) → slice_get entries n ≡ Some entry → parent entries n ≡ Some m
-    → expanded default_depth entries n ≡ Some (record_with entry (fields_at entries n ++ missing (fields_at entries n) (fields_at entries m)))
-expanded_with entries n m entry at one =
-    ap (option_map (record_of default_depth entries n)) at
-    ∙ ap (λ ns. Some (record_with entry (with_inherited entries (own_fields entry) ns))) (ancestors_one entries n m one)
-    ∙ ap (λ o. Some (record_with entry (option_map_or own_fields o [] ++ missing (option_map_or own_fields o []) (fields_at entries m)))) (sym at)
+-- the fields of entry n with what it inherits along its lineage
+abbrev pub fields_along : List EntryTexts → ℕ → ℕ → List RecordField
+fields_along entries depth n = with_lineage entries depth n (fields_at entries n)
+
+pub expanded_along : (entries : List EntryTexts) (depth n : ℕ) (entry : EntryTexts) → slice_get entries n ≡ Some entry → expanded depth entries n ≡ Some (record_with entry (fields_along entries depth n))
+expanded_along entries depth n entry at =
+    ap (option_map (record_of depth entries n)) at
+    ∙ ap (λ o. Some (record_with entry (with_inherited entries (option_map_or own_fields o []) (ancestors entries depth n)))) (sym at)
+    ∙ ap (λ (fields : List RecordField). Some (record_with entry fields)) (sym (rings-give-nothing-more entries depth n))
 
 abbrev record_from : Text → Text → List RecordField → Record
 record_from kind key fields = record { kind_name = kind; key = key; fields = fields }
@@ -60,3 +41,23 @@ record_made item e macros seen kind key fields gathered is tree kind_is key_is f
     ap (λ (k : Text). record_from k e.key fields) (sym kind_of) in
     let second : record_from kind e.key fields ≡ record_from kind key fields = ap (λ (k : Text). record_from kind k fields) (sym key_of_e) in
     first ∙ second ∙ ap (record_from kind key) (sym fields_are)
+
+-- ---- one parent after another
+
+-- what is inherited along the rest of a lineage, once so many parents gave what they have
+abbrev pub with_rest : List EntryTexts → ℕ → ℕ → ℕ → List RecordField → List RecordField
+with_rest entries depth k heir fields = with_lineage entries (depth - k) heir fields
+
+pub rest_whole : (entries : List EntryTexts) (depth n : ℕ) (fields : List RecordField) → with_rest entries depth 0 n fields ≡ with_lineage entries depth n fields
+rest_whole entries depth n fields =
+    let all : depth - 0 ≡ depth = omega arith in ap (λ (d : ℕ). with_lineage entries d n fields) all
+
+pub rest_more : (entries : List EntryTexts) (depth k heir m : ℕ) (fields : List RecordField) → k < depth → parent entries heir ≡ Some m
+    → with_rest entries depth (k + 1) m (fields ++ missing fields (fields_at entries m)) ≡ with_rest entries depth k heir fields
+rest_more entries depth k heir m fields lt is = sym (ap (with_inherited entries fields) (lineage_more (parent entries) depth k heir m lt is))
+
+pub rest_none : (entries : List EntryTexts) (depth k heir : ℕ) (fields : List RecordField) → parent entries heir ≡ None → fields ≡ with_rest entries depth k heir fields
+rest_none entries depth k heir fields none = sym (ap (with_inherited entries fields) (lineage_none (parent entries) (depth - k) heir none))
+
+pub rest_done : (entries : List EntryTexts) (depth k heir : ℕ) (fields : List RecordField) → depth ≤ k → fields ≡ with_rest entries depth k heir fields
+rest_done entries depth k heir fields le = sym (ap (with_inherited entries fields) (lineage_done (parent entries) depth k heir le))

@@ -14,7 +14,7 @@ use Rattle.bib_store.specs.Following.{AreItemsOf, DefineNothingBetween}
 use Rattle.bib_store.specs.declared.redefining.Former.{Former}
 use Rattle.bib_store.specs.Redefining.{with_former}
 use Rattle.bib_store.specs.Runs.{IsRunChange, AreBroughtIn, AreFollowed, StayFollowed, FollowBroughtIn, ComesBack, LeadWithin}
-use Rattle.bib_store.specs.Shifting.{all_moved_back, FitBehind}
+use Rattle.history_spec.specs.Shifting.{all_moved_back, FitBehind}
 use Rattle.bib_store.specs.Stored.{file_of}
 use Rattle.bib_store.specs.Windows.{IsWindow, front_before, front_within, bytes_before, bytes_within, bytes_behind}
 use Rattle.bib_store.proofs.BroughtIn as brought_in

@@ -7,8 +7,10 @@ pub mod Inherited
 -- ---- pieces that fit a text, and what they make of it
 pub mod PieceTests
 pub mod PieceLoops
-pub mod Shifts
 pub mod RunPieces
+-- ---- pieces of two edits in turn
+pub mod Growing
+pub mod Advancing
 -- ---- windows: the items that a change touches, and the file around them
 pub mod WalkedFiles
 pub mod WindowLaws

@@ -7,7 +7,7 @@ use Rattle.bib_spec.specs.Bytes.{file_limit}
 use Rattle.bib_spec.specs.Text.{Text}
 use Rattle.bib_spec.specs.Pieces.{Piece, end_of, Stands, AscendFrom, BeginFrom, applied_from, applied, reversed_from, reversed}
 use Rattle.bib_store.specs.Reversing.{new_bytes_limit}
-use Rattle.bib_store.specs.Shifting.{moved_back, all_moved_back, FitBehind}
+use Rattle.history_spec.specs.Shifting.{moved_back, all_moved_back, FitBehind}
 
 -- what is left begins with the piece at i
 pub drop-next : (ps : List Piece) (i : ℕ) (p : Piece) → i < length ps → p ≡ get_or ps i p → drop i ps ≡ p ∷ drop (i + 1) ps
@@ -97,21 +97,25 @@ abbrev cap : ℕ
 cap = 2 ^ 64 - 1
 
 -- what is turned round, and the pieces from i on, are the way back
-pub record IsReversed (ps back : List Piece) (end new_end i : ℕ) : Type 0 where
+pub record IsReversed (from new_from : ℕ) (ps back : List Piece) (end new_end i : ℕ) : Type 0 where
   pub exact_end : ℕ
   pub capped : end ≡ min exact_end cap
   pub ascending : AscendFrom exact_end (drop i ps)
   pub small : new_end + sum_by (λ p. length p.new) (drop i ps) < exact_end + new_bytes_limit
-  pub so_far : back ++ reversed_from exact_end new_end (drop i ps) ≡ reversed ps
+  pub so_far : back ++ reversed_from exact_end new_end (drop i ps) ≡ reversed_from from new_from ps
+
+pub reversed_start : (from new_from : ℕ) (ps : List Piece) → AscendFrom from ps → from ≤ file_limit → new_from + sum_by (λ p. length p.new) ps < new_bytes_limit
+    → IsReversed from new_from ps [] from new_from 0
+reversed_start from new_from ps a h s = record { exact_end = from; capped = omega arith; ascending = a; small = omega (arith, s); so_far = refl }
 
 -- what the next piece's place needs
 pub record NextTurns (end new_end : ℕ) (p : Piece) : Type 0 where
   pub below : end ≤ p.place
   pub small : new_end + (p.place - end) + length p.new < p.place + new_bytes_limit
 
-pub next_turns : (ps back : List Piece) (end new_end i : ℕ) (p : Piece) → IsReversed ps back end new_end i → i < length ps → p ≡ get_or ps i p → p.place ≤ file_limit
+pub next_turns : (from new_from : ℕ) (ps back : List Piece) (end new_end i : ℕ) (p : Piece) → IsReversed from new_from ps back end new_end i → i < length ps → p ≡ get_or ps i p → p.place ≤ file_limit
     → NextTurns end new_end p
-next_turns ps back end new_end i p w h e bound =
+next_turns from new_from ps back end new_end i p w h e bound =
     let next : drop i ps ≡ p ∷ drop (i + 1) ps = drop-next ps i p h e in
     let a : AscendFrom w.exact_end (p ∷ drop (i + 1) ps) = subst (λ (qs : List Piece). AscendFrom w.exact_end qs) next w.ascending in
     let s : new_end + sum_by (λ p. length p.new) (p ∷ drop (i + 1) ps) < w.exact_end + new_bytes_limit
@@ -121,9 +125,9 @@ next_turns ps back end new_end i p w h e bound =
     let total : sum_by (λ p. length p.new) (p ∷ drop (i + 1) ps) ≡ length p.new + sum_by (λ p. length p.new) (drop (i + 1) ps) = sum_by-cons (λ p. length p.new) p (drop (i + 1) ps) in
     record { below = omega arith; small = omega arith }
 
-pub reversed_more : (ps back : List Piece) (end new_end i : ℕ) (p : Piece) → IsReversed ps back end new_end i → i < length ps → p ≡ get_or ps i p → p.place ≤ file_limit
-    → IsReversed ps (back ++ record { place = new_end + (p.place - end); old = p.new; new = p.old } ∷ []) (min (p.place + length p.old) cap) (new_end + (p.place - end) + length p.new) (i + 1)
-reversed_more ps back end new_end i p w h e bound =
+pub reversed_more : (from new_from : ℕ) (ps back : List Piece) (end new_end i : ℕ) (p : Piece) → IsReversed from new_from ps back end new_end i → i < length ps → p ≡ get_or ps i p → p.place ≤ file_limit
+    → IsReversed from new_from ps (back ++ record { place = new_end + (p.place - end); old = p.new; new = p.old } ∷ []) (min (p.place + length p.old) cap) (new_end + (p.place - end) + length p.new) (i + 1)
+reversed_more from new_from ps back end new_end i p w h e bound =
     let next : drop i ps ≡ p ∷ drop (i + 1) ps = drop-next ps i p h e in
     let a : AscendFrom w.exact_end (p ∷ drop (i + 1) ps) = subst (λ (qs : List Piece). AscendFrom w.exact_end qs) next w.ascending in
     let s : new_end + sum_by (λ p. length p.new) (p ∷ drop (i + 1) ps) < w.exact_end + new_bytes_limit
@@ -146,6 +150,6 @@ reversed_more ps back end new_end i p w h e bound =
           ∙ w.so_far;
     }
 
-pub reversed_all : (ps back : List Piece) (end new_end i : ℕ) → IsReversed ps back end new_end i → length ps ≤ i → back ≡ reversed ps
-reversed_all ps back end new_end i w h =
+pub reversed_all : (from new_from : ℕ) (ps back : List Piece) (end new_end i : ℕ) → IsReversed from new_from ps back end new_end i → length ps ≤ i → back ≡ reversed_from from new_from ps
+reversed_all from new_from ps back end new_end i w h =
     sym (append-nil back) ∙ sym (ap (λ qs. back ++ reversed_from w.exact_end new_end qs) (drop_all i ps h)) ∙ w.so_far

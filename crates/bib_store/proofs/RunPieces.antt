@@ -5,8 +5,8 @@ use Rattle.std.specs.List.{AllByRecursion}
 use Rattle.bib_spec.specs.Text.{Text}
 use Rattle.bib_spec.specs.Pieces.{Piece, end_of, Stands, AscendFrom, Fit, EndBy, BeginFrom, applied_from, applied}
 use Rattle.bib_spec.proofs.PieceLemmas.{drop-place, stands_before, applied_from-append}
-use Rattle.bib_store.specs.Shifting.{all_moved_back, FitBehind}
-use Rattle.bib_store.proofs.Shifts.{fit-behind, applied-from_behind}
+use Rattle.history_spec.specs.Shifting.{all_moved_back, FitBehind}
+use Rattle.history_spec.proofs.Shifts.{fit-behind, applied-from_behind}
 
 -- where a piece stands in a text, it stands in a longer one
 stands_longer : (text more : Text) (p : Piece) → Stands text p → Stands (text ++ more) p

@@ -8,11 +8,11 @@ use Rattle.bib_spec.specs.Reading.{HasReading}
 use Rattle.bib_spec.specs.Pieces.{Piece, Fit, applied}
 use Rattle.bib_items.specs.declared.list.Item.{Item}
 use Rattle.bib_store.specs.declared.window.Window.{Window}
-use Rattle.bib_store.specs.Shifting.{all_moved_back, FitBehind}
+use Rattle.history_spec.specs.Shifting.{all_moved_back, FitBehind}
 use Rattle.bib_items.specs.Items.{kept_bytes}
 use Rattle.bib_store.specs.Stored.{file_of}
 use Rattle.bib_store.specs.Windows.{IsWindow, IsWhole, Serve, front_before, bytes_before, bytes_within, bytes_behind}
-use Rattle.bib_store.proofs.Shifts.{fit-behind, applied-behind, fit_behind_nothing}
+use Rattle.history_spec.proofs.Shifts.{fit-behind, applied-behind, fit_behind_nothing}
 use Rattle.bib_store.proofs.WindowLaws.{file-around}
 
 -- the window is the file, with nothing before it and nothing after it

@@ -4,7 +4,6 @@ pub mod Tables
 pub mod Citing
 pub mod Gathering
 pub mod Choosing
-pub mod Shifting
 pub mod Windows
 pub mod ItemTexts
 pub mod Bounds

@@ -16,7 +16,7 @@ use Rattle.bib_store.specs.Beside.{AreTablesOf}
 use Rattle.bib_store.specs.Following.{DefineNothingBetween}
 use Rattle.bib_store.specs.ItemTexts.{first_too_long}
 use Rattle.bib_store.specs.Redefining.{with_former}
-use Rattle.bib_store.specs.Shifting.{all_moved_back, FitBehind}
+use Rattle.history_spec.specs.Shifting.{all_moved_back, FitBehind}
 use Rattle.bib_store.specs.Stored.{file_of}
 use Rattle.bib_store.specs.Windows.{HasLead, IsChange, ArePut, bytes_before, bytes_within}
 

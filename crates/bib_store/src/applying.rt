@@ -2,7 +2,7 @@
 
 ghost use Rattle.std.specs.Prelude.{◌≡◌, IfOk};
 ghost use Rattle.bib_spec.specs.Pieces.{applied};
-ghost use Rattle.bib_store.specs.Shifting.{all_moved_back, FitBehind};
+ghost use Rattle.history_spec.specs.Shifting.{all_moved_back, FitBehind};
 
 use bib_data::Piece;
 use std::alloc::{AllocError, Global};

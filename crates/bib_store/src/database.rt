@@ -251,7 +251,7 @@ impl<L: ItemList> Database<L> {
     }
 
     /// Whether it is known that no two entries have one key, folded. It takes a step. Where two had one once, it is not
-    /// known any more.
+    /// known any more. `false` promises nothing: a caller then looks for itself, which costs time alone.
     pub fn are_keys_apart(&self) -> bool
         ensures { IsTrue result → OfReading self.now (λ db. AreApart (keys_of (entries_of db))) }
     {

@@ -16,19 +16,21 @@ impl<L: ItemList> Database<L> {
     ghost use Rattle.std.specs.Prelude.{◌≡◌, ◌++◌, List, Some, map, option_map, slice_get, IfOk, IfErr, IfSome, OnOk};
     ghost use Rattle.bib_spec.specs.Reading.{Item};
     ghost use Rattle.bib_scan.specs.View.{view_of};
-    ghost use Rattle.bib_spec.specs.Records.{RecordField, entries_of, parent, default_depth, expanded, missing, fields_at};
+    ghost use Rattle.bib_spec.specs.Records.{RecordField, entries_of, parent, IsDepth, expanded, missing, fields_at, with_inherited};
+    ghost use Rattle.bib_spec.specs.Lineages.{lineage};
     ghost use Rattle.bib_store.specs.Meaning.{OfReading, IsEntryNumber, entry_items};
     ghost use Rattle.bib_store.specs.Gathering.{AreTaken};
     ghost use Rattle.bib_store.specs.Choosing.{chosen, with_chosen};
     ghost use Rattle.bib_items.specs.declared.fault.StoreFault.TheVariants.{Memory};
 
-    /// The record of entry `n`, and its parent: the type in lower case, the key, the entry's own fields but `crossref`,
-    /// the first of each name, and then those of the parent that are missing, as they stand in the parent, which hands
-    /// on nothing that it inherits. Texts are field texts. It takes memory for the record and its names, and time
-    /// n log n in the bytes of both entries. The one refusal is want of memory. (btxdoc 2.1)
-    pub fn expanded(&self, n: usize) -> Result<Expanded, StoreFault>
-        requires { IsEntryNumber self.now n }
-        ensures rec { IfOk result (λ e. OfReading self.now (λ db. expanded default_depth (entries_of db) n ≡ Some e.rec)) }
+    /// The record of entry `n` at this depth, and its parent: the type in lower case, the key, the entry's own fields but
+    /// `crossref`, the first of each name, and then those that are missing of its parent, of that one's parent and so on,
+    /// of as many as the depth is, each time as they stand there. Texts are field texts. It takes memory for the record and
+    /// its names, and time n log n in the bytes of all these entries. The one refusal is want of memory. (btxdoc 2.1)
+    pub fn expanded(&self, n: usize, depth: u8) -> Result<Expanded, StoreFault>
+        requires number { IsEntryNumber self.now n }
+        requires depth { IsDepth depth }
+        ensures rec { IfOk result (λ e. OfReading self.now (λ db. expanded depth (entries_of db) n ≡ Some e.rec)) }
         ensures parent { IfOk result (λ e. OfReading self.now (λ db. e.parent ≡ parent (entries_of db) n)) }
         ensures only { IfErr result (λ fault. fault ≡ Memory) }
     {
@@ -36,28 +38,26 @@ impl<L: ItemList> Database<L> {
         let entry = self.entry(n);
         let kind_name = lower(alloc, entry.type_name())?;
         let key = Seq::from_vec(Vec::from_slice(alloc, entry.key())?);
-        let parent = self.parent(n);
         let mut fields = Gathered::none(alloc)?;
         self.gather(n, &mut fields)?;
-        if let Some(parent) = parent {
-            self.gather(parent, &mut fields)?;
-        }
+        self.gather_inherited(n, depth, &mut fields)?;
         Ok(Expanded {
             rec: Record {
                 kind_name,
                 key,
                 fields: fields.into_fields(),
             },
-            parent,
+            parent: self.parent(n),
         })
     }
 
     /// The same record with no other fields than those that have one of these names, without regard to ASCII case. It takes
-    /// memory for those alone, and time in the bytes of both entries, times the number of names. The one refusal is want
-    /// of memory.
-    pub fn expanded_with(&self, n: usize, names: &[&[u8]]) -> Result<Record, StoreFault>
-        requires { IsEntryNumber self.now n }
-        ensures rec { IfOk result (λ rec. OfReading self.now (λ db. option_map (with_chosen (map (λ name. name.now) names.now)) (expanded default_depth (entries_of db) n) ≡ Some rec)) }
+    /// memory for those alone, and time in the bytes of all these entries, times the number of names. The one refusal is
+    /// want of memory.
+    pub fn expanded_with(&self, n: usize, depth: u8, names: &[&[u8]]) -> Result<Record, StoreFault>
+        requires number { IsEntryNumber self.now n }
+        requires depth { IsDepth depth }
+        ensures rec { IfOk result (λ rec. OfReading self.now (λ db. option_map (with_chosen (map (λ name. name.now) names.now)) (expanded depth (entries_of db) n) ≡ Some rec)) }
         ensures only { IfErr result (λ fault. fault ≡ Memory) }
     {
         let alloc = self.allocator();
@@ -66,9 +66,7 @@ impl<L: ItemList> Database<L> {
         let key = Seq::from_vec(Vec::from_slice(alloc, entry.key())?);
         let mut fields = Vec::with_capacity(alloc, names.len().min(FEW))?;
         self.choose(n, &entry, names, &mut fields)?;
-        if let Some(parent) = self.parent(n) {
-            self.choose(parent, &self.entry(parent), names, &mut fields)?;
-        }
+        self.choose_inherited(n, depth, names, &mut fields)?;
         Ok(Record {
             kind_name,
             key,
@@ -121,6 +119,24 @@ impl<L: ItemList> Database<L> {
         Ok(())
     }
 
+    /// Adds what entry `n` inherits at this depth. Parents may come round again, and then give nothing more.
+    fn gather_inherited(&self, n: usize, depth: u8, fields: &mut Gathered) -> Result<(), StoreFault>
+        requires number { IsEntryNumber self.now n }
+        requires names { AreTaken fields.old.names fields.old.fields.items }
+        ensures added { OnOk result (OfReading self.now (λ db. fields.new.fields.items ≡ with_inherited (entries_of db) fields.old.fields.items (lineage (parent (entries_of db)) depth n))) }
+        ensures only { IfErr result (λ fault. fault ≡ Memory) }
+    {
+        let mut heir = n;
+        'inherit: for _ in 0..depth {
+            let Some(parent) = self.parent(heir) else {
+                return Ok(());
+            };
+            self.gather(parent, fields)?;
+            heir = parent;
+        }
+        Ok(())
+    }
+
     /// Adds the own fields of entry `n`, which this is, that are missing and have one of these names.
     fn choose(
         &self,
@@ -143,6 +159,31 @@ impl<L: ItemList> Database<L> {
             entry.fields(),
             &self.macros_at(self.entry_item(n)),
         )?;
+        Ok(())
+    }
+
+    /// Adds what entry `n` inherits at this depth and has one of these names. Parents may come round again, and then give
+    /// nothing more.
+    fn choose_inherited(
+        &self,
+        n: usize,
+        depth: u8,
+        names: &[&[u8]],
+        fields: &mut Vec<(Text, Text)>,
+    ) -> Result<(), StoreFault>
+        requires number { IsEntryNumber self.now n }
+        ensures chosen { OnOk result (OfReading self.now (λ db. (all : List RecordField) → fields.old.items ≡ chosen (map (λ name. name.now) names.now) all
+            → fields.new.items ≡ chosen (map (λ name. name.now) names.now) (with_inherited (entries_of db) all (lineage (parent (entries_of db)) depth n)))) }
+        ensures only { IfErr result (λ fault. fault ≡ Memory) }
+    {
+        let mut heir = n;
+        'along: for _ in 0..depth {
+            let Some(parent) = self.parent(heir) else {
+                return Ok(());
+            };
+            self.choose(parent, &self.entry(parent), names, fields)?;
+            heir = parent;
+        }
         Ok(())
     }
 }

@@ -2,7 +2,7 @@
 
 ghost use Rattle.std.specs.Prelude.{◌≤◌, ◌↔◌, IsTrue};
 ghost use Rattle.bib_spec.specs.Pieces.{Stands};
-ghost use Rattle.bib_store.specs.Shifting.{moved_back, FitBehind};
+ghost use Rattle.history_spec.specs.Shifting.{moved_back, FitBehind};
 
 use bib_data::Piece;
 

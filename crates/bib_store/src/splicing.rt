@@ -61,7 +61,8 @@ impl<L: ItemList> Database<L> {
         }
     }
 
-    /// Lets items be looked up without a step for each page. The file stays as it is.
+    /// Lets items be looked up without a step for each page. The file stays as it is, and nothing else is promised: it saves
+    /// time alone.
     pub fn settle(&mut self)
         ensures { self.new ≡ self.old }
     {

@@ -75,7 +75,8 @@ fn push_only<'a>(
     sought: Sought<'_>,
 ) -> Result<(), AllocError>
     requires { OfValue value.now (λ v. parts_of v ≡ part_view part ∷ []) }
-    ensures { OnOk result (OfValue value.now (λ v. tokens_seen tokens.new.items ≡ tokens_seen tokens.old.items ++ tokens_of (test_of sought.entry) (value_placed at v))) }
+    ensures tokens { OnOk result (OfValue value.now (λ v. tokens_seen tokens.new.items ≡ tokens_seen tokens.old.items ++ tokens_of (test_of sought.entry) (value_placed at v))) }
+    ensures front { take (length tokens.old.items) tokens.new.items ≡ tokens.old.items }
 {
     if !sought.is_met(part) {
         return Ok(());
@@ -101,6 +102,7 @@ fn push_in_value<'a>(
     requires place { at + length value.now < 2 ^ 64 }
     ensures tokens { OnOk result (OfValue value.now (λ v. tokens_seen tokens.new.items ≡ tokens_seen tokens.old.items ++ tokens_of (test_of sought.entry) (value_placed at v))) }
     ensures met { IfOk result (λ met. OfValue value.now (λ v. met ≡ list_any (test_of watched.entry) (parts_of v))) }
+    ensures front { take (length tokens.old.items) tokens.new.items ≡ tokens.old.items }
 {
     if let Some(part) = only_part(value) {
         push_only(tokens, at, value, part, sought)?;
@@ -132,6 +134,7 @@ fn push_in_fields<'a>(
     requires { ArePlacedFields start fields }
     ensures tokens { OnOk result (AreFieldTokens (test_of sought.entry) start fields.entry (tokens_seen tokens.old.items) (tokens_seen tokens.new.items)) }
     ensures met { IfOk result (λ met. IsMetIn (test_of watched.entry) fields.entry met) }
+    ensures front { take (length tokens.old.items) tokens.new.items ≡ tokens.old.items }
 {
     let mut rest = fields;
     let mut met = false;
@@ -144,8 +147,8 @@ fn push_in_fields<'a>(
 }
 
 /// Adds the sought parts of item `n` and of those after it to the tokens, in their order, and says whether a part of one
-/// is watched for. It looks at each field once, and takes time in the length of these items. Where memory is refused, a
-/// part of the tokens may stand there.
+/// is watched for. It looks at each field once, and takes time in the length of these items. If memory is refused, a part
+/// of the tokens may stand there, after those that were there.
 pub fn push_from<'a, L: ItemList>(
     alloc: Global,
     tokens: &mut Vec<Token<'a>>,
@@ -157,6 +160,7 @@ pub fn push_from<'a, L: ItemList>(
     requires { IsItemPlace db.now n }
     ensures tokens { OnOk result (OfReading db.now (λ r. tokens_seen tokens.new.items ≡ tokens_seen tokens.old.items ++ tokens_of (test_of sought.entry) (items_placed (start_of r n) (drop n r.items)))) }
     ensures met { IfOk result (λ met. OfReading db.now (λ r. met ≡ have_part (test_of watched.entry) (drop n r.items))) }
+    ensures front { take (length tokens.old.items) tokens.new.items ≡ tokens.old.items }
 {
     db.opens();
     let mut at = db.item_place(n);

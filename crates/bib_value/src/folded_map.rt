@@ -57,7 +57,7 @@ impl<V> FoldedMap<V> {
         self.entries.len()
     }
 
-    /// Makes room for so many names more. The map stays as it is.
+    /// Makes room for so many names more. The map stays as it is: that there is room then is no promise, and saves time alone.
     pub fn reserve(&mut self, additional: usize) -> Result<(), AllocError>
         ensures { self.new ≡ self.old }
     {

@@ -1,6 +1,6 @@
 //! White space made one.
 
-ghost use Rattle.std.specs.Prelude.{◌≡◌, true, IfOk, IfErr};
+ghost use Rattle.std.specs.Prelude.{◌≡◌, true, IsTrue, IfOk, IfErr};
 ghost use Rattle.bib_spec.specs.Text.{is_space};
 ghost use Rattle.bib_spec.specs.Texts.{field_text};
 ghost use Rattle.bib_value.specs.Spacing.{can_go_on, neat};
@@ -30,7 +30,8 @@ fn can_go_on(apart: bool, byte: u8) -> bool
 /// Whether the text is words with one space between each two, and none at its ends: such a text is a field text as it
 /// stands. It takes no memory. Each byte is looked at beside the one before it, so that many are tested at a time.
 pub fn is_neat(text: &[u8]) -> bool
-    ensures { result ≡ neat true text.now }
+    ensures neat { result ≡ neat true text.now }
+    ensures own { IsTrue result → field_text text.now ≡ text.now }
 {
     if text.is_empty() {
         return false;

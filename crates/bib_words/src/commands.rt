@@ -5,18 +5,27 @@ use bib_scan::{Seq, Text};
 /// The greatest number that a command takes.
 const NUMBER_LIMIT: u32 = 65_535;
 
-/// A command: its name, its positional words in order, the file first where there is one, and its number, which is 0
-/// where the command takes none.
+/// The greatest depth at which a command tells records.
+const DEPTH_LIMIT: u8 = 8;
+
+/// A command: its name; its positional words in order, the file first where there is one; its number, and the depth of the
+/// records that it tells, each 0 where the command takes none; and of its options whether they were given: `--print`,
+/// `--new-journal` and `--dropped`.
 #[derive(Drop)]
 pub struct Command {
     pub name: Text,
     pub words: Seq<Text>,
     pub n: u32,
+    pub depth: u8,
+    pub print: bool,
+    pub new_journal: bool,
+    pub dropped: bool,
 }
 
 impl Command {
     ghost use Rattle.std.specs.Prelude.{◌≡◌, ◌↔◌, ◌≤◌, IsTrue, length};
-    ghost use Rattle.bib_words.specs.Command.{number_limit, IsCommand, ReadsJournal, TakesInput};
+    ghost use Rattle.bib_spec.specs.Records.{depth_limit};
+    ghost use Rattle.bib_words.specs.Command.{number_limit, HasItsWords, HasItsOptions, AddsChange, MakesFile, IsCommand, ReadsJournal, TakesInput};
 
     /// Whether this is the command's name. It takes no memory.
     pub fn is_named(&self, name: &[u8]) -> bool
@@ -25,74 +34,127 @@ impl Command {
         self.name.as_slice() == name
     }
 
+    /// Whether the command adds a change to its file. It takes no memory.
+    pub fn adds_change(&self) -> bool
+        ensures { IsTrue result ↔ AddsChange self.now }
+    {
+        self.is_named(b"edit") || self.is_named(b"import")
+    }
+
+    /// Whether the command makes a new file of the old. It takes no memory.
+    pub fn makes_file(&self) -> bool
+        ensures { IsTrue result ↔ MakesFile self.now }
+    {
+        self.adds_change() || self.is_named(b"undo") || self.is_named(b"redo")
+    }
+
     /// Whether the command reads the journal of its file. It takes no memory.
     pub fn reads_journal(&self) -> bool
         ensures { IsTrue result ↔ ReadsJournal self.now }
     {
-        self.takes_input()
-            || self.is_named(b"undo")
-            || self.is_named(b"redo")
-            || self.is_named(b"log")
+        self.makes_file() || self.is_named(b"log")
     }
 
     /// Whether the command reads standard input beside its file. It takes no memory.
     pub fn takes_input(&self) -> bool
         ensures { IsTrue result ↔ TakesInput self.now }
     {
-        self.is_named(b"edit") || self.is_named(b"import")
+        if self.words.as_slice().len() == 1 {
+            self.is_named(b"edit") || self.is_named(b"import")
+        } else {
+            self.is_named(b"import")
+        }
     }
 
-    /// Whether the program has such a command, with as many words and such a number. It takes no memory.
+    /// Whether the program has such a command, with as many words, such a number and depth, and such options. It takes no memory.
     pub fn is_known(&self) -> bool
         ensures { IsTrue result ↔ IsCommand self.now }
     {
-        if self.n == 0 {
-            self.is_known_without_number()
+        self.has_its_words() && self.has_its_options()
+    }
+
+    /// Whether each option that is given is one that the command takes.
+    fn has_its_options(&self) -> bool
+        ensures { IsTrue result ↔ HasItsOptions self.now }
+    {
+        (!self.print || self.makes_file())
+            && (!self.new_journal || self.adds_change())
+            && (!self.dropped || self.is_named(b"ris"))
+    }
+
+    /// Whether the name has as many words as its command takes, and such a number and depth.
+    fn has_its_words(&self) -> bool
+        ensures { IsTrue result ↔ HasItsWords self.now }
+    {
+        if self.depth > 0 {
+            self.n == 0 && self.depth <= DEPTH_LIMIT && self.has_words_with_depth()
+        } else if self.n == 0 {
+            self.has_words_alone()
         } else {
-            self.n <= NUMBER_LIMIT && self.is_known_with_number()
+            self.n <= NUMBER_LIMIT && self.has_words_with_number()
         }
     }
 
-    /// The same of a command whose number is 0.
-    fn is_known_without_number(&self) -> bool
-        requires { self.now.n ≡ 0 }
-        ensures { IsTrue result ↔ IsCommand self.now }
+    /// The same of a command whose number and depth are 0.
+    fn has_words_alone(&self) -> bool
+        requires number { self.now.n ≡ 0 }
+        requires depth { self.now.depth ≡ 0 }
+        ensures { IsTrue result ↔ HasItsWords self.now }
     {
         match self.words.as_slice().len() {
             0 => self.is_named(b"cat"),
-            1 => self.is_known_by_file_alone(),
-            words => {
-                (words == 2 && self.is_named(b"show"))
-                    || (words == 3 && self.is_named(b"names"))
-                    || self.is_named(b"labels")
-                    || self.is_named(b"ris")
-            }
+            1 => self.has_one_word(),
+            _ => self.is_named(b"edit"),
         }
     }
 
-    /// The same of a command whose number is 0 and whose only word is its file.
-    fn is_known_by_file_alone(&self) -> bool
+    /// The same of a command whose number and depth are 0 and that has one word.
+    fn has_one_word(&self) -> bool
         requires number { self.now.n ≡ 0 }
+        requires depth { self.now.depth ≡ 0 }
         requires words { length self.now.words ≡ 1 }
-        ensures { IsTrue result ↔ IsCommand self.now }
+        ensures { IsTrue result ↔ HasItsWords self.now }
     {
-        self.takes_input()
+        self.adds_change()
             || self.is_named(b"cat")
             || self.is_named(b"check")
+            || self.is_named(b"lint")
+            || self.is_named(b"explain")
             || self.is_named(b"log")
             || self.is_named(b"forget")
     }
 
-    /// The same of a command with a number in its range.
-    fn is_known_with_number(&self) -> bool
+    /// The same of a command with a number in its range and no depth.
+    fn has_words_with_number(&self) -> bool
         requires least { 1 ≤ self.now.n }
         requires most { self.now.n ≤ number_limit }
-        ensures { IsTrue result ↔ IsCommand self.now }
+        requires depth { self.now.depth ≡ 0 }
+        ensures { IsTrue result ↔ HasItsWords self.now }
     {
         match self.words.as_slice().len() {
             0 => false,
             1 => self.is_named(b"undo") || self.is_named(b"redo"),
             _ => self.is_named(b"cite"),
+        }
+    }
+
+    /// The same of a command with a depth in its range and no number.
+    fn has_words_with_depth(&self) -> bool
+        requires number { self.now.n ≡ 0 }
+        requires least { 1 ≤ self.now.depth }
+        requires most { self.now.depth ≤ depth_limit }
+        ensures { IsTrue result ↔ HasItsWords self.now }
+    {
+        match self.words.as_slice().len() {
+            0 => false,
+            1 => self.is_named(b"newkeys"),
+            words => {
+                (words == 2 && self.is_named(b"show"))
+                    || (words == 3 && self.is_named(b"names"))
+                    || self.is_named(b"labels")
+                    || self.is_named(b"json")
+                    || self.is_named(b"ris")
+            }
         }
     }
 }

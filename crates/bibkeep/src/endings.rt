@@ -1,9 +1,11 @@
 //! What the user is told at the end, and the status to end with.
 
-ghost use Rattle.std.specs.Prelude.{◌≡◌};
+ghost use Rattle.std.specs.Prelude.{◌≡◌, ◌≢◌, ◌⊎◌};
+ghost use Rattle.bib_taps.specs.Taps.{tap_inner, has_failed};
+ghost use Rattle.bib_run.specs.Transfers.{Tells};
 
 use bib_command::Usage;
-use bib_run::{Outcome, READ_FAULT, WRITE_FAULT};
+use bib_run::{Outcome, READ_FAULT, Tap, WRITE_FAULT, write_whole};
 use bib_words::status;
 use std::io;
 use std::io::{ErrorKind, Write};
@@ -12,15 +14,18 @@ use std::io::{ErrorKind, Write};
 const MEMORY: &[u8] = b"bibkeep: 10 Memory\n";
 
 /// Says this on standard error, and gives the status back. A fault there can be told nowhere.
-pub fn end<E: Write>(errors: &mut E, text: &[u8], status: u8) -> u8
-    ensures { result ≡ status }
+pub fn end<E: Write>(errors: &mut Tap<E>, text: &[u8], status: u8) -> u8
+    ensures status { result ≡ status }
+    ensures told { Tells (E.contents (tap_inner errors.old)) (E.contents (tap_inner errors.new)) text.now (has_failed errors.new) }
 {
-    let _ = errors.write_all(text);
+    let _told = write_whole(errors, text);
     status
 }
 
 /// The words could not be had: memory ran out, or they are not UTF-8.
-pub fn end_without_words<E: Write>(errors: &mut E, error: &io::Error) -> u8 {
+pub fn end_without_words<E: Write>(errors: &mut Tap<E>, error: &io::Error) -> u8
+    ensures { (result ≡ 2) ⊎ (result ≡ 4) }
+{
     if error.kind() == ErrorKind::OutOfMemory {
         return end(errors, MEMORY, status::MEMORY);
     }
@@ -32,7 +37,9 @@ pub fn end_without_words<E: Write>(errors: &mut E, error: &io::Error) -> u8 {
 }
 
 /// The file or its journal could not be opened.
-pub fn end_unopened<E: Write>(errors: &mut E, error: &io::Error) -> u8 {
+pub fn end_unopened<E: Write>(errors: &mut Tap<E>, error: &io::Error) -> u8
+    ensures { (result ≡ 3) ⊎ (result ≡ 4) }
+{
     if error.kind() == ErrorKind::OutOfMemory {
         return end(errors, MEMORY, status::MEMORY);
     }
@@ -40,7 +47,9 @@ pub fn end_unopened<E: Write>(errors: &mut E, error: &io::Error) -> u8 {
 }
 
 /// There is no command with so many words.
-pub fn end_unknown<E: Write>(errors: &mut E) -> u8 {
+pub fn end_unknown<E: Write>(errors: &mut Tap<E>) -> u8
+    ensures { result ≡ 2 }
+{
     end(
         errors,
         b"error: no command has such words\n",
@@ -49,20 +58,26 @@ pub fn end_unknown<E: Write>(errors: &mut E) -> u8 {
 }
 
 /// Help and the version go to standard output, and a mistake to standard error.
-pub fn end_usage<O: Write, E: Write>(out: &mut O, errors: &mut E, usage: &Usage) -> u8 {
+pub fn end_usage<O: Write, E: Write>(out: &mut Tap<O>, errors: &mut Tap<E>, usage: &Usage) -> u8
+    ensures { (result ≡ usage.now.status) ⊎ ((usage.now.status ≡ 0) × (result ≡ 3)) }
+{
     match usage.status {
-        status::DONE => match out.write_all(usage.text.as_slice()) {
-            Ok(()) => status::DONE,
-            Err(_) => end(errors, WRITE_FAULT, status::FAULT),
-        },
+        status::DONE => {
+            if write_whole(out, usage.text.as_slice()) {
+                status::DONE
+            } else {
+                end(errors, WRITE_FAULT, status::FAULT)
+            }
+        }
         status::MEMORY => end(errors, MEMORY, status::MEMORY),
         status => end(errors, usage.text.as_slice(), status),
     }
 }
 
-/// The message of a run.
-pub fn end_run<E: Write>(errors: &mut E, outcome: &Outcome) -> u8
-    ensures { result ≡ outcome.now.status }
+/// The message of a run, and its status.
+pub fn end_run<E: Write>(errors: &mut Tap<E>, outcome: &Outcome) -> u8
+    ensures status { result ≡ outcome.now.status }
+    ensures told { outcome.now.status ≢ 4 → Tells (E.contents (tap_inner errors.old)) (E.contents (tap_inner errors.new)) outcome.now.message (has_failed errors.new) }
 {
     if outcome.status == status::MEMORY {
         return end(errors, MEMORY, status::MEMORY);

@@ -2,9 +2,12 @@
 //! decided here: `bib_command` reads the words, and `bib_run` knows what a command does.
 #![tactic(auto)]
 
-ghost use Rattle.std.specs.Prelude.{◌≢◌, IfOk, pos};
+ghost use Rattle.std.specs.Prelude.{◌≡◌, ◌≢◌, Some, IfOk, pos, slice_get, option_map};
+ghost use Rattle.std.specs.Option.{option_copied};
 ghost use Rattle.std.specs.Fd.{file_raw_fd};
 ghost use Rattle.bib_words.specs.Command.{IsCommand, TakesInput};
+ghost use Rattle.bib_run.specs.Runs.{RanOver, fresh, view_of};
+ghost use Rattle.bibkeep.specs.Ending.{IsFinished, EndsFor};
 
 mod endings;
 mod storing;
@@ -19,7 +22,7 @@ use std::io::{ErrorKind, Read};
 use std::os::fd::AsRawFd;
 use std::process::ExitCode;
 use std::{env, io, str};
-use storing::{journal_path, store};
+use storing::{Stored, journal_path, left_by, store};
 
 fn main(rt: HostRuntime) -> ExitCode {
     ExitCode::from(answer_words(&rt, rt.alloc()))
@@ -29,39 +32,69 @@ fn main(rt: HostRuntime) -> ExitCode {
 fn answer_words(rt: &HostRuntime, alloc: Global) -> u8 {
     let words = match env::args(rt) {
         Ok(words) => words,
-        Err(error) => return end_without_words(&mut rt.stderr(), &error),
+        Err(error) => return end_without_words(&mut Tap::new(rt.stderr()), &error),
     };
     let words: Vec<String> = match words.collect(alloc) {
         Ok(words) => words,
-        Err(error) => return end_without_words(&mut rt.stderr(), &error.into()),
+        Err(error) => return end_without_words(&mut Tap::new(rt.stderr()), &error.into()),
     };
     match parse(alloc, words.as_slice()) {
         Ok(command) => perform(rt, alloc, &command),
-        Err(usage) => end_usage(&mut rt.stdout(), &mut rt.stderr(), &usage),
+        Err(usage) => end_usage(
+            &mut Tap::new(rt.stdout()),
+            &mut Tap::new(rt.stderr()),
+            &usage,
+        ),
     }
 }
 
-/// Runs the command over the file that it names and its journal, or over standard input where it names none. What is new
-/// is put in its place.
+/// Runs the command over the file that it names and its journal, or over standard input if it names no file; `explain` reads
+/// neither. What is new is put in its place.
 fn perform(rt: &HostRuntime, alloc: Global, command: &Command) -> u8
     requires { IsCommand command.now }
+    ensures { EndsFor command.now result }
 {
+    if command.is_named(b"explain") {
+        return run_alone(rt, alloc, command, b"".as_slice());
+    }
     let Some(path) = command.words.as_slice().first() else {
-        return end_run(
-            &mut rt.stderr(),
-            &run_over(rt, alloc, command, rt.stdin(), None),
-        );
+        return run_alone(rt, alloc, command, rt.stdin());
     };
     let Ok(path) = str::from_utf8(path.as_slice()) else {
-        return end_unknown(&mut rt.stderr());
+        return end_unknown(&mut Tap::new(rt.stderr()));
     };
     match open(rt, alloc, command, path) {
-        Ok((file, journal)) => {
-            let outcome = run_over(rt, alloc, command, file, journal);
-            finish(rt, alloc, path, &outcome)
-        }
-        Err(error) => end_unopened(&mut rt.stderr(), &error),
+        Ok((file, journal)) => run_opened(rt, alloc, command, path, file, journal),
+        Err(error) => end_unopened(&mut Tap::new(rt.stderr()), &error),
     }
+}
+
+/// Runs the command over a source that has no journal and no place for a new file.
+fn run_alone<F: Read>(rt: &HostRuntime, alloc: Global, command: &Command, source: F) -> u8
+where
+    F: Drop,
+    requires { IsCommand command.now }
+    ensures { EndsFor command.now result }
+{
+    let outcome = run_over(rt, alloc, command, source, None::<File>);
+    end_run(&mut Tap::new(rt.stderr()), &outcome)
+}
+
+/// Runs the command over its file and its journal, and puts what is new in its place.
+fn run_opened(
+    rt: &HostRuntime,
+    alloc: Global,
+    command: &Command,
+    path: &str,
+    file: File,
+    journal: Option<File>,
+) -> u8
+    requires command { IsCommand command.now }
+    requires path { slice_get command.now.words 0 ≡ Some path.now }
+    ensures { EndsFor command.now result }
+{
+    let outcome = run_over(rt, alloc, command, file, journal);
+    finish(rt, alloc, path, &outcome).status
 }
 
 /// Opens the file, and its journal where there is one and the command reads it. Where standard input is closed, the file
@@ -72,6 +105,7 @@ fn open(
     command: &Command,
     path: &str,
 ) -> io::Result<(File, Option<File>)>
+    requires { slice_get command.now.words 0 ≡ Some path.now }
     ensures apart { TakesInput command.now → IfOk result (λ opened. file_raw_fd opened.0 ≢ pos 0) }
 {
     let file = File::open(rt, path)?;
@@ -89,31 +123,50 @@ fn open(
     }
 }
 
+/// The status to end with, and what was put in place.
+#[derive(Drop)]
+struct Finished<'a> {
+    status: u8,
+    stored: Stored<'a>,
+}
+
 /// Says how the run over this file ended, and puts the new file and the new journal in their places, if there are such.
-fn finish(rt: &HostRuntime, alloc: Global, path: &str, outcome: &Outcome) -> u8 {
-    let status = end_run(&mut rt.stderr(), outcome);
-    if outcome.file.is_none() && outcome.journal.is_none() {
-        return status;
+fn finish<'a>(rt: &HostRuntime, alloc: Global, path: &str, outcome: &'a Outcome) -> Finished<'a>
+    ensures { IsFinished outcome.now result.status (option_copied result.stored.put.file) (option_copied result.stored.put.journal) }
+{
+    let status = end_run(&mut Tap::new(rt.stderr()), outcome);
+    let left = left_by(outcome);
+    if left.is_nothing() {
+        return Finished {
+            status,
+            stored: Stored::nothing(),
+        };
     }
-    match store(rt, alloc, path, outcome) {
-        Ok(()) => status,
-        Err(_) => end(&mut rt.stderr(), WRITE_FAULT, status::FAULT),
+    match store(rt, alloc, path, left) {
+        Ok(stored) => Finished { status, stored },
+        Err(_) => Finished {
+            status: end(&mut Tap::new(rt.stderr()), WRITE_FAULT, status::FAULT),
+            stored: Stored::nothing(),
+        },
     }
 }
 
-fn run_over<F: Read>(
+/// Runs the command over the file and its journal, standard input and standard output.
+fn run_over<F: Read, J: Read>(
     rt: &HostRuntime,
     alloc: Global,
     command: &Command,
     file: F,
-    journal: Option<File>,
+    journal: Option<J>,
 ) -> Outcome
 where
     F: Drop,
+    J: Drop,
     requires { IsCommand command.now }
+    ensures { RanOver command.now (F.remaining file) (option_map J.remaining journal) result }
 {
     let mut file = Tap::new(file);
-    let mut journal = journal.map(Tap::new);
+    let mut journal = over(journal);
     let mut input = Tap::new(rt.stdin());
     let mut out = Tap::new(rt.stdout());
     run(
@@ -124,4 +177,16 @@ where
         &mut input,
         &mut out,
     )
+}
+
+/// A new tap over what there is.
+fn over<J: Read>(source: Option<J>) -> Option<Tap<J>>
+where
+    J: Drop,
+    ensures { option_map (view_of J.remaining) result ≡ option_map fresh (option_map J.remaining source) }
+{
+    match source {
+        Some(source) => Some(Tap::new(source)),
+        None => None,
+    }
 }

@@ -1,8 +1,13 @@
 //! Puts a new file and a new journal in the place of the old ones.
 
+ghost use Rattle.std.specs.Prelude.{◌≡◌, IfOk};
+ghost use Rattle.std.specs.Option.{option_map, option_copied};
+ghost use Rattle.bibkeep.specs.Ending.{AreLeft};
+
 use bib_run::Outcome;
+use bib_scan::Text;
 use std::alloc::Global;
-use std::fs::{File, OpenFile, Permissions};
+use std::fs::{File, Permissions};
 use std::io::{ErrorKind, Write};
 use std::string::String;
 use std::{fs, io};
@@ -13,65 +18,144 @@ pub fn journal_path(rt: &HostRuntime, alloc: Global, path: &str) -> io::Result<S
     Ok(format!(in alloc; "{}.bibkeep", path.as_str())?)
 }
 
-/// Puts the new file and the new journal, where there are such, in the place of the old ones. Both are written before
-/// either is renamed, and each has the permissions of the file. A symbolic link stays, and what it points to is
-/// replaced. Nothing but a file is replaced.
-pub fn store(rt: &HostRuntime, alloc: Global, path: &str, outcome: &Outcome) -> io::Result<()> {
+/// What a run leaves to be put in place: new bytes of its file, and of its journal.
+#[derive(Clone, Copy, Debug)]
+pub struct Left<'a> {
+    pub file: Option<&'a [u8]>,
+    pub journal: Option<&'a [u8]>,
+}
+
+impl Left<'_> {
+    ghost use Rattle.std.specs.Prelude.{◌≡◌, ◌↔◌, IsTrue, None};
+
+    /// Whether nothing is left.
+    pub fn is_nothing(&self) -> bool
+        ensures { IsTrue result ↔ ((self.now.file ≡ None) × (self.now.journal ≡ None)) }
+    {
+        self.file.is_none() && self.journal.is_none()
+    }
+}
+
+/// What was put in place, which `store` alone can tell.
+#[derive(Clone, Copy, Debug)]
+pub struct Stored<'a> {
+    put: Left<'a>,
+}
+
+impl Stored<'_> {
+    ghost use Rattle.std.specs.Prelude.{◌≡◌, None};
+
+    /// Nothing was put in place.
+    pub fn nothing() -> Stored<'static>
+        ensures file { result.put.file ≡ None }
+        ensures journal { result.put.journal ≡ None }
+    {
+        Stored {
+            put: Left {
+                file: None,
+                journal: None,
+            },
+        }
+    }
+}
+
+/// What the outcome of a run leaves.
+pub fn left_by(outcome: &Outcome) -> Left<'_>
+    ensures { AreLeft outcome.now (option_copied result.file) (option_copied result.journal) }
+{
+    Left {
+        file: bytes_of(&outcome.file),
+        journal: bytes_of(&outcome.journal),
+    }
+}
+
+/// The bytes of a text, if there is one.
+fn bytes_of(text: &Option<Text>) -> Option<&[u8]>
+    ensures { option_copied result ≡ text.now }
+{
+    match text {
+        Some(text) => Some(text.as_slice()),
+        None => None,
+    }
+}
+
+/// Puts the new file and the new journal, where there are such, in the place of the old ones, and gives back what was put
+/// there. Both are written before either is renamed, and each has the permissions of the file. A symbolic link stays, and
+/// what it points to is replaced. Nothing but a file is replaced.
+pub fn store<'a>(
+    rt: &HostRuntime,
+    alloc: Global,
+    path: &str,
+    left: Left<'a>,
+) -> io::Result<Stored<'a>>
+    ensures file { IfOk result (λ stored. option_copied stored.put.file ≡ option_copied left.entry.file) }
+    ensures journal { IfOk result (λ stored. option_copied stored.put.journal ≡ option_copied left.entry.journal) }
+{
     let old = fs::metadata(rt, path)?;
     if !old.is_file() {
         return Err(ErrorKind::InvalidInput.into());
     }
-    let file = match &outcome.file {
-        Some(bytes) => {
-            let path = fs::canonicalize(rt, path)?.into_string();
-            Some(New::write(rt, alloc, path, old.permissions(), bytes.as_slice())?)
+    let file = write_file(rt, alloc, path, old.permissions(), left.file)?;
+    let journal = match write_journal(rt, alloc, path, old.permissions(), left.journal) {
+        Ok(journal) => journal,
+        Err(error) => {
+            discard(rt, &file);
+            return Err(error);
         }
-        None => None,
-    };
-    let journal = match &outcome.journal {
-        Some(bytes) => match write_journal(rt, alloc, path, old.permissions(), bytes.as_slice()) {
-            Ok(journal) => Some(journal),
-            Err(error) => {
-                discard(rt, &file);
-                return Err(error);
-            }
-        },
-        None => None,
     };
     if let Err(error) = put(rt, &file) {
         discard(rt, &journal);
         return Err(error);
     }
-    put(rt, &journal)
+    put(rt, &journal)?;
+    Ok(Stored {
+        put: Left {
+            file: bytes_in(&file),
+            journal: bytes_in(&journal),
+        },
+    })
 }
 
-/// A file that is written beside the one whose place it is to take.
+/// A file that is written beside the one whose place it is to take, and the bytes that stand in it.
 #[derive(Drop)]
-struct New {
+struct New<'a> {
     name: String,
     path: String,
+    bytes: &'a [u8],
 }
 
-impl New {
+impl<'a> New<'a> {
     /// Writes the bytes into a file beside the path.
     fn write(
         rt: &HostRuntime,
         alloc: Global,
         path: String,
         permissions: Permissions,
-        bytes: &[u8],
-    ) -> io::Result<New> {
+        bytes: &'a [u8],
+    ) -> io::Result<New<'a>>
+        ensures { IfOk result (λ new. new.bytes.now ≡ bytes.now) }
+    {
         let name = format!(in alloc; "{}.bibkeep-new", path.as_str())?;
         // What an earlier run left is no file to write to, be it a link to another one.
         let _ = fs::remove_file(rt, name.as_str());
         let file = File::create_new(rt, name.as_str())?;
         match fill(file, permissions, bytes) {
-            Ok(()) => Ok(New { name, path }),
+            Ok(()) => Ok(New { name, path, bytes }),
             Err(error) => {
                 let _ = fs::remove_file(rt, name.as_str());
                 Err(error)
             }
         }
+    }
+}
+
+/// The bytes in what was written, if anything was.
+fn bytes_in<'a>(new: &Option<New<'a>>) -> Option<&'a [u8]>
+    ensures { option_copied result ≡ option_map (λ new. new.bytes.now) new.now }
+{
+    match new {
+        Some(new) => Some(new.bytes),
+        None => None,
     }
 }
 
@@ -82,25 +166,48 @@ fn fill(mut file: File, permissions: Permissions, bytes: &[u8]) -> io::Result<()
     file.sync_all()
 }
 
-/// Writes a journal beside the one that it is to replace. Where that is a symbolic link, it is what the link points to.
-fn write_journal(
+/// Writes the new file, if there is one, beside the one that it is to replace.
+fn write_file<'a>(
     rt: &HostRuntime,
     alloc: Global,
     path: &str,
     permissions: Permissions,
-    bytes: &[u8],
-) -> io::Result<New> {
+    bytes: Option<&'a [u8]>,
+) -> io::Result<Option<New<'a>>>
+    ensures { IfOk result (λ new. option_map (λ new. new.bytes.now) new ≡ option_copied bytes.entry) }
+{
+    let Some(bytes) = bytes else {
+        return Ok(None);
+    };
+    let path = fs::canonicalize(rt, path)?.into_string();
+    Ok(Some(New::write(rt, alloc, path, permissions, bytes)?))
+}
+
+/// Writes the new journal, if there is one, beside the one that it is to replace. Where that is a symbolic link, it is
+/// what the link points to.
+fn write_journal<'a>(
+    rt: &HostRuntime,
+    alloc: Global,
+    path: &str,
+    permissions: Permissions,
+    bytes: Option<&'a [u8]>,
+) -> io::Result<Option<New<'a>>>
+    ensures { IfOk result (λ new. option_map (λ new. new.bytes.now) new ≡ option_copied bytes.entry) }
+{
+    let Some(bytes) = bytes else {
+        return Ok(None);
+    };
     let journal = journal_path(rt, alloc, path)?;
     let journal = match fs::canonicalize(rt, journal.as_str()) {
         Ok(target) => target.into_string(),
         Err(error) if error.kind() == ErrorKind::NotFound => journal,
         Err(error) => return Err(error),
     };
-    New::write(rt, alloc, journal, permissions, bytes)
+    Ok(Some(New::write(rt, alloc, journal, permissions, bytes)?))
 }
 
 /// Puts what was written in its place, if anything was.
-fn put(rt: &HostRuntime, new: &Option<New>) -> io::Result<()> {
+fn put(rt: &HostRuntime, new: &Option<New<'_>>) -> io::Result<()> {
     let Some(new) = new else {
         return Ok(());
     };
@@ -114,7 +221,7 @@ fn put(rt: &HostRuntime, new: &Option<New>) -> io::Result<()> {
 }
 
 /// Takes away what was written, if anything was.
-fn discard(rt: &HostRuntime, new: &Option<New>) {
+fn discard(rt: &HostRuntime, new: &Option<New<'_>>) {
     if let Some(new) = new {
         let _ = fs::remove_file(rt, new.name.as_str());
     }

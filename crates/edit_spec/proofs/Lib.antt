@@ -1,6 +1,3 @@
--- ---- histories and steps
-pub mod HistoryLemmas
-pub mod StepLemmas
 -- ---- entries whose keys change
 pub mod Fields
 pub mod Rekeyed

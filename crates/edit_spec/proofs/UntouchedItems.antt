@@ -1,19 +1,21 @@
 -- The items that an edit leaves stand in the new file with their trees, and after their trails that of a neighbour that goes.
-use Rattle.std.proofs.Common.{◌≡◌, ◌≢◌, ◌||◌, ◌&&◌, ◌==◌, ℕ, zero, suc, ◌+◌, ◌-◌, ◌<◌, ◌≤◌, Bool, true, false, List, [], ◌∷◌, ◌++◌, Option, Some, None, is_some, unwrap_or, if◌then◌else◌, option_map, option_and_then, insert, find, map, slice_get, length, take, count_by, ⊎_elim, refl, sym, ◌∙◌, ap, ap₂, subst, arith, append-nil, add-zero, eqb-true, eq-eqb, ne_eqb, zero-lt-suc, suc-le-suc, le_of_suc-le-suc}
+use Rattle.std.proofs.Common.{◌≡◌, ◌≢◌, ◌||◌, ◌&&◌, ◌==◌, ℕ, zero, suc, ◌+◌, ◌-◌, ◌<◌, ◌≤◌, Bool, true, false, List, [], ◌∷◌, ◌++◌, Option, Some, None, is_some, unwrap_or, not, if◌then◌else◌, option_map, option_and_then, insert, find, map, slice_get, length, take, count_by, ⊎_elim, refl, sym, ◌∙◌, ap, ap₂, subst, arith, append-nil, add-zero, eqb-true, eq-eqb, ne_eqb, zero-lt-suc, suc-le-suc, le_of_suc-le-suc}
 use Rattle.std.specs.List.{list_any}
 use Rattle.std.specs.Option.{option_map_or}
-use Rattle.std.proofs.lemmas.Bool.{cases_Bool, cond-true, cond-false, or_parts, both_ways}
+use Rattle.std.specs.Str.{bytes_eq}
+use Rattle.std.proofs.lemmas.Bool.{and_parts, not-false, cases_Bool, cond-true, cond-false, or_parts, both_ways}
+use Rattle.std.proofs.lemmas.List.{nil_from_length}
 use Rattle.std.proofs.lemmas.Option.{none-some, same_Some, slice_get-map}
 use Rattle.bib_spec.specs.Text.{Text, same}
-use Rattle.bib_spec.specs.Tree.{Part, Braced, Quoted, Digits, Macro, Entry, Tree, CommentTree, DefinitionTree, PreambleTree, EntryTree}
+use Rattle.bib_spec.specs.Tree.{Part, Braced, Quoted, Digits, Macro, Link, Value, Row, Entry, Tree, CommentTree, DefinitionTree, PreambleTree, EntryTree}
 use Rattle.bib_spec.specs.Reading.{Item, Reading}
 use Rattle.bib_spec.specs.Texts.{Macros, months, macros_after, gathered}
-use Rattle.bib_spec.specs.Records.{EntryTexts, Record, entry_in, entries_of, keys_of, is_named, entry_named, target}
-use Rattle.edit_spec.specs.Edits.{SetField, DropField, AddEntry, RemoveEntry, MoveEntry, RenameKey, RenameMacro, InlineMacro, IntroduceMacro, RegenerateKeys, AddMany, NotFound, Ambiguous, BadPosition, IsAccepted, edited, leaving, item_with, items_with, defines, uses, holds, any_part, is_entry, from_first, with_first_tree, without_first, of_entry, entry_with_field, entry_without_field, in_line, item_of, with_item, remove_entry, next_number, tree_with_keys, item_with_keys, items_with_keys, with_crossref, key_for, name_renamed, use_renamed, use_inlined, uses_inlined, text_of_macro, part_introduced, introduced, holders, last_position}
+use Rattle.bib_spec.specs.Records.{EntryTexts, Record, entry_in, entries_of, keys_of, crossref, is_named, entry_named, target}
+use Rattle.edit_spec.specs.Edits.{SetField, DropField, AddEntry, RemoveEntry, MoveEntry, RenameKey, RenameMacro, InlineMacro, IntroduceMacro, RegenerateKeys, AddMany, NotFound, Ambiguous, BadPosition, IsAccepted, edited, leaving, item_with, items_with, defines, uses, holds, any_part, is_entry, from_first, with_first_tree, without_first, of_entry, entry_with_field, entry_without_field, in_line, item_of, with_item, remove_entry, next_number, tree_with_keys, item_with_keys, items_with_keys, in_braces, row_to, with_value, with_crossref, key_for, name_renamed, use_renamed, use_inlined, uses_inlined, text_of_macro, part_introduced, introduced, holders, last_position}
 use Rattle.bib_spec.specs.MadeKeys.{new_keys}
 use Rattle.edit_spec.specs.Laws.{is_behind, is_reached}
-use Rattle.edit_spec.specs.OtherLaws.{number_with_one_more, number_with_one_less, entries_before, passes, number_of_first, is_first, is_any_entry, is_or_refers_to, is_changed, gained, StandsAt, KeepsItems, untouched_items_stay, moved_entry_stays}
-use Rattle.bib_spec.proofs.Names.{both_true}
+use Rattle.edit_spec.specs.OtherLaws.{number_with_one_more, number_with_one_less, entries_before, passes, number_of_first, is_first, is_any_entry, is_braced, is_in_braces, names_already, has_its_keys, is_or_refers_to, is_changed, gained, StandsAt, KeepsItems, untouched_items_stay, moved_entry_stays}
+use Rattle.bib_spec.proofs.Names.{both_true, eq-true}
 use Rattle.bib_spec.proofs.Counts.{count-no}
 use Rattle.bib_spec.proofs.Keys.{option_cases}
 use Rattle.bib_spec.proofs.Accepted.{there_once}
@@ -185,8 +187,41 @@ keyed_tree new entries n (CommentTree h) left = refl
 keyed_tree new entries n (DefinitionTree d) left = refl
 keyed_tree new entries n (PreambleTree p) left = refl
 
-no_entry : (tree : Tree) → is_any_entry tree ≡ false → (new : ℕ → Option Text) (entries : List EntryTexts) (n : ℕ) → tree_with_keys new entries n tree ≡ tree
-no_entry tree e new entries n = keyed_tree new entries n tree (λ t. absurd (both_ways (is_any_entry tree) e t))
+braced-is : (text : Text) (part : Part) → is_braced text part ≡ true → part ≡ Braced text
+braced-is text (Braced t) h = ap Braced (eq-true t text h)
+braced-is text (Quoted t) h = absurd (cc)
+braced-is text (Digits t) h = absurd (cc)
+braced-is text (Macro name) h = absurd (cc)
+
+in_braces-is : (text : Text) (v : Value) → is_in_braces text v ≡ true → v ≡ in_braces text
+in_braces-is text v h =
+    let both = and_parts (is_braced text v.first) (length v.links == 0) h in
+    ap₂ (λ (first : Part) (links : List Link). record { first = first; links = links }) (braced-is text v.first both.0) (nil_from_length v.links (eqb-true (length v.links) 0 both.1))
+
+-- rows whose crossref is the key in braces stay
+rows-left : (key : Text) (rows : List Row) → names_already (Some key) rows ≡ true → with_value crossref (in_braces key) rows ≡ rows
+rows-left key [] h = refl
+rows-left key (row ∷ rows) h = by_test (rows-left key rows) (same row.assignment.name crossref) h
+  where
+    by_test : (names_already (Some key) rows ≡ true → with_value crossref (in_braces key) rows ≡ rows) →
+        (b : Bool) → (if b then is_in_braces key row.assignment.value else names_already (Some key) rows) ≡ true →
+        (if b then row_to (in_braces key) row ∷ rows else row ∷ with_value crossref (in_braces key) rows) ≡ row ∷ rows
+    by_test behind true h = ap (λ (v : Value). row_to v row ∷ rows) (sym (in_braces-is key row.assignment.value h))
+    by_test behind false h = ap (λ rows. row ∷ rows) (behind h)
+
+crossref-left : (key : Option Text) (rows : List Row) → names_already key rows ≡ true → with_crossref key rows ≡ rows
+crossref-left None rows h = refl
+crossref-left (Some key) rows h = rows-left key rows h
+
+-- an entry that has its keys stays
+tree-stays : (new : ℕ → Option Text) (entries : List EntryTexts) (n : ℕ) (tree : Tree) → has_its_keys new entries n tree ≡ true → tree_with_keys new entries n tree ≡ tree
+tree-stays new entries n (EntryTree e) h =
+    let both = and_parts (bytes_eq (unwrap_or (new n) e.key) e.key) (names_already (option_and_then new (target entries n)) e.rows) h in
+    ap₂ (λ (key : Text) (rows : List Row). let it : Entry = record e { key = key; rows = rows } in EntryTree it)
+    (eq-true (unwrap_or (new n) e.key) e.key both.0) (crossref-left (option_and_then new (target entries n)) e.rows both.1)
+tree-stays new entries n (CommentTree c) h = refl
+tree-stays new entries n (DefinitionTree d) h = refl
+tree-stays new entries n (PreambleTree p) h = refl
 
 -- an entry that does not get the key, and does not name the one that gets it
 not_keyed : (entries : List EntryTexts) (named : Option ℕ) (to : Text) (n : ℕ) → is_or_refers_to entries named n ≡ false →
@@ -478,10 +513,10 @@ removal_and_place db key place it = record {
 
 pub untouched_items-stay : untouched_items_stay
 untouched_items-stay key_base db (SetField key name value) accepted =
-    in_place (is_changed db (SetField key name value)) db (edited key_base db (SetField key name value)) refl
+    in_place (is_changed key_base db (SetField key name value)) db (edited key_base db (SetField key name value)) refl
     (λ n item at. changed_at (is_entry key) (of_entry (entry_with_field name value)) db.items n item at)
 untouched_items-stay key_base db (DropField key name) accepted =
-    in_place (is_changed db (DropField key name)) db (edited key_base db (DropField key name)) refl
+    in_place (is_changed key_base db (DropField key name)) db (edited key_base db (DropField key name)) refl
     (λ n item at. changed_at (is_entry key) (of_entry (entry_without_field name)) db.items n item at)
 untouched_items-stay key_base db (AddEntry place new) accepted = let high = accepted BadPosition in put_in place (item_of new) db (omega (arith, high))
 untouched_items-stay key_base db (RemoveEntry key) accepted = removal key db
@@ -490,13 +525,13 @@ untouched_items-stay key_base db (MoveEntry key place) accepted =
     subst (λ (new : Reading). KeepsItems (is_first (is_entry key) db.items) (λ n. false) (λ n. number_with_one_more place (number_with_one_less (number_of_first (is_entry key) db.items) n)) db new)
     (sym (moved-is key_base db key place it)) (removal_and_place db key place it)
 untouched_items-stay key_base db (RenameKey from to) accepted =
-    in_place (is_changed db (RenameKey from to)) db (edited key_base db (RenameKey from to)) refl
-    (λ n item at. keys_at (key_for (entry_named (entries_of db) from) to) db n (is_changed db (RenameKey from to) n) item at
+    in_place (is_changed key_base db (RenameKey from to)) db (edited key_base db (RenameKey from to)) refl
+    (λ n item at. keys_at (key_for (entry_named (entries_of db) from) to) db n (is_changed key_base db (RenameKey from to) n) item at
     (λ e. keyed_tree (key_for (entry_named (entries_of db) from) to) (entries_of db) (entries_before n db) item.tree
     (λ entry. not_keyed (entries_of db) (entry_named (entries_of db) from) to (entries_before n db)
     (ap (λ b. b && is_or_refers_to (entries_of db) (entry_named (entries_of db) from) (entries_before n db)) (sym (passes-at is_any_entry db.items n item at ∙ entry)) ∙ e))))
 untouched_items-stay key_base db (RenameMacro from to) accepted =
-    in_place (is_changed db (RenameMacro from to)) db (edited key_base db (RenameMacro from to)) refl (λ n item at. renamed_at from to db.items n item at)
+    in_place (is_changed key_base db (RenameMacro from to)) db (edited key_base db (RenameMacro from to)) refl (λ n item at. renamed_at from to db.items n item at)
 untouched_items-stay key_base db (InlineMacro name) accepted = record {
   front = gained_front (defines name) db.front (with_uses_inlined name (text_of_macro name db) db.items)
       ∙ ap (λ t. db.front ++ t) (inlined-gained name (text_of_macro name db) db.items 0);
@@ -510,9 +545,13 @@ untouched_items-stay key_base db (IntroduceMacro name text) accepted = record {
   order = λ n m _ _ h _. more-order (number_of_first (any_part (holds text)) db.items) n m h;
 }
 untouched_items-stay key_base db (RegenerateKeys depth) accepted =
-    in_place (is_changed db (RegenerateKeys depth)) db (edited key_base db (RegenerateKeys depth)) refl
-    (λ n item at. keys_at (slice_get (new_keys key_base depth (entries_of db))) db n (is_changed db (RegenerateKeys depth) n) item at
-    (λ e. no_entry item.tree (sym (passes-at is_any_entry db.items n item at) ∙ e) (slice_get (new_keys key_base depth (entries_of db))) (entries_of db) (entries_before n db)))
+    in_place (is_changed key_base db (RegenerateKeys depth)) db (edited key_base db (RegenerateKeys depth)) refl
+    (λ n item at. keys_at (slice_get (new_keys key_base depth (entries_of db))) db n (is_changed key_base db (RegenerateKeys depth) n) item at
+    (λ e.
+    let new : ℕ → Option Text = slice_get (new_keys key_base depth (entries_of db)) in
+    tree-stays new (entries_of db) (entries_before n db) item.tree
+    (not-false (has_its_keys new (entries_of db) (entries_before n db) item.tree)
+    (sym (passes-at (λ tree. not (has_its_keys new (entries_of db) (entries_before n db) tree)) db.items n item at) ∙ e))))
 untouched_items-stay key_base db (AddMany news) accepted =
-    in_place (is_changed db (AddMany news)) db (edited key_base db (AddMany news)) refl
+    in_place (is_changed key_base db (AddMany news)) db (edited key_base db (AddMany news)) refl
     (λ n item at. stands (db.items ++ map item_of news) n false item item (slice_get-append db.items (map item_of news) n (within db.items n item at) ∙ at) refl (λ _. refl))

@@ -1,7 +1,5 @@
 pub mod Edits
 pub mod EditChunks
-pub mod History
-pub mod Steps
 pub mod Laws
 pub mod OtherLaws
 pub mod Examples

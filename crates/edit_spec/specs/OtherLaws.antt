@@ -1,11 +1,12 @@
 -- What the edits keep beside what they are asked for: the other entries, and the bytes of the items that they do not touch.
-use Rattle.std.specs.Prelude.{◌≡◌, ◌<◌, ◌+◌, ℕ, zero, suc, Bool, true, false, ◌&&◌, ◌||◌, ◌==◌, List, ◌++◌, [], ◌∷◌, Option, Some, None, if◌then◌else◌, option_map, slice_get, length, take, find}
+use Rattle.std.specs.Prelude.{◌≡◌, ◌<◌, ◌+◌, ℕ, zero, suc, Bool, true, false, not, ◌&&◌, ◌||◌, ◌==◌, List, ◌++◌, [], ◌∷◌, Option, Some, None, unwrap_or, if◌then◌else◌, bytes_eq, option_map, option_and_then, slice_get, length, take, find}
 use Rattle.std.specs.List.{list_any}
 use Rattle.std.specs.Option.{option_map_or}
 use Rattle.bib_spec.specs.Text.{Text, same}
-use Rattle.bib_spec.specs.Tree.{Tree, EntryTree}
+use Rattle.bib_spec.specs.Tree.{Part, Braced, Value, Row, Tree, EntryTree}
 use Rattle.bib_spec.specs.Reading.{Item, Reading}
-use Rattle.bib_spec.specs.Records.{EntryTexts, Record, entries_of, preambles_of, entry_named, target, parent, dangling_texts, expanded}
+use Rattle.bib_spec.specs.MadeKeys.{new_keys}
+use Rattle.bib_spec.specs.Records.{EntryTexts, Record, entries_of, preambles_of, crossref, entry_named, target, parent, dangling_texts, expanded}
 use Rattle.edit_spec.specs.Edits.{NewEntry, Edit, SetField, DropField, AddEntry, RemoveEntry, MoveEntry, RenameKey, RenameMacro, InlineMacro, IntroduceMacro, RegenerateKeys, AddMany, given_keys, defines, uses, holds, any_part, is_entry, in_line, edited, IsAccepted}
 use Rattle.edit_spec.specs.Laws.{is_behind, is_reached}
 
@@ -99,17 +100,38 @@ abbrev pub is_or_refers_to : List EntryTexts → Option ℕ → ℕ → Bool
 is_or_refers_to entries None m = false
 is_or_refers_to entries (Some i) m = m == i || option_map_or (λ t. t == i) (target entries m) false
 
--- the edit replaces something in the body of item n
-abbrev pub is_changed : Reading → Edit → ℕ → Bool
-is_changed db (SetField key name value) n = is_first (is_entry key) db.items n
-is_changed db (DropField key name) n = is_first (is_entry key) db.items n
-is_changed db (RenameKey from to) n =
+-- the part is the text in braces
+abbrev pub is_braced : Text → Part → Bool
+is_braced text (Braced t) = bytes_eq t text
+is_braced text other = false
+
+-- the value is the text in braces, and nothing else
+abbrev pub is_in_braces : Text → Value → Bool
+is_in_braces text v = is_braced text v.first && length v.links == 0
+
+-- the crossref, if there is one, is the key in braces already, where it is to name its target by this key
+abbrev pub names_already : Option Text → List Row → Bool
+names_already None rows = true
+names_already (Some key) [] = true
+names_already (Some key) (row ∷ rows) = if same row.assignment.name crossref then is_in_braces key row.assignment.value else names_already (Some key) rows
+
+-- entry n has the key that it gets already, and its crossref names its target by the key that this one gets
+abbrev pub has_its_keys : (ℕ → Option Text) → List EntryTexts → ℕ → Tree → Bool
+has_its_keys new entries n (EntryTree e) = bytes_eq (unwrap_or (new n) e.key) e.key && names_already (option_and_then new (target entries n)) e.rows
+has_its_keys new entries n other = true
+
+-- the edit replaces something in the body of item n; a made key begins with what `key_base` makes of the record
+abbrev pub is_changed : (Record → Text) → Reading → Edit → ℕ → Bool
+is_changed key_base db (SetField key name value) n = is_first (is_entry key) db.items n
+is_changed key_base db (DropField key name) n = is_first (is_entry key) db.items n
+is_changed key_base db (RenameKey from to) n =
     passes is_any_entry db.items n && is_or_refers_to (entries_of db) (entry_named (entries_of db) from) (entries_before n db)
-is_changed db (RenameMacro from to) n = is_reached (defines from) db.items n && passes (λ tree. defines from tree || any_part (uses from) tree) db.items n
-is_changed db (InlineMacro name) n = is_behind name db.items n && passes (any_part (uses name)) db.items n
-is_changed db (IntroduceMacro name text) n = passes (any_part (holds text)) db.items n
-is_changed db (RegenerateKeys depth) n = passes is_any_entry db.items n
-is_changed db other n = false
+is_changed key_base db (RenameMacro from to) n = is_reached (defines from) db.items n && passes (λ tree. defines from tree || any_part (uses from) tree) db.items n
+is_changed key_base db (InlineMacro name) n = is_behind name db.items n && passes (any_part (uses name)) db.items n
+is_changed key_base db (IntroduceMacro name text) n = passes (any_part (holds text)) db.items n
+is_changed key_base db (RegenerateKeys depth) n =
+    passes (λ tree. not (has_its_keys (slice_get (new_keys key_base depth (entries_of db))) (entries_of db) (entries_before n db) tree)) db.items n
+is_changed key_base db other n = false
 
 -- the number of item n afterwards, if it is not taken away
 abbrev pub new_number : Reading → Edit → ℕ → ℕ
@@ -139,10 +161,11 @@ pub record KeepsItems (gone changed : ℕ → Bool) (number : ℕ → ℕ) (old 
       → StandsAt new.items (number n) (changed n) item.tree (item.trail ++ gained gone old.items (suc n))
   pub order : (n m : ℕ) → gone n ≡ false → gone m ≡ false → n < m → m < length old.items → number n < number m
 
--- An edit keeps each item that it neither changes, nor removes, nor moves.
+-- An edit keeps each item that it neither changes, nor removes, nor moves. Where keys are made, an entry that has its made key
+-- already, and whose crossref names its target by the key that this one gets, is not changed.
 abbrev pub untouched_items_stay : Type 0
 untouched_items_stay = (key_base : Record → Text) (db : Reading) (e : Edit) → IsAccepted key_base db e →
-    KeepsItems (is_gone db e) (is_changed db e) (new_number db e) db (edited key_base db e)
+    KeepsItems (is_gone db e) (is_changed key_base db e) (new_number db e) db (edited key_base db e)
 
 -- A moved entry keeps its body, and stands in a line of its own.
 abbrev pub moved_entry_stays : Type 0

@@ -1,14 +1,12 @@
-//! What edits make of a `.bib` file and what refuses them, made keys, histories and the steps that a session keeps, in
-//! definitions. There is no code here, only functions that do nothing and carry the laws about the definitions.
+//! What edits make of a `.bib` file and what refuses them, and made keys, in definitions. There is no code here, only
+//! functions that do nothing and carry the laws about the definitions.
 #![tactic(auto)]
 
 mod edits;
 mod examples;
-mod histories;
 mod macros;
 mod other_entries;
 mod renaming;
-mod stepping;
 mod untouched_items;
 
 pub use edits::{an_accepted_edit_makes_a_file_that_opens, chunks_of_an_edit_are_the_files};
@@ -24,9 +22,6 @@ pub use examples::{
     entries_are_added_and_moved, joined_text_stays_text, made_keys_change_places, made_keys_differ,
     made_keys_read_the_chain, texts_are_joined, the_first_of_a_name_counts,
 };
-pub use histories::{
-    each_move_leads_to_one_history, the_ends_are_reached, undo_and_redo_are_opposites,
-};
 pub use macros::a_macro_stands_for_its_last_definition;
 pub use other_entries::other_entries_are_kept;
 pub use renaming::{
@@ -34,5 +29,4 @@ pub use renaming::{
     regenerating_keys_keeps_the_rest, renaming_a_key_keeps_the_rest,
     renaming_a_macro_keeps_the_rest,
 };
-pub use stepping::steps_move_as_the_history_does;
 pub use untouched_items::untouched_items_keep_their_bytes;

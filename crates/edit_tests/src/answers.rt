@@ -481,7 +481,7 @@ fn record_parent<L: ItemList>(db: &Database<L>, n: usize) -> Result<Said, Stop> 
     if n >= db.entry_count() {
         return Ok(Said::Nothing);
     }
-    Ok(Said::from(db.expanded(n)?.parent))
+    Ok(Said::from(db.expanded(n, 1)?.parent))
 }
 
 fn is_repeated<L: ItemList>(db: &Database<L>, n: usize) -> Said {

@@ -4,7 +4,7 @@ use crate::examples::{Example, all_hold};
 use crate::renames::CROSSED;
 use crate::rows::Stop;
 use crate::splicing::Change;
-use crate::turns::{Turn, requests_of};
+use crate::turns::{Turn, has_depth, requests_of};
 use bib_edit::plan;
 use bib_journal::Request;
 use bib_store::{Database, ItemList, Piece};
@@ -77,7 +77,9 @@ fn is_planned<L: ItemList>(
     pieces: &[Change],
 ) -> Result<bool, Stop> {
     match requests {
-        [Request::Edit(edit)] => Ok(are_pieces(plan(alloc, db, edit)?.as_slice(), pieces)),
+        [Request::Edit(edit)] if has_depth(edit) => {
+            Ok(are_pieces(plan(alloc, db, edit)?.as_slice(), pieces))
+        }
         _ => Ok(false),
     }
 }

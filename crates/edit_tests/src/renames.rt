@@ -75,6 +75,9 @@ const RENAMED: &[Row<'_>] = &[
     },
 ];
 
+/// The second entry is the first one's parent, and the third the second one's.
+const CHAIN: &[u8] = b"@misc{p,crossref={q}}@misc{q,crossref={r}}@misc{r,year=1999}";
+
 const REGENERATED: &[Row<'_>] = &[
     Row {
         name: "two entries exchange their keys",
@@ -89,6 +92,20 @@ const REGENERATED: &[Row<'_>] = &[
         turn: Turn::Script(b"regenerate\nregenerate"),
         refusal: 0,
         left: MADE,
+    },
+    Row {
+        name: "made keys are those of parents alone",
+        file: CHAIN,
+        turn: Turn::Script(b"regenerate"),
+        refusal: 0,
+        left: b"@misc{anon,crossref={anon99}}@misc{anon99,crossref={anon99a}}@misc{anon99a,year=1999}",
+    },
+    Row {
+        name: "made keys are those of parents and their parents",
+        file: CHAIN,
+        turn: Turn::Script(b"regenerate\t2"),
+        refusal: 0,
+        left: b"@misc{anon99,crossref={anon99a}}@misc{anon99a,crossref={anon99b}}@misc{anon99b,year=1999}",
     },
     Row {
         name: "a made key is none that a crossref waits for",

@@ -12,10 +12,10 @@ use std::test::Fail;
 
 /// How the journal of the file `abc` begins.
 const HEAD: &[u8] =
-    b"bibkeep 1\nba7816bf8f01cfea414140de5dae2223b00361a396177a9cb410ff61f20015ad\n";
+    b"bibkeep 2\nba7816bf8f01cfea414140de5dae2223b00361a396177a9cb410ff61f20015ad\n";
 
 /// The rest of it where an entry was removed from the end.
-const REMOVED: &[u8] = b"1 0\n1\n3 8 0\n@misc{k}\n";
+const REMOVED: &[u8] = b"1 0\n\n1\n3 8 0\n@misc{k}\n";
 
 /// A run, and the rest of the journal that it saves after `HEAD`, where the example says one.
 struct Run {
@@ -41,7 +41,7 @@ struct Loaded {
 
 /// The rest of the journal of the file `abc`, where that was put in, an entry was removed after it, and another one was added
 /// and taken back.
-const TURNED: &[u8] = b"2 1\n1\n0 0 3\nabc\n1\n3 8 0\n@misc{k}\n1\n3 0 5\n@a{b}\n";
+const TURNED: &[u8] = b"2 1\n\n1\n0 0 3\nabc\n\n1\n3 8 0\n@misc{k}\n\n1\n3 0 5\n@a{b}\n";
 
 /// How many changes are to be turned, how many are, why no more, and the file then.
 struct Turns {
@@ -129,6 +129,31 @@ const FOLLOWING_RUNS: &[Runs] = &[
         ],
     },
     Runs {
+        name: "two removals are one step with a label",
+        file: b"abc@misc{k}@misc{l}",
+        journal: None,
+        runs: &[
+            Run {
+                step: Step {
+                    turn: Turn::Script(b"group\tclear\nremove\tk\nremove\tl\nend\n"),
+                    refusal: 0,
+                    file: Some(b"abc"),
+                    counts: Some((1, 0)),
+                },
+                journal: Some(b"1 0\nclear\n1\n3 16 0\n@misc{k}@misc{l}\n"),
+            },
+            Run {
+                step: Step {
+                    turn: Turn::Undo(1),
+                    refusal: 0,
+                    file: Some(b"abc@misc{k}@misc{l}"),
+                    counts: Some((0, 1)),
+                },
+                journal: None,
+            },
+        ],
+    },
+    Runs {
         name: "undoing all reaches the first file over several runs",
         file: b"@misc{a, t = 1,}",
         journal: None,
@@ -174,7 +199,7 @@ const FOLLOWING_RUNS: &[Runs] = &[
     Runs {
         name: "a forged journal that fits leads where it says",
         file: b"abc",
-        journal: Some(b"1 0\n1\n0 8 0\n@misc{k}\n"),
+        journal: Some(b"1 0\n\n1\n0 8 0\n@misc{k}\n"),
         runs: &[Run {
             step: Step {
                 turn: Turn::Undo(1),
@@ -203,20 +228,20 @@ const JOURNALS: &[Loaded] = &[
     Loaded {
         name: "a journal that names another place",
         file: b"abc",
-        journal: b"1 0\n1\n4 8 0\n@misc{k}\n",
+        journal: b"1 0\n\n1\n4 8 0\n@misc{k}\n",
         fault: (54, None),
     },
     Loaded {
         name: "a journal whose old bytes lead to no file",
         file: b"abc",
-        journal: b"1 0\n1\n3 8 0\n@misc{k]\n",
+        journal: b"1 0\n\n1\n3 8 0\n@misc{k]\n",
         fault: (54, None),
     },
     Loaded {
         name: "a journal that is cut",
         file: b"abc",
-        journal: b"1 0\n1\n3 8 0\n@mi",
-        fault: (53, Some(90)),
+        journal: b"1 0\n\n1\n3 8 0\n@mi",
+        fault: (53, Some(91)),
     },
     Loaded {
         name: "a file that does not open",

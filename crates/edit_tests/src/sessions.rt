@@ -85,6 +85,78 @@ const SESSIONS: &[Course<'_>] = &[
         ],
     },
     Course {
+        name: "a step of two edits is one change",
+        file: FILE,
+        steps: &[
+            Step {
+                turn: Turn::Script(b"group\ttwo\nset\ta\ty\t{2}\nset\ta\tz\t{3}"),
+                refusal: 0,
+                file: Some(b"@misc{a, t = 1,\n  y = {2},\n  z = {3},}"),
+                counts: Some((1, 0)),
+            },
+            Step {
+                turn: Turn::Undo(1),
+                refusal: 55,
+                file: None,
+                counts: Some((1, 0)),
+            },
+            Step {
+                turn: Turn::Script(b"group\tthree"),
+                refusal: 55,
+                file: None,
+                counts: None,
+            },
+            Step {
+                turn: Turn::Script(b"end\nend"),
+                refusal: 56,
+                file: None,
+                counts: Some((1, 0)),
+            },
+            Step {
+                turn: Turn::Undo(1),
+                refusal: 0,
+                file: Some(FILE),
+                counts: Some((0, 1)),
+            },
+            Step {
+                turn: Turn::Script(b"group\tnothing\nend"),
+                refusal: 0,
+                file: Some(FILE),
+                counts: Some((0, 1)),
+            },
+            Step {
+                turn: Turn::Redo(1),
+                refusal: 0,
+                file: Some(b"@misc{a, t = 1,\n  y = {2},\n  z = {3},}"),
+                counts: Some((1, 0)),
+            },
+        ],
+    },
+    Course {
+        name: "a step keeps what was done before a refusal",
+        file: FILE,
+        steps: &[
+            Step {
+                turn: Turn::Script(b"group\tg\nset\ta\ty\t{2}\ndrop\ta\tq\nset\ta\tz\t{3}"),
+                refusal: 35,
+                file: Some(b"@misc{a, t = 1,\n  y = {2},}"),
+                counts: Some((1, 0)),
+            },
+            Step {
+                turn: Turn::Script(b"end\nset\ta\tz\t{3}"),
+                refusal: 0,
+                file: None,
+                counts: Some((2, 0)),
+            },
+            Step {
+                turn: Turn::Undo(2),
+                refusal: 0,
+                file: Some(FILE),
+                counts: Some((0, 2)),
+            },
+        ],
+    },
+    Course {
         name: "the number of changes is limited",
         file: FILE,
         steps: &[

@@ -1,6 +1,7 @@
 //! Requests in turn, and what each turn leaves of a file.
 
-ghost use Rattle.std.specs.Prelude.{◌≡◌, []};
+ghost use Rattle.std.specs.Prelude.{◌≡◌, [], All, IsTrue};
+ghost use Rattle.bib_data.specs.Depths.{HasDepth, AsksWithDepth};
 
 use bib_edit::Edit;
 use bib_journal::{Performed, Request, Session, SessionFault, perform, repeat};
@@ -70,7 +71,7 @@ fn add_many(alloc: Global, lines: &[u8]) -> Result<Seq<Request>, AllocError> {
     let mut entries = Vec::new(alloc);
     for request in script(alloc, lines)?.into_vec() {
         match request {
-            Request::Edit(Edit::AddEntry { position: _, entry }) => entries.push(entry)?,
+            Request::Edit(Edit::AddEntry { place: _, entry }) => entries.push(entry)?,
             _other => {}
         }
     }
@@ -116,14 +117,51 @@ fn told_of(performed: &Performed) -> (usize, u16) {
     }
 }
 
-/// Makes the requests up to the first refusal: how many are made, and the number of the refusal, or 0.
+/// Whether the edit makes no keys, or makes them at a depth of 1 to 8.
+pub fn has_depth(edit: &Edit) -> bool
+    ensures { IsTrue result → HasDepth edit.now }
+{
+    match edit {
+        Edit::RegenerateKeys { depth } => 1 <= *depth && *depth <= 8,
+        _ => true,
+    }
+}
+
+/// The same of a request.
+fn asks_with_depth(request: &Request) -> bool
+    ensures { IsTrue result → AsksWithDepth request.now }
+{
+    match request {
+        Request::Edit(edit) => has_depth(edit),
+        _ => true,
+    }
+}
+
+/// The same of all requests.
+fn all_ask_with_depth(requests: &[Request]) -> bool
+    ensures { IsTrue result → All AsksWithDepth requests.now }
+{
+    for request in requests {
+        if !asks_with_depth(request) {
+            return false;
+        }
+    }
+    true
+}
+
+/// Makes the requests up to the first refusal: how many are made, and the number of the refusal, or 0. None is made where
+/// one asks for a depth that cannot be asked for.
 fn performed<L: ItemList>(session: &mut Session<L>, asked: &Asked) -> (usize, u16) {
-    if let [request] = asked.requests.as_slice() {
+    let requests = asked.requests.as_slice();
+    if !all_ask_with_depth(requests) {
+        return (0, 0);
+    }
+    if let [request] = requests {
         return told_of(&repeat(session, request, asked.times));
     }
     let mut done: usize = 0;
     for _ in 0..asked.times {
-        let performed = perform(session, asked.requests.as_slice());
+        let performed = perform(session, requests);
         done = done.saturating_add(performed.done);
         if let Some(fault) = performed.fault {
             return (done, fault.number());

@@ -3,7 +3,7 @@ use Rattle.std.proofs.Common.{◌≡◌, ℕ, ◌+◌, ◌≤◌, ◌∷◌, ◌
 use Rattle.std.proofs.lemmas.Fmt.{decimal_injective}
 use Rattle.bib_spec.specs.Bytes.{space}
 use Rattle.bib_spec.specs.Text.{Text}
-use Rattle.edit_spec.specs.Steps.{number_limit, change_limit}
+use Rattle.history_spec.specs.Steps.{number_limit, change_limit}
 use Rattle.journal_format.specs.JournalText.{counts_line, AreFew, numbers_line, AreNumbers}
 use Rattle.journal_format.specs.Wrong.{IsFreeOf, IsCut, IsLineOf}
 use Rattle.journal_format.proofs.Cuts.{not_free, one_cut}

@@ -7,7 +7,7 @@ use Rattle.std.specs.Str.{IsUtf8}
 use Rattle.std.specs.Str.Parse.{AllDigits}
 use Rattle.bib_spec.specs.Bytes.{line_feed, space}
 use Rattle.bib_spec.specs.Text.{Text}
-use Rattle.edit_spec.specs.Steps.{number_limit, change_limit}
+use Rattle.history_spec.specs.Steps.{number_limit, change_limit}
 use Rattle.journal_format.specs.JournalText.{Counts, counts_line, AreFew, IsSmall, Numbers, numbers_line, AreNumbers}
 use Rattle.journal_format.specs.Wrong.{IsFreeOf}
 use Rattle.journal_format.proofs.Cuts.{one_cut, free-append}

@@ -5,11 +5,13 @@ use Rattle.std.specs.List.{AllByRecursion, flat_map}
 use Rattle.bib_spec.specs.Bytes.{line_feed}
 use Rattle.bib_spec.specs.Text.{Text}
 use Rattle.bib_spec.specs.Pieces.{Piece, end_of, AscendFrom}
-use Rattle.edit_spec.specs.Steps.{Step, IsStep, HasSmallNumbers, piece_text, step_text, number_limit, step_texts_limit}
-use Rattle.edit_spec.proofs.StepLemmas.{all_push}
-use Rattle.journal_format.specs.JournalText.{numbers, numbers_of, numbers_line, AreNumbers, IsSmall}
-use Rattle.journal_format.specs.Wrong.{BeginsWith, BeginsWithPiece, BeginsWithStep, IsWrongPiece, AreWrongPieces, IsWrongStep, AreWrongSteps, IsWrongTail}
+use Rattle.history_spec.specs.Steps.{Step, IsLabel, HasSmallNumbers, piece_text, pieces_text, step_text, number_limit}
+use Rattle.history_spec.proofs.StepLemmas.{all_push}
+use Rattle.journal_format.specs.JournalText.{numbers, numbers_of, numbers_line, AreNumbers, IsSmall, step_text_in, IsStepIn, steps_limit}
+use Rattle.journal_format.specs.Wrong.{BeginsWith, BeginsWithPiece, BeginsWithPieces, BeginsWithStep, IsWrongPiece, AreWrongPieces, HasWrongPieces, IsWrongStep, AreWrongSteps, IsWrongTail}
 use Rattle.journal_format.specs.Faults.{StopsWhere}
+use Rattle.journal_format.specs.declared.version.Version.{Version}
+use Rattle.journal_format.specs.declared.version.Version.TheVariants.{First, Second}
 use Rattle.journal_format.specs.declared.fault.Stop.{Stop}
 use Rattle.journal_format.specs.declared.fault.Stop.TheVariants as stops
 
@@ -17,8 +19,13 @@ use Rattle.journal_format.specs.declared.fault.Stop.TheVariants as stops
 pub piece_text-is : (p : Piece) (r : Text) → piece_text p ++ r ≡ numbers_line (numbers_of p) ++ line_feed ∷ (p.old ++ (p.new ++ line_feed ∷ r))
 piece_text-is p r = simp append_assoc
 
--- a step is the line of its number of pieces, and then its pieces
-pub step_text-is : (step : Step) (r : Text) → step_text step ++ r ≡ decimal (length step) ++ line_feed ∷ (flat_map piece_text step ++ r)
+-- pieces are the line of their number, and then each
+pub pieces_text-is : (pieces : List Piece) (r : Text) → pieces_text pieces ++ r ≡ decimal (length pieces) ++ line_feed ∷ (flat_map piece_text pieces ++ r)
+unfolding pieces_text
+pieces_text-is pieces r = simp append_assoc
+
+-- a step is the line of its label, and then its pieces
+pub step_text-is : (step : Step) (r : Text) → step_text step ++ r ≡ step.label ++ line_feed ∷ (pieces_text step.pieces ++ r)
 unfolding step_text
 step_text-is step r = simp append_assoc
 
@@ -89,10 +96,10 @@ wrong_piece count n text pieces from rest r h left w =
     let more : suc (count - (n + 1)) ≡ count - n = omega arith in
     r.wrong left (subst (λ (k : ℕ). AreWrongPieces k from rest left) more (inl w))
 
--- all pieces are read, so the step is
-pub step_read : (text : Text) (count n : ℕ) (after : Text) (pieces : List Piece) (from : ℕ) (rest : Text)
-    → BeginsWith decimal IsSmall text count after → ArePiecesRead count n after pieces from rest → n ≡ count → BeginsWithStep text pieces rest
-step_read text count n after pieces from rest b r e =
+-- all pieces are read
+pub pieces_read : (text : Text) (count n : ℕ) (after : Text) (pieces : List Piece) (from : ℕ) (rest : Text)
+    → BeginsWith decimal IsSmall text count after → ArePiecesRead count n after pieces from rest → n ≡ count → BeginsWithPieces text pieces rest
+pieces_read text count n after pieces from rest b r e =
     let many : length pieces ≡ count = r.many ∙ e in
     record {
       good = record {
@@ -101,68 +108,92 @@ step_read text count n after pieces from rest b r e =
         small = r.small;
       };
       whole = b.whole ∙ ap (λ (k : ℕ). decimal k ++ line_feed ∷ after) (sym many)
-          ∙ ap (λ (t : Text). decimal (length pieces) ++ line_feed ∷ t) r.whole ∙ sym (step_text-is pieces rest);
+          ∙ ap (λ (t : Text). decimal (length pieces) ++ line_feed ∷ t) r.whole ∙ sym (pieces_text-is pieces rest);
     }
 
--- a piece is wrong, so the step is
-pub step_wrong : (text : Text) (count n : ℕ) (after : Text) (pieces : List Piece) (from : ℕ) (rest : Text)
+-- one of them is wrong, so they are
+pub pieces_wrong : (text : Text) (count n : ℕ) (after : Text) (pieces : List Piece) (from : ℕ) (rest : Text)
     → BeginsWith decimal IsSmall text count after → ArePiecesRead count n after pieces from rest → n < count
-    → (left : ℕ) → IsWrongPiece from rest left → IsWrongStep text left
-step_wrong text count n after pieces from rest b r h left w =
+    → (left : ℕ) → IsWrongPiece from rest left → HasWrongPieces text left
+pieces_wrong text count n after pieces from rest b r h left w =
     inr (record { value = count; rest = after; begins = b; wrong = wrong_piece count n after pieces from rest r h left w })
+
+-- ---- a step, read in parts
+
+-- a step without a label is its pieces
+pub plain_step_read : (text : Text) (label : Text) (pieces : List Piece) (rest : Text) → label ≡ [] → BeginsWithPieces text pieces rest
+    → BeginsWithStep First text (record { label = label; pieces = pieces }) rest
+plain_step_read text label pieces rest none b = record {
+  good = (record { label = subst IsLabel (sym none) (record { short = omega arith; plain = refl }); pieces = b.good }, none);
+  whole = b.whole;
+}
+
+-- a step is the line of its label, and then its pieces
+pub labelled_step_read : (text after label word : Text) (pieces : List Piece) (rest : Text) → word ≡ label → BeginsWith {A = Text} (λ label. label) IsLabel text label after
+    → BeginsWithPieces after pieces rest → BeginsWithStep Second text (record { label = word; pieces = pieces }) rest
+labelled_step_read text after label word pieces rest same b p =
+    subst (λ (w : Text). BeginsWithStep Second text (record { label = w; pieces = pieces }) rest) (sym same)
+    (record {
+      good = record { label = b.good; pieces = p.good };
+      whole = b.whole ∙ ap (λ (t : Text). label ++ line_feed ∷ t) p.whole ∙ sym (step_text-is (record { label = label; pieces = pieces }) rest);
+    })
+
+-- a step whose pieces are wrong is
+pub labelled_step_wrong : (text after label : Text) → BeginsWith {A = Text} (λ label. label) IsLabel text label after → (left : ℕ) → HasWrongPieces after left → IsWrongStep Second text left
+labelled_step_wrong text after label b left w = inr (record { value = label; rest = after; begins = b; wrong = w })
 
 -- ---- steps, read one by one
 
 -- n steps of so many are read: they stand before the rest, and where that goes wrong, the whole does
-pub record AreStepsRead (count n : ℕ) (text : Text) (steps : List Step) (rest : Text) : Type 0 where
+pub record AreStepsRead (version : Version) (count n : ℕ) (text : Text) (steps : List Step) (rest : Text) : Type 0 where
   pub many : length steps ≡ n
-  pub whole : text ≡ flat_map step_text steps ++ rest
-  pub good : AllByRecursion IsStep steps
+  pub whole : text ≡ flat_map (step_text_in version) steps ++ rest
+  pub good : AllByRecursion (IsStepIn version) steps
 
-pub no_steps_read : (count : ℕ) (text : Text) → AreStepsRead count 0 text [] text
-no_steps_read count text = record { many = refl; whole = refl; good = tt }
+pub no_steps_read : (version : Version) (count : ℕ) (text : Text) → AreStepsRead version count 0 text [] text
+no_steps_read version count text = record { many = refl; whole = refl; good = tt }
 
-pub one_more_step : (count n : ℕ) (text : Text) (steps : List Step) (rest : Text) (step : Step) (next : Text)
-    → AreStepsRead count n text steps rest → BeginsWithStep rest step next → AreStepsRead count (n + 1) text (steps ++ step ∷ []) next
-one_more_step count n text steps rest step next r b = record {
+pub one_more_step : (version : Version) (count n : ℕ) (text : Text) (steps : List Step) (rest : Text) (step : Step) (next : Text)
+    → AreStepsRead version count n text steps rest → BeginsWithStep version rest step next → AreStepsRead version count (n + 1) text (steps ++ step ∷ []) next
+one_more_step version count n text steps rest step next r b = record {
   many = length_push steps step ∙ ap (λ k. k + 1) r.many;
-  whole = flat_push step_text steps step text rest next r.whole b.whole;
-  good = all_push IsStep steps step r.good b.good;
+  whole = flat_push (step_text_in version) steps step text rest next r.whole b.whole;
+  good = all_push (IsStepIn version) steps step r.good b.good;
 }
 
 -- what goes wrong after steps goes wrong
-pub wrong_after_steps : (steps : List Step) (more : ℕ) (text rest : Text) (left : ℕ)
-    → AllByRecursion IsStep steps → text ≡ flat_map step_text steps ++ rest → AreWrongSteps more rest left → AreWrongSteps (length steps + more) text left
-wrong_after_steps [] more text rest left good whole w =
-    subst (λ (n : ℕ). AreWrongSteps n text left) (omega arith) (subst (λ (t : Text). AreWrongSteps more t left) (sym whole) w)
-wrong_after_steps (step ∷ steps) more text rest left good whole w =
-    let next : Text = flat_map step_text steps ++ rest in
-    let begins : BeginsWithStep text step next = record { good = good.0; whole = whole ∙ append_assoc (step_text step) (flat_map step_text steps) rest } in
+pub wrong_after_steps : (version : Version) (steps : List Step) (more : ℕ) (text rest : Text) (left : ℕ)
+    → AllByRecursion (IsStepIn version) steps → text ≡ flat_map (step_text_in version) steps ++ rest → AreWrongSteps version more rest left → AreWrongSteps version (length steps + more) text left
+wrong_after_steps version [] more text rest left good whole w =
+    subst (λ (n : ℕ). AreWrongSteps version n text left) (omega arith) (subst (λ (t : Text). AreWrongSteps version more t left) (sym whole) w)
+wrong_after_steps version (step ∷ steps) more text rest left good whole w =
+    let next : Text = flat_map (step_text_in version) steps ++ rest in
+    let begins : BeginsWithStep version text step next = record { good = good.0; whole = whole ∙ append_assoc (step_text_in version step) (flat_map (step_text_in version) steps) rest } in
     let count : suc (length steps + more) ≡ length (step ∷ steps) + more = omega arith in
-    subst (λ (n : ℕ). AreWrongSteps n text left) count (inr (step, next, begins, wrong_after_steps steps more next rest left good.1 refl w))
+    subst (λ (n : ℕ). AreWrongSteps version n text left) count (inr (step, next, begins, wrong_after_steps version steps more next rest left good.1 refl w))
 
-pub wrong_step : (count n : ℕ) (text : Text) (steps : List Step) (rest : Text) → AreStepsRead count n text steps rest → n < count
-    → (left : ℕ) → IsWrongStep rest left → (more : ℕ) → AreWrongSteps (count + more) text left
-wrong_step count n text steps rest r h left w more =
-    let here : AreWrongSteps (suc (count - (n + 1) + more)) rest left = inl w in
+pub wrong_step : (version : Version) (count n : ℕ) (text : Text) (steps : List Step) (rest : Text) → AreStepsRead version count n text steps rest → n < count
+    → (left : ℕ) → IsWrongStep version rest left → (more : ℕ) → AreWrongSteps version (count + more) text left
+wrong_step version count n text steps rest r h left w more =
+    let here : AreWrongSteps version (suc (count - (n + 1) + more)) rest left = inl w in
     let total : length steps + suc (count - (n + 1) + more) ≡ count + more = omega (arith, r.many) in
-    subst (λ (k : ℕ). AreWrongSteps k text left) total (wrong_after_steps steps (suc (count - (n + 1) + more)) text rest left r.good r.whole here)
+    subst (λ (k : ℕ). AreWrongSteps version k text left) total (wrong_after_steps version steps (suc (count - (n + 1) + more)) text rest left r.good r.whole here)
 
 -- ---- the tail
 
 -- past steps stand before what goes wrong
-pub tail_wrong : (past : List Step) (undos redos : ℕ) (text rest : Text) (left : ℕ)
-    → length text ≤ step_texts_limit → length past ≡ undos → AllByRecursion IsStep past → text ≡ flat_map step_text past ++ rest
-    → AreWrongSteps redos rest left → IsWrongTail (undos + redos) text left
-tail_wrong past undos redos text rest left short many good whole w =
+pub tail_wrong : (version : Version) (past : List Step) (undos redos : ℕ) (text rest : Text) (left : ℕ)
+    → length text ≤ steps_limit version → length past ≡ undos → AllByRecursion (IsStepIn version) past → text ≡ flat_map (step_text_in version) past ++ rest
+    → AreWrongSteps version redos rest left → IsWrongTail version (undos + redos) text left
+tail_wrong version past undos redos text rest left short many good whole w =
     inr (record {
       short = short;
-      wrong = subst (λ (n : ℕ). AreWrongSteps (n + redos) text left) many (wrong_after_steps past redos text rest left good whole w);
+      wrong = subst (λ (n : ℕ). AreWrongSteps version (n + redos) text left) many (wrong_after_steps version past redos text rest left good whole w);
     })
 
 -- nothing should stand after the steps
-pub bytes_left : (future : List Step) (redos : ℕ) (text rest : Text) → length future ≡ redos → AllByRecursion IsStep future → text ≡ flat_map step_text future ++ rest
-    → rest ≢ [] → AreWrongSteps redos text (length rest)
-bytes_left future redos text rest many good whole some =
-    let w : AreWrongSteps 0 rest (length rest) = (some, refl) in
-    subst (λ (n : ℕ). AreWrongSteps n text (length rest)) (omega (arith, many)) (wrong_after_steps future 0 text rest (length rest) good whole w)
+pub bytes_left : (version : Version) (future : List Step) (redos : ℕ) (text rest : Text) → length future ≡ redos → AllByRecursion (IsStepIn version) future → text ≡ flat_map (step_text_in version) future ++ rest
+    → rest ≢ [] → AreWrongSteps version redos text (length rest)
+bytes_left version future redos text rest many good whole some =
+    let w : AreWrongSteps version 0 rest (length rest) = (some, refl) in
+    subst (λ (n : ℕ). AreWrongSteps version n text (length rest)) (omega (arith, many)) (wrong_after_steps version future 0 text rest (length rest) good whole w)

@@ -4,7 +4,8 @@ use Rattle.std.proofs.lemmas.Fmt.{AppendsLastDigit, decimal_from_appends, length
 use Rattle.std.proofs.lemmas.List.{length_push, take_more, take_all, flat_map_more}
 use Rattle.std.specs.List.{flat_map}
 use Rattle.bib_spec.specs.Pieces.{Piece}
-use Rattle.edit_spec.specs.Steps.{Step, piece_text, step_text, step_text_len}
+use Rattle.bib_spec.specs.Bytes.{line_feed}
+use Rattle.history_spec.specs.Steps.{Step, piece_text, pieces_text, step_text, step_text_len}
 
 -- the last k digits
 abbrev pub shown : ℕ → ℕ → List ℕ
@@ -30,20 +31,26 @@ length-decimal-more n h small =
 pub length-decimal-small : (n : ℕ) → n < 2 ^ 64 → length (decimal n) ≤ 20
 length-decimal-small n small = length-decimal-le 20 n (lit< tt) (omega arith) small
 
--- the length of the first pieces and of their number's line
-abbrev pub len_so_far : Step → ℕ → ℕ
-len_so_far step i = length (decimal (length step)) + 1 + length (flat_map piece_text (take i step))
+-- the length of the first pieces' texts
+abbrev pub len_so_far : List Piece → ℕ → ℕ
+len_so_far pieces i = length (flat_map piece_text (take i pieces))
 
-pub len_more : (step : Step) (i : ℕ) (p : Piece) → i < length step → p ≡ get_or step i p → len_so_far step (i + 1) ≡ len_so_far step i + length (piece_text p)
-len_more step i p h e =
-    let next : take (i + 1) step ≡ take i step ++ p ∷ [] = take_more step i p h ∙ ap (λ (q : Piece). take i step ++ q ∷ []) (sym e) in
-    let texts : flat_map piece_text (take (i + 1) step) ≡ flat_map piece_text (take i step) ++ piece_text p =
-    ap (flat_map piece_text) next ∙ sym (flat_map_more piece_text [] (take i step) p) in
-    omega (arith, ap length texts, length-append (flat_map piece_text (take i step)) (piece_text p))
+pub len_more : (pieces : List Piece) (i : ℕ) (p : Piece) → i < length pieces → p ≡ get_or pieces i p → len_so_far pieces (i + 1) ≡ len_so_far pieces i + length (piece_text p)
+len_more pieces i p h e =
+    let next : take (i + 1) pieces ≡ take i pieces ++ p ∷ [] = take_more pieces i p h ∙ ap (λ (q : Piece). take i pieces ++ q ∷ []) (sym e) in
+    let texts : flat_map piece_text (take (i + 1) pieces) ≡ flat_map piece_text (take i pieces) ++ piece_text p =
+    ap (flat_map piece_text) next ∙ sym (flat_map_more piece_text [] (take i pieces) p) in
+    omega (arith, ap length texts, length-append (flat_map piece_text (take i pieces)) (piece_text p))
 
-pub len_all : (step : Step) (i : ℕ) → length step ≤ i → len_so_far step i ≡ step_text_len step
+pub len_all : (pieces : List Piece) (i : ℕ) → length pieces ≤ i → len_so_far pieces i ≡ length (flat_map piece_text pieces)
+len_all pieces i h = ap (λ (ps : List Piece). length (flat_map piece_text ps)) (take_all i pieces h)
+
+-- the number of the pieces in a line, and their texts
+pub pieces_len : (pieces : List Piece) → length (pieces_text pieces) ≡ length (flat_map piece_text pieces) + (length (decimal (length pieces)) + 1)
+unfolding pieces_text
+pieces_len pieces = omega (arith, length-append (decimal (length pieces)) (line_feed ∷ flat_map piece_text pieces))
+
+-- the label's line, and the pieces
+pub step_len : (step : Step) → step_text_len step ≡ length (pieces_text step.pieces) + (length step.label + 1)
 unfolding step_text_len step_text
-len_all step i h =
-    let all : take i step ≡ step = take_all i step h in
-    ap (λ (ps : Step). length (decimal (length step)) + 1 + length (flat_map piece_text ps)) all
-    ∙ sym (simp length-append (omega arith))
+step_len step = omega (arith, length-append step.label (line_feed ∷ pieces_text step.pieces))

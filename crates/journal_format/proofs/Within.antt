@@ -3,10 +3,12 @@ use Rattle.std.proofs.Common.{◌≡◌, ℕ, ◌+◌, ◌≤◌, zero, suc, ◌
 use Rattle.bib_spec.specs.Bytes.{line_feed}
 use Rattle.bib_spec.specs.Text.{Text}
 use Rattle.bib_spec.specs.Pieces.{end_of}
-use Rattle.edit_spec.specs.Steps.{piece_text, step_text}
+use Rattle.history_spec.specs.Steps.{IsLabel, piece_text}
 use Rattle.journal_format.specs.Contents.{IsDigest}
-use Rattle.journal_format.specs.JournalText.{version_line, counts_line, AreFew, IsSmall, numbers_line, AreNumbers}
-use Rattle.journal_format.specs.Wrong.{IsWrongFrom, HasWrongBytes, IsWrongPiece, AreWrongPieces, IsWrongStep, AreWrongSteps, IsWrongTail, IsWrongFromCounts, IsWrongFromDigest, IsWrongJournal}
+use Rattle.journal_format.specs.JournalText.{version_line, IsKnown, counts_line, AreFew, IsSmall, numbers_line, AreNumbers, step_text_in}
+use Rattle.journal_format.specs.Wrong.{IsWrongFrom, HasWrongBytes, IsWrongPiece, AreWrongPieces, HasWrongPieces, IsWrongStep, AreWrongSteps, IsWrongTail, IsWrongFromCounts, IsWrongFromDigest, IsWrongJournal}
+use Rattle.journal_format.specs.declared.version.Version.{Version}
+use Rattle.journal_format.specs.declared.version.Version.TheVariants.{First, Second}
 
 after_within : (front rest text : Text) (left : ℕ) → text ≡ front ++ rest → left ≤ length rest → left ≤ length text
 after_within front rest text left whole h = omega (arith, ap length whole, length-append front rest)
@@ -30,24 +32,28 @@ pieces_within zero from text left w = absurd w
 pieces_within (suc n) from text left (inl w) = piece_within from text left w
 pieces_within (suc n) from text left (inr w) = after_within (piece_text w.0) w.1 text left w.2.whole (pieces_within n (end_of w.0) w.1 left w.3)
 
-step_within : (text : Text) (left : ℕ) → IsWrongStep text left → left ≤ length text
-step_within text left w = from_within decimal IsSmall (λ n. AreWrongPieces n 0) (λ n t l h. pieces_within n 0 t l h) text left w
+counted_within : (text : Text) (left : ℕ) → HasWrongPieces text left → left ≤ length text
+counted_within text left w = from_within decimal IsSmall (λ n. AreWrongPieces n 0) (λ n t l h. pieces_within n 0 t l h) text left w
 
-steps_within : (n : ℕ) (text : Text) (left : ℕ) → AreWrongSteps n text left → left ≤ length text
-steps_within zero text left w = omega (arith, w.1)
-steps_within (suc n) text left (inl w) = step_within text left w
-steps_within (suc n) text left (inr w) = after_within (step_text w.0) w.1 text left w.2.whole (steps_within n w.1 left w.3)
+step_within : (version : Version) (text : Text) (left : ℕ) → IsWrongStep version text left → left ≤ length text
+step_within First text left w = counted_within text left w
+step_within Second text left w = from_within {A = Text} (λ label. label) IsLabel (λ label. HasWrongPieces) (λ label t l h. counted_within t l h) text left w
 
-tail_within : (n : ℕ) (text : Text) (left : ℕ) → IsWrongTail n text left → left ≤ length text
-tail_within n text left (inl long) = omega (arith, long.all)
-tail_within n text left (inr w) = steps_within n text left w.wrong
+steps_within : (version : Version) (n : ℕ) (text : Text) (left : ℕ) → AreWrongSteps version n text left → left ≤ length text
+steps_within version zero text left w = omega (arith, w.1)
+steps_within version (suc n) text left (inl w) = step_within version text left w
+steps_within version (suc n) text left (inr w) = after_within (step_text_in version w.0) w.1 text left w.2.whole (steps_within version n w.1 left w.3)
 
-counts_within : (text : Text) (left : ℕ) → IsWrongFromCounts text left → left ≤ length text
-counts_within text left w = from_within counts_line AreFew (λ n. IsWrongTail (n.undos + n.redos)) (λ n t l h. tail_within (n.undos + n.redos) t l h) text left w
+tail_within : (version : Version) (n : ℕ) (text : Text) (left : ℕ) → IsWrongTail version n text left → left ≤ length text
+tail_within version n text left (inl long) = omega (arith, long.all)
+tail_within version n text left (inr w) = steps_within version n text left w.wrong
 
-digest_within : (text : Text) (left : ℕ) → IsWrongFromDigest text left → left ≤ length text
-digest_within text left w = from_within (λ digest. digest) IsDigest (λ digest. IsWrongFromCounts) (λ d t l h. counts_within t l h) text left w
+counts_within : (version : Version) (text : Text) (left : ℕ) → IsWrongFromCounts version text left → left ≤ length text
+counts_within version text left w =
+    from_within counts_line AreFew (λ n. IsWrongTail version (n.undos + n.redos)) (λ n t l h. tail_within version (n.undos + n.redos) t l h) text left w
+
+digest_within : (version : Version) (text : Text) (left : ℕ) → IsWrongFromDigest version text left → left ≤ length text
+digest_within version text left w = from_within {A = Text} (λ digest. digest) IsDigest (λ digest. IsWrongFromCounts version) (λ d t l h. counts_within version t l h) text left w
 
 pub journal_within : (text : Text) (left : ℕ) → IsWrongJournal text left → left ≤ length text
-journal_within text left w =
-    from_within {A = Unit {0}} (λ u. version_line) (λ u. Unit {0}) (λ u. IsWrongFromDigest) (λ u t l h. digest_within t l h) text left w
+journal_within text left w = from_within version_line IsKnown IsWrongFromDigest (λ v t l h. digest_within v t l h) text left w

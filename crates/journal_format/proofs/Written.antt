@@ -4,8 +4,9 @@ use Rattle.std.proofs.lemmas.List.{append_assoc, take_more, take_all, flat_map_m
 use Rattle.std.specs.List.{flat_map}
 use Rattle.bib_spec.specs.Bytes.{line_feed}
 use Rattle.bib_spec.specs.Text.{Text}
-use Rattle.edit_spec.specs.Steps.{Step, piece_text, step_text}
-use Rattle.journal_format.specs.JournalText.{counts, head_text, journal_text}
+use Rattle.bib_spec.specs.Pieces.{Piece}
+use Rattle.history_spec.specs.Steps.{Step, piece_text, pieces_text, step_text}
+use Rattle.journal_format.specs.JournalText.{counts, head_text, text_in, journal_text}
 
 pub written_more : {X : Type 0} (f : X → Text) (bs out next : Text) (xs : List X) (i : ℕ) (x : X) → i < length xs → x ≡ get_or xs i x
     → out ≡ bs ++ flat_map f (take i xs) → next ≡ out ++ f x → next ≡ bs ++ flat_map f (take (i + 1) xs)
@@ -16,18 +17,24 @@ written_more {X = X} f bs out next xs i x h e so more =
 pub written_all : {X : Type 0} (f : X → Text) (bs out : Text) (xs : List X) (i : ℕ) → length xs ≤ i → out ≡ bs ++ flat_map f (take i xs) → out ≡ bs ++ flat_map f xs
 written_all {X = X} f bs out xs i h so = so ∙ ap (λ (ys : List X). bs ++ flat_map f ys) (take_all i xs h)
 
--- a step is its number of pieces in a line, and then its pieces
-pub step_written : (bs out : Text) (step : Step) (i : ℕ) → length step ≤ i → out ≡ (bs ++ (decimal (length step) ++ line_feed ∷ [])) ++ flat_map piece_text (take i step)
-    → out ≡ bs ++ step_text step
+-- pieces are their number in a line, and then each
+pub pieces_written : (bs out : Text) (pieces : List Piece) (i : ℕ) → length pieces ≤ i → out ≡ (bs ++ (decimal (length pieces) ++ line_feed ∷ [])) ++ flat_map piece_text (take i pieces)
+    → out ≡ bs ++ pieces_text pieces
+unfolding pieces_text
+pieces_written bs out pieces i h so =
+    written_all piece_text (bs ++ (decimal (length pieces) ++ line_feed ∷ [])) out pieces i h so ∙ simp append_assoc
+
+-- a step is its label in a line, and then its pieces
+pub step_written : (bs a b out : Text) (step : Step) → a ≡ bs ++ step.label → b ≡ a ++ line_feed ∷ [] → out ≡ b ++ pieces_text step.pieces → out ≡ bs ++ step_text step
 unfolding step_text
-step_written bs out step i h so =
-    written_all piece_text (bs ++ (decimal (length step) ++ line_feed ∷ [])) out step i h so ∙ simp append_assoc
+step_written bs a b out step label line pieces =
+    pieces ∙ ap (λ (t : Text). t ++ pieces_text step.pieces) (line ∙ ap (λ (t : Text). t ++ line_feed ∷ []) label) ∙ simp append_assoc
 
 -- head, past and future are the journal
 pub journal_written : (digest : Text) (past undone : List Step) (a b d e : Text) → a ≡ []
     → b ≡ a ++ head_text digest (counts (length past) (length undone)) → d ≡ b ++ flat_map step_text past → e ≡ d ++ flat_map step_text (reverse undone)
     → e ≡ journal_text (record { digest = digest; past = past; future = reverse undone })
-unfolding journal_text
+unfolding text_in
 journal_written digest past undone a b d e start head first last =
     let future : Text = flat_map step_text (reverse undone) in
     let whole : e ≡ (head_text digest (counts (length past) (length undone)) ++ flat_map step_text past) ++ future =

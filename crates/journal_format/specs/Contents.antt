@@ -5,7 +5,7 @@ use Rattle.std.specs.Char.{is_ascii_digit}
 use Rattle.hex.specs.Hex.{encode_lower}
 use Rattle.sha2.specs.Sha256.{sha256}
 use Rattle.bib_spec.specs.Text.{Text}
-use Rattle.edit_spec.specs.Steps.{Step, AreSteps}
+use Rattle.history_spec.specs.Steps.{Step, AreSteps}
 
 -- the digest of the present file, the past steps from the oldest, and the future steps from the next to be redone
 pub record Contents : Type 0 where

@@ -1,17 +1,24 @@
--- The text of a journal, version 1. (dialect)
-use Rattle.std.specs.Prelude.{ℕ, ◌+◌, ◌≤◌, [], ◌∷◌, ◌++◌, length, decimal, codes}
-use Rattle.std.specs.List.{flat_map}
+-- The text of a journal: version 2, in which each step begins with its label, and version 1, which has no labels. (dialect)
+use Rattle.std.specs.Prelude.{ℕ, ◌≡◌, ◌+◌, ◌≤◌, [], ◌∷◌, ◌++◌, length, sum_by, decimal, codes}
+use Rattle.std.specs.List.{AllByRecursion, flat_map}
 use Rattle.bib_spec.specs.Bytes.{line_feed, space}
 use Rattle.bib_spec.specs.Text.{Text}
 use Rattle.bib_spec.specs.Pieces.{Piece}
-use Rattle.edit_spec.specs.Steps.{step_text, number_limit, change_limit}
-use Rattle.journal_format.specs.Contents.{Contents}
+use Rattle.history_spec.specs.Steps.{Step, IsStep, pieces_text, step_text, step_texts_limit, number_limit, change_limit}
+use Rattle.journal_format.specs.Contents.{Contents, AreContents}
+use Rattle.journal_format.specs.declared.version.Version.{Version}
+use Rattle.journal_format.specs.declared.version.Version.TheVariants.{First, Second}
 
 -- ---- lines
 
 -- the first line
-unfoldable pub version_line : Text
-version_line = codes "bibkeep 1"
+unfoldable pub version_line : Version → Text
+version_line First = codes "bibkeep 1"
+version_line Second = codes "bibkeep 2"
+
+-- each version is read
+abbrev pub IsKnown : Version → Type 0
+IsKnown version = Unit {0}
 
 -- how many changes can be undone, and how many can be redone
 pub record Counts : Type 0 where
@@ -58,18 +65,46 @@ pub record AreNumbers (from : ℕ) (n : Numbers) : Type 0 where
 
 -- how long a journal can be: the lines of the version and the digest, the longest line of counts, and the steps (dialect)
 abbrev pub journal_limit : ℕ
-journal_limit = 67108951
+journal_limit = 67174486
+
+-- ---- steps
+
+-- a step as a journal of this version says it
+abbrev pub step_text_in : Version → Step → Text
+step_text_in First step = pieces_text step.pieces
+step_text_in Second step = step_text step
+
+-- a step that a journal of this version can say
+abbrev pub IsStepIn : Version → Step → Type 0
+IsStepIn First step = IsStep step × (step.label ≡ [])
+IsStepIn Second step = IsStep step
+
+-- how long the texts of all steps can be together in a journal of this version, in bytes
+abbrev pub steps_limit : Version → ℕ
+steps_limit First = 67108864
+steps_limit Second = step_texts_limit
 
 -- ---- the whole
 
 -- the line of the version, that of the digest and that of the counts
 abbrev pub head_text : Text → Counts → Text
-head_text digest n = version_line ++ line_feed ∷ (digest ++ line_feed ∷ (counts_line n ++ line_feed ∷ []))
+head_text digest n = version_line Second ++ line_feed ∷ (digest ++ line_feed ∷ (counts_line n ++ line_feed ∷ []))
 
 -- The line of the version, that of the digest and that of the counts; then the past steps, and the future steps.
-unfoldable pub journal_text : Contents → Text
-journal_text c =
-    version_line
+unfoldable pub text_in : Version → Contents → Text
+text_in version c =
+    version_line version
     ++ line_feed ∷ (c.digest
     ++ line_feed ∷ (counts_line (counts (length c.past) (length c.future))
-    ++ line_feed ∷ (flat_map step_text c.past ++ flat_map step_text c.future)))
+    ++ line_feed ∷ (flat_map (step_text_in version) c.past ++ flat_map (step_text_in version) c.future)))
+
+-- the text that is written: that of version 2
+abbrev pub journal_text : Contents → Text
+journal_text c = text_in Second c
+
+-- contents that a journal of this version can say: the first has no labels, and a lower limit
+pub record AreContentsIn (version : Version) (c : Contents) : Type 0 where
+  pub good : AreContents c
+  pub past_steps : AllByRecursion (IsStepIn version) c.past
+  pub future_steps : AllByRecursion (IsStepIn version) c.future
+  pub short : sum_by (λ step. length (step_text_in version step)) c.past + sum_by (λ step. length (step_text_in version step)) c.future ≤ steps_limit version

@@ -1,13 +1,15 @@
 -- Where a text that is no journal goes wrong, in order of reading. A place is told by how many bytes are left from it on,
 -- so that it is the same for a text and for what stands after a part of it. (dialect)
-use Rattle.std.specs.Prelude.{ℕ, zero, suc, ◌≡◌, ◌≢◌, ◌+◌, ◌<◌, ◌≤◌, ◌⊎◌, [], ◌∷◌, ◌++◌, length, decimal, slice_index}
+use Rattle.std.specs.Prelude.{ℕ, zero, suc, ◌≡◌, ◌≢◌, ◌+◌, ◌<◌, ◌≤◌, ◌⊎◌, List, [], ◌∷◌, ◌++◌, length, decimal, slice_index}
 use Rattle.std.specs.List.{AllByRecursion}
 use Rattle.bib_spec.specs.Bytes.{line_feed}
 use Rattle.bib_spec.specs.Text.{Text}
 use Rattle.bib_spec.specs.Pieces.{Piece, end_of}
-use Rattle.edit_spec.specs.Steps.{Step, IsStep, piece_text, step_text, step_texts_limit, HasSmallNumbers}
+use Rattle.history_spec.specs.Steps.{Step, IsLabel, AreWritable, piece_text, pieces_text, HasSmallNumbers}
 use Rattle.journal_format.specs.Contents.{IsDigest}
-use Rattle.journal_format.specs.JournalText.{version_line, counts_line, AreFew, IsSmall, numbers_line, AreNumbers}
+use Rattle.journal_format.specs.JournalText.{version_line, IsKnown, counts_line, AreFew, IsSmall, numbers_line, AreNumbers, step_text_in, IsStepIn, steps_limit}
+use Rattle.journal_format.specs.declared.version.Version.{Version}
+use Rattle.journal_format.specs.declared.version.Version.TheVariants.{First, Second}
 
 -- ---- lines
 
@@ -95,51 +97,61 @@ AreWrongPieces (suc n) from text left =
     IsWrongPiece from text left
     ⊎ ((p : Piece) × (rest : Text) × BeginsWithPiece from text p rest × AreWrongPieces n (end_of p) rest left)
 
+-- the text should begin with the number of pieces in a line, and so many pieces: it does not
+abbrev pub HasWrongPieces : Text → ℕ → Type 0
+HasWrongPieces = IsWrongFrom decimal IsSmall (λ n. AreWrongPieces n 0)
+
+-- the text begins with the number of these pieces in a line, and then these
+pub record BeginsWithPieces (text : Text) (pieces : List Piece) (rest : Text) : Type 0 where
+  pub good : AreWritable pieces
+  pub whole : text ≡ pieces_text pieces ++ rest
+
 -- ---- steps
 
--- the text should begin with a step: it does not
-abbrev pub IsWrongStep : Text → ℕ → Type 0
-IsWrongStep = IsWrongFrom decimal IsSmall (λ n. AreWrongPieces n 0)
+-- the text should begin with a step of this version: it does not
+abbrev pub IsWrongStep : Version → Text → ℕ → Type 0
+IsWrongStep First = HasWrongPieces
+IsWrongStep Second = IsWrongFrom (λ label. label) IsLabel (λ label. HasWrongPieces)
 
 -- the text begins with this step
-pub record BeginsWithStep (text : Text) (step : Step) (rest : Text) : Type 0 where
-  pub good : IsStep step
-  pub whole : text ≡ step_text step ++ rest
+pub record BeginsWithStep (version : Version) (text : Text) (step : Step) (rest : Text) : Type 0 where
+  pub good : IsStepIn version step
+  pub whole : text ≡ step_text_in version step ++ rest
 
 -- the text should be so many steps: one of them is wrong, or bytes are left after the last
-abbrev pub AreWrongSteps : ℕ → Text → ℕ → Type 0
-AreWrongSteps zero text left = (text ≢ []) × (left ≡ length text)
-AreWrongSteps (suc n) text left =
-    IsWrongStep text left
-    ⊎ ((step : Step) × (rest : Text) × BeginsWithStep text step rest × AreWrongSteps n rest left)
+abbrev pub AreWrongSteps : Version → ℕ → Text → ℕ → Type 0
+AreWrongSteps version zero text left = (text ≢ []) × (left ≡ length text)
+AreWrongSteps version (suc n) text left =
+    IsWrongStep version text left
+    ⊎ ((step : Step) × (rest : Text) × BeginsWithStep version text step rest × AreWrongSteps version n rest left)
 
 -- the steps' texts are longer than they can be, and what is left is all after the limit
-pub record AreTooLong (text : Text) (left : ℕ) : Type 0 where
-  pub long : step_texts_limit < length text
-  pub all : step_texts_limit + left ≡ length text
+pub record AreTooLong (version : Version) (text : Text) (left : ℕ) : Type 0 where
+  pub long : steps_limit version < length text
+  pub all : steps_limit version + left ≡ length text
 
 -- they are not longer, but one of them is wrong
-pub record AreShortButWrong (n : ℕ) (text : Text) (left : ℕ) : Type 0 where
-  pub short : length text ≤ step_texts_limit
-  pub wrong : AreWrongSteps n text left
+pub record AreShortButWrong (version : Version) (n : ℕ) (text : Text) (left : ℕ) : Type 0 where
+  pub short : length text ≤ steps_limit version
+  pub wrong : AreWrongSteps version n text left
 
 -- the text should be that of so many steps: it is too long, or else not so many steps
-abbrev pub IsWrongTail : ℕ → Text → ℕ → Type 0
-IsWrongTail n text left = AreTooLong text left ⊎ AreShortButWrong n text left
+abbrev pub IsWrongTail : Version → ℕ → Text → ℕ → Type 0
+IsWrongTail version n text left = AreTooLong version text left ⊎ AreShortButWrong version n text left
 
 -- ---- journals
 
 -- the text should be a journal from its third line on: it is not
-abbrev pub IsWrongFromCounts : Text → ℕ → Type 0
-IsWrongFromCounts = IsWrongFrom counts_line AreFew (λ n. IsWrongTail (n.undos + n.redos))
+abbrev pub IsWrongFromCounts : Version → Text → ℕ → Type 0
+IsWrongFromCounts version = IsWrongFrom counts_line AreFew (λ n. IsWrongTail version (n.undos + n.redos))
 
 -- the text should be a journal from its second line on: it is not
-abbrev pub IsWrongFromDigest : Text → ℕ → Type 0
-IsWrongFromDigest = IsWrongFrom (λ digest. digest) IsDigest (λ digest. IsWrongFromCounts)
+abbrev pub IsWrongFromDigest : Version → Text → ℕ → Type 0
+IsWrongFromDigest version = IsWrongFrom (λ digest. digest) IsDigest (λ digest. IsWrongFromCounts version)
 
--- the text should be a journal: it is not
+-- the text should be a journal, of either version: it is not
 abbrev pub IsWrongJournal : Text → ℕ → Type 0
-IsWrongJournal = IsWrongFrom {A = Unit {0}} (λ u. version_line) (λ u. Unit {0}) (λ u. IsWrongFromDigest)
+IsWrongJournal = IsWrongFrom version_line IsKnown IsWrongFromDigest
 
 -- the text goes wrong at this place
 pub record GoesWrongAt (text : Text) (place : ℕ) : Type 0 where

@@ -3,24 +3,41 @@
 ghost use Rattle.std.specs.Prelude.{ℕ, ◌≡◌, ◌↔◌, IsTrue, IfSome, IfNone, IfOk, IfErr};
 ghost use Rattle.std.specs.List.{list_all};
 ghost use Rattle.journal_format.specs.Contents.{is_hex_digit, IsDigest};
-ghost use Rattle.journal_format.specs.JournalText.{version_line, counts, counts_line, AreFew};
+ghost use Rattle.journal_format.specs.JournalText.{version_line, IsKnown, counts, counts_line, AreFew};
 ghost use Rattle.journal_format.specs.Wrong.{IsLineOf, BeginsWith, HasWrongLine};
 
 use crate::cutting::cut;
 use crate::numbers::read_number;
+use crate::version::Version;
 
-/// How many changes can be kept. (dialect)
+/// How many steps can be kept. (dialect)
 pub const CHANGE_LIMIT: usize = 65_535;
 
-/// What stands after the line of the version; or how many bytes are left where the text goes wrong.
-pub(crate) fn past_version(text: &[u8]) -> Result<&[u8], usize>
-    ensures read { IfOk result (λ rest. BeginsWith {A = Unit {0}} (λ u. version_line) (λ u. Unit {0}) text.now tt rest.now) }
-    ensures wrong { IfErr result (HasWrongLine {A = Unit {0}} (λ u. version_line) (λ u. Unit {0}) text.now) }
+/// The version that the line says, if it says one.
+fn read_version(line: &[u8]) -> Option<Version>
+    ensures some { IfSome result (λ version. IsKnown version × (line.now ≡ version_line version)) }
+    ensures none { IfNone result (IsLineOf version_line IsKnown line.now → ⊥) }
 {
-    match cut(b'\n', text) {
-        Some((line, rest)) if line == b"bibkeep 1".as_slice() => Ok(rest),
-        Some(_) => Err(text.len()),
-        None => Err(0),
+    if line == b"bibkeep 2".as_slice() {
+        Some(Version::Second)
+    } else if line == b"bibkeep 1".as_slice() {
+        Some(Version::First)
+    } else {
+        None
+    }
+}
+
+/// The version in the first line, and what stands after that line; or how many bytes are left where the text goes wrong.
+pub(crate) fn split_version(text: &[u8]) -> Result<(Version, &[u8]), usize>
+    ensures read { IfOk result (λ x. BeginsWith version_line IsKnown text.now x.0 x.1.now) }
+    ensures wrong { IfErr result (HasWrongLine version_line IsKnown text.now) }
+{
+    let Some((line, rest)) = cut(b'\n', text) else {
+        return Err(0);
+    };
+    match read_version(line) {
+        Some(version) => Ok((version, rest)),
+        None => Err(text.len()),
     }
 }
 

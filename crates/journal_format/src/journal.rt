@@ -1,6 +1,6 @@
 //! What a journal says.
 
-use bib_data::Piece;
+use crate::step::Step;
 use bib_scan::{Seq, Text};
 use std::marker::Model;
 
@@ -9,8 +9,8 @@ use std::marker::Model;
 #[derive(Debug, Drop)]
 pub struct Journal {
     pub digest: Text,
-    pub past: Seq<Seq<Piece>>,
-    pub future: Seq<Seq<Piece>>,
+    pub past: Seq<Step>,
+    pub future: Seq<Step>,
 }
 
 impl Model for Journal {

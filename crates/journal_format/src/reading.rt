@@ -2,39 +2,54 @@
 
 ghost use Rattle.std.specs.Prelude.{ℕ, ◌≡◌, ◌+◌, IfOk, IfErr, MatchResult};
 ghost use Rattle.journal_format.specs.Contents.{Contents};
-ghost use Rattle.journal_format.specs.JournalText.{counts};
+ghost use Rattle.journal_format.specs.JournalText.{steps_limit, counts};
 ghost use Rattle.journal_format.specs.Wrong.{IsWrongTail, IsWrongFromCounts, IsWrongFromDigest, IsWrongJournal};
 ghost use Rattle.journal_format.specs.Faults.{IsJournalOf, Refuses, StopsWhere};
 ghost use Rattle.journal_format.specs.Parts.{IsTailOf, IsFromCounts, IsFromDigest};
 
 use crate::fault::{JournalFault, Stop};
-use crate::heads::{past_version, split_counts, split_digest};
+use crate::heads::{split_counts, split_digest, split_version};
 use crate::journal::Journal;
 use crate::pieces::copied;
+use crate::step::Step;
 use crate::steps::{STEP_TEXTS_LIMIT, split_steps};
-use bib_data::Piece;
+use crate::version::Version;
 use bib_scan::Seq;
 use std::alloc::Global;
 
 /// How long a journal can be, in bytes. (dialect)
-pub const JOURNAL_LIMIT: usize = 67_108_951;
+pub const JOURNAL_LIMIT: usize = 67_174_486;
+
+/// How long the texts of all steps could be together in version 1, in bytes. (dialect)
+const FIRST_STEP_TEXTS_LIMIT: u64 = 67_108_864;
+
+/// How long the texts of all steps can be together in this version.
+fn steps_limit(version: Version) -> usize
+    ensures { result ≡ steps_limit version }
+{
+    match version {
+        Version::First => FIRST_STEP_TEXTS_LIMIT as usize,
+        Version::Second => STEP_TEXTS_LIMIT as usize,
+    }
+}
 
 /// So many past steps, and so many future ones, which are all.
 fn read_tail(
     alloc: Global,
+    version: Version,
     undos: u64,
     redos: u64,
     text: &[u8],
-) -> Result<(Vec<Seq<Piece>>, Vec<Seq<Piece>>), Stop>
-    ensures read { IfOk result (λ x. IsTailOf (counts undos redos) text.now x.0.items x.1.items) }
-    ensures wrong { IfErr result (StopsWhere (IsWrongTail (undos + redos) text.now)) }
+) -> Result<(Vec<Step>, Vec<Step>), Stop>
+    ensures read { IfOk result (λ x. IsTailOf version (counts undos redos) text.now x.0.items x.1.items) }
+    ensures wrong { IfErr result (StopsWhere (IsWrongTail version (undos + redos) text.now)) }
 {
-    let limit = STEP_TEXTS_LIMIT as usize;
+    let limit = steps_limit(version);
     if text.len() > limit {
         return Err(Stop::Wrong(text.len() - limit));
     }
-    let (past, rest) = split_steps(alloc, undos, text)?;
-    let (future, rest) = split_steps(alloc, redos, rest)?;
+    let (past, rest) = split_steps(alloc, version, undos, text)?;
+    let (future, rest) = split_steps(alloc, version, redos, rest)?;
     if !rest.is_empty() {
         return Err(Stop::Wrong(rest.len()));
     }
@@ -42,12 +57,17 @@ fn read_tail(
 }
 
 /// The contents, from the line of the counts on.
-fn read_from_counts(alloc: Global, digest: &[u8], text: &[u8]) -> Result<Journal, Stop>
-    ensures read { IfOk result (IsFromCounts digest.now text.now) }
-    ensures wrong { IfErr result (StopsWhere (IsWrongFromCounts text.now)) }
+fn read_from_counts(
+    alloc: Global,
+    version: Version,
+    digest: &[u8],
+    text: &[u8],
+) -> Result<Journal, Stop>
+    ensures read { IfOk result (IsFromCounts version digest.now text.now) }
+    ensures wrong { IfErr result (StopsWhere (IsWrongFromCounts version text.now)) }
 {
     let (undos, redos, rest) = split_counts(text)?;
-    let (past, future) = read_tail(alloc, undos, redos, rest)?;
+    let (past, future) = read_tail(alloc, version, undos, redos, rest)?;
     Ok(Journal {
         digest: copied(alloc, digest)?,
         past: Seq::from_vec(past),
@@ -56,12 +76,12 @@ fn read_from_counts(alloc: Global, digest: &[u8], text: &[u8]) -> Result<Journal
 }
 
 /// The contents, from the line of the digest on.
-fn read_from_digest(alloc: Global, text: &[u8]) -> Result<Journal, Stop>
-    ensures read { IfOk result (IsFromDigest text.now) }
-    ensures wrong { IfErr result (StopsWhere (IsWrongFromDigest text.now)) }
+fn read_from_digest(alloc: Global, version: Version, text: &[u8]) -> Result<Journal, Stop>
+    ensures read { IfOk result (IsFromDigest version text.now) }
+    ensures wrong { IfErr result (StopsWhere (IsWrongFromDigest version text.now)) }
 {
     let (digest, rest) = split_digest(text)?;
-    read_from_counts(alloc, digest, rest)
+    read_from_counts(alloc, version, digest, rest)
 }
 
 /// The contents.
@@ -69,11 +89,12 @@ fn read_all(alloc: Global, text: &[u8]) -> Result<Journal, Stop>
     ensures read { IfOk result (λ journal. IsJournalOf journal text.now) }
     ensures wrong { IfErr result (StopsWhere (IsWrongJournal text.now)) }
 {
-    read_from_digest(alloc, past_version(text)?)
+    let (version, rest) = split_version(text)?;
+    read_from_digest(alloc, version, rest)
 }
 
-/// What a journal says, or the place at which a text that is no journal goes wrong. It takes time in the length of the
-/// text, and memory for what it says.
+/// What a journal says, of whichever version, or the place at which a text that is no journal goes wrong. It takes time in
+/// the length of the text, and memory for what it says.
 pub fn read_journal(alloc: Global, text: &[u8]) -> Result<Journal, JournalFault>
     ensures read { IfOk result (λ journal. IsJournalOf journal text.now) }
     ensures refused { IfErr result (λ fault. Refuses fault text.now) }

@@ -1,13 +1,14 @@
 //! How long steps are as texts.
 
 ghost use Rattle.std.specs.Prelude.{◌≡◌, ◌-◌, ◌^◌, ◌≤◌, length, min, sum_by, decimal};
-ghost use Rattle.edit_spec.specs.Steps.{piece_text, step_text_len};
+ghost use Rattle.std.specs.List.{flat_map};
+ghost use Rattle.history_spec.specs.Steps.{piece_text, pieces_text, step_text_len};
 
+use crate::step::Step;
 use bib_data::Piece;
-use bib_scan::Seq;
 
 /// How many digits a number has.
-fn decimal_len(n: u64) -> u64
+pub fn decimal_len(n: u64) -> u64
     ensures value { result ≡ length (decimal n) }
     ensures small { result ≤ 20 }
 {
@@ -24,24 +25,38 @@ fn piece_text_len(piece: &Piece) -> u64
     old_len.saturating_add(new_len).saturating_add(numbers + 4)
 }
 
-/// How long a step is as text, or the greatest number.
-pub fn step_text_len(step: &[Piece]) -> u64
-    ensures { result ≡ min (step_text_len step.now) (2 ^ 64 - 1) }
+/// How long the pieces' own texts are together, or the greatest number.
+pub fn piece_texts_len(pieces: &[Piece]) -> u64
+    ensures { result ≡ min (length (flat_map piece_text pieces.now)) (2 ^ 64 - 1) }
 {
-    let mut len = decimal_len(step.len() as u64) + 1;
-    for piece in step {
+    let mut len: u64 = 0;
+    for piece in pieces {
         len = len.saturating_add(piece_text_len(piece));
     }
     len
 }
 
+/// How long pieces are as text, or the greatest number.
+fn pieces_text_len(pieces: &[Piece]) -> u64
+    ensures { result ≡ min (length (pieces_text pieces.now)) (2 ^ 64 - 1) }
+{
+    piece_texts_len(pieces).saturating_add(decimal_len(pieces.len() as u64) + 1)
+}
+
+/// How long a step with this label and these pieces is as text, or the greatest number.
+pub fn step_text_len(label: &[u8], pieces: &[Piece]) -> u64
+    ensures { result ≡ min (step_text_len (record { label = label.now; pieces = pieces.now })) (2 ^ 64 - 1) }
+{
+    pieces_text_len(pieces).saturating_add(label.len() as u64 + 1)
+}
+
 /// How long steps are together as texts, or the greatest number.
-pub fn step_texts_len(steps: &[Seq<Piece>]) -> u64
+pub fn step_texts_len(steps: &[Step]) -> u64
     ensures { result ≡ min (sum_by step_text_len steps.now) (2 ^ 64 - 1) }
 {
     let mut len: u64 = 0;
     'step: for step in steps {
-        len = len.saturating_add(step_text_len(step.as_slice()));
+        len = len.saturating_add(step_text_len(step.label.as_slice(), step.pieces.as_slice()));
     }
     len
 }

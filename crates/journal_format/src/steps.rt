@@ -2,21 +2,24 @@
 
 ghost use Rattle.std.specs.Prelude.{ℕ, ◌≡◌, ◌+◌, ◌++◌, length, decimal, IfOk, IfErr};
 ghost use Rattle.std.specs.List.{AllByRecursion, flat_map};
-ghost use Rattle.edit_spec.specs.Steps.{IsStep, step_text};
-ghost use Rattle.journal_format.specs.JournalText.{IsSmall};
-ghost use Rattle.journal_format.specs.Wrong.{BeginsWith, HasWrongLine, BeginsWithStep, IsWrongStep, AreWrongSteps};
+ghost use Rattle.history_spec.specs.Steps.{IsLabel};
+ghost use Rattle.journal_format.specs.JournalText.{IsSmall, step_text_in, IsStepIn};
+ghost use Rattle.journal_format.specs.Wrong.{BeginsWith, HasWrongLine, BeginsWithPieces, HasWrongPieces, BeginsWithStep, IsWrongStep, AreWrongSteps};
+ghost use Rattle.journal_format.specs.declared.version.Version.TheVariants.{First, Second};
 ghost use Rattle.journal_format.specs.Faults.{StopsWhere};
 
 use crate::cutting::cut;
 use crate::fault::Stop;
 use crate::numbers::read_number;
-use crate::pieces::split_piece;
-use bib_data::Piece;
+use crate::pieces::{copied, split_piece};
+use crate::step::Step;
+use crate::version::Version;
+use bib_data::{Piece, is_label};
 use bib_scan::Seq;
 use std::alloc::Global;
 
 /// How long the texts of all steps may be together, in bytes. (dialect)
-pub const STEP_TEXTS_LIMIT: u64 = 67_108_864;
+pub const STEP_TEXTS_LIMIT: u64 = 67_174_399;
 
 /// The number in the first line, and what stands after that line; or how many bytes are left where the text goes
 /// wrong.
@@ -36,10 +39,10 @@ fn split_number(text: &[u8]) -> Result<(u64, &[u8]), usize>
 /// For so many pieces room is made at once: most steps have one or two.
 const ROOM: u64 = 4;
 
-/// The first step, and what stands after it; or why reading stops.
-fn split_step(alloc: Global, text: &[u8]) -> Result<(Seq<Piece>, &[u8]), Stop>
-    ensures read { IfOk result (λ x. BeginsWithStep text.now x.0 x.1.now) }
-    ensures wrong { IfErr result (StopsWhere (IsWrongStep text.now)) }
+/// The number of pieces in the first line, and so many pieces, and what stands after them; or why reading stops.
+fn split_pieces(alloc: Global, text: &[u8]) -> Result<(Seq<Piece>, &[u8]), Stop>
+    ensures read { IfOk result (λ x. BeginsWithPieces text.now x.0 x.1.now) }
+    ensures wrong { IfErr result (StopsWhere (HasWrongPieces text.now)) }
 {
     let (count, after) = split_number(text)?;
     let mut pieces = Vec::with_capacity(alloc, count.min(ROOM) as usize)?;
@@ -54,21 +57,66 @@ fn split_step(alloc: Global, text: &[u8]) -> Result<(Seq<Piece>, &[u8]), Stop>
     Ok((Seq::from_vec(pieces), rest))
 }
 
+/// The label in the first line, and what stands after that line; or how many bytes are left where the text goes wrong.
+fn split_label(text: &[u8]) -> Result<(&[u8], &[u8]), usize>
+    ensures read { IfOk result (λ x. BeginsWith (λ label. label) IsLabel text.now x.0.now x.1.now) }
+    ensures wrong { IfErr result (HasWrongLine (λ label. label) IsLabel text.now) }
+{
+    match cut(b'\n', text) {
+        Some((line, rest)) if is_label(line) => Ok((line, rest)),
+        Some(_) => Err(text.len()),
+        None => Err(0),
+    }
+}
+
+/// The first step of a journal of version 1, which has no label, and what stands after it; or why reading stops.
+fn split_plain_step(alloc: Global, text: &[u8]) -> Result<(Step, &[u8]), Stop>
+    ensures read { IfOk result (λ x. BeginsWithStep First text.now x.0 x.1.now) }
+    ensures wrong { IfErr result (StopsWhere (IsWrongStep First text.now)) }
+{
+    let (pieces, rest) = split_pieces(alloc, text)?;
+    let label = Seq::from_vec(Vec::new(alloc));
+    Ok((Step { label, pieces }, rest))
+}
+
+/// The first step of a journal of version 2, and what stands after it; or why reading stops.
+fn split_labelled_step(alloc: Global, text: &[u8]) -> Result<(Step, &[u8]), Stop>
+    ensures read { IfOk result (λ x. BeginsWithStep Second text.now x.0 x.1.now) }
+    ensures wrong { IfErr result (StopsWhere (IsWrongStep Second text.now)) }
+{
+    let (label, after) = split_label(text)?;
+    let (pieces, rest) = split_pieces(alloc, after)?;
+    let label = copied(alloc, label)?;
+    Ok((Step { label, pieces }, rest))
+}
+
+/// The first step of a journal of this version, and what stands after it; or why reading stops.
+fn split_step(alloc: Global, version: Version, text: &[u8]) -> Result<(Step, &[u8]), Stop>
+    ensures read { IfOk result (λ x. BeginsWithStep version text.now x.0 x.1.now) }
+    ensures wrong { IfErr result (StopsWhere (IsWrongStep version text.now)) }
+{
+    match version {
+        Version::First => split_plain_step(alloc, text),
+        Version::Second => split_labelled_step(alloc, text),
+    }
+}
+
 /// So many steps, and what stands after them; or why reading stops, where more steps should stand after them.
 pub(crate) fn split_steps(
     alloc: Global,
+    version: Version,
     count: u64,
     text: &[u8],
-) -> Result<(Vec<Seq<Piece>>, &[u8]), Stop>
-    ensures read { IfOk result (λ x. text.now ≡ flat_map step_text x.0.items ++ x.1.now) }
+) -> Result<(Vec<Step>, &[u8]), Stop>
+    ensures read { IfOk result (λ x. text.now ≡ flat_map (step_text_in version) x.0.items ++ x.1.now) }
     ensures count { IfOk result (λ x. length x.0.items ≡ count) }
-    ensures steps { IfOk result (λ x. AllByRecursion IsStep x.0.items) }
-    ensures wrong { IfErr result (StopsWhere (λ left. (more : ℕ) → AreWrongSteps (count + more) text.now left)) }
+    ensures steps { IfOk result (λ x. AllByRecursion (IsStepIn version) x.0.items) }
+    ensures wrong { IfErr result (StopsWhere (λ left. (more : ℕ) → AreWrongSteps version (count + more) text.now left)) }
 {
     let mut steps = Vec::new(alloc);
     let mut rest = text;
     'step: for _n in 0..count {
-        let (step, after) = split_step(alloc, rest)?;
+        let (step, after) = split_step(alloc, version, rest)?;
         steps.push(step)?;
         rest = after;
     }

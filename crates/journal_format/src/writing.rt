@@ -2,10 +2,11 @@
 
 ghost use Rattle.std.specs.Prelude.{◌≡◌, ◌++◌, ◌∷◌, [], reverse, length, decimal, OnOk, IfOk};
 ghost use Rattle.bib_spec.specs.Bytes.{line_feed, space};
-ghost use Rattle.edit_spec.specs.Steps.{piece_text, step_text};
+ghost use Rattle.history_spec.specs.Steps.{piece_text, pieces_text, step_text};
 ghost use Rattle.std.specs.List.{flat_map};
 ghost use Rattle.journal_format.specs.JournalText.{counts, head_text, journal_text};
 
+use crate::step::Step;
 use crate::step_text::step_texts_len;
 use bib_data::Piece;
 use bib_scan::{Seq, Text};
@@ -36,15 +37,24 @@ fn put_piece(out: &mut Vec<u8>, piece: &Piece) -> Result<(), AllocError>
     Ok(())
 }
 
-/// Writes a step.
-fn put_step(out: &mut Vec<u8>, step: &[Piece]) -> Result<(), AllocError>
-    ensures { OnOk result (out.new.items ≡ out.old.items ++ step_text step.now) }
+/// Writes the number of pieces in a line, and then the pieces.
+fn put_pieces(out: &mut Vec<u8>, pieces: &[Piece]) -> Result<(), AllocError>
+    ensures { OnOk result (out.new.items ≡ out.old.items ++ pieces_text pieces.now) }
 {
-    put_number(out, step.len() as u64, b'\n')?;
-    'piece: for piece in step {
+    put_number(out, pieces.len() as u64, b'\n')?;
+    'piece: for piece in pieces {
         put_piece(out, piece)?;
     }
     Ok(())
+}
+
+/// Writes a step: its label in a line, and then its pieces.
+fn put_step(out: &mut Vec<u8>, step: &Step) -> Result<(), AllocError>
+    ensures { OnOk result (out.new.items ≡ out.old.items ++ step_text step.now) }
+{
+    out.extend_from_slice(step.label.as_slice())?;
+    out.push(b'\n')?;
+    put_pieces(out, step.pieces.as_slice())
 }
 
 /// How long the lines before the steps are at most, the digest aside.
@@ -54,7 +64,7 @@ const HEAD_LEN: u64 = 64;
 fn put_head(out: &mut Vec<u8>, digest: &[u8], undos: u64, redos: u64) -> Result<(), AllocError>
     ensures { OnOk result (out.new.items ≡ out.old.items ++ head_text digest.now (counts undos redos)) }
 {
-    out.extend_from_slice(b"bibkeep 1\n")?;
+    out.extend_from_slice(b"bibkeep 2\n")?;
     out.extend_from_slice(digest)?;
     out.push(b'\n')?;
     put_number(out, undos, b' ')?;
@@ -62,34 +72,34 @@ fn put_head(out: &mut Vec<u8>, digest: &[u8], undos: u64, redos: u64) -> Result<
 }
 
 /// Writes steps.
-fn put_steps(out: &mut Vec<u8>, steps: &[Seq<Piece>]) -> Result<(), AllocError>
+fn put_steps(out: &mut Vec<u8>, steps: &[Step]) -> Result<(), AllocError>
     ensures { OnOk result (out.new.items ≡ out.old.items ++ flat_map step_text steps.now) }
 {
     'step: for step in steps {
-        put_step(out, step.as_slice())?;
+        put_step(out, step)?;
     }
     Ok(())
 }
 
 /// Writes steps, the last first.
-fn put_steps_back(out: &mut Vec<u8>, steps: &[Seq<Piece>]) -> Result<(), AllocError>
+fn put_steps_back(out: &mut Vec<u8>, steps: &[Step]) -> Result<(), AllocError>
     ensures { OnOk result (out.new.items ≡ out.old.items ++ flat_map step_text (reverse steps.now)) }
 {
     let mut left = steps;
     'step: while let Some((step, others)) = left.split_last() {
-        put_step(out, step.as_slice())?;
+        put_step(out, step)?;
         left = others;
     }
     Ok(())
 }
 
-/// The journal of a file that has this digest, with these past steps from the oldest, and these undone steps, the next
+/// The journal, of version 2, of a file that has this digest, with these past steps from the oldest, and these undone steps, the next
 /// to be redone last. It takes time in the length of the text, and memory once, for the text.
 pub fn write_journal(
     alloc: Global,
     digest: &[u8],
-    past: &[Seq<Piece>],
-    undone: &[Seq<Piece>],
+    past: &[Step],
+    undone: &[Step],
 ) -> Result<Text, AllocError>
     ensures { IfOk result (λ text. text ≡ journal_text (record { digest = digest.now; past = past.now; future = reverse undone.now })) }
 {

@@ -1,32 +1,49 @@
 //! Journals as texts.
 
-use bib_data::Piece;
+use bib_data::{Piece, is_label};
 use bib_scan::{Seq, Text};
-use journal_format::{digest, read_journal, write_journal};
+use journal_format::{Step, digest, read_journal, write_journal};
 use std::alloc::{AllocError, Global};
 use std::test::Fail;
 
-/// The journal of the file `abc`, from whose end an entry was removed.
+/// The journal of the file `abc`, from whose end an entry was removed, in version 1.
 const REMOVED: &[u8] =
     b"bibkeep 1\nba7816bf8f01cfea414140de5dae2223b00361a396177a9cb410ff61f20015ad\n1 0\n1\n3 8 0\n@misc{k}\n";
 
+/// The same in version 2, where the step has an empty label.
+const REMOVED_NOW: &[u8] =
+    b"bibkeep 2\nba7816bf8f01cfea414140de5dae2223b00361a396177a9cb410ff61f20015ad\n1 0\n\n1\n3 8 0\n@misc{k}\n";
+
+/// The journal of the file `abc`, from whose end two entries were removed in one step with a label.
+const CLEARED: &[u8] =
+    b"bibkeep 2\nba7816bf8f01cfea414140de5dae2223b00361a396177a9cb410ff61f20015ad\n1 0\nclear\n1\n3 16 0\n@misc{k}@misc{l}\n";
+
 /// The journal of the file `abc`, to which nothing was done.
 const FRESH: &[u8] =
-    b"bibkeep 1\nba7816bf8f01cfea414140de5dae2223b00361a396177a9cb410ff61f20015ad\n0 0\n";
+    b"bibkeep 2\nba7816bf8f01cfea414140de5dae2223b00361a396177a9cb410ff61f20015ad\n0 0\n";
 
 fn text(alloc: Global, bytes: &[u8]) -> Result<Text, AllocError> {
     Ok(Seq::from_vec(bytes.to_vec(alloc)?))
 }
 
-/// A step of one piece.
-fn step(alloc: Global, place: u64, old: &[u8], new: &[u8]) -> Result<Seq<Piece>, AllocError> {
+/// A step of one piece, with this label.
+fn step(
+    alloc: Global,
+    label: &[u8],
+    place: u64,
+    old: &[u8],
+    new: &[u8],
+) -> Result<Step, AllocError> {
     let mut pieces = Vec::new(alloc);
     pieces.push(Piece {
         place,
         old: text(alloc, old)?,
         new: text(alloc, new)?,
     })?;
-    Ok(Seq::from_vec(pieces))
+    Ok(Step {
+        label: text(alloc, label)?,
+        pieces: Seq::from_vec(pieces),
+    })
 }
 
 /// The place at which the bytes go wrong, if they do.
@@ -59,11 +76,45 @@ fn written_again(alloc: Global, bytes: &[u8]) -> Result<Text, Fail> {
 fn a_removed_entry_is_written(rt: HostRuntime) -> Result<(), Fail> {
     let alloc = rt.alloc();
     let mut past = Vec::new(alloc);
-    past.push(step(alloc, 3, b"@misc{k}", b"")?)?;
+    past.push(step(alloc, b"", 3, b"@misc{k}", b"")?)?;
     let digest = digest(alloc, b"abc")?;
     let journal = write_journal(alloc, digest.as_slice(), past.as_slice(), &[])?;
-    assert_eq!(rt; journal.as_slice().len(), 96);
-    assert!(rt; journal.as_slice() == REMOVED);
+    assert_eq!(rt; journal.as_slice().len(), 97);
+    assert!(rt; journal.as_slice() == REMOVED_NOW);
+    Ok(())
+}
+
+#[test]
+fn a_label_is_written(rt: HostRuntime) -> Result<(), Fail> {
+    let alloc = rt.alloc();
+    let mut past = Vec::new(alloc);
+    past.push(step(alloc, b"clear", 3, b"@misc{k}@misc{l}", b"")?)?;
+    let digest = digest(alloc, b"abc")?;
+    let journal = write_journal(alloc, digest.as_slice(), past.as_slice(), &[])?;
+    assert_eq!(rt; journal.as_slice().len(), 111);
+    assert!(rt; journal.as_slice() == CLEARED);
+    assert!(rt; written_again(alloc, CLEARED)?.as_slice() == CLEARED);
+    Ok(())
+}
+
+#[test]
+fn version_1_is_written_again_in_version_2(rt: HostRuntime) -> Result<(), Fail> {
+    let alloc = rt.alloc();
+    assert_eq!(rt; REMOVED.len(), 96);
+    assert!(rt; written_again(alloc, REMOVED)?.as_slice() == REMOVED_NOW);
+    assert!(rt; written_again(alloc, REMOVED_NOW)?.as_slice() == REMOVED_NOW);
+    Ok(())
+}
+
+#[test]
+fn labels_have_no_control_bytes(rt: HostRuntime) -> Result<(), Fail> {
+    let alloc = rt.alloc();
+    let mut long = Vec::new(alloc);
+    long.resize(255, b'x')?;
+    assert!(rt; is_label(b"") && is_label(b" ~\x80\xff") && is_label(long.as_slice()));
+    long.push(b'x')?;
+    assert!(rt; !is_label(long.as_slice()));
+    assert!(rt; !is_label(b"\t") && !is_label(b"\x1f") && !is_label(b"\x7f"));
     Ok(())
 }
 
@@ -81,11 +132,11 @@ fn nothing_done_is_written(rt: HostRuntime) -> Result<(), Fail> {
 fn the_undone_step_that_is_next_stands_first(rt: HostRuntime) -> Result<(), Fail> {
     let alloc = rt.alloc();
     let mut undone = Vec::new(alloc);
-    undone.push(step(alloc, 1, b"", b"last")?)?;
-    undone.push(step(alloc, 0, b"x", b"")?)?;
+    undone.push(step(alloc, b"l", 1, b"", b"last")?)?;
+    undone.push(step(alloc, b"", 0, b"x", b"")?)?;
     let digest = digest(alloc, b"abc")?;
     let journal = write_journal(alloc, digest.as_slice(), &[], undone.as_slice())?;
-    let steps: &[u8] = b"0 2\n1\n0 1 0\nx\n1\n1 0 4\nlast\n";
+    let steps: &[u8] = b"0 2\n\n1\n0 1 0\nx\nl\n1\n1 0 4\nlast\n";
     assert!(rt; journal.as_slice().ends_with(steps));
     let again = read_journal(alloc, journal.as_slice())?;
     assert_eq!(rt;
@@ -102,6 +153,9 @@ fn a_journal_that_is_cut_goes_wrong_at_its_end(rt: HostRuntime) -> Result<(), Fa
     for len in 0..REMOVED.len() {
         assert_eq!(rt; wrong_at(alloc, REMOVED.split_at(len).0), Some(len));
     }
+    for len in 0..CLEARED.len() {
+        assert_eq!(rt; wrong_at(alloc, CLEARED.split_at(len).0), Some(len));
+    }
     Ok(())
 }
 
@@ -110,8 +164,13 @@ fn forged_journals_go_wrong_at_their_places(rt: HostRuntime) -> Result<(), Fail>
     let alloc = rt.alloc();
     // another version, a digest with a capital, no line feed at the end, another place
     assert_eq!(rt;
-        wrong_at(alloc, changed(alloc, 8, b'2')?.as_slice()),
+        wrong_at(alloc, changed(alloc, 8, b'3')?.as_slice()),
         Some(0)
+    );
+    // version 2, in which the second line after the counts is no number of pieces
+    assert_eq!(rt;
+        wrong_at(alloc, changed(alloc, 8, b'2')?.as_slice()),
+        Some(81)
     );
     assert_eq!(rt;
         wrong_at(alloc, changed(alloc, 10, b'B')?.as_slice()),
@@ -131,7 +190,7 @@ fn forged_journals_go_wrong_at_their_places(rt: HostRuntime) -> Result<(), Fail>
 #[test]
 fn forged_numbers_go_wrong_at_their_lines(rt: HostRuntime) -> Result<(), Fail> {
     let alloc = rt.alloc();
-    let head = FRESH.split_at(75).0;
+    let head = REMOVED.split_at(75).0;
     let tails: [(&[u8], Option<usize>); 9] = [
         (b"01 0\n1\n3 8 0\n@misc{k}\n", Some(75)),
         (b"65536 0\n1\n3 8 0\n@misc{k}\n", Some(75)),
@@ -152,12 +211,33 @@ fn forged_numbers_go_wrong_at_their_lines(rt: HostRuntime) -> Result<(), Fail> {
 }
 
 #[test]
+fn forged_labels_go_wrong_at_their_lines(rt: HostRuntime) -> Result<(), Fail> {
+    let alloc = rt.alloc();
+    let head = FRESH.split_at(75).0;
+    let tails: [(&[u8], Option<usize>); 5] = [
+        (b"1 0\ntwo words\n1\n3 1 0\na\n", None),
+        (b"1 0\na\tb\n1\n3 1 0\na\n", Some(79)),
+        (b"1 0\n\x7f\n1\n3 1 0\na\n", Some(79)),
+        (b"1 0\n1\n3 1 0\na\n", Some(81)),
+        (b"2 0\n\n0\n\t\n0\n", Some(82)),
+    ];
+    for (tail, place) in tails {
+        let mut bytes = head.to_vec(alloc)?;
+        bytes.extend_from_slice(tail)?;
+        assert_eq!(rt; wrong_at(alloc, bytes.as_slice()), place);
+    }
+    Ok(())
+}
+
+#[test]
 fn steps_that_are_too_long_are_told_first(rt: HostRuntime) -> Result<(), Fail> {
     let alloc = rt.alloc();
     let mut bytes = FRESH.to_vec(alloc)?;
-    bytes.resize(79 + 67_108_864, b'x')?;
+    bytes.resize(79 + 67_174_399, b'x')?;
     assert_eq!(rt; wrong_at(alloc, bytes.as_slice()), Some(79));
     bytes.push(b'x')?;
+    assert_eq!(rt; wrong_at(alloc, bytes.as_slice()), Some(79 + 67_174_399));
+    bytes[8] = b'1';
     assert_eq!(rt; wrong_at(alloc, bytes.as_slice()), Some(79 + 67_108_864));
     Ok(())
 }

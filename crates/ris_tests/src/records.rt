@@ -2,7 +2,7 @@
 
 use bib_data::Record;
 use bib_scan::{Seq, Text};
-use ris_format::{MappingFault, from_ris, in_profile, to_entry, to_ris};
+use ris_format::{MappingFault, from_ris, in_profile, into_entry, to_entry, to_ris};
 use ris_text::{RisLine, RisRecord};
 use std::alloc::Global;
 use std::test::Fail;
@@ -145,7 +145,8 @@ fn an_article_is_written_and_read_back(rt: HostRuntime) -> Result<(), Fail> {
 #[test]
 fn texts_of_a_new_entry_stand_in_braces(rt: HostRuntime) -> Result<(), Fail> {
     let alloc = rt.alloc();
-    let made = to_entry(alloc, entry(alloc, b"article", &KING)?)?;
+    let record = entry(alloc, b"article", &KING)?;
+    let made = to_entry(alloc, &record)?;
     let fields: [(&[u8], &[u8]); 6] = [
         (
             b"author",
@@ -158,6 +159,8 @@ fn texts_of_a_new_entry_stand_in_braces(rt: HostRuntime) -> Result<(), Fail> {
         (b"pages", b"{10--20}"),
     ];
     assert!(rt; are_fields(made.fields.as_slice(), &fields));
+    let made = into_entry(alloc, record)?;
+    assert!(rt; are_fields(made.fields.as_slice(), &fields));
     Ok(())
 }
 
@@ -165,7 +168,11 @@ fn texts_of_a_new_entry_stand_in_braces(rt: HostRuntime) -> Result<(), Fail> {
 fn a_text_that_is_not_balanced_is_refused(rt: HostRuntime) -> Result<(), Fail> {
     let alloc = rt.alloc();
     let record = entry(alloc, b"misc", &[(b"title", b"a}b")])?;
-    match to_entry(alloc, record) {
+    match to_entry(alloc, &record) {
+        Err(fault) => assert!(rt; fault.number() == 64),
+        Ok(_) => assert!(rt; false),
+    }
+    match into_entry(alloc, record) {
         Err(fault) => assert!(rt; fault.number() == 64),
         Ok(_) => assert!(rt; false),
     }

@@ -1,7 +1,7 @@
 -- The text of lines, one after another.
-use Rattle.std.proofs.Common.{◌≡◌, ℕ, ◌+◌, ◌<◌, List, [], ◌∷◌, ◌++◌, length, take, get_or, map, sym, ap, ◌∙◌, append-nil, append_assoc}
+use Rattle.std.proofs.Common.{◌≡◌, ℕ, ◌+◌, ◌≤◌, ◌<◌, List, [], ◌∷◌, ◌++◌, length, take, get_or, map, refl, sym, ap, ◌∙◌, arith, append-nil, append_assoc, length-append}
 use Rattle.std.specs.List.{flat_map}
-use Rattle.std.proofs.lemmas.List.{take_more, flat_map_more}
+use Rattle.std.proofs.lemmas.List.{take_more, flat_map_more, take-take, take_at}
 use Rattle.std.proofs.lemmas.Grind.{flat_map-append}
 use Rattle.std.proofs.lemmas.List.Folds.{flat_map-map}
 use Rattle.bib_spec.specs.Text.{Text}
@@ -9,6 +9,12 @@ use Rattle.ris_text.specs.declared.records.RisLine.{RisLine}
 use Rattle.ris_text.specs.declared.records.RisRecord.{RisRecord}
 use Rattle.ris_text.specs.Tags.{begin_tag, end_tag}
 use Rattle.ris_text.specs.Writing.{written, ended, record_text}
+
+-- a text that stands first in a longer one stands first wherever that does
+pub front_stands : (text now more new : Text) → now ≡ text ++ more → take (length now) new ≡ now → take (length text) new ≡ text
+front_stands text now more new grown stands =
+    let within : length text ≤ length now = omega (arith, ap (length {A = ℕ}) grown, length-append text more) in
+    sym (take-take (length text) (length now) new within) ∙ ap (take (length text)) (stands ∙ grown) ∙ take_at text more (length text) refl
 
 -- one member more is written
 pub written_more : {A : Type 0} (f : A → Text) (before so_far longer : Text) (xs : List A) (i : ℕ) (d : A) → so_far ≡ before ++ flat_map f (take i xs) → i < length xs

@@ -1,32 +1,41 @@
-//! `edit`: what a script makes of a file.
+//! `edit`: what a script, or the words of one edit, make of a file.
 
-ghost use Rattle.std.specs.Prelude.{◌≡◌, Option, IfOk, option_map};
-ghost use Rattle.bib_spec.specs.Text.{Text as FileText};
-ghost use Rattle.bib_journal.specs.Session.{Opens};
-ghost use Rattle.bib_script.specs.Script.{said_of};
-ghost use Rattle.bib_run.specs.EditAnswer.{script_line, refused_line, bad_line, stop_line, applied_line, edited_answer, HasEdited, IsEditAnswer};
+ghost use Rattle.std.specs.Prelude.{◌≡◌, ◌≢◌, ◌≤◌, length, Some, All, IfOk, option_map};
+ghost use Rattle.bib_data.specs.Depths.{AsksWithDepth};
+ghost use Rattle.bib_journal.specs.Loading.{Saves};
+ghost use Rattle.bib_journal.specs.Session.{Performs};
+ghost use Rattle.bib_journal.specs.declared.fault.SessionFault.TheVariants.{Memory};
+ghost use Rattle.bib_answers.specs.Outcome.{answer_of};
+ghost use Rattle.bib_run.specs.Inputs.{AnswersInput};
+ghost use Rattle.bib_run.specs.EditAnswer.{script_line, refused_line, bad_line, stop_line, applied_line, changes_of, edits_in, edited_answer, bad_words_line, fault_message, HasEdited, HasEditedBy, HasEditedByWords, IsEditAnswer, IsWordsAnswer};
 
-use crate::sessions::{outcome_left, session_fault_name, unopened};
-use bib_answers::{Answer, too_long};
-use bib_journal::{Saved, Session, SessionFault, perform};
+use crate::sessions::{message_of, open_with, outcome_left, session_fault_name, unopened};
+use bib_answers::{Answer, outcome_of, too_long};
+use bib_data::Request;
+use bib_journal::{Performed, Saved, Session, SessionFault, perform};
 use bib_scan::{FILE_LIMIT, Text};
-use bib_script::{Script, read_script};
+use bib_script::{Script, read_script, read_words};
 use bib_store::Paged;
+use bib_words::status;
 use std::alloc::{AllocError, Global};
 
-/// The number of a line that says no edit.
+/// The number of a line that asks for nothing.
 const BAD_SCRIPT: u16 = 71;
 
-/// What the script makes of the file, up to its first line that is refused or says no edit.
+/// The message of words that say no edit.
+const BAD_WORDS: &[u8] = b"bibkeep: 71 BadScript\n";
+
+/// What the script makes of the file, up to its first line that is refused or asks for nothing.
 pub fn answer_edit(
     alloc: Global,
     file: Vec<u8>,
     journal: Option<&[u8]>,
+    new_journal: bool,
     input: &[u8],
 ) -> Result<Answer, AllocError>
-    ensures { IfOk result (IsEditAnswer file.items (option_map (λ text. text.now) journal.entry) input.now) }
+    ensures { IfOk result (IsEditAnswer new_journal file.items (option_map (λ text. text.now) journal.entry) input.now) }
 {
-    match Session::open_file(alloc, file, journal, Paged::new(alloc)) {
+    match open_with(alloc, file, journal, new_journal) {
         Ok(mut session) => {
             let answer = answer_script(alloc, &mut session, input);
             session.close();
@@ -36,13 +45,13 @@ pub fn answer_edit(
     }
 }
 
-/// What the script makes of the session of a file, unless it is too long.
+/// What the script makes of a session, unless it is too long.
 fn answer_script(
     alloc: Global,
     session: &mut Session<Paged>,
     input: &[u8],
 ) -> Result<Answer, AllocError>
-    ensures { IfOk result (λ answer. (file : FileText) (journal : Option FileText) → Opens file journal session.old → IsEditAnswer file journal input.now answer) }
+    ensures { IfOk result (AnswersInput HasEditedBy input.now session.old) }
 {
     if input.len() > FILE_LIMIT {
         return too_long(alloc);
@@ -52,32 +61,135 @@ fn answer_script(
 
 /// What the script makes of a session.
 fn edit(alloc: Global, session: &mut Session<Paged>, input: &[u8]) -> Result<Answer, AllocError>
-    ensures { IfOk result (HasEdited (said_of input.now) session.old) }
+    ensures { IfOk result (HasEditedBy input.now session.old) }
 {
     let script = read_script(alloc, input)?;
-    let performed = perform(session, script.requests.as_slice());
+    let requests = script.requests.as_slice();
+    let performed = perform_told(session, requests)?;
+    let saved = saved(session)?;
+    let message = stop_line(alloc, &script, performed.done, performed.fault)?;
+    edited_answer(alloc, requests, performed.done, message, saved)
+}
+
+/// What the words of one edit make of the file.
+pub fn answer_words(
+    alloc: Global,
+    file: Vec<u8>,
+    journal: Option<&[u8]>,
+    new_journal: bool,
+    words: &[Text],
+) -> Result<Answer, AllocError>
+    ensures { IfOk result (IsWordsAnswer new_journal words.now file.items (option_map (λ text. text.now) journal.entry)) }
+{
+    match open_with(alloc, file, journal, new_journal) {
+        Ok(mut session) => {
+            let answer = edit_by_words(alloc, &mut session, words);
+            session.close();
+            answer
+        }
+        Err(fault) => unopened(alloc, fault),
+    }
+}
+
+/// What the words of one edit make of a session.
+fn edit_by_words(
+    alloc: Global,
+    session: &mut Session<Paged>,
+    words: &[Text],
+) -> Result<Answer, AllocError>
+    ensures { IfOk result (HasEditedByWords words.now session.old) }
+{
+    match read_words(alloc, words)? {
+        Some(requests) => edit_alone(alloc, session, requests.as_slice()),
+        None => bad_words(alloc),
+    }
+}
+
+/// What the requests of one edit make of a session.
+fn edit_alone(
+    alloc: Global,
+    session: &mut Session<Paged>,
+    requests: &[Request],
+) -> Result<Answer, AllocError>
+    requires { All AsksWithDepth requests.now }
+    ensures { IfOk result (HasEdited requests.now fault_message session.old) }
+{
+    let performed = perform_told(session, requests)?;
+    let saved = saved(session)?;
+    let message = message_of(alloc, performed.fault)?;
+    edited_answer(alloc, requests, performed.done, message, saved)
+}
+
+/// No edit is made, and the message says that the words say none.
+fn bad_words(alloc: Global) -> Result<Answer, AllocError>
+    ensures { IfOk result (λ answer. answer ≡ answer_of (applied_line 0) bad_words_line 1) }
+{
+    let message = Text::from_vec(Vec::from_slice(alloc, BAD_WORDS)?);
+    Ok(Answer {
+        output: applied_line(alloc, 0)?,
+        outcome: outcome_of(message, status::REFUSED),
+    })
+}
+
+/// Does the requests in order, up to the first that is refused; want of memory is no refusal.
+fn perform_told(session: &mut Session<Paged>, requests: &[Request]) -> Result<Performed, AllocError>
+    requires { All AsksWithDepth requests.now }
+    ensures told { IfOk result (λ performed. performed.fault ≢ Some Memory) }
+    ensures performs { IfOk result (λ performed. Performs requests.now performed.done performed.fault session.old session.new) }
+{
+    let performed = perform(session, requests);
     if performed.fault == Some(SessionFault::Memory) {
         return Err(AllocError);
     }
-    let Ok(saved) = session.saved() else {
-        return Err(AllocError);
-    };
-    edited_answer(alloc, &script, performed.done, performed.fault, saved)
+    Ok(performed)
 }
 
-/// The answer to a script of which so many edits were made.
+/// The file and the journal that are left of a session.
+fn saved(session: &Session<Paged>) -> Result<Saved, AllocError>
+    ensures { IfOk result (Saves session.now.steps) }
+{
+    match session.saved() {
+        Ok(saved) => Ok(saved),
+        Err(_) => Err(AllocError),
+    }
+}
+
+/// How many edits the request is.
+fn changes_of(request: &Request) -> usize
+    ensures value { result ≡ changes_of request.now }
+    ensures small { result ≤ 1 }
+{
+    match request {
+        Request::Edit(_) => 1,
+        _ => 0,
+    }
+}
+
+/// How many edits there are among the requests.
+fn edits_in(requests: &[Request]) -> usize
+    ensures { result ≡ edits_in requests.now }
+{
+    let mut edits: usize = 0;
+    'request: for request in requests {
+        edits += changes_of(request);
+    }
+    edits
+}
+
+/// The answer where so many of the requests were done.
 fn edited_answer(
     alloc: Global,
-    script: &Script,
+    requests: &[Request],
     done: usize,
-    fault: Option<SessionFault>,
+    message: Option<Text>,
     saved: Saved,
 ) -> Result<Answer, AllocError>
-    ensures { IfOk result (λ answer. answer ≡ edited_answer script.now done fault saved) }
+    requires { done ≤ length requests.now }
+    ensures { IfOk result (λ answer. answer ≡ edited_answer requests.now done message saved) }
 {
-    let output = applied_line(alloc, done)?;
-    let message = stop_line(alloc, script, done, fault)?;
-    let outcome = outcome_left(alloc, done, message, saved);
+    let made = edits_in(requests.split_at(done).0);
+    let output = applied_line(alloc, made)?;
+    let outcome = outcome_left(alloc, made, message, saved);
     Ok(Answer { output, outcome })
 }
 
@@ -89,7 +201,7 @@ fn applied_line(alloc: Global, done: usize) -> Result<Text, AllocError>
     Ok(Text::from_vec(line.into_bytes()))
 }
 
-/// Why a script stopped after so many edits, if it did.
+/// Why a script stopped after so many requests, if it did.
 fn stop_line(
     alloc: Global,
     script: &Script,
@@ -108,7 +220,7 @@ fn stop_line(
     }
 }
 
-/// The line of a script, and the fault of its edit.
+/// The line of a script, and the fault of its request.
 fn refused_line(alloc: Global, line: usize, fault: SessionFault) -> Result<Text, AllocError>
     ensures { IfOk result (λ text. text ≡ refused_line line fault) }
 {

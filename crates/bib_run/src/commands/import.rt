@@ -1,16 +1,16 @@
 //! `import`: what a RIS text adds to a file.
 
-ghost use Rattle.std.specs.Prelude.{◌≡◌, ◌≢◌, [], Option, IfOk, IfErr, OnOk, option_map};
-ghost use Rattle.bib_spec.specs.Text.{Text as FileText};
+ghost use Rattle.std.specs.Prelude.{◌≡◌, ◌≢◌, [], IfOk, IfErr, OnOk, option_map};
 ghost use Rattle.bib_data.specs.declared.edit.Edit.TheVariants.{AddMany};
-ghost use Rattle.bib_journal.specs.Session.{MakesEdit, Opens, RefusesEdit};
+ghost use Rattle.bib_journal.specs.Session.{MakesEdit, RefusesEdit};
 ghost use Rattle.bib_journal.specs.declared.fault.SessionFault.TheVariants.{Memory};
 ghost use Rattle.bib_ris.specs.declared.fault.ImportFault.TheVariants.{Memory as ImportMemory};
 ghost use Rattle.bib_answers.specs.Outcome.{answer_of};
 ghost use Rattle.bib_run.specs.Sessions.{fault_line};
+ghost use Rattle.bib_run.specs.Inputs.{AnswersInput};
 ghost use Rattle.bib_run.specs.ImportAnswer.{added_line, unread_line, import_fault_line, HasAdded, HasImported, IsImportAnswer};
 
-use crate::sessions::{fault_line, outcome_left, unopened};
+use crate::sessions::{fault_line, open_with, outcome_left, unopened};
 use bib_answers::{Answer, placed_line, refused, too_long};
 use bib_data::{Edit, NewEntry};
 use bib_journal::{Session, SessionFault};
@@ -28,11 +28,12 @@ pub fn answer_import(
     alloc: Global,
     file: Vec<u8>,
     journal: Option<&[u8]>,
+    new_journal: bool,
     input: &[u8],
 ) -> Result<Answer, AllocError>
-    ensures { IfOk result (IsImportAnswer file.items (option_map (λ text. text.now) journal.entry) input.now) }
+    ensures { IfOk result (IsImportAnswer new_journal file.items (option_map (λ text. text.now) journal.entry) input.now) }
 {
-    match Session::open_file(alloc, file, journal, Paged::new(alloc)) {
+    match open_with(alloc, file, journal, new_journal) {
         Ok(mut session) => {
             let answer = answer_records(alloc, &mut session, input);
             session.close();
@@ -42,13 +43,13 @@ pub fn answer_import(
     }
 }
 
-/// What the records of the input add to the session of a file, unless the input is too long.
+/// What the records of the input add to a session, unless the input is too long.
 fn answer_records(
     alloc: Global,
     session: &mut Session<Paged>,
     input: &[u8],
 ) -> Result<Answer, AllocError>
-    ensures { IfOk result (λ answer. (file : FileText) (journal : Option FileText) → Opens file journal session.old → IsImportAnswer file journal input.now answer) }
+    ensures { IfOk result (AnswersInput HasImported input.now session.old) }
 {
     if input.len() > FILE_LIMIT {
         return too_long(alloc);

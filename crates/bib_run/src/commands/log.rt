@@ -3,15 +3,16 @@
 ghost use Rattle.std.specs.Prelude.{◌≡◌, ◌++◌, ◌-◌, ◌^◌, min, IfOk, OnOk, option_map};
 ghost use Rattle.std.specs.List.{AllByRecursion, flat_map};
 ghost use Rattle.bib_spec.specs.Text.{Text as FileText};
-ghost use Rattle.edit_spec.specs.Steps.{IsStep, AreSteps};
+ghost use Rattle.history_spec.specs.Steps.{AreWritable, IsStep, AreSteps};
 ghost use Rattle.bib_journal.specs.Kept.{kept};
+ghost use Rattle.bib_journal.specs.OpenSteps.{idle};
 ghost use Rattle.bib_journal.specs.Session.{started};
-ghost use Rattle.bib_run.specs.Log.{old_len, new_len, step_line, log_text, IsLogAnswer, IsForgetAnswer};
+ghost use Rattle.bib_run.specs.Log.{old_len, new_len, label_part, counts_part, step_line, log_text, IsLogAnswer, IsForgetAnswer};
 
 use crate::sessions::unopened;
 use bib_answers::{Answer, Outcome, done};
-use bib_journal::{Changes, Session, read_changes};
-use bib_scan::{Seq, Text};
+use bib_journal::{Changes, Session, Step, read_changes};
+use bib_scan::Text;
 use bib_store::{Paged, Piece};
 use bib_words::status;
 use std::alloc::{AllocError, Global};
@@ -42,51 +43,68 @@ fn log_text(alloc: Global, changes: &Changes) -> Result<Text, AllocError>
 }
 
 /// Adds a line for each of these steps.
-fn add_steps(
-    alloc: Global,
-    out: &mut Vec<u8>,
-    steps: &[Seq<Piece>],
-    word: &str,
-) -> Result<(), AllocError>
+fn add_steps(alloc: Global, out: &mut Vec<u8>, steps: &[Step], word: &str) -> Result<(), AllocError>
     requires { AllByRecursion IsStep steps.now }
     ensures { OnOk result (out.new.items ≡ out.old.items ++ flat_map (step_line word.now) steps.now) }
 {
     'step: for step in steps {
-        let line = step_line(alloc, word, step.as_slice())?;
+        let line = step_line(alloc, word, step)?;
         out.extend_from_slice(line.as_slice())?;
     }
     Ok(())
 }
 
-/// The word, and how many pieces, old bytes and new bytes the step has, a line.
-fn step_line(alloc: Global, word: &str, step: &[Piece]) -> Result<Text, AllocError>
+/// The word, and how many pieces, old bytes and new bytes there are.
+fn counts_part(alloc: Global, word: &str, pieces: &[Piece]) -> Result<Vec<u8>, AllocError>
+    requires { AreWritable pieces.now }
+    ensures { IfOk result (λ part. part.items ≡ counts_part word.now pieces.now) }
+{
+    let count = pieces.len();
+    let old_len = old_len(pieces);
+    let new_len = new_len(pieces);
+    let part = format!(in alloc; "{} {} {} {}", word, count, old_len, new_len)?;
+    Ok(part.into_bytes())
+}
+
+/// Adds a space and the label, unless it is empty.
+fn add_label(out: &mut Vec<u8>, label: &[u8]) -> Result<(), AllocError>
+    ensures { OnOk result (out.new.items ≡ out.old.items ++ label_part label.now) }
+{
+    if !label.is_empty() {
+        out.push(b' ')?;
+        out.extend_from_slice(label)?;
+    }
+    Ok(())
+}
+
+/// The word, how many pieces, old bytes and new bytes the step has, and its label, a line.
+fn step_line(alloc: Global, word: &str, step: &Step) -> Result<Text, AllocError>
     requires { IsStep step.now }
     ensures { IfOk result (λ line. line ≡ step_line word.now step.now) }
 {
-    let pieces = step.len();
-    let old_len = old_len(step);
-    let new_len = new_len(step);
-    let line = format!(in alloc; "{} {} {} {}\n", word, pieces, old_len, new_len)?;
-    Ok(Text::from_vec(line.into_bytes()))
+    let mut line = counts_part(alloc, word, step.pieces.as_slice())?;
+    add_label(&mut line, step.label.as_slice())?;
+    line.push(b'\n')?;
+    Ok(Text::from_vec(line))
 }
 
-/// How many bytes the step takes away, or the greatest number.
-fn old_len(step: &[Piece]) -> u64
-    ensures { result ≡ min (old_len step.now) (2 ^ 64 - 1) }
+/// How many bytes the pieces take away, or the greatest number.
+fn old_len(pieces: &[Piece]) -> u64
+    ensures { result ≡ min (old_len pieces.now) (2 ^ 64 - 1) }
 {
     let mut len: u64 = 0;
-    'piece: for piece in step {
+    'piece: for piece in pieces {
         len = len.saturating_add(piece.old.as_slice().len() as u64);
     }
     len
 }
 
-/// How many bytes the step puts in, or the greatest number.
-fn new_len(step: &[Piece]) -> u64
-    ensures { result ≡ min (new_len step.now) (2 ^ 64 - 1) }
+/// How many bytes the pieces put in, or the greatest number.
+fn new_len(pieces: &[Piece]) -> u64
+    ensures { result ≡ min (new_len pieces.now) (2 ^ 64 - 1) }
 {
     let mut len: u64 = 0;
-    'piece: for piece in step {
+    'piece: for piece in pieces {
         len = len.saturating_add(piece.new.as_slice().len() as u64);
     }
     len
@@ -108,8 +126,8 @@ pub fn answer_forget(alloc: Global, file: Vec<u8>) -> Result<Answer, AllocError>
 
 /// The new journal of a session in which nothing was done.
 fn forget(alloc: Global, session: &Session<Paged>) -> Result<Answer, AllocError>
-    requires { session.now ≡ started session.now.present }
-    ensures { IfOk result (IsForgetAnswer session.now.present) }
+    requires { session.now ≡ idle (started session.now.steps.present) }
+    ensures { IfOk result (IsForgetAnswer session.now.steps.present) }
 {
     session.is_sound();
     let Ok(saved) = session.saved() else {

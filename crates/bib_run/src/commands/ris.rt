@@ -1,44 +1,69 @@
 //! `ris`: entries for other programs.
 
 ghost use Rattle.std.specs.Prelude.{◌≡◌, IfOk};
-ghost use Rattle.bib_spec.specs.Records.{entries_of};
+ghost use Rattle.bib_spec.specs.Records.{entries_of, IsDepth};
 ghost use Rattle.bib_store.specs.Meaning.{OfReading};
-ghost use Rattle.bib_ris.specs.Export.{entries_ris};
 ghost use Rattle.bib_answers.specs.Marks.{AreEntryNumbers};
 ghost use Rattle.bib_answers.specs.Opened.{AnswersFile};
-ghost use Rattle.bib_run.specs.Ris.{ris_answer};
+ghost use Rattle.bib_run.specs.Ris.{ris_told, ris_answer};
 
 use bib_answers::{Answer, all_cited, done, no_such_entry, open, unread};
-use bib_ris::entries_ris;
+use bib_ris::{entries_dropped, entries_ris};
 use bib_scan::Text;
 use bib_store::{Database, Paged};
 use std::alloc::{AllocError, Global};
 
-/// The RIS text of the entries that the keys cite, or that a key finds none.
-pub fn answer_ris(alloc: Global, file: Vec<u8>, keys: &[Text]) -> Result<Answer, AllocError>
-    ensures { IfOk result (AnswersFile (ris_answer keys.now) file.items) }
+/// The RIS text of the entries that the keys cite, at this depth, or what it leaves out, or that a key finds none.
+pub fn answer_ris(
+    alloc: Global,
+    file: Vec<u8>,
+    keys: &[Text],
+    depth: u8,
+    dropped: bool,
+) -> Result<Answer, AllocError>
+    requires { IsDepth depth }
+    ensures { IfOk result (AnswersFile (ris_answer dropped depth keys.now) file.items) }
 {
     match open(alloc, file) {
-        Ok(db) => ris(alloc, &db, keys),
+        Ok(db) => ris(alloc, &db, keys, depth, dropped),
         Err(fault) => unread(alloc, fault),
     }
 }
 
-fn ris(alloc: Global, db: &Database<Paged>, keys: &[Text]) -> Result<Answer, AllocError>
-    ensures { IfOk result (λ answer. OfReading db.now (λ r. answer ≡ ris_answer keys.now r)) }
+fn ris(
+    alloc: Global,
+    db: &Database<Paged>,
+    keys: &[Text],
+    depth: u8,
+    dropped: bool,
+) -> Result<Answer, AllocError>
+    requires { IsDepth depth }
+    ensures { IfOk result (λ answer. OfReading db.now (λ r. answer ≡ ris_answer dropped depth keys.now r)) }
 {
     match all_cited(db, keys)? {
-        Some(list) => Ok(done(alloc, text_of(alloc, db, list.as_slice())?)),
+        Some(list) => Ok(done(alloc, text_of(alloc, db, list.as_slice(), depth, dropped)?)),
         None => no_such_entry(alloc),
     }
 }
 
-/// The RIS text of these entries.
-fn text_of(alloc: Global, db: &Database<Paged>, list: &[usize]) -> Result<Text, AllocError>
-    requires { AreEntryNumbers db.now list.now }
-    ensures { IfOk result (λ text. OfReading db.now (λ r. text ≡ entries_ris (entries_of r) list.now)) }
+/// The RIS text of these entries, or what it leaves out.
+fn text_of(
+    alloc: Global,
+    db: &Database<Paged>,
+    list: &[usize],
+    depth: u8,
+    dropped: bool,
+) -> Result<Text, AllocError>
+    requires numbers { AreEntryNumbers db.now list.now }
+    requires depth { IsDepth depth }
+    ensures { IfOk result (λ text. OfReading db.now (λ r. text ≡ ris_told dropped depth (entries_of r) list.now)) }
 {
-    match entries_ris(alloc, db, list) {
+    let text = if dropped {
+        entries_dropped(alloc, db, list, depth)
+    } else {
+        entries_ris(alloc, db, list, depth)
+    };
+    match text {
         Ok(text) => Ok(text),
         Err(_) => Err(AllocError),
     }

@@ -2,12 +2,11 @@
 
 ghost use Rattle.std.specs.Prelude.{◌≡◌, IfOk, option_map, codes};
 ghost use Rattle.bib_data.specs.declared.request.Request.TheVariants.{Undo, Redo};
-ghost use Rattle.bib_run.specs.Sessions.{fault_line};
 ghost use Rattle.bib_run.specs.Turns.{turned_line, turned_answer, IsTurnAnswer};
 
-use crate::sessions::{fault_line, outcome_left, unopened};
+use crate::sessions::{message_of, outcome_left, unopened};
 use bib_answers::Answer;
-use bib_journal::{SessionFault, Turned, redo_changes, undo_changes};
+use bib_journal::{Turned, redo_changes, undo_changes};
 use bib_scan::Text;
 use bib_store::Paged;
 use std::alloc::{AllocError, Global};
@@ -59,14 +58,4 @@ fn turned_line(alloc: Global, word: &str, done: usize) -> Result<Text, AllocErro
 {
     let line = format!(in alloc; "{} {}\n", word, done)?;
     Ok(Text::from_vec(line.into_bytes()))
-}
-
-/// What is said of a refusal, if there is one.
-fn message_of(alloc: Global, fault: Option<SessionFault>) -> Result<Option<Text>, AllocError>
-    ensures { IfOk result (λ message. message ≡ option_map fault_line fault) }
-{
-    match fault {
-        Some(fault) => Ok(Some(fault_line(alloc, fault)?)),
-        None => Ok(None),
-    }
 }

@@ -18,10 +18,10 @@ tell-preserved c = (
       let i = c.tell.n-index in
       let n = get_or list i 0 in
       let next : take i list ++ n ∷ [] ≡ take (i + 1) list = sym (take_more list i 0 c.tell-test.true) in
-      let within : n < length (entries_of r) = c.requires r reads i 0 c.tell-test.true in
+      let within : n < length (entries_of r) = c.requires.numbers r reads i 0 c.tell-test.true in
       let entry = next-of (entries_of r) n within in
-      subst (λ (ns : List ℕ). AreToldOf (records_at (entries_of r) ns) c.add_told.new.told.bases.items c.add_told.new.told.keys.items) next
+      subst (λ (ns : List ℕ). AreToldOf (records_at c.args.depth (entries_of r) ns) c.add_told.new.told.bases.items c.add_told.new.told.keys.items) next
       (rw (c.in_ok-add_told.ensures.bases, c.in_ok-add_told.ensures.keys)
-      (told_one (entries_of r) (take i list) n entry.0 _ _ _ _ entry.1 (c.in_ok-base.ensures.base r reads entry.0 entry.1)
+      (told_one c.args.depth (entries_of r) (take i list) n entry.0 _ _ _ _ entry.1 (c.in_ok-base.ensures.base r reads entry.0 entry.1)
       (c.key.ensures ∙ entry_key r n c.entry.result within (c.entry.ensures r reads)) (c.tell.invariant.1 r reads))),
 )

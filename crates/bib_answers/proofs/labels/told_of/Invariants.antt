@@ -7,4 +7,4 @@ use Rattle.bib_answers.proofs.labels.told_of.Given as goal
 
 abbrev pub invariant-tell : goal.invariant-tell
 invariant-tell l =
-    AreParents l.db l.parents × OfReading l.db (λ r. AreToldOf (records_at (entries_of r) (take l.n-index l.list)) l.told.bases.items l.told.keys.items)
+    AreParents l.db l.parents × OfReading l.db (λ r. AreToldOf (records_at l.depth (entries_of r) (take l.n-index l.list)) l.told.bases.items l.told.keys.items)

@@ -8,4 +8,4 @@ returns c =
     let pattern = c.in_ok-template.template in
     IfOk-weaker c.answer_file.result _ _
     (λ answer h. record { pattern = pattern; spells = c.in_ok-template.ensures; answers = h })
-    (c.answer_file.ensures (names_answer c.args.key.now pattern) (λ file given called. search rules))
+    (c.answer_file.ensures (names_answer c.args.depth c.args.key.now pattern) (λ file given called. search rules))

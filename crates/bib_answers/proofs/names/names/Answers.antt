@@ -2,5 +2,5 @@ use Rattle.bib_spec.specs.Records.{entries_of}
 use Rattle.bib_spec.proofs.Parents.{named_within}
 use Rattle.bib_answers.proofs.names.names.Goals as goal
 
-pub entry_answer-requires : goal.entry_answer-requires
-entry_answer-requires c r reads = named_within (entries_of r) _ _ (c.in-Ok.ensures.found r reads)
+pub entry_answer-requires-clause-number : goal.entry_answer-requires-clause-number
+entry_answer-requires-clause-number c r reads = named_within (entries_of r) _ _ (c.in-Ok.ensures.found r reads)

@@ -2,5 +2,5 @@ use Rattle.bib_spec.specs.Records.{entries_of}
 use Rattle.bib_spec.proofs.Parents.{named_within}
 use Rattle.bib_answers.proofs.show.show.Goals as goal
 
-pub entry_text-requires : goal.entry_text-requires
-entry_text-requires c r reads = named_within (entries_of r) _ _ (c.in-Ok.ensures.found r reads)
+pub entry_text-requires-clause-number : goal.entry_text-requires-clause-number
+entry_text-requires-clause-number c r reads = named_within (entries_of r) _ _ (c.in-Ok.ensures.found r reads)

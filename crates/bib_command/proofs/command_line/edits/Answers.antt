@@ -2,5 +2,5 @@ use Rattle.bib_command.proofs.command_line.edits.Goals as goal
 
 pub returns : goal.returns
 returns c =
-    let with_names = c.adds-2.ensures _ _ (c.adds.ensures _ _ c.shows.ensures c.labels.ensures) c.names.ensures in
-    c.adds-3.ensures _ _ with_names c.edit.ensures
+    let turns = c.adds-turns.ensures _ _ (c.adds-2.ensures _ _ (c.adds.ensures _ _ c.makes.ensures c.edit.ensures) c.undo.ensures) c.redo.ensures in
+    c.adds-4.ensures _ _ (c.adds-3.ensures _ _ turns c.log.ensures) c.forget.ensures

@@ -1,4 +1,4 @@
-use Rattle.std.proofs.Common.{◌∙◌, ap, sym, subst, map, string_bytes}
+use Rattle.std.proofs.Common.{◌≡◌, ◌∙◌, [], ap, sym, subst, map, string_bytes}
 use Rattle.clap.specs.Words.{HasKind, is_simple, is_simple_and_free, fault_of, takes, subcommand_of, found_of, rows_of}
 use Rattle.bib_command.proofs.Subcommands.{met}
 use Rattle.bib_command.proofs.Errors.{bibkeep_is_simple, usage_of_memory, usage_for}
@@ -14,6 +14,12 @@ returns-in-Ok-command_of-clause-ok c =
       named = sym (matches.1 ∙ ap (λ a. subcommand_of a (map string_bytes c.args.words.now)) app_is) ∙ met _ _ _ _ _ c.in-Some.ensures.name c.in-Some.ensures.rows;
       command = c.in-Ok-command_of.ensures;
     }
+
+pub returns-in-Ok-command_of-clause-accepted : goal.returns-in-Ok-command_of-clause-accepted
+returns-in-Ok-command_of-clause-accepted c =
+    let app_is = c.in-Ok.ensures.app in
+    subst (λ a. fault_of a (map string_bytes c.args.words.now) ≡ []) app_is
+    (c.in-Ok-try_get_matches_from.ensures.kinds (ap is_simple_and_free app_is ∙ bibkeep_is_simple))
 
 pub returns-clause-taken : goal.returns-clause-taken
 returns-clause-taken c = λ t. usage_of_memory _ _ c.usage_of.ensures (c.in-Err.ensures.passes (ap (λ a. takes a (map string_bytes c.args.words.now)) c.in-Ok.ensures.app ∙ t))

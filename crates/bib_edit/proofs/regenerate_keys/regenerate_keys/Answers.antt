@@ -17,26 +17,26 @@ are_too_long-requires g c =
     let reads : Reads c.args.db.now db = c.opens.ensures.1.reads in
     let new : NewKeys = record { first = 0; keys = c.in_ok-keys.keys } in
     subst (λ (ps : List Piece). olds_len ps ≤ file_limit) (sym (c.as_slice.ensures ∙ c.in_ok-pieces.ensures.pieces db reads))
-    (olds-short c.args.db.now db reads new refl (c.in_ok-keys.ensures.keys db reads) c.opens.ensures.1.short)
+    (olds-short c.args.depth c.args.db.now db reads new refl (c.in_ok-keys.ensures.keys db reads) c.opens.ensures.1.short)
 
 pub returns-then-are_too_long-clause-refused : goal.returns-then-are_too_long-clause-refused
 returns-then-are_too_long-clause-refused g c db reads =
     let new : NewKeys = record { first = 0; keys = c.in_ok-keys.keys } in
     let made : c.as_slice.result.now ≡ rekeying new db = c.as_slice.ensures ∙ c.in_ok-pieces.ensures.pieces db reads in
-    of-regenerate_keys _
-    (refused-file c.args.db.now db reads new refl (c.in_ok-keys.ensures.keys db reads)
+    of-regenerate_keys c.args.depth _
+    (refused-file c.args.depth c.args.db.now db reads new refl (c.in_ok-keys.ensures.keys db reads)
     (subst (λ (ps : List Piece). file_limit + olds_len ps < length c.args.db.now + news_len ps) made (c.are_too_long.ensures.0 c.if-are_too_long.true)))
 
 pub returns-clause-pieces : goal.returns-clause-pieces
 returns-clause-pieces g c db reads =
     let new : NewKeys = record { first = 0; keys = c.in_ok-keys.keys } in
-    of-regenerate_keys _ (c.in_ok-pieces.ensures.pieces db reads ∙ pieces-are c.args.db.now db reads new refl (c.in_ok-keys.ensures.keys db reads))
+    of-regenerate_keys c.args.depth _ (c.in_ok-pieces.ensures.pieces db reads ∙ pieces-are c.args.depth c.args.db.now db reads new refl (c.in_ok-keys.ensures.keys db reads))
 
 pub returns-clause-allowed : goal.returns-clause-allowed
 returns-clause-allowed g c db reads =
     let new : NewKeys = record { first = 0; keys = c.in_ok-keys.keys } in
     let made : c.as_slice.result.now ≡ rekeying new db = c.as_slice.ensures ∙ c.in_ok-pieces.ensures.pieces db reads in
     let short : length c.args.db.now + news_len c.as_slice.result.now ≤ file_limit + olds_len c.as_slice.result.now = not_over c.are_too_long.result _ _ c.are_too_long.ensures.1 c.if-are_too_long.false in
-    of-regenerate_keys _
-    (accepted c.args.db.now db reads new refl (c.in_ok-keys.ensures.keys db reads) (opens-as c.args.db.now db c.one_reading.ensures c.opens.ensures reads) c.in_ok-keys.ensures.short
+    of-regenerate_keys c.args.depth _
+    (accepted c.args.depth c.args.db.now db reads new refl (c.in_ok-keys.ensures.keys db reads) (opens-as c.args.db.now db c.one_reading.ensures c.opens.ensures reads) c.in_ok-keys.ensures.short
     (subst (λ (ps : List Piece). length c.args.db.now + news_len ps ≤ file_limit + olds_len ps) made short))

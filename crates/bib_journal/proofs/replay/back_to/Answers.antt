@@ -1,6 +1,6 @@
 use Rattle.std.proofs.Common.{◌≡◌, ◌-◌, List, true, length, take, drop, sym, ◌∙◌, ap, subst}
 use Rattle.bib_spec.specs.Text.{Text}
-use Rattle.edit_spec.specs.Steps.{Step, LeadTo, first_of}
+use Rattle.history_spec.specs.Steps.{Step, LeadTo, first_of}
 use Rattle.bib_journal.proofs.TakenBack.{both_lead, parts_lead}
 use Rattle.bib_journal.proofs.replay.back_to.Goals as goal
 

@@ -1,12 +1,11 @@
 use Rattle.std.proofs.Common.{length}
-use Rattle.std.specs.List.{AllByRecursion}
-use Rattle.bib_journal.specs.Loading.{IsTurnable}
+use Rattle.bib_journal.specs.Loading.{AreTurnable}
 use Rattle.bib_journal.proofs.ReplayLemmas.{AreGoneBack}
 use Rattle.bib_journal.proofs.replay.go_back_over.Given as goal
 
 abbrev pub invariant-step : goal.invariant-step
 invariant-step g l = record {
-  turnable : AllByRecursion IsTurnable l.left;
+  turnable : AreTurnable l.left;
   gone : AreGoneBack l.steps l.left l.fn.db l.db;
 }
 

@@ -1,7 +1,6 @@
-use Rattle.std.proofs.Common.{◌≡◌, ◌∙◌, ap}
+use Rattle.std.proofs.Common.{◌≡◌, List, ◌∙◌, ap}
 use Rattle.std.proofs.lemmas.Result.{IfOk-weaker}
-use Rattle.bib_spec.specs.Pieces.{applied, reversed}
-use Rattle.edit_spec.specs.Steps.{Step}
+use Rattle.bib_spec.specs.Pieces.{Piece, applied, reversed}
 use Rattle.bib_journal.proofs.ReplayLemmas.{back_is_tested, back_is_allowed}
 use Rattle.bib_journal.proofs.replay.try_back.Goals as goal
 
@@ -16,4 +15,4 @@ returns-in-Ok-clause-yes g c =
 pub returns-in-Ok-clause-back : goal.returns-in-Ok-clause-back
 returns-in-Ok-clause-back g c =
     let is : c.as_slice.result.now ≡ reversed c.args.step.now = cc (c.as_slice.ensures, c.in-Ok.ensures.value) in
-    IfOk-weaker c.try_on.result _ _ (λ yes e t. e t ∙ ap (λ (s : Step). applied s c.args.db.now) is) c.try_on.ensures.on
+    IfOk-weaker c.try_on.result _ _ (λ yes e t. e t ∙ ap (λ (s : List Piece). applied s c.args.db.now) is) c.try_on.ensures.on

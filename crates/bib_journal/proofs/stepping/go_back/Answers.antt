@@ -1,7 +1,7 @@
-use Rattle.std.proofs.Common.{◌≡◌, sym, subst}
-use Rattle.bib_spec.specs.Pieces.{reversed}
-use Rattle.edit_spec.specs.Steps.{Step, IsAllowed}
-use Rattle.edit_spec.proofs.StepLemmas.{steps-lead-back}
+use Rattle.std.proofs.Common.{◌≡◌, List, sym, subst}
+use Rattle.bib_spec.specs.Pieces.{Piece, reversed}
+use Rattle.history_spec.specs.Steps.{IsAllowed}
+use Rattle.history_spec.proofs.StepLemmas.{steps-lead-back}
 use Rattle.bib_journal.proofs.Turning.{can_turn}
 use Rattle.bib_journal.proofs.stepping.go_back.Goals as goal
 
@@ -14,4 +14,4 @@ reverse-requires-clause-new_bytes g c = (can_turn c.args.step.now _ _ c.requires
 pub go_on-requires : goal.go_on-requires
 go_on-requires g c =
     let is : c.as_slice.result.now ≡ reversed c.args.step.now = cc (c.as_slice.ensures, c.in-Ok.ensures.value) in
-    subst (λ (s : Step). IsAllowed s c.args.db.now) (sym is) (steps-lead-back c.args.step.now _ _ c.requires).0
+    subst (λ (s : List Piece). IsAllowed s c.args.db.now) (sym is) (steps-lead-back c.args.step.now _ _ c.requires).0

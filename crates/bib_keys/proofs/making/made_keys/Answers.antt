@@ -1,9 +1,9 @@
-use Rattle.std.proofs.Common.{rules, ◌≤◌, ◌<◌, length, sym, ◌∙◌, ap, subst, arith}
+use Rattle.std.proofs.Common.{◌≤◌, ◌<◌, length, sym, ◌∙◌, ap, subst, arith}
 use Rattle.std.specs.List.{AllByRecursion}
 use Rattle.std.proofs.lemmas.Result.{IfOk-weaker}
 use Rattle.bib_spec.specs.Bytes.{name_limit}
 use Rattle.bib_spec.specs.Reading.{Reading, Reads}
-use Rattle.bib_spec.specs.Records.{entries_of, dangling_texts, record_of, default_depth}
+use Rattle.bib_spec.specs.Records.{entries_of, dangling_texts, record_of}
 use Rattle.bib_keys.specs.MadeBase.{made_base}
 use Rattle.bib_keys.proofs.EntryCounts.{few-entries}
 use Rattle.bib_keys.proofs.MadeKeyLists.{bases_of, length-bases, base-at, made-none, made-all, pushed-more, pushed-short, was-made}
@@ -12,10 +12,10 @@ use Rattle.bib_keys.proofs.making.made_keys.Goals as goal
 
 pub entries-init : goal.entries-init
 entries-init g c = (
-  λ db reads. made-none (dangling_texts (entries_of db)) (bases_of (entries_of db)) c.in_ok-taken.taken c.new-keys.result.items (c.in_ok-taken.ensures.taken db reads) c.new-keys.ensures.items,
+  λ db reads. made-none (dangling_texts (entries_of db)) (bases_of c.args.depth (entries_of db)) c.in_ok-taken.taken c.new-keys.result.items (c.in_ok-taken.ensures.taken db reads) c.new-keys.ensures.items,
   subst (AllByRecursion (λ key. length key ≤ name_limit)) (sym c.new-keys.ensures.items) tt,
   λ db reads. let dangling = c.in_ok-taken.ensures.count db reads in omega (arith, dangling),
-  search rules,
+  c.none-parents.ensures c.args.db.now,
 )
 
 pub make_key-requires-clause-count : goal.make_key-requires-clause-count
@@ -37,9 +37,9 @@ entries-preserved g c = (
       let test = c.entries-test.true in
       let lt : c.entries.n < length (entries_of db) = omega (arith, count, test) in
       let entry = next-of (entries_of db) c.entries.n lt in
-      pushed-more (dangling_texts (entries_of db)) (bases_of (entries_of db)) c.entries.n c.entries.taken c.make_key.new.taken c.entries.keys.items c.push_made.new.keys.items
-      (made_base (record_of default_depth (entries_of db) c.entries.n entry.0)) c.make_key.result
-      (c.entries.invariant.0 db reads) (base-at (entries_of db) c.entries.n entry.0 entry.1)
+      pushed-more (dangling_texts (entries_of db)) (bases_of c.args.depth (entries_of db)) c.entries.n c.entries.taken c.make_key.new.taken c.entries.keys.items c.push_made.new.keys.items
+      (made_base (record_of c.args.depth (entries_of db) c.entries.n entry.0)) c.make_key.result
+      (c.entries.invariant.0 db reads) (base-at c.args.depth (entries_of db) c.entries.n entry.0 entry.1)
       (IfOk-weaker c.make_key.result _ _ (λ key h taken are. h db reads entry.0 entry.1 taken are) c.make_key.ensures.key)
       c.make_key.ensures.taken
       c.in_ok-push_made.ensures.pushed,
@@ -55,8 +55,8 @@ pub returns-clause-keys : goal.returns-clause-keys
 returns-clause-keys g c db reads =
     let count = c.entry_count-n-end.ensures db reads in
     let test = c.entries-test.false in
-    let bases = length-bases (entries_of db) in
-    c.from_vec.ensures ∙ made-all (dangling_texts (entries_of db)) (bases_of (entries_of db)) c.entries.n c.entries.taken c.entries.keys.items (c.entries.invariant.0 db reads) (omega (arith, count, test, bases))
+    let bases = length-bases c.args.depth (entries_of db) in
+    c.from_vec.ensures ∙ made-all (dangling_texts (entries_of db)) (bases_of c.args.depth (entries_of db)) c.entries.n c.entries.taken c.entries.keys.items (c.entries.invariant.0 db reads) (omega (arith, count, test, bases))
 
 pub returns-clause-short : goal.returns-clause-short
 returns-clause-short g c = subst (AllByRecursion (λ key. length key ≤ name_limit)) (sym c.from_vec.ensures) c.entries.invariant.1

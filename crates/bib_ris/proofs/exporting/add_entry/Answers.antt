@@ -1,7 +1,7 @@
 use Rattle.std.proofs.Common.{◌≡◌, ◌∙◌, ◌++◌, [], List, Option, Some, option_map, ap, sym, subst}
 use Rattle.std.specs.Option.{option_map_or}
 use Rattle.bib_spec.specs.Text.{Text}
-use Rattle.bib_spec.specs.Records.{Record, entries_of, default_depth, expanded}
+use Rattle.bib_spec.specs.Records.{Record, entries_of, expanded}
 use Rattle.bib_store.specs.Choosing.{with_chosen}
 use Rattle.ris_text.specs.declared.records.RisRecord.{RisRecord}
 use Rattle.ris_text.specs.Writing.{record_text, is_well_formed}
@@ -12,15 +12,15 @@ use Rattle.bib_ris.proofs.exporting.add_entry.Goals as goal
 pub write_entry-requires : goal.write_entry-requires
 write_entry-requires g c =
     let opened = c.opens.ensures in
-    let whole = expanded default_depth (entries_of opened.0) c.args.n in
+    let whole = expanded c.args.depth (entries_of opened.0) c.args.n in
     let of_whole = ris_gathered whole c.in-Ok.entry
     (subst (λ (names : List Text). option_map (with_chosen names) whole ≡ Some c.in-Ok.entry) c.requires.names (c.in-Ok.ensures.rec opened.0 opened.1.reads)) in
-    let fits = c.given_records_fit.ensures.given c.args.db.now opened.0 default_depth c.args.n of_whole.0 opened.1.reads of_whole.1.0 in
+    let fits = c.given_records_fit.ensures.given c.args.db.now opened.0 c.args.depth c.args.n of_whole.0 opened.1.reads of_whole.1.0 in
     ap is_well_formed of_whole.1.1 ∙ fits
 
 pub returns-clause-text : goal.returns-clause-text
 returns-clause-text g c db reads =
-    let whole = expanded default_depth (entries_of db) c.args.n in
+    let whole = expanded c.args.depth (entries_of db) c.args.n in
     let of_whole = ris_gathered whole c.in-Ok.entry
     (subst (λ (names : List Text). option_map (with_chosen names) whole ≡ Some c.in-Ok.entry) c.requires.names (c.in-Ok.ensures.rec db reads)) in
     c.in_ok-write_entry.ensures.text

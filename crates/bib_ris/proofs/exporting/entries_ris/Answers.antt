@@ -1,7 +1,7 @@
 use Rattle.std.proofs.Common.{◌∙◌, ◌++◌, ◌<◌, [], length, get_or, rules, ap}
 use Rattle.std.specs.Option.{option_map_or}
 use Rattle.bib_spec.specs.Text.{Text}
-use Rattle.bib_spec.specs.Records.{entries_of, default_depth, expanded}
+use Rattle.bib_spec.specs.Records.{entries_of, expanded}
 use Rattle.ris_text.specs.Writing.{record_text}
 use Rattle.ris_format.specs.Mapping.{ris}
 use Rattle.bib_ris.proofs.EntriesRis.{texts_more}
@@ -11,5 +11,5 @@ pub entries-preserved : goal.entries-preserved
 entries-preserved g c db reads =
     let within : c.entries.n-index < length c.args.list.now = search rules in
     c.in_ok-add_entry.ensures.text db reads
-    ∙ ap (λ (t : Text). t ++ option_map_or (λ entry. record_text (ris entry)) (expanded default_depth (entries_of db) (get_or c.args.list.now c.entries.n-index 0)) []) (c.entries.invariant db reads)
-    ∙ texts_more (expanded default_depth (entries_of db)) c.args.list.now c.entries.n-index 0 within
+    ∙ ap (λ (t : Text). t ++ option_map_or (λ entry. record_text (ris entry)) (expanded c.args.depth (entries_of db) (get_or c.args.list.now c.entries.n-index 0)) []) (c.entries.invariant db reads)
+    ∙ texts_more (expanded c.args.depth (entries_of db)) c.args.list.now c.entries.n-index 0 within

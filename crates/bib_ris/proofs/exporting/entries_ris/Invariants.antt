@@ -5,4 +5,4 @@ use Rattle.bib_ris.specs.Export.{entries_ris}
 use Rattle.bib_ris.proofs.exporting.entries_ris.Given as goal
 
 abbrev pub invariant-entries : goal.invariant-entries
-invariant-entries g l = OfReading l.db (λ r. l.text.items ≡ entries_ris (entries_of r) (take l.n-index l.list))
+invariant-entries g l = OfReading l.db (λ r. l.text.items ≡ entries_ris l.depth (entries_of r) (take l.n-index l.list))

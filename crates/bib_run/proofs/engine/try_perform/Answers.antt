@@ -21,4 +21,4 @@ returns-in-Ok-clause-failed g c = err_always c.answer_sources.result (input_soun
 pub returns-in-Err-Failed-clause-ran : goal.returns-in-Err-Failed-clause-ran
 returns-in-Err-Failed-clause-ran g c =
     let failed = c.read_sources.ensures.failed (c.in-Err-Failed.is ∙ ap Err c.in-Err-Failed.field-0-is) in
-    rw (c.outcome_of.ensures, c.in_ok-read_fault.ensures) (read_fault failed refl)
+    rw (c.outcome_of.ensures, c.in_ok-read_fault.ensures) (read_fault (failed _ _) refl)

@@ -1,4 +1,5 @@
-use Rattle.std.proofs.Common.{◌+◌, ◌≤◌, length}
+use Rattle.std.proofs.Common.{◌+◌, ◌≤◌, All, length}
+use Rattle.bib_data.specs.Depths.{AsksWithDepth}
 use Rattle.bib_script.specs.Script.{said_of}
 use Rattle.bib_script.proofs.SaidLemmas.{SaysOn}
 use Rattle.bib_script.proofs.script.read_script.Given as goal
@@ -6,6 +7,7 @@ use Rattle.bib_script.proofs.script.read_script.Given as goal
 abbrev pub invariant-line : goal.invariant-line
 invariant-line l = record {
   says : SaysOn (said_of l.fn.script) l.requests.items l.lines.items l.number l.rest;
+  depths : All AsksWithDepth l.requests.items;
   counted : l.number + length l.rest ≤ length l.fn.script;
 }
 

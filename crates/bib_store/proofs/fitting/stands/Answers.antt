@@ -1,6 +1,6 @@
 use Rattle.std.proofs.Common.{◌≤◌, arith}
 use Rattle.bib_spec.specs.Pieces.{Piece}
-use Rattle.bib_store.specs.Shifting.{moved_back}
+use Rattle.history_spec.specs.Shifting.{moved_back}
 use Rattle.bib_store.proofs.PieceTests.{stands_tested}
 use Rattle.bib_store.proofs.fitting.stands.Goals as goal
 

@@ -3,19 +3,19 @@ use Rattle.bib_scan.specs.View.{View}
 use Rattle.std.proofs.lemmas.List.{length-append}
 use Rattle.bib_spec.specs.Tree.{tree_bytes}
 use Rattle.bib_tokens.specs.PlacedParts.{test_of, tokens_seen}
-use Rattle.bib_tokens.proofs.Elements.{slice_get-within}
+use Rattle.bib_tokens.proofs.Elements.{slice_get-within, stands_alone, stands_on}
 use Rattle.bib_tokens.proofs.PlacedItems.{item-ends, placed-fields, tokens-start, tokens-next, tokens-end}
 use Rattle.bib_tokens.proofs.MetParts.{met-item, met-items}
 use Rattle.bib_tokens.proofs.tokens.push_from.Goals as goal
 
 pub items-init : goal.items-init
-items-init g c db reads = (tokens-start (test_of c.args.sought) db c.args.n (tokens_seen c.args.tokens.now.items) c.item_place-at.result (c.item_place-at.ensures db reads), refl)
+items-init g c = (λ db reads. (tokens-start (test_of c.args.sought) db c.args.n (tokens_seen c.args.tokens.now.items) c.item_place-at.result (c.item_place-at.ensures db reads), refl), stands_alone c.args.tokens.now.items)
 
 pub push_in_fields-requires : goal.push_in_fields-requires
 push_in_fields-requires g c =
     placed-fields c.args.db.now c.items.k c.items.at c.item-view.result c.fields.result c.opens.ensures
     (λ db reads. let count = c.item_count-k-end.ensures db reads in omega (arith, count, c.items-test.true))
-    (λ db reads. let place = (c.items.invariant db reads).0.place in omega (arith, place))
+    (λ db reads. let place = (c.items.invariant.0 db reads).0.place in omega (arith, place))
     c.item-view.ensures c.fields.ensures.fields
 
 pub overflow_add-at-in-items : goal.overflow_add-at-in-items
@@ -26,28 +26,31 @@ overflow_add-at-in-items g c =
     let count = c.item_count-k-end.ensures db reads in
     let it = slice_get-within db.items c.items.k (omega (arith, count, c.items-test.true)) in
     let ends = item-ends c.args.db.now db c.items.k it.0 reads it.1 in
-    let place = (c.items.invariant db reads).0.place in
+    let place = (c.items.invariant.0 db reads).0.place in
     let b = ap (length {A = ℕ}) (c.body.ensures ∙ ap (λ (v : View). v.body) (c.item-view.ensures db reads it.0 it.1)) in
     let t = ap (length {A = ℕ}) (c.trail.ensures ∙ ap (λ (v : View). v.trail) (c.item-view.ensures db reads it.0 it.1)) in
     omega (arith, short, ends, place, b, t, length-append (tree_bytes it.0.tree) it.0.trail)
 
 pub items-preserved : goal.items-preserved
-items-preserved g c db reads =
-    let count = c.item_count-k-end.ensures db reads in
-    let so_far = c.items.invariant db reads in (
-      tokens-next (test_of c.args.sought) c.args.db.now db c.args.n (tokens_seen c.args.tokens.now.items) c.items.k c.items.at (tokens_seen c.items.tokens.items) (tokens_seen c.push_in_fields.new.tokens.items)
-          c.item-view.result c.fields.result c.body.result.now c.trail.result.now reads (omega (arith, count, c.items-test.true)) (c.item-view.ensures db reads) c.fields.ensures.fields c.body.ensures c.trail.ensures
-          c.in_ok-here.ensures.tokens so_far.0,
-      met-item (test_of c.args.watched) c.args.db.now db c.args.n c.items.k c.items.met c.in_ok-here.here c.item-view.result c.fields.result reads (omega (arith, count, c.items-test.true)) (c.item-view.ensures db reads)
-          c.fields.ensures.fields c.in_ok-here.ensures.met so_far.1,
-    )
+items-preserved g c = (
+  λ db reads.
+      let count = c.item_count-k-end.ensures db reads in
+      let so_far = c.items.invariant.0 db reads in (
+        tokens-next (test_of c.args.sought) c.args.db.now db c.args.n (tokens_seen c.args.tokens.now.items) c.items.k c.items.at (tokens_seen c.items.tokens.items) (tokens_seen c.push_in_fields.new.tokens.items)
+            c.item-view.result c.fields.result c.body.result.now c.trail.result.now reads (omega (arith, count, c.items-test.true)) (c.item-view.ensures db reads) c.fields.ensures.fields c.body.ensures c.trail.ensures
+            c.in_ok-here.ensures.tokens so_far.0,
+        met-item (test_of c.args.watched) c.args.db.now db c.args.n c.items.k c.items.met c.in_ok-here.here c.item-view.result c.fields.result reads (omega (arith, count, c.items-test.true)) (c.item-view.ensures db reads)
+            c.fields.ensures.fields c.in_ok-here.ensures.met so_far.1,
+      ),
+  stands_on c.args.tokens.now.items c.items.tokens.items c.push_in_fields.new.tokens.items c.items.invariant.1 c.in_ok-here.ensures.front,
+)
 
 pub returns-clause-tokens : goal.returns-clause-tokens
 returns-clause-tokens g c db reads =
     let count = c.item_count-k-end.ensures db reads in
-    tokens-end (test_of c.args.sought) db c.args.n (tokens_seen c.args.tokens.now.items) c.items.k c.items.at (tokens_seen c.items.tokens.items) (omega (arith, count, c.items-test.false)) (c.items.invariant db reads).0
+    tokens-end (test_of c.args.sought) db c.args.n (tokens_seen c.args.tokens.now.items) c.items.k c.items.at (tokens_seen c.items.tokens.items) (omega (arith, count, c.items-test.false)) (c.items.invariant.0 db reads).0
 
 pub returns-clause-met : goal.returns-clause-met
 returns-clause-met g c db reads =
     let count = c.item_count-k-end.ensures db reads in
-    met-items (test_of c.args.watched) db.items c.args.n c.items.k c.items.met (omega (arith, count, c.items-test.false)) (c.items.invariant db reads).1
+    met-items (test_of c.args.watched) db.items c.args.n c.items.k c.items.met (omega (arith, count, c.items-test.false)) (c.items.invariant.0 db reads).1

@@ -1,3 +1,4 @@
+use Rattle.std.proofs.Common.{◌≡◌, length, take}
 use Rattle.bib_store.specs.Meaning.{OfReading}
 use Rattle.bib_tokens.specs.PlacedParts.{test_of, tokens_seen}
 use Rattle.bib_tokens.proofs.PlacedItems.{AreTokensTo}
@@ -7,3 +8,4 @@ use Rattle.bib_tokens.proofs.tokens.push_from.Given as goal
 abbrev pub invariant-items : goal.invariant-items
 invariant-items g l =
     OfReading l.db (λ r. AreTokensTo (test_of l.sought) r l.n (tokens_seen l.initial.tokens.items) l.k l.at (tokens_seen l.tokens.items) × IsMetFrom (test_of l.watched) r.items l.n l.k l.met)
+    × (take (length l.initial.tokens.items) l.tokens.items ≡ l.initial.tokens.items)

@@ -1,11 +1,12 @@
 use Rattle.std.proofs.Common.{List, refl, sym, subst, arith}
 use Rattle.bib_scan.specs.View.{Field}
 use Rattle.bib_tokens.specs.PlacedParts.{test_of, tokens_seen, ArePlacedFields, AreFieldTokens}
+use Rattle.bib_tokens.proofs.Elements.{stands_alone, stands_on}
 use Rattle.bib_tokens.proofs.MetParts.{met-field, met-no_field}
 use Rattle.bib_tokens.proofs.tokens.push_in_fields.Goals as goal
 
 pub fields-init : goal.fields-init
-fields-init c = (c.requires, λ new h. h, λ met h. h)
+fields-init c = (c.requires, λ new h. h, λ met h. h, stands_alone c.args.tokens.now.items)
 
 pub overflow_add-at : goal.overflow_add-at
 overflow_add-at c =
@@ -29,6 +30,7 @@ fields-preserved c = (
       (tokens_seen c.push_in_value.new.tokens.items, c.in_ok-here.ensures.tokens, h)),
   λ met h.
       met-field (test_of c.args.watched) c.args.fields c.fields.rest _ _ c.fields.met c.in_ok-here.here met (sym c.in-Some.ensures.steps) c.in_ok-here.ensures.met h c.fields.invariant.2,
+  stands_on c.args.tokens.now.items c.fields.tokens.items c.push_in_value.new.tokens.items c.fields.invariant.3 c.in_ok-here.ensures.front,
 )
 
 pub returns-clause-tokens : goal.returns-clause-tokens

@@ -1,4 +1,4 @@
-use Rattle.std.proofs.Common.{◌||◌, Bool, List, length, ℕ}
+use Rattle.std.proofs.Common.{◌≡◌, ◌||◌, Bool, List, length, take, ℕ}
 use Rattle.bib_spec.specs.Text.{Text}
 use Rattle.bib_tokens.specs.PlacedParts.{test_of, tokens_seen, ArePlacedFields, AreFieldTokens, IsMetIn}
 use Rattle.bib_tokens.proofs.tokens.push_in_fields.Given as goal
@@ -8,6 +8,7 @@ invariant-fields l =
     ArePlacedFields l.start l.rest
     × ((new : List (ℕ × Text)) → AreFieldTokens (test_of l.sought) l.start l.rest (tokens_seen l.tokens.items) new → AreFieldTokens (test_of l.sought) l.start l.initial.rest (tokens_seen l.initial.tokens.items) new)
     × ((met : Bool) → IsMetIn (test_of l.watched) l.rest met → IsMetIn (test_of l.watched) l.initial.rest (l.met || met))
+    × (take (length l.initial.tokens.items) l.tokens.items ≡ l.initial.tokens.items)
 
 abbrev pub decreases-fields : goal.decreases-fields
 decreases-fields l = length l.rest

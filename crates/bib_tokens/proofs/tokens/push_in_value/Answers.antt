@@ -1,8 +1,9 @@
-use Rattle.std.proofs.Common.{◌+◌, ◌∷◌, ◌||◌, Bool, [], sym, ◌∙◌, ap, subst, arith}
+use Rattle.std.proofs.Common.{◌+◌, ◌∷◌, ◌||◌, Bool, [], length, take, sym, ◌∙◌, ap, subst, arith}
 use Rattle.std.proofs.lemmas.List.{map-append}
 use Rattle.bib_scan.specs.PartView.{part_view}
 use Rattle.bib_value.proofs.RawLemmas.{parts_counted}
 use Rattle.bib_tokens.specs.PlacedParts.{test_of, token_seen, tokens_seen}
+use Rattle.bib_tokens.proofs.Elements.{stands_at_push}
 use Rattle.bib_tokens.proofs.PlacedValues.{AreValueTokensTo, part-placed, tokens-met_more, tokens-unmet_more, tokens-all}
 use Rattle.bib_tokens.proofs.MetParts.{IsMetTo, met-part, met-parts, met-only}
 use Rattle.bib_tokens.proofs.tokens.push_in_value.Goals.{then-is_met+in_ok-push, else-is_met}
@@ -24,12 +25,15 @@ parts-preserved c =
             (tokens-met_more (test_of c.args.sought) c.args.at c.args.value.now (tokens_seen c.args.tokens.now.items) c.parts.n (tokens_seen c.parts.tokens.items) (part_view c.part-part.result) (token_seen w.token_of.result) placed
             w.token_of.ensures (sym c.is_met-in-parts.ensures ∙ w.if-is_met.true) c.parts.invariant.0),
         met,
+        ap (λ v. take (length c.args.tokens.now.items) v.items) w.tokens-is ∙ ap (take (length c.args.tokens.now.items)) w.in_ok-push.ensures.items
+            ∙ stands_at_push c.args.tokens.now.items c.parts.tokens.items w.token_of.result c.parts.invariant.2,
       )
       | else-is_met w ↦ (
         subst (AreValueTokensTo (test_of c.args.sought) c.args.at c.args.value.now (tokens_seen c.args.tokens.now.items) (c.parts.n + 1)) (sym (ap (λ v. tokens_seen v.items) w.tokens-is))
             (tokens-unmet_more (test_of c.args.sought) c.args.at c.args.value.now (tokens_seen c.args.tokens.now.items) c.parts.n (tokens_seen c.parts.tokens.items) (part_view c.part-part.result) placed
             (sym c.is_met-in-parts.ensures ∙ w.if-is_met.false) c.parts.invariant.0),
         met,
+        ap (λ v. take (length c.args.tokens.now.items) v.items) w.tokens-is ∙ c.parts.invariant.2,
       )
     ]
 

@@ -1,6 +1,6 @@
-use Rattle.std.proofs.Common.{◌∙◌, ◌≤◌, ◌+◌, ◌-◌, ◌&&◌, length, get_or, drop, eqb, Bool, arith, ap, rules}
+use Rattle.std.proofs.Common.{◌∙◌, ◌≤◌, ◌+◌, ◌-◌, ◌&&◌, length, get_or, drop, eqb, Bool, arith, ap, sym, rules}
 use Rattle.bib_value.specs.Spacing.{neat}
-use Rattle.bib_value.proofs.NeatTexts.{neat_begins, neat_more, neat_ends}
+use Rattle.bib_value.proofs.NeatTexts.{field_text-neat, neat_begins, neat_more, neat_ends}
 use Rattle.bib_value.proofs.spacing.is_neat.Goals as goal
 
 pub bytes-init : goal.bytes-init
@@ -25,6 +25,10 @@ bytes-preserved c =
           ∙ neat_more c.bytes.is_so_far text n c.bytes.invariant.begun test c.bytes.invariant.neat;
     }
 
-pub returns : goal.returns
-returns c =
+pub returns-clause-neat : goal.returns-clause-neat
+returns-clause-neat c =
     neat_ends c.bytes.is_so_far c.args.text.now c.bytes.n c.bytes.invariant.within c.bytes-test.false c.bytes.invariant.neat
+
+pub returns-clause-own : goal.returns-clause-own
+returns-clause-own c is =
+    field_text-neat c.args.text.now (sym (neat_ends c.bytes.is_so_far c.args.text.now c.bytes.n c.bytes.invariant.within c.bytes-test.false c.bytes.invariant.neat) ∙ is)

@@ -2,7 +2,7 @@ use Rattle.std.proofs.Common.{◌≡◌, ◌∙◌, ◌++◌, List, take, get_or
 use Rattle.std.specs.List.{flat_map}
 use Rattle.std.proofs.lemmas.List.{take_more, flat_map_more}
 use Rattle.bib_spec.specs.Text.{Text}
-use Rattle.edit_spec.specs.Steps.{Step, step_text}
+use Rattle.history_spec.specs.Steps.{Step, step_text}
 use Rattle.journal_format.proofs.writing.put_steps.Goals as goal
 
 pub step-preserved : goal.step-preserved
@@ -12,6 +12,6 @@ step-preserved c =
     let before : Text = c.args.out.now.items in
     let out : Text = c.step.out.items in
     let step : Step = get_or steps i c.step-item.result in
-    let put : c.put_step.new.out.items ≡ out ++ step_text step = c.in_ok-put_step.ensures ∙ ap (λ (s : Step). out ++ step_text s) (c.as_slice.ensures ∙ c.step-item.is) in
+    let put : c.put_step.new.out.items ≡ out ++ step_text step = c.in_ok-put_step.ensures ∙ ap (λ (s : Step). out ++ step_text s) c.step-item.is in
     put ∙ ap (λ (t : Text). t ++ step_text step) c.step.invariant ∙ flat_map_more step_text before (take i steps) step
     ∙ ap (λ (ss : List Step). before ++ flat_map step_text ss) (sym (take_more steps i c.step-item.result c.step-test.true))

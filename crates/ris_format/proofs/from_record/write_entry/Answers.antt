@@ -17,6 +17,6 @@ returns-clause-text c =
     let name : c.as_slice.result.now ≡ entry.kind_name = search rules in
     let kind : c.of_entry-kind.result ≡ kind_of_entry entry.kind_name = c.of_entry-kind.ensures ∙ ap kind_of_entry name in
     record_after (ris entry) text first c.push_record.new.lines.items c.write_line-2.new.text.items
-    (c.in_ok-write_line.ensures ∙ ap (λ (t : Text). text ++ ended (written begin_tag t)) (c.ris_type.ensures ∙ ap ris_type kind))
+    (c.in_ok-write_line.ensures.line ∙ ap (λ (t : Text). text ++ ended (written begin_tag t)) (c.ris_type.ensures ∙ ap ris_type kind))
     (c.in_ok-push_record.ensures ∙ ap (λ (k : Kind). first ++ kept_text (lines_of (written_groups k entry))) kind)
-    c.in_ok-write_line-2.ensures
+    c.in_ok-write_line-2.ensures.line

@@ -17,8 +17,8 @@ append-preserved g c =
     ∙ ap (λ (l : List ℕ). l ++ c.texts.result.1.now) c.in_ok-extend_from_slice.ensures.items
     ∙ appended_more items c.args.from c.append.n c.args.out.now.items c.append.out.items c.texts.result.0.now c.texts.result.1.now c.append.auto.n here c.texts.ensures.body c.texts.ensures.trail c.append.invariant
 
-pub returns : goal.returns
-returns g c =
+pub returns-clause-bytes : goal.returns-clause-bytes
+returns-clause-bytes g c =
     let items = g.Self.ItemList.items c.args.self.now in
     let end : c.append.n ≡ c.args.to = omega (arith, c.append-test.false, c.append.auto.n-end c.requires.ordered) in
     subst (λ (n : ℕ). c.append.out.items ≡ c.args.out.now.items ++ flat_map kept_bytes (between c.args.from n items)) end c.append.invariant

@@ -1,5 +1,6 @@
 use Rattle.std.proofs.lemmas.Result.{IfOk-weaker}
+use Rattle.bib_run.specs.Inputs.{answered}
 use Rattle.bib_run.proofs.commands.edit.answer_edit.Goals as goal
 
 pub returns-in-Ok : goal.returns-in-Ok
-returns-in-Ok c = IfOk-weaker c.answer_script-answer.result _ _ (λ answer h. h _ _ c.in-Ok.ensures.opened) c.answer_script-answer.ensures
+returns-in-Ok c = IfOk-weaker c.answer_script-answer.result _ _ (λ answer h. answered _ c.in-Ok.ensures.opened h) c.answer_script-answer.ensures

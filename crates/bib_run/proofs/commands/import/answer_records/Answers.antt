@@ -1,19 +1,15 @@
 use Rattle.std.proofs.Common.{◌≤◌, ◌<◌, length, rules}
 use Rattle.std.proofs.lemmas.Result.{IfOk-weaker}
 use Rattle.bib_spec.specs.Bytes.{file_limit}
-use Rattle.bib_run.specs.Inputs.{answered, too_long}
+use Rattle.bib_run.specs.Inputs.{within, too_long}
 use Rattle.bib_run.proofs.commands.import.answer_records.Goals as goal
 
 pub returns-then-input-gt-FILE_LIMIT : goal.returns-then-input-gt-FILE_LIMIT
 returns-then-input-gt-FILE_LIMIT c =
     let long : file_limit < length c.args.input.now = search rules in
-    IfOk-weaker c.too_long.result _ _
-    (λ answer h file journal opened. too_long _ opened long h)
-    c.too_long.ensures
+    IfOk-weaker c.too_long.result _ _ (λ answer h. too_long long h) c.too_long.ensures
 
 pub returns : goal.returns
 returns c =
     let short : length c.args.input.now ≤ file_limit = search rules in
-    IfOk-weaker c.import_into.result _ _
-    (λ answer h file journal opened. answered _ opened short h)
-    c.import_into.ensures
+    IfOk-weaker c.import_into.result _ _ (λ answer h. within short h) c.import_into.ensures

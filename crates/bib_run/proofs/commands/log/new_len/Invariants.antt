@@ -2,4 +2,4 @@ use Rattle.std.proofs.Common.{◌≡◌, ◌-◌, ◌^◌, length, min, sum_by, 
 use Rattle.bib_run.proofs.commands.log.new_len.Given as goal
 
 abbrev pub invariant-piece : goal.invariant-piece
-invariant-piece l = l.len ≡ min (sum_by (λ p. length p.new) (take l.piece-index l.step)) (2 ^ 64 - 1)
+invariant-piece l = l.len ≡ min (sum_by (λ p. length p.new) (take l.piece-index l.pieces)) (2 ^ 64 - 1)

@@ -1,19 +1,18 @@
-use Rattle.std.proofs.Common.{◌≡◌, List, ◌++◌, Some, sym, ◌∙◌, ap}
+use Rattle.std.proofs.Common.{◌≡◌, List, ◌++◌, Some, ◌∙◌, ap}
 use Rattle.bib_spec.specs.Text.{folded}
 use Rattle.bib_spec.specs.Texts.{months, macros_at}
 use Rattle.bib_spec.specs.Records.{RecordField, EntryTexts, Record, entries_of, texts_of, fields_at, missing}
-use Rattle.bib_store.specs.declared.gathering.Gathered.{Gathered}
 use Rattle.bib_store.proofs.EntryItems.{IsEntryAt, entry_at}
 use Rattle.bib_store.proofs.GatheredFields.{missing_all}
-use Rattle.bib_store.proofs.Inherited.{expanded_alone, expanded_with, record_made}
+use Rattle.bib_store.proofs.Inherited.{fields_along, expanded_along, with_lineage, record_made}
 use Rattle.bib_store.proofs.database.Database.expanded.Goals as goal
-use Rattle.bib_store.proofs.database.Database.expanded.Goals.{in-Some+in_ok-gather-2, in_default}
 
 pub returns-clause-rec : goal.returns-clause-rec
 returns-clause-rec g c = λ db reads.
     let entries : List EntryTexts = entries_of db in
     let n = c.args.n in
-    let at = entry_at db n (c.requires db reads) in
+    let depth = c.args.depth in
+    let at = entry_at db n (c.requires.number db reads) in
     let it : IsEntryAt db n at.0 = at.1 in
     let macros = macros_at months db.items it.number in
     let seen = c.entry-entry.ensures db reads at.0 it.listed in
@@ -21,15 +20,7 @@ returns-clause-rec g c = λ db reads.
     let key = c.from_vec-key.ensures ∙ c.in_ok-from_slice.ensures.items ∙ c.key.ensures in
     let own : c.gather.new.fields.fields.items ≡ fields_at entries n =
     c.in_ok-gather.ensures.added db reads ∙ ap (λ (l : List RecordField). l ++ missing l (fields_at entries n)) c.in_ok-fields.ensures.fields ∙ missing_all (fields_at entries n) in
-    elim c.match-parent.branch [
-      | in-Some+in_ok-gather-2 w ↦
-          let p = w.in-Some.parent in
-          let fields : c.into_fields.result ≡ fields_at entries n ++ missing (fields_at entries n) (fields_at entries p) =
-          c.into_fields.ensures ∙ ap (λ (f : Gathered). f.fields.items) w.fields-is ∙ w.in_ok-gather-2.ensures.added db reads ∙ ap (λ (l : List RecordField). l ++ missing l (fields_at entries p)) own in
-          expanded_with entries n p (texts_of macros it.entry) it.texts (sym (c.parent-parent.ensures.parent db reads) ∙ w.in-Some.is)
-          ∙ ap (λ (r : Record). Some r) (record_made at.0 it.entry macros _ _ _ _ _ seen it.is kind key fields)
-      | in_default w ↦
-          let fields : c.into_fields.result ≡ fields_at entries n = c.into_fields.ensures ∙ ap (λ (f : Gathered). f.fields.items) w.fields-is ∙ own in
-          expanded_alone entries n (texts_of macros it.entry) it.texts (sym (c.parent-parent.ensures.parent db reads) ∙ w.in_default.is)
-          ∙ ap (λ (r : Record). Some r) (record_made at.0 it.entry macros _ _ _ _ _ seen it.is kind key fields)
-    ]
+    let fields : c.into_fields.result ≡ fields_along entries depth n =
+    c.into_fields.ensures ∙ c.in_ok-gather_inherited.ensures.added db reads ∙ ap (with_lineage entries depth n) own in
+    expanded_along entries depth n (texts_of macros it.entry) it.texts
+    ∙ ap (λ (r : Record). Some r) (record_made at.0 it.entry macros _ _ _ _ _ seen it.is kind key fields)

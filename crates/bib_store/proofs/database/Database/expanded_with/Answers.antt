@@ -1,20 +1,20 @@
-use Rattle.std.proofs.Common.{◌≡◌, ℕ, List, Vec, Global, [], ◌++◌, Some, map, option_map, Bor, sym, ◌∙◌, ap}
+use Rattle.std.proofs.Common.{◌≡◌, ℕ, List, [], Some, map, option_map, Bor, ◌∙◌, ap}
 use Rattle.bib_spec.specs.Text.{Text, folded}
 use Rattle.bib_spec.specs.Texts.{months, macros_at}
-use Rattle.bib_spec.specs.Records.{RecordField, EntryTexts, Record, entries_of, texts_of, fields_at, missing}
+use Rattle.bib_spec.specs.Records.{EntryTexts, Record, entries_of, texts_of, fields_at}
 use Rattle.bib_store.specs.Choosing.{chosen, with_chosen}
 use Rattle.bib_store.proofs.EntryItems.{IsEntryAt, entry_at}
 use Rattle.bib_store.proofs.GatheredFields.{missing_all}
-use Rattle.bib_store.proofs.Inherited.{expanded_alone, expanded_with, record_made}
+use Rattle.bib_store.proofs.Inherited.{fields_along, expanded_along, record_made}
 use Rattle.bib_store.proofs.database.Database.expanded_with.Goals as goal
-use Rattle.bib_store.proofs.database.Database.expanded_with.Goals.{in-Some+in_ok-choose-2, in_default}
 
 pub returns-clause-rec : goal.returns-clause-rec
 returns-clause-rec g c = λ db reads.
     let entries : List EntryTexts = entries_of db in
     let n = c.args.n in
+    let depth = c.args.depth in
     let names : List Text = map (λ (name : Bor (List ℕ)). name.now) c.args.names.now in
-    let at = entry_at db n (c.requires db reads) in
+    let at = entry_at db n (c.requires.number db reads) in
     let it : IsEntryAt db n at.0 = at.1 in
     let macros = macros_at months db.items it.number in
     let seen = c.entry-entry.ensures db reads at.0 it.listed in
@@ -22,16 +22,7 @@ returns-clause-rec g c = λ db reads.
     let key = c.from_vec-key.ensures ∙ c.in_ok-from_slice.ensures.items ∙ c.key.ensures in
     let own : c.choose.new.fields.items ≡ chosen names (fields_at entries n) =
     c.in_ok-choose.ensures.chosen db reads [] c.in_ok-fields.ensures.items ∙ ap (chosen names) (missing_all (fields_at entries n)) in
-    elim c.match-parent.branch [
-      | in-Some+in_ok-choose-2 w ↦
-          let p = w.in-Some.parent in
-          let all : List RecordField = fields_at entries n ++ missing (fields_at entries n) (fields_at entries p) in
-          let fields : c.from_vec.result ≡ chosen names all =
-          c.from_vec.ensures ∙ ap (λ (v : Vec RecordField Global). v.items) w.fields-is ∙ w.in_ok-choose-2.ensures.chosen db reads (fields_at entries n) own in
-          ap (option_map (with_chosen names)) (expanded_with entries n p (texts_of macros it.entry) it.texts (sym (c.parent.ensures.parent db reads) ∙ w.in-Some.is))
-          ∙ ap (λ (r : Record). Some r) (record_made at.0 it.entry macros _ _ _ _ _ seen it.is kind key fields)
-      | in_default w ↦
-          let fields : c.from_vec.result ≡ chosen names (fields_at entries n) = c.from_vec.ensures ∙ ap (λ (v : Vec RecordField Global). v.items) w.fields-is ∙ own in
-          ap (option_map (with_chosen names)) (expanded_alone entries n (texts_of macros it.entry) it.texts (sym (c.parent.ensures.parent db reads) ∙ w.in_default.is))
-          ∙ ap (λ (r : Record). Some r) (record_made at.0 it.entry macros _ _ _ _ _ seen it.is kind key fields)
-    ]
+    let fields : c.from_vec.result ≡ chosen names (fields_along entries depth n) =
+    c.from_vec.ensures ∙ c.in_ok-choose_inherited.ensures.chosen db reads (fields_at entries n) own in
+    ap (option_map (with_chosen names)) (expanded_along entries depth n (texts_of macros it.entry) it.texts)
+    ∙ ap (λ (r : Record). Some r) (record_made at.0 it.entry macros _ _ _ _ _ seen it.is kind key fields)

@@ -1,0 +1,170 @@
+-- How findings are added: of a value use by use, of an item field by field, and of a file item by item.
+use Rattle.std.proofs.Common.{◌≡◌, ◌∙◌, ℕ, ◌+◌, ◌<◌, List, [], ◌∷◌, ◌++◌, length, map, take, Option, Some, slice_get, get_or, zip, refl, sym, ap, ap₂, subst, arith, append-nil, append_assoc}
+use Rattle.std.specs.List.{flat_map}
+use Rattle.std.proofs.lemmas.Option.{slice_get_within, get_or_from_slice_get, slice_get-map}
+use Rattle.std.proofs.lemmas.List.{take_more, length-map}
+use Rattle.std.proofs.lemmas.Slice.Zip.{get_or-zip}
+use Rattle.std.proofs.lemmas.Grind.{flat_map-append}
+use Rattle.std.proofs.Math.Seq.{take-length}
+use Rattle.bib_spec.specs.Text.{Text}
+use Rattle.bib_spec.specs.Tree.{Part, Value, Link, part_bytes, link_bytes}
+use Rattle.bib_spec.specs.Texts.{Macros, parts_of}
+use Rattle.bib_scan.specs.View.{Field}
+use Rattle.bib_scan.specs.ValueParts.{IsPartsOf, spans_of, spans_behind, span_start}
+use Rattle.bib_scan.specs.declared.parts.PartSpan.{PartSpan}
+use Rattle.bib_scan.proofs.TakenApart.{one_value}
+use Rattle.bib_value.specs.Raw.{OfValue}
+use Rattle.bib_answers.specs.Check.{Assigned}
+use Rattle.bib_answers.specs.Fields.{AreFieldsOf, AreSound}
+use Rattle.bib_answers.specs.Lint.{Finding, finding_line, placed_parts, use_findings, value_findings, name_findings, field_findings}
+use Rattle.bib_answers.specs.FindingLines.{Written, with_findings}
+
+-- no findings add nothing
+pub findings_none : (w : Written) → with_findings w [] ≡ w
+findings_none w = ap (λ (t : Text). record w { text = t }) (append-nil w.text)
+
+-- findings after others
+pub findings_append : (w : Written) (xs ys : List Finding) → with_findings (with_findings w xs) ys ≡ with_findings w (xs ++ ys)
+findings_append w xs ys = ap (λ (t : Text). record w { text = t })
+    (append_assoc w.text (flat_map line xs) (flat_map line ys) ∙ ap (λ (t : Text). w.text ++ t) (sym (flat_map-append line xs ys)))
+  where
+    line : Finding → Text
+    line = finding_line w.name w.file w.start
+
+-- ---- uses
+
+-- as many places as parts
+length-spans : (before : Text) (links : List Link) → length (spans_behind before links) ≡ length links
+length-spans before [] = refl
+length-spans before (l ∷ links) = omega (arith, length-spans (before ++ link_bytes l) links)
+
+length-placed : (v : Value) → length (map span_start (spans_of v)) ≡ length (parts_of v)
+length-placed v =
+    let spans = length-map (spans_of v) span_start in
+    let links = length-spans (part_bytes v.first) v.links in
+    let parts = length-map v.links (λ (l : Link). l.part) in
+    omega (arith, spans, links, parts)
+
+length-zip_same : {X Y : Type 0} (xs : List X) (ys : List Y) → length xs ≡ length ys → length (zip xs ys) ≡ length ys
+length-zip_same [] [] same = refl
+length-zip_same [] (y ∷ ys) same = absurd (omega (arith, same))
+length-zip_same (x ∷ xs) [] same = absurd (omega (arith, same))
+length-zip_same (x ∷ xs) (y ∷ ys) same = omega (arith, length-zip_same xs ys (omega (arith, same)))
+
+pub length-placed_parts : (v : Value) → length (placed_parts v) ≡ length (parts_of v)
+length-placed_parts v = length-zip_same (map span_start (spans_of v)) (parts_of v) (length-placed v)
+
+-- the findings on the first n parts are added
+abbrev pub UsesTo : Text → (ℕ × Part → List Finding) → ℕ → Written → Written → Type 0
+UsesTo bytes says n start out = OfValue bytes (λ v. out ≡ with_findings start (flat_map says (take n (placed_parts v))))
+
+-- part n stands there
+pub part_placed : (v : Value) (n place : ℕ) (p : Part) → slice_get (map span_start (spans_of v)) n ≡ Some place → slice_get (parts_of v) n ≡ Some p
+    → (n < length (placed_parts v)) × (get_or (placed_parts v) n (place, p) ≡ (place, p))
+part_placed v n place p at is =
+    let places = slice_get_within (map span_start (spans_of v)) n place at in
+    let parts = slice_get_within (parts_of v) n p is in (
+      omega (arith, parts, length-placed_parts v),
+      get_or-zip (map span_start (spans_of v)) (parts_of v) n (place, p) places parts
+          ∙ ap₂ (λ (k : ℕ) (q : Part). (k, q)) (get_or_from_slice_get (map span_start (spans_of v)) n place place at) (get_or_from_slice_get (parts_of v) n p p is),
+    )
+
+says_more : {X Y : Type 0} (says : X → List Y) (xs : List X) (n : ℕ) (x : X) → n < length xs → get_or xs n x ≡ x → flat_map says (take n xs) ++ says x ≡ flat_map says (take (n + 1) xs)
+says_more says xs n x within is =
+    ap (λ t. flat_map says (take n xs) ++ t) (sym (append-nil (says x)))
+    ∙ ap (λ y. flat_map says (take n xs) ++ flat_map says (y ∷ [])) (sym is)
+    ∙ sym (flat_map-append says (take n xs) (get_or xs n x ∷ []))
+    ∙ sym (ap (flat_map says) (take_more xs n x within))
+
+pub uses_more : (bytes : Text) (spans : List PartSpan) (says : ℕ × Part → List Finding) (n place : ℕ) (p : Part) (start out out1 : Written)
+    → IsPartsOf bytes spans → slice_get (map span_start spans) n ≡ Some place → OfValue bytes (λ v. slice_get (parts_of v) n ≡ Some p)
+    → out1 ≡ with_findings out (says (place, p)) → UsesTo bytes says n start out → UsesTo bytes says (n + 1) start out1
+uses_more bytes spans says n place p start out out1 is at part more to v ok same =
+    let these : spans ≡ spans_of v = is.3 ∙ ap spans_of (one_value is.0 v is.1 ok (is.2 ∙ sym same)) in
+    let placed = part_placed v n place p (ap (λ (s : List PartSpan). slice_get (map span_start s) n) (sym these) ∙ at) (part v ok same) in
+    more
+    ∙ ap (λ (w : Written). with_findings w (says (place, p))) (to v ok same)
+    ∙ findings_append start (flat_map says (take n (placed_parts v))) (says (place, p))
+    ∙ ap (with_findings start) (says_more says (placed_parts v) n (place, p) placed.0 placed.1)
+
+pub uses_all : (bytes : Text) (says : ℕ × Part → List Finding) (n : ℕ) (start out : Written) → OfValue bytes (λ v. n ≡ length (parts_of v))
+    → UsesTo bytes says n start out → OfValue bytes (λ v. out ≡ with_findings start (flat_map says (placed_parts v)))
+uses_all bytes says n start out all to v ok same =
+    to v ok same
+    ∙ ap (λ k. with_findings start (flat_map says (take k (placed_parts v)))) (all v ok same ∙ sym (length-placed_parts v))
+    ∙ ap (λ (ps : List (ℕ × Part)). with_findings start (flat_map says ps)) (take-length (placed_parts v))
+
+-- where the value has one part, that begins the value
+pub uses_alone : (bytes : Text) (says : ℕ × Part → List Finding) (p : Part) (start : Written) → OfValue bytes (λ v. parts_of v ≡ p ∷ [])
+    → OfValue bytes (λ v. with_findings start (says (0, p)) ≡ with_findings start (flat_map says (placed_parts v)))
+uses_alone bytes says p start alone v ok same =
+    ap (with_findings start) (sym (append-nil (says (0, p)))) ∙ sym (ap (λ (ps : List (ℕ × Part)). with_findings start (flat_map says ps)) (one v (alone v ok same)))
+  where
+    one : (v : Value) → parts_of v ≡ p ∷ [] → placed_parts v ≡ (0, p) ∷ []
+    one v is = only v.first v.links is
+      where
+        only : (first : Part) (links : List Link) → parts_of (record { first = first; links = links }) ≡ p ∷ [] → placed_parts (record { first = first; links = links }) ≡ (0, p) ∷ []
+        only first [] is = ap (λ (ps : List Part). zip (0 ∷ []) ps) is
+        only first (l ∷ links) is = absurd (let few = ap (length {A = Part}) is in omega (arith, few))
+
+-- ---- fields
+
+-- the fields left, in which nothing is found yet, and the names before them, which were seen
+pub record IsLeft (own : Text → Option Text) (macros : Macros) (crossrefs : ℕ → List Finding) (whole out : Written) (seen : List Text → Type 0) (fields : List Field) : Type 0 where
+  pub names : List Text
+  pub values : List Assigned
+  pub are : AreFieldsOf values fields
+  pub has : seen names
+  pub joined : with_findings out (field_findings own macros crossrefs names fields values) ≡ whole
+
+pub record IsFinding (own : Text → Option Text) (macros : Macros) (crossrefs : ℕ → List Finding) (all : List Field) (start out : Written) (seen : List Text → Type 0) (fields : List Field) : Type 0 where
+  pub sound : AreSound fields
+  pub left : (values : List Assigned) → AreFieldsOf values all → IsLeft own macros crossrefs (with_findings start (field_findings own macros crossrefs [] all values)) out seen fields
+
+pub finding_start : (own : Text → Option Text) (macros : Macros) (crossrefs : ℕ → List Finding) (all : List Field) (start : Written) (seen : List Text → Type 0)
+    → AreSound all → seen [] → IsFinding own macros crossrefs all start start seen all
+finding_start own macros crossrefs all start seen sound none = record {
+  sound = sound;
+  left = λ values are. record { names = []; values = values; are = are; has = none; joined = refl };
+}
+
+left_more : (own : Text → Option Text) (macros : Macros) (crossrefs : ℕ → List Finding) (whole out out1 out2 : Written) (old new : List Text → Type 0) (field : Field) (fields : List Field)
+    → ((names : List Text) → old names → out1 ≡ with_findings out (name_findings crossrefs names field))
+    → OfValue field.value (λ x. out2 ≡ with_findings out1 (value_findings (own field.name) macros field.value_at x))
+    → ((names : List Text) → old names → new (field.name ∷ names))
+    → IsLeft own macros crossrefs whole out old (field ∷ fields) → IsLeft own macros crossrefs whole out2 new fields
+left_more own macros crossrefs whole out out1 out2 old new field fields named uses with is = go is.names is.values is.are is.has is.joined
+  where
+    go : (names : List Text) (values : List Assigned) → AreFieldsOf values (field ∷ fields) → old names
+        → with_findings out (field_findings own macros crossrefs names (field ∷ fields) values) ≡ whole → IsLeft own macros crossrefs whole out2 new fields
+    go names [] are has joined = absurd are
+    go names (a ∷ values) are has joined = record {
+      names = field.name ∷ names;
+      values = values;
+      are = are.1;
+      has = with names has;
+      joined =
+          let rest : List Finding = field_findings own macros crossrefs (field.name ∷ names) fields values in
+          ap (λ (w : Written). with_findings w rest)
+          (uses a.1 are.0.value are.0.bytes ∙ ap (λ (w : Written). with_findings w (value_findings (own field.name) macros field.value_at a.1)) (named names has)
+          ∙ findings_append out (name_findings crossrefs names field) (value_findings (own field.name) macros field.value_at a.1))
+          ∙ findings_append out (name_findings crossrefs names field ++ value_findings (own field.name) macros field.value_at a.1) rest
+          ∙ ap (with_findings out) (append_assoc (name_findings crossrefs names field) (value_findings (own field.name) macros field.value_at a.1) rest)
+          ∙ joined;
+    }
+
+pub finding_more : (own : Text → Option Text) (macros : Macros) (crossrefs : ℕ → List Finding) (all : List Field) (start out out1 out2 : Written) (old new : List Text → Type 0) (field : Field) (fields : List Field)
+    → ((names : List Text) → old names → out1 ≡ with_findings out (name_findings crossrefs names field))
+    → OfValue field.value (λ x. out2 ≡ with_findings out1 (value_findings (own field.name) macros field.value_at x))
+    → ((names : List Text) → old names → new (field.name ∷ names))
+    → IsFinding own macros crossrefs all start out old (field ∷ fields) → IsFinding own macros crossrefs all start out2 new fields
+finding_more own macros crossrefs all start out out1 out2 old new field fields named uses with is = record {
+  sound = is.sound.1;
+  left = λ values are. left_more own macros crossrefs _ out out1 out2 old new field fields named uses with (is.left values are);
+}
+
+pub finding_all : (own : Text → Option Text) (macros : Macros) (crossrefs : ℕ → List Finding) (all : List Field) (start out : Written) (seen : List Text → Type 0)
+    → IsFinding own macros crossrefs all start out seen [] → (values : List Assigned) → AreFieldsOf values all → out ≡ with_findings start (field_findings own macros crossrefs [] all values)
+finding_all own macros crossrefs all start out seen is values are =
+    let left : IsLeft own macros crossrefs (with_findings start (field_findings own macros crossrefs [] all values)) out seen [] = is.left values are in
+    sym (findings_none out) ∙ left.joined

@@ -1,0 +1,85 @@
+-- The lines of entries as JSON, one after another.
+use Rattle.std.proofs.Common.{◌≡◌, ◌∙◌, ℕ, ◌+◌, ◌<◌, Bool, true, false, not, List, [], ◌∷◌, ◌++◌, length, take, drop, get_or, filter_map, find, if◌then◌else◌, option_map, Option, None, Some, refl, sym, ap, ap₂, arith, append-nil}
+use Rattle.std.specs.List.{flat_map, cons_option}
+use Rattle.std.specs.Option.{option_map_or, option_or}
+use Rattle.std.proofs.lemmas.List.{take_more, take-append-drop}
+use Rattle.std.proofs.lemmas.List.Elements.{filter_map-append}
+use Rattle.std.proofs.lemmas.List.Folds.{find-append}
+use Rattle.std.proofs.lemmas.Grind.{flat_map-append}
+use Rattle.bib_spec.specs.Text.{Text}
+use Rattle.bib_spec.specs.Records.{EntryTexts, record_of, parent, expanded, entries_of}
+use Rattle.bib_spec.specs.Reading.{Reading}
+use Rattle.bib_keys.proofs.Walks.{next-of}
+use Rattle.entry_json.specs.EntryJson.{Told, json_line, is_told_utf8}
+use Rattle.bib_answers.specs.Entries.{key_at}
+use Rattle.bib_answers.specs.Json.{told_at, told_of, not_utf8_line, told_answer}
+use Rattle.bib_answers.specs.Outcome.{answer_of}
+
+abbrev pub is_unsaid : Told → Bool
+is_unsaid one = not (is_told_utf8 one)
+
+-- of the first n entries of the list all texts are UTF-8, and these are their lines
+pub record IsToldTo (depth : ℕ) (entries : List EntryTexts) (list : List ℕ) (i : ℕ) (lines : Text) : Type 0 where
+  pub said : find is_unsaid (told_of depth entries (take i list)) ≡ None
+  pub lines_are : lines ≡ flat_map json_line (told_of depth entries (take i list))
+
+-- an entry is told
+pub told_entry : (depth : ℕ) (entries : List EntryTexts) (n : ℕ) → n < length entries → (told : Told) × (told_at depth entries n ≡ Some told) × (told.0.key ≡ key_at entries n)
+told_entry depth entries n within =
+    let entry = next-of entries n within in (
+      (record_of depth entries n entry.0, option_map (key_at entries) (parent entries n)),
+      ap (λ (o : Option EntryTexts). option_map (λ rec. (rec, option_map (key_at entries) (parent entries n))) (option_map (record_of depth entries n) o)) entry.1,
+      sym (ap (λ (o : Option EntryTexts). option_map_or (λ e. e.key) o []) entry.1),
+    )
+
+module _ (depth : ℕ) (entries : List EntryTexts) (list : List ℕ) (i d : ℕ) (within : i < length list) (told : Told) (is : told_at depth entries (get_or list i d) ≡ Some told) where
+  next : told_of depth entries (take (i + 1) list) ≡ told_of depth entries (take i list) ++ told ∷ []
+  next =
+      ap (told_of depth entries) (take_more list i d within)
+      ∙ filter_map-append (told_at depth entries) (take i list) (get_or list i d ∷ [])
+      ∙ ap (λ (o : Option Told). told_of depth entries (take i list) ++ cons_option o []) is
+
+  pub told_more : (lines more : Text) → is_told_utf8 told ≡ true → more ≡ lines ++ json_line told → IsToldTo depth entries list i lines → IsToldTo depth entries list (i + 1) more
+  told_more lines more utf8 line to = record {
+    said =
+        ap (find is_unsaid) next ∙ find-append is_unsaid (told_of depth entries (take i list)) (told ∷ [])
+        ∙ ap (λ (o : Option Told). option_or o (find is_unsaid (told ∷ []))) to.said
+        ∙ ap (λ b. if not b then Some told else None) utf8;
+    lines_are =
+        line ∙ ap (λ (t : Text). t ++ json_line told) to.lines_are
+        ∙ ap (λ (t : Text). flat_map json_line (told_of depth entries (take i list)) ++ t) (sym (append-nil (json_line told)))
+        ∙ sym (flat_map-append json_line (told_of depth entries (take i list)) (told ∷ []))
+        ∙ sym (ap (flat_map json_line) next);
+  }
+
+  -- one that is not UTF-8 is the first
+  pub told_stops : (lines : Text) → is_told_utf8 told ≡ false → told.0.key ≡ key_at entries (get_or list i d) → IsToldTo depth entries list i lines
+      → answer_of [] (not_utf8_line (key_at entries (get_or list i d))) 1 ≡ told_answer (told_of depth entries list)
+  told_stops lines utf8 key to =
+      ap (λ (k : Text). answer_of [] (not_utf8_line k) 1) (sym key)
+      ∙ sym (ap (λ (o : Option Told). option_map_or (λ one. answer_of [] (not_utf8_line one.0.key) 1) o (answer_of (flat_map json_line (told_of depth entries list)) [] 0)) first)
+    where
+      split : told_of depth entries list ≡ (told_of depth entries (take i list) ++ told ∷ []) ++ told_of depth entries (drop (i + 1) list)
+      split =
+          ap (told_of depth entries) (sym (take-append-drop (i + 1) list))
+          ∙ filter_map-append (told_at depth entries) (take (i + 1) list) (drop (i + 1) list)
+          ∙ ap (λ (ts : List Told). ts ++ told_of depth entries (drop (i + 1) list)) next
+
+      here : find is_unsaid (told_of depth entries (take i list) ++ told ∷ []) ≡ Some told
+      here =
+          find-append is_unsaid (told_of depth entries (take i list)) (told ∷ [])
+          ∙ ap (λ (o : Option Told). option_or o (find is_unsaid (told ∷ []))) to.said
+          ∙ ap (λ b. if not b then Some told else None) utf8
+
+      first : find is_unsaid (told_of depth entries list) ≡ Some told
+      first =
+          ap (find is_unsaid) split
+          ∙ find-append is_unsaid (told_of depth entries (take i list) ++ told ∷ []) (told_of depth entries (drop (i + 1) list))
+          ∙ ap (λ (o : Option Told). option_or o (find is_unsaid (told_of depth entries (drop (i + 1) list)))) here
+
+pub told_all : (depth : ℕ) (entries : List EntryTexts) (list : List ℕ) (i : ℕ) (lines : Text) → take i list ≡ list → IsToldTo depth entries list i lines
+    → answer_of lines [] 0 ≡ told_answer (told_of depth entries list)
+told_all depth entries list i lines all to =
+    let said : find is_unsaid (told_of depth entries list) ≡ None = ap (λ (l : List ℕ). find is_unsaid (told_of depth entries l)) (sym all) ∙ to.said in
+    ap (λ (t : Text). answer_of t [] 0) (to.lines_are ∙ ap (λ (l : List ℕ). flat_map json_line (told_of depth entries l)) all)
+    ∙ sym (ap (λ (o : Option Told). option_map_or (λ one. answer_of [] (not_utf8_line one.0.key) 1) o (answer_of (flat_map json_line (told_of depth entries list)) [] 0)) said)

@@ -1,0 +1,15 @@
+use Rattle.std.proofs.Common.{length}
+use Rattle.std.specs.Option.{option_copied}
+use Rattle.bib_answers.specs.Check.{defined_in}
+use Rattle.bib_answers.specs.Lint.{crossref_findings}
+use Rattle.bib_answers.specs.Recurring.{names_of}
+use Rattle.bib_answers.specs.Seen.{IsAt}
+use Rattle.bib_answers.proofs.FindingSteps.{IsFinding}
+use Rattle.bib_answers.proofs.findings.add_field_findings.Given as goal
+
+abbrev pub invariant-fields : goal.invariant-fields
+invariant-fields g l = IsFinding (defined_in l.item.kind) (g.M.MacroTable.macros l.macros) (crossref_findings l.crossref.n (option_copied l.crossref.text) l.crossref.target l.crossref.grandparent) l.item.fields l.initial.lines l.lines
+    (λ names. IsAt l.earlier (names_of l.item.fields) names (names_of l.fields)) l.fields
+
+abbrev pub decreases-fields : goal.decreases-fields
+decreases-fields g l = length l.fields

@@ -1,0 +1,9 @@
+use Rattle.std.proofs.Common.{◌+◌, ℕ}
+use Rattle.std.specs.Option.{option_copied}
+use Rattle.bib_spec.specs.Tree.{Part}
+use Rattle.bib_answers.specs.Lint.{use_findings}
+use Rattle.bib_answers.proofs.FindingSteps.{UsesTo}
+use Rattle.bib_answers.proofs.findings.add_part_uses.Given as goal
+
+abbrev pub invariant-uses : goal.invariant-uses
+invariant-uses g l = UsesTo l.value (λ (placed : ℕ × Part). use_findings (option_copied l.own) (g.M.MacroTable.macros l.macros) (l.at + placed.0) placed.1) l.n l.initial.lines l.lines

@@ -1,0 +1,6 @@
+use Rattle.std.proofs.Common.{rules}
+use Rattle.bib_answers.specs.Json.{json_answer}
+use Rattle.bib_answers.proofs.json.answer_json.Goals as goal
+
+pub returns : goal.returns
+returns c = c.answer_file.ensures (json_answer c.args.depth c.args.keys.now) (λ file given called. search rules)

@@ -1,0 +1,15 @@
+use Rattle.std.proofs.Common.{◌≡◌, subst}
+use Rattle.std.proofs.lemmas.Result.{IfOk-weaker}
+use Rattle.bib_spec.specs.Text.{Text}
+use Rattle.bib_store.specs.Meaning.{OfReading}
+use Rattle.bib_answers.specs.Lint.{opened, refused, lint_answer}
+use Rattle.bib_answers.proofs.lint.answer_lint.Goals as goal
+
+pub returns-in-Ok : goal.returns-in-Ok
+returns-in-Ok c = IfOk-weaker c.lint.result _ _ (λ answer h.
+    let file = c.in-Ok.ensures.file in
+    opened file.0 file.1 (subst (λ (t : Text). OfReading t (λ r. answer ≡ lint_answer c.args.name.now c.args.file.now r)) c.in-Ok.ensures.opened h file.0 file.1.reads))
+    c.lint.ensures
+
+pub returns-in-Err : goal.returns-in-Err
+returns-in-Err c = IfOk-weaker c.unread.result _ _ (λ answer h. refused c.in-Err.fault.kind c.in-Err.fault.place h.0 c.in-Err.ensures.fault h.1) c.unread.ensures

@@ -1,0 +1,20 @@
+-- Lines that are written, as the code keeps them.
+use Rattle.std.specs.Prelude.{ℕ, List, ◌++◌}
+use Rattle.std.specs.List.{flat_map}
+use Rattle.bib_spec.specs.Text.{Text}
+use Rattle.bib_answers.specs.Lint.{Finding, finding_line}
+
+-- the file's name and bytes, where the item that is looked at begins, and the lines so far
+pub record Written : Type 0 where
+  pub name : Text
+  pub file : Text
+  pub start : ℕ
+  pub text : Text
+
+-- the same, at an item that begins there
+abbrev pub at_item : Written → ℕ → Written
+at_item w start = record w { start = start }
+
+-- the same, with the lines of these findings
+abbrev pub with_findings : Written → List Finding → Written
+with_findings w findings = record w { text = w.text ++ flat_map (finding_line w.name w.file w.start) findings }

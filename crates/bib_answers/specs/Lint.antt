@@ -1,0 +1,175 @@
+-- `lint`: what is wrong with a file, as compilers write it: of each finding a line with its position.
+use Rattle.std.specs.Prelude.{ℕ, ◌≡◌, ◌≢◌, Bool, ◌==◌, ◌+◌, nat_lt, List, [], ◌∷◌, ◌++◌, length, map, Option, None, Some, is_none, if◌then◌else◌, option_and_then, slice_get, codes, zip}
+use Rattle.std.specs.Fmt.{decimal}
+use Rattle.std.specs.List.{flat_map, list_any, range_with_len}
+use Rattle.std.specs.Option.{option_map_or}
+use Rattle.bib_spec.specs.Text.{Text, folded, same, is_new_key}
+use Rattle.bib_spec.specs.Tree.{Part, Braced, Quoted, Digits, Macro, Value, Tree}
+use Rattle.bib_spec.specs.Reading.{Reading}
+use Rattle.bib_spec.specs.Texts.{Macros, months, macros_at, is_empty, parts_of, Opens}
+use Rattle.bib_spec.specs.Records.{EntryTexts, entries_of, crossref, crossref_text, target, parent, other_than, is_repeated}
+use Rattle.bib_scan.specs.Layout.{start_of}
+use Rattle.bib_scan.specs.ValueParts.{spans_of, span_start}
+use Rattle.bib_scan.specs.View.{Field, fields_of, kind_of, key_of, key_place}
+use Rattle.bib_scan.specs.declared.view.Kind.{Kind}
+use Rattle.bib_scan.specs.declared.view.Kind.TheVariants as kind
+use Rattle.bib_value.specs.Macros.{is_own}
+use Rattle.bib_store.specs.Meaning.{IsOpenFault}
+use Rattle.bib_answers.specs.declared.answers.Answer.{Answer}
+use Rattle.bib_answers.specs.declared.positions.Position.{Position}
+use Rattle.bib_answers.specs.Check.{Assigned, assigned, defined_in, entries_before}
+use Rattle.bib_answers.specs.Messages.{fault_name}
+use Rattle.bib_answers.specs.Outcome.{answer_of}
+use Rattle.bib_answers.specs.Positions.{position_of}
+
+-- ---- findings
+
+-- a finding in an item: its place in the item's body, and what is said there
+abbrev pub Finding : Type 0
+Finding = ℕ × Text
+
+-- words, a name, key or text, and words
+abbrev pub found : ℕ → Text → Text → Text → List Finding
+found at before name after = (at, before ++ (name ++ after)) ∷ []
+
+-- ---- uses
+
+-- the parts of a value, each with its place in the value
+abbrev pub placed_parts : Value → List (ℕ × Part)
+placed_parts v = zip (map span_start (spans_of v)) (parts_of v)
+
+-- a use of the macro that is being defined, or else of one that stands for nothing there (dialect)
+abbrev pub use_findings : Option Text → Macros → ℕ → Part → List Finding
+use_findings own macros at (Macro name) =
+    if is_own own (folded name) then found at (codes "macro ") name (codes " is used in its own definition")
+    else if is_none (macros (folded name)) then found at (codes "macro ") name (codes " is not defined")
+    else []
+use_findings own macros at (Braced t) = []
+use_findings own macros at (Quoted t) = []
+use_findings own macros at (Digits t) = []
+
+-- the uses in a value that stands at this place
+abbrev pub value_findings : Option Text → Macros → ℕ → Value → List Finding
+value_findings own macros at v = flat_map (λ placed. use_findings own macros (at + placed.0) placed.1) (placed_parts v)
+
+-- ---- fields
+
+-- an earlier field of the item has the name; or else, at the crossref of an entry, what is said of that
+abbrev pub name_findings : (ℕ → List Finding) → List Text → Field → List Finding
+name_findings crossrefs earlier field =
+    if list_any (same field.name) earlier then found field.name_at (codes "field ") field.name (codes " is there already")
+    else if same field.name crossref then crossrefs field.value_at
+    else []
+
+-- fields with their values, where fields of these names stand before them
+abbrev pub field_findings : (Text → Option Text) → Macros → (ℕ → List Finding) → List Text → List Field → List Assigned → List Finding
+field_findings own macros crossrefs earlier [] values = []
+field_findings own macros crossrefs earlier (field ∷ fields) [] = []
+field_findings own macros crossrefs earlier (field ∷ fields) (a ∷ values) =
+    name_findings crossrefs earlier field
+    ++ (value_findings (own field.name) macros field.value_at a.1
+    ++ field_findings own macros crossrefs (field.name ∷ earlier) fields values)
+
+-- ---- entries
+
+-- the parent of entry n's parent, where that is another entry than n: at depth 1 entry n gets nothing from it
+abbrev pub grandparent : List EntryTexts → ℕ → Option ℕ
+grandparent entries n = option_and_then (other_than n) (option_and_then (parent entries) (parent entries n))
+
+-- the target stands before the entry (dialect)
+abbrev pub order_findings : ℕ → ℕ → Text → ℕ → List Finding
+order_findings at n text m = if nat_lt m n then found at (codes "parent ") text (codes " stands before its child") else []
+
+-- the target has a parent itself (btxdoc 2.1)
+abbrev pub nested_findings : ℕ → Text → Option ℕ → List Finding
+nested_findings at text None = []
+nested_findings at text (Some k) = found at (codes "parent ") text (codes " has a parent itself, whose fields are not inherited")
+
+-- a crossref of entry n with this text at this place, which has this target, that has this parent
+abbrev pub target_findings : ℕ → ℕ → Text → Option ℕ → Option ℕ → List Finding
+target_findings at n text None grand = found at (codes "crossref ") text (codes " names no entry")
+target_findings at n text (Some m) grand =
+    if m == n then found at (codes "crossref ") text (codes " names its own entry")
+    else order_findings at n text m ++ nested_findings at text grand
+
+-- an empty crossref text is no finding (dialect)
+abbrev pub crossref_findings : ℕ → Option Text → Option ℕ → Option ℕ → ℕ → List Finding
+crossref_findings n None target grand at = []
+crossref_findings n (Some text) target grand at = if is_empty text then [] else target_findings at n text target grand
+
+-- the crossref of entry n
+abbrev pub crossrefs_of : List EntryTexts → ℕ → ℕ → List Finding
+crossrefs_of entries n = crossref_findings n (option_and_then crossref_text (slice_get entries n)) (target entries n) (grandparent entries n)
+
+-- an earlier entry has the key
+abbrev pub repeated_findings : ℕ → Bool → Text → List Finding
+repeated_findings at repeated key = if repeated then found at (codes "key ") key (codes " is that of an earlier entry") else []
+
+-- no edit could write the key: it is empty, or has a byte that `is_new_key` does not take
+abbrev pub unusual_findings : ℕ → Text → List Finding
+unusual_findings at key =
+    if is_empty key then found at (codes "the entry") key (codes " has no key")
+    else if is_new_key key then []
+    else found at (codes "key ") key (codes " is none that an edit could write")
+
+abbrev pub key_findings : ℕ → Bool → Text → List Finding
+key_findings at repeated key = repeated_findings at repeated key ++ unusual_findings at key
+
+-- ---- items
+
+-- of an entry alone
+abbrev pub for_entry : {X : Type 0} → Kind → List X → List X
+for_entry kind.Entry xs = xs
+for_entry kind.Macro xs = []
+for_entry kind.Preamble xs = []
+for_entry kind.Comment xs = []
+
+-- the findings in an item, where these macros stand before it, and which has this number if it is an entry
+abbrev pub item_findings : List EntryTexts → Macros → ℕ → Tree → List Finding
+item_findings entries macros n tree =
+    for_entry (kind_of tree) (key_findings (key_place tree) (is_repeated entries n) (key_of tree))
+    ++ field_findings (defined_in (kind_of tree)) macros (λ at. for_entry (kind_of tree) (crossrefs_of entries n at)) [] (fields_of tree) (assigned tree)
+
+-- the findings in item n
+abbrev pub findings_on : Reading → ℕ → List Finding
+findings_on db n =
+    option_map_or (λ item. item_findings (entries_of db) (macros_at months db.items n) (entries_before db n) item.tree) (slice_get db.items n) []
+
+-- ---- lines
+
+-- `name:line:column: `
+abbrev pub placed_at : Text → Position → Text
+placed_at name at = name ++ (codes ":" ++ (decimal at.line ++ (codes ":" ++ (decimal at.column ++ codes ": "))))
+
+-- `name:line:column: warning: words`, a line (GNU coding standards 4.4)
+abbrev pub warning_line : Text → Position → Text → Text
+warning_line name at words = placed_at name at ++ (codes "warning: " ++ (words ++ codes "\n"))
+
+-- a finding in an item that begins at this place of the file, which has this name
+abbrev pub finding_line : Text → Text → ℕ → Finding → Text
+finding_line name file start finding = warning_line name (position_of file (start + finding.0)) finding.1
+
+-- the lines of item n, in order
+abbrev pub item_lines : Text → Text → Reading → ℕ → Text
+item_lines name file db n = flat_map (finding_line name file (start_of db n)) (findings_on db n)
+
+-- the lines of all items, in order
+abbrev pub lint_lines : Text → Text → Reading → Text
+lint_lines name file db = flat_map (item_lines name file db) (range_with_len 0 (length db.items))
+
+-- the status is 1 where something is found
+abbrev pub lint_status : Text → ℕ
+lint_status lines = if is_empty lines then 0 else 1
+
+abbrev pub lint_answer : Text → Text → Reading → Answer
+lint_answer name file db = answer_of (lint_lines name file db) [] (lint_status (lint_lines name file db))
+
+-- `name:line:column: error: N Name`, a line
+abbrev pub error_line : Text → Position → ℕ → Text
+error_line name at kind = placed_at name at ++ (codes "error: " ++ (decimal kind ++ (codes " " ++ (fault_name kind ++ codes "\n"))))
+
+-- `lint F`, where F has this name and these bytes: the findings, or why the file cannot be opened (dialect)
+pub data IsLintAnswer (name file : Text) (answer : Answer) : Type 0 where
+  opened : (db : Reading) → Opens file db → answer ≡ lint_answer name file db → IsLintAnswer name file answer
+  refused : (kind place : ℕ) → kind ≢ 10 → IsOpenFault file kind place → answer ≡ answer_of (error_line name (position_of file place) kind) [] 1
+      → IsLintAnswer name file answer

@@ -1,0 +1,16 @@
+-- No promise rests on this page: it says what was written where a part of a file's items was looked through.
+use Rattle.std.specs.Prelude.{ℕ, ◌≡◌, ◌≤◌}
+use Rattle.std.specs.List.{flat_map, range_with_len}
+use Rattle.bib_spec.specs.Text.{Text}
+use Rattle.bib_store.specs.Meaning.{OfReading}
+use Rattle.bib_answers.specs.Check.{entries_before}
+use Rattle.bib_answers.specs.Lint.{item_lines}
+use Rattle.bib_answers.specs.declared.lint.Found.{Found}
+
+-- the items before item n were looked through
+pub record IsLintedBefore (file name bytes : Text) (n : ℕ) (found : Found) : Type 0 where
+  pub name_is : found.lines.name ≡ name
+  pub bytes_are : found.lines.file ≡ bytes
+  pub text : OfReading file (λ r. found.lines.text ≡ flat_map (item_lines name bytes r) (range_with_len 0 n))
+  pub entries : OfReading file (λ r. found.entries ≡ entries_before r n)
+  pub few_entries : found.entries ≤ n

@@ -1,0 +1,142 @@
+//! Findings that are written as lines.
+
+ghost use Rattle.std.specs.Prelude.{◌≡◌, ◌++◌, IfOk, OnOk};
+ghost use Rattle.bib_answers.specs.Lint.{placed_at, warning_line, error_line};
+
+use crate::lines::add_all;
+use crate::messages::fault_name;
+use crate::positions::{Known, Position, first_known, known_at};
+use std::alloc::{AllocError, Global};
+use std::marker::Model;
+
+/// The lines of findings in a file. Its places are looked up one after another: where they come in order, all of them
+/// together take time in the file's length. A contract sees the file's name and bytes, the place of the item in which
+/// something is found, and the lines so far.
+#[derive(Drop)]
+pub struct FindingLines<'a> {
+    alloc: Global,
+    name: &'a [u8],
+    file: &'a [u8],
+    start: usize,
+    text: Vec<u8>,
+    known: Known,
+}
+
+impl<'a> Model for FindingLines<'a> {
+    ghost use Rattle.bib_answers.specs.FindingLines.{Written};
+    ghost use Rattle.bib_answers.specs.Positions.{IsKnown};
+
+    ghost Value = { Written };
+
+    ghost view = { λ l. record { name = l.name.now; file = l.file.now; start = l.start; text = l.text.items } };
+
+    ghost invariant = { λ l. IsKnown l.file.now l.known };
+}
+
+impl<'a> FindingLines<'a> {
+    ghost use Rattle.std.specs.Prelude.{◌≡◌, ◌++◌, ◌+◌, [], OnOk};
+    ghost use Rattle.bib_answers.specs.Lint.{found};
+    ghost use Rattle.bib_answers.specs.FindingLines.{Written, at_item, with_findings};
+
+    /// No line, of a file with this name and these bytes.
+    pub fn new(alloc: Global, name: &'a [u8], file: &'a [u8]) -> Self
+        ensures { result ≡ (record { name = name.now; file = file.now; start = 0; text = [] }) }
+    {
+        FindingLines {
+            alloc,
+            name,
+            file,
+            start: 0,
+            text: Vec::new(alloc),
+            known: first_known(),
+        }
+    }
+
+    /// What is found next is in the item that begins at this place.
+    pub fn begin_item(&mut self, start: usize)
+        ensures { self.new ≡ at_item self.old start }
+    {
+        self.start = start;
+    }
+
+    /// Adds the line of a finding at a place in the item, or this much behind it, which says these words with a name or text
+    /// between them.
+    pub fn add_behind(
+        &mut self,
+        at: usize,
+        more: usize,
+        before: &[u8],
+        name: &[u8],
+        after: &[u8],
+    ) -> Result<(), AllocError>
+        ensures { OnOk result (self.new ≡ with_findings self.old (found (at + more) before.now name.now after.now)) }
+    {
+        let place = self.start.saturating_add(at).saturating_add(more);
+        self.known = known_at(self.file, self.known, place);
+        add_warning(
+            self.alloc,
+            &mut self.text,
+            self.name,
+            self.known.at,
+            before,
+            name,
+            after,
+        )
+    }
+
+    /// The same at a place in the item.
+    pub fn add(
+        &mut self,
+        at: usize,
+        before: &[u8],
+        name: &[u8],
+        after: &[u8],
+    ) -> Result<(), AllocError>
+        ensures { OnOk result (self.new ≡ with_findings self.old (found at before.now name.now after.now)) }
+    {
+        self.add_behind(at, 0, before, name, after)
+    }
+
+    /// The lines.
+    pub fn into_text(self) -> Vec<u8>
+        ensures { result.items ≡ self.entry.text }
+    {
+        self.text
+    }
+}
+
+/// Adds a line: the file's name, a position, and these words with a name or text between them.
+fn add_warning(
+    alloc: Global,
+    out: &mut Vec<u8>,
+    file: &[u8],
+    at: Position,
+    before: &[u8],
+    name: &[u8],
+    after: &[u8],
+) -> Result<(), AllocError>
+    ensures { OnOk result (out.new.items ≡ out.old.items ++ warning_line file.now at (before.now ++ (name.now ++ after.now))) }
+{
+    add_place(alloc, out, file, at)?;
+    add_all(out, &[b"warning: ", before, name, after, b"\n"])
+}
+
+/// Adds the file's name and a position.
+fn add_place(alloc: Global, out: &mut Vec<u8>, file: &[u8], at: Position) -> Result<(), AllocError>
+    ensures { OnOk result (out.new.items ≡ out.old.items ++ placed_at file.now at) }
+{
+    let numbers = format!(in alloc; ":{}:{}: ", at.line, at.column)?;
+    out.extend_from_slice(file)?;
+    out.extend_from_slice(numbers.as_bytes())
+}
+
+/// The line of a fault of reading: the file's name, a position, and the number and name of the fault.
+pub fn error_line(alloc: Global, file: &[u8], at: Position, kind: u8) -> Result<Vec<u8>, AllocError>
+    ensures { IfOk result (λ line. line.items ≡ error_line file.now at kind) }
+{
+    let said = format!(in alloc; "error: {} {}\n", kind, fault_name(kind))?;
+    let mut out = Vec::new(alloc);
+    add_place(alloc, &mut out, file, at)?;
+    out.extend_from_slice(said.as_bytes())?;
+    Ok(out)
+}

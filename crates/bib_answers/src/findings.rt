@@ -1,0 +1,363 @@
+//! What is found in one item.
+
+ghost use Rattle.std.specs.Prelude.{◌≡◌, ◌++◌, ◌+◌, ◌∷◌, ℕ, Bool, List, [], OnOk};
+ghost use Rattle.std.specs.Option.{option_copied};
+ghost use Rattle.bib_spec.specs.Bytes.{name_limit};
+ghost use Rattle.bib_spec.specs.Text.{Text};
+ghost use Rattle.bib_spec.specs.Reading.{IsValueWithin};
+ghost use Rattle.bib_spec.specs.Records.{entries_of};
+ghost use Rattle.bib_scan.specs.Layout.{start_of};
+ghost use Rattle.bib_scan.specs.PartView.{part_view};
+ghost use Rattle.bib_scan.specs.ValueParts.{IsPartsOf};
+ghost use Rattle.bib_scan.specs.View.{field_seen};
+ghost use Rattle.bib_value.specs.Raw.{OfValue};
+ghost use Rattle.bib_store.specs.Meaning.{OfReading, IsItemNumber, IsEntryNumber};
+ghost use Rattle.bib_answers.specs.Check.{Assigned, defined_in, entries_before};
+ghost use Rattle.bib_answers.specs.Fields.{Views, AreFieldsOf, AreSound};
+ghost use Rattle.bib_answers.specs.Lint.{use_findings, value_findings, name_findings, field_findings, grandparent, order_findings, nested_findings, target_findings, crossref_findings, crossrefs_of, repeated_findings, unusual_findings, key_findings, findings_on};
+ghost use Rattle.bib_answers.specs.FindingLines.{at_item, with_findings};
+ghost use Rattle.bib_answers.specs.Recurring.{AreTold};
+ghost use Rattle.bib_answers.specs.Seen.{HaveSeen};
+
+use crate::answers::MEMORY;
+use crate::finding_lines::FindingLines;
+use crate::kinds::is_same_kind;
+use crate::reporting::{defined_in, is_own, is_repeated};
+use crate::seen_names::SeenNames;
+use bib_scan::{
+    FieldView, ItemView, Kind, Part, Parts, is_key, only_part, read_value, same_folded,
+};
+use bib_store::{Database, Paged};
+use bib_value::MacroTable;
+use std::alloc::{AllocError, Global};
+
+/// Adds the lines of item `n`, which is seen so, and before which there are so many entries. It takes time in the item's
+/// length. `names` lends its memory for the names of the fields.
+pub fn add_item_findings<'a>(
+    alloc: Global,
+    lines: &mut FindingLines<'_>,
+    db: &Database<Paged>,
+    n: usize,
+    item: &ItemView<'a>,
+    entries: usize,
+    names: &mut SeenNames<'a>,
+) -> Result<(), AllocError>
+    requires item { IsItemNumber db.now n }
+    requires seen { OfReading db.now (λ r. Views r n item.now) }
+    requires entries { OfReading db.now (λ r. entries ≡ entries_before r n) }
+    ensures { OnOk result (OfReading db.now (λ r. lines.new ≡ with_findings (at_item lines.old (start_of r n)) (findings_on r n))) }
+{
+    db.opens();
+    lines.begin_item(db.item_place(n));
+    let macros = db.macros_at(n);
+    if !is_same_kind(item.kind(), Kind::Entry) {
+        return add_field_findings(alloc, lines, item, &macros, Crossref::none(), names);
+    }
+    let repeated = is_repeated(db, entries, item.key());
+    add_key_findings(lines, item.key_at(), repeated, item.key())?;
+    add_field_findings(alloc, lines, item, &macros, crossref_of(db, entries), names)
+}
+
+// ---- keys
+
+/// An earlier entry has the key, and no edit could write it.
+fn add_key_findings(
+    lines: &mut FindingLines<'_>,
+    at: usize,
+    repeated: bool,
+    key: &[u8],
+) -> Result<(), AllocError>
+    ensures { OnOk result (lines.new ≡ with_findings lines.old (key_findings at repeated key.now)) }
+{
+    add_repeated(lines, at, repeated, key)?;
+    add_unusual(lines, at, key)
+}
+
+fn add_repeated(
+    lines: &mut FindingLines<'_>,
+    at: usize,
+    repeated: bool,
+    key: &[u8],
+) -> Result<(), AllocError>
+    ensures { OnOk result (lines.new ≡ with_findings lines.old (repeated_findings at repeated key.now)) }
+{
+    if repeated {
+        return lines.add(at, b"key ", key, b" is that of an earlier entry");
+    }
+    Ok(())
+}
+
+fn add_unusual(lines: &mut FindingLines<'_>, at: usize, key: &[u8]) -> Result<(), AllocError>
+    ensures { OnOk result (lines.new ≡ with_findings lines.old (unusual_findings at key.now)) }
+{
+    if key.is_empty() {
+        return lines.add(at, b"the entry", key, b" has no key");
+    }
+    if is_key(key) {
+        return Ok(());
+    }
+    lines.add(at, b"key ", key, b" is none that an edit could write")
+}
+
+// ---- crossrefs
+
+/// The text of an entry's crossref, the entry's number, its target, and the parent of that.
+#[derive(Clone, Copy)]
+pub struct Crossref<'a> {
+    n: usize,
+    text: Option<&'a [u8]>,
+    target: Option<usize>,
+    grandparent: Option<usize>,
+}
+
+impl<'a> Crossref<'a> {
+    ghost use Rattle.std.specs.Prelude.{◌≡◌, None};
+
+    /// That of an item that has none.
+    fn none() -> Self
+        ensures { result.text ≡ None }
+    {
+        Crossref {
+            n: 0,
+            text: None,
+            target: None,
+            grandparent: None,
+        }
+    }
+}
+
+/// The crossref of an entry.
+fn crossref_of(db: &Database<Paged>, n: usize) -> Crossref<'_>
+    requires { IsEntryNumber db.now n }
+    ensures { OfReading db.now (λ r. (at : ℕ) → crossref_findings result.n (option_copied result.text) result.target result.grandparent at ≡ crossrefs_of (entries_of r) n at) }
+{
+    Crossref {
+        n,
+        text: db.crossref_text(n),
+        target: db.target(n),
+        grandparent: grandparent(db, n),
+    }
+}
+
+/// The parent of an entry's parent, where that is another entry.
+fn grandparent(db: &Database<Paged>, n: usize) -> Option<usize>
+    requires { IsEntryNumber db.now n }
+    ensures { OfReading db.now (λ r. result ≡ grandparent (entries_of r) n) }
+{
+    let parent = db.parent(n)?;
+    let grandparent = db.parent(parent)?;
+    if grandparent == n {
+        return None;
+    }
+    Some(grandparent)
+}
+
+/// What is wrong with a crossref whose value stands at this place.
+fn add_crossref(
+    lines: &mut FindingLines<'_>,
+    at: usize,
+    crossref: Crossref<'_>,
+) -> Result<(), AllocError>
+    ensures { OnOk result (lines.new ≡ with_findings lines.old (crossref_findings crossref.entry.n (option_copied crossref.entry.text) crossref.entry.target crossref.entry.grandparent at)) }
+{
+    match crossref.text {
+        None => Ok(()),
+        Some([]) => Ok(()),
+        Some(text) => add_target(
+            lines,
+            at,
+            crossref.n,
+            text,
+            crossref.target,
+            crossref.grandparent,
+        ),
+    }
+}
+
+fn add_target(
+    lines: &mut FindingLines<'_>,
+    at: usize,
+    n: usize,
+    text: &[u8],
+    target: Option<usize>,
+    grandparent: Option<usize>,
+) -> Result<(), AllocError>
+    ensures { OnOk result (lines.new ≡ with_findings lines.old (target_findings at n text.now target grandparent)) }
+{
+    match target {
+        None => lines.add(at, b"crossref ", text, b" names no entry"),
+        Some(m) if m == n => lines.add(at, b"crossref ", text, b" names its own entry"),
+        Some(m) => {
+            add_order(lines, at, n, text, m)?;
+            add_nested(lines, at, text, grandparent)
+        }
+    }
+}
+
+fn add_order(
+    lines: &mut FindingLines<'_>,
+    at: usize,
+    n: usize,
+    text: &[u8],
+    m: usize,
+) -> Result<(), AllocError>
+    ensures { OnOk result (lines.new ≡ with_findings lines.old (order_findings at n text.now m)) }
+{
+    if m < n {
+        return lines.add(at, b"parent ", text, b" stands before its child");
+    }
+    Ok(())
+}
+
+fn add_nested(
+    lines: &mut FindingLines<'_>,
+    at: usize,
+    text: &[u8],
+    grandparent: Option<usize>,
+) -> Result<(), AllocError>
+    ensures { OnOk result (lines.new ≡ with_findings lines.old (nested_findings at text.now grandparent)) }
+{
+    match grandparent {
+        None => Ok(()),
+        Some(_) => lines.add(
+            at,
+            b"parent ",
+            text,
+            b" has a parent itself, whose fields are not inherited",
+        ),
+    }
+}
+
+// ---- fields
+
+/// What is found in an item's fields: on each, that an earlier one has its name, what is wrong with the crossref, and the
+/// macros that it uses.
+fn add_field_findings<'a, M: MacroTable>(
+    alloc: Global,
+    lines: &mut FindingLines<'_>,
+    item: &ItemView<'a>,
+    macros: &M,
+    crossref: Crossref<'_>,
+    earlier: &mut SeenNames<'a>,
+) -> Result<(), AllocError>
+    requires { AreSound item.now.fields }
+    ensures { OnOk result ((values : List Assigned) → AreFieldsOf values item.now.fields
+        → lines.new ≡ with_findings lines.old (field_findings (defined_in item.now.kind) (M.macros macros.now)
+        (crossref_findings crossref.entry.n (option_copied crossref.entry.text) crossref.entry.target crossref.entry.grandparent) [] item.now.fields values)) }
+{
+    earlier.clear();
+    let mut fields = item.fields();
+    'fields: while let Some(field) = fields.next() {
+        earlier.mark(item)?;
+        add_name(lines, earlier, field, crossref)?;
+        add_uses(
+            alloc,
+            lines,
+            field.value_at,
+            macros,
+            defined_in(item.kind(), field.name),
+            field.value,
+        )?;
+        earlier.add(field.name)?;
+    }
+    Ok(())
+}
+
+/// An earlier field has this name, or what is wrong with the crossref where it is that.
+fn add_name(
+    lines: &mut FindingLines<'_>,
+    earlier: &SeenNames<'_>,
+    field: FieldView<'_>,
+    crossref: Crossref<'_>,
+) -> Result<(), AllocError>
+    ensures { OnOk result ((names rest : List Text) → HaveSeen earlier.now names → AreTold earlier.now.marks names (field.entry.name.now ∷ rest)
+        → lines.new ≡ with_findings lines.old (name_findings (crossref_findings crossref.entry.n (option_copied crossref.entry.text) crossref.entry.target crossref.entry.grandparent) names (field_seen field.entry))) }
+{
+    if earlier.has(field.name) {
+        return lines.add(field.name_at, b"field ", field.name, b" is there already");
+    }
+    if same_folded(field.name, b"crossref") {
+        return add_crossref(lines, field.value_at, crossref);
+    }
+    Ok(())
+}
+
+// ---- uses
+
+/// The macros that are wrongly used in a value at this place. Most values have one part, and are not taken apart.
+fn add_uses<M: MacroTable>(
+    alloc: Global,
+    lines: &mut FindingLines<'_>,
+    at: usize,
+    macros: &M,
+    own: Option<&[u8]>,
+    value: &[u8],
+) -> Result<(), AllocError>
+    requires { IsValueWithin name_limit value.now }
+    ensures { OnOk result (OfValue value.now (λ v. lines.new ≡ with_findings lines.old (value_findings (option_copied own.entry) (M.macros macros.now) at v))) }
+{
+    if let Some(part) = only_part(value) {
+        return add_use(lines, at, 0, part, macros, own);
+    }
+    add_each_use(alloc, lines, at, macros, own, value)
+}
+
+/// The same, of a value that is taken apart.
+fn add_each_use<M: MacroTable>(
+    alloc: Global,
+    lines: &mut FindingLines<'_>,
+    at: usize,
+    macros: &M,
+    own: Option<&[u8]>,
+    value: &[u8],
+) -> Result<(), AllocError>
+    requires { IsValueWithin name_limit value.now }
+    ensures { OnOk result (OfValue value.now (λ v. lines.new ≡ with_findings lines.old (value_findings (option_copied own.entry) (M.macros macros.now) at v))) }
+{
+    match read_value(alloc, value) {
+        Ok(parts) => add_part_uses(lines, at, macros, own, value, &parts),
+        Err(fault) if fault.kind == MEMORY => Err(AllocError),
+        Err(_) => unreachable!(),
+    }
+}
+
+/// The same, of a value whose parts these are.
+fn add_part_uses<M: MacroTable>(
+    lines: &mut FindingLines<'_>,
+    at: usize,
+    macros: &M,
+    own: Option<&[u8]>,
+    value: &[u8],
+    parts: &Parts,
+) -> Result<(), AllocError>
+    requires { IsPartsOf value.now parts.now }
+    ensures { OnOk result (OfValue value.now (λ v. lines.new ≡ with_findings lines.old (value_findings (option_copied own.entry) (M.macros macros.now) at v))) }
+{
+    'uses: for n in 0..parts.len() {
+        add_use(lines, at, parts.place(n), parts.part(value, n), macros, own)?;
+    }
+    Ok(())
+}
+
+/// A use of a macro, this much behind the value's place.
+fn add_use<M: MacroTable>(
+    lines: &mut FindingLines<'_>,
+    at: usize,
+    more: usize,
+    part: Part<'_>,
+    macros: &M,
+    own: Option<&[u8]>,
+) -> Result<(), AllocError>
+    ensures { OnOk result (lines.new ≡ with_findings lines.old (use_findings (option_copied own.entry) (M.macros macros.now) (at + more) (part_view part.entry))) }
+{
+    let Part::Macro(name) = part else {
+        return Ok(());
+    };
+    if is_own(name, own) {
+        return lines.add_behind(at, more, b"macro ", name, b" is used in its own definition");
+    }
+    if macros.text_of(name).is_none() {
+        return lines.add_behind(at, more, b"macro ", name, b" is not defined");
+    }
+    Ok(())
+}

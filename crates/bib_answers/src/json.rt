@@ -1,0 +1,105 @@
+//! `json`: entries as values of JSON, a line each.
+
+ghost use Rattle.std.specs.Prelude.{◌≡◌, ◌≢◌, ◌++◌, [], true, false, Some, IfSome, IfOk, IfErr, option_map};
+ghost use Rattle.std.specs.Option.{option_copied};
+ghost use Rattle.bib_spec.specs.Records.{entries_of, IsDepth};
+ghost use Rattle.bib_store.specs.Meaning.{OfReading, IsEntryNumber};
+ghost use Rattle.entry_json.specs.EntryJson.{Told, json_line, is_told_utf8};
+ghost use Rattle.entry_json.specs.declared.fault.JsonFault.TheVariants.{Memory};
+ghost use Rattle.bib_answers.specs.Entries.{key_at};
+ghost use Rattle.bib_answers.specs.Json.{told_at, told_of, not_utf8_line, told_answer, json_answer};
+ghost use Rattle.bib_answers.specs.Marks.{AreEntryNumbers};
+ghost use Rattle.bib_answers.specs.Opened.{AnswersFile};
+ghost use Rattle.bib_answers.specs.Outcome.{answer_of};
+
+use crate::answers::{Answer, done, no_such_entry, refused};
+use crate::citing::all_cited;
+use crate::lines::add_all;
+use crate::opening::answer_file;
+use bib_scan::Text;
+use bib_store::{Database, Paged};
+use entry_json::{JsonFault, add_line};
+use std::alloc::{AllocError, Global};
+
+/// The entries that the keys cite, with their records at this depth, or that a key finds none, or that a text is not UTF-8.
+pub fn answer_json(
+    alloc: Global,
+    file: Vec<u8>,
+    keys: &[Text],
+    depth: u8,
+) -> Result<Answer, AllocError>
+    requires { IsDepth depth }
+    ensures { IfOk result (AnswersFile (json_answer depth keys.now) file.items) }
+{
+    answer_file(alloc, file, |db| json(alloc, db, keys, depth))
+}
+
+fn json(alloc: Global, db: &Database<Paged>, keys: &[Text], depth: u8) -> Result<Answer, AllocError>
+    requires { IsDepth depth }
+    ensures { IfOk result (λ answer. OfReading db.now (λ r. answer ≡ json_answer depth keys.now r)) }
+{
+    match all_cited(db, keys)? {
+        Some(list) => lines_of(alloc, db, list.as_slice(), depth),
+        None => no_such_entry(alloc),
+    }
+}
+
+/// A line for each of these entries, or that a text of one is not UTF-8.
+fn lines_of(
+    alloc: Global,
+    db: &Database<Paged>,
+    list: &[usize],
+    depth: u8,
+) -> Result<Answer, AllocError>
+    requires numbers { AreEntryNumbers db.now list.now }
+    requires depth { IsDepth depth }
+    ensures { IfOk result (λ answer. OfReading db.now (λ r. answer ≡ told_answer (told_of depth (entries_of r) list.now))) }
+{
+    let mut lines = Vec::new(alloc);
+    'entries: for n in list {
+        lines = match with_entry(lines, db, *n, depth) {
+            Ok(more) => more,
+            Err(JsonFault::NotUtf8) => return not_utf8(alloc, db.entry(*n).key()),
+            Err(JsonFault::Memory) => return Err(AllocError),
+        };
+    }
+    Ok(done(alloc, Text::from_vec(lines)))
+}
+
+/// Nothing is output, and the message says in which entry a text is not UTF-8.
+fn not_utf8(alloc: Global, key: &[u8]) -> Result<Answer, AllocError>
+    ensures { IfOk result (λ answer. answer ≡ answer_of [] (not_utf8_line key.now) 1) }
+{
+    let mut message = Vec::new(alloc);
+    add_all(&mut message, &[b"bibkeep: 24 NotUtf8 in ", key, b"\n"])?;
+    Ok(refused(alloc, Text::from_vec(message)))
+}
+
+/// The lines, and that of entry `n`.
+fn with_entry(
+    lines: Vec<u8>,
+    db: &Database<Paged>,
+    n: usize,
+    depth: u8,
+) -> Result<Vec<u8>, JsonFault>
+    requires number { IsEntryNumber db.now n }
+    requires depth { IsDepth depth }
+    ensures line { IfOk result (λ more. OfReading db.now (λ r. (told : Told) → told_at depth (entries_of r) n ≡ Some told → (is_told_utf8 told ≡ true) × (more.items ≡ lines.items ++ json_line told))) }
+    ensures fault { IfErr result (λ fault. fault ≢ Memory → OfReading db.now (λ r. (told : Told) → told_at depth (entries_of r) n ≡ Some told → is_told_utf8 told ≡ false)) }
+{
+    let Ok(expanded) = db.expanded(n, depth) else {
+        return Err(JsonFault::Memory);
+    };
+    add_line(lines, &expanded.rec, key_of(db, expanded.parent))
+}
+
+/// The key of an entry, if there is one.
+fn key_of(db: &Database<Paged>, n: Option<usize>) -> Option<&[u8]>
+    requires { IfSome n (IsEntryNumber db.now) }
+    ensures { OfReading db.now (λ r. option_copied result ≡ option_map (key_at (entries_of r)) n) }
+{
+    match n {
+        Some(n) => Some(db.entry(n).key()),
+        None => None,
+    }
+}

@@ -1,6 +1,0 @@
-use Rattle.bib_command.proofs.command_line.journals.Goals as goal
-
-pub returns : goal.returns
-returns c =
-    let turns = c.adds-turns.ensures _ _ (c.adds.ensures _ _ c.edits.ensures c.undo.ensures) c.redo.ensures in
-    c.adds-3.ensures _ _ (c.adds-2.ensures _ _ turns c.log.ensures) c.forget.ensures

@@ -1,0 +1,66 @@
+-- What a session saved is loaded, and is refused for want of memory alone.
+use Rattle.std.proofs.Common.{◌≡◌, ℕ, Option, None, Some, inl, inr, refl, sym, ◌∙◌, ap, subst, arith, rules}
+use Rattle.bib_spec.specs.Text.{Text}
+use Rattle.bib_spec.specs.Bytes.{name_limit}
+use Rattle.bib_spec.specs.Fault.{IsReadFault, too_long, no_reading, no_memory}
+use Rattle.bib_spec.specs.Texts.{IsOpenable, too_long_at}
+use Rattle.bib_scan.proofs.OneReading.{one_reading}
+use Rattle.history_spec.specs.Steps.{KeptSteps}
+use Rattle.bib_store.specs.Meaning.{IsOpenFault}
+use Rattle.journal_format.proofs.JournalLaws.{one-contents}
+use Rattle.bib_journal.specs.declared.fault.SessionFault.{SessionFault}
+use Rattle.bib_journal.specs.declared.fault.SessionFault.TheVariants.{Unopened, Refused, JournalFull, NothingToUndo, NothingToRedo, BadJournal, JournalMismatch, StepOpen, NoOpenStep, Memory}
+use Rattle.bib_journal.specs.declared.saving.Saved.{Saved}
+use Rattle.bib_journal.specs.Loading.{FitFile, Loads, contents_of}
+use Rattle.bib_journal.specs.Session.{Opens, RefusesStart, RefusesLoad, RefusesOpen}
+use Rattle.bib_journal.specs.SavedLoads.{what_is_saved_is_loaded}
+use Rattle.bib_journal.proofs.SeveralRuns.{saved_loads}
+
+-- a file that opens is not opened only where memory is refused
+read_fault : (file : Text) (kind place : ℕ) → IsOpenable file → IsReadFault file kind place → kind ≡ 10
+read_fault file kind place opens (too_long over) = absurd (let short = opens.1.short in omega (arith, over, short))
+read_fault file kind place opens (no_reading fault at within failing wrong) = absurd (failing.fails (opens.0, opens.1.reads))
+read_fault file kind place opens (no_memory within) = refl
+
+some_is_none : (place : ℕ) → Some place ≡ None → ⊥
+some_is_none place is = search rules
+
+pub open_fault : (file : Text) (kind place : ℕ) → IsOpenable file → IsOpenFault file kind place → kind ≡ 10
+open_fault file kind place opens (inl fault) = read_fault file kind place opens fault
+open_fault file kind place opens (inr fault) =
+    absurd (some_is_none place (sym fault.first ∙ ap too_long_at (one_reading name_limit file fault.db opens.0 fault.reads opens.1.reads) ∙ opens.1.texts))
+
+-- a session that opens is not refused, but for memory
+start_refused : (file : Text) → IsOpenable file → (fault : SessionFault) → RefusesStart fault file → fault ≡ Memory
+start_refused file opens Memory why = refl
+start_refused file opens (Unopened fault) why = absurd (why.0 (open_fault file fault.kind fault.place opens why.1))
+start_refused file opens (BadJournal place) why = absurd why
+start_refused file opens JournalMismatch why = absurd why
+start_refused file opens (Refused fault) why = absurd why
+start_refused file opens JournalFull why = absurd why
+start_refused file opens NothingToUndo why = absurd why
+start_refused file opens NothingToRedo why = absurd why
+start_refused file opens StepOpen why = absurd why
+start_refused file opens NoOpenStep why = absurd why
+
+load_refused : (file text : Text) (kept : KeptSteps) → Loads file text kept → (fault : SessionFault) → RefusesLoad fault file text → fault ≡ Memory
+load_refused file text kept loads Memory why = refl
+load_refused file text kept loads (Unopened fault) why = absurd (why.0 (open_fault file fault.kind fault.place loads.fit.opens why.1))
+load_refused file text kept loads (BadJournal place) why = absurd (why.1.none (contents_of kept) loads.journal)
+load_refused file text kept loads JournalMismatch why =
+    absurd (why.misfit (subst (λ c. FitFile c file) (one-contents text (contents_of kept) why.contents loads.journal why.journal) loads.fit))
+load_refused file text kept loads (Refused fault) why = absurd why
+load_refused file text kept loads JournalFull why = absurd why
+load_refused file text kept loads NothingToUndo why = absurd why
+load_refused file text kept loads NothingToRedo why = absurd why
+load_refused file text kept loads StepOpen why = absurd why
+load_refused file text kept loads NoOpenStep why = absurd why
+
+pub open_refused : (file : Text) (journal : Option Text) (kept : KeptSteps) → Opens file journal kept → (fault : SessionFault) → RefusesOpen fault file journal → fault ≡ Memory
+open_refused file None kept opens = start_refused file opens.0
+open_refused file (Some text) kept loads = load_refused file text kept loads
+
+pub what-is-saved-is-loaded : what_is_saved_is_loaded
+what-is-saved-is-loaded kept saved w saves =
+    let loads : Loads saved.file saved.journal kept = saved_loads kept saved w saves in
+    (loads, load_refused saved.file saved.journal kept loads)

@@ -1,0 +1,18 @@
+-- What an edit keeps of the items that it does not touch, of the files of a session.
+use Rattle.std.proofs.Common.{◌≡◌, sym, subst}
+use Rattle.bib_spec.specs.Reading.{Reading}
+use Rattle.edit_spec.specs.Edits.{edited, IsAccepted}
+use Rattle.edit_spec.specs.OtherLaws.{is_gone, is_changed, new_number, KeepsItems}
+use Rattle.edit_spec.proofs.UntouchedItems.{untouched_items-stay}
+use Rattle.bib_data.specs.declared.edit.Edit.{Edit}
+use Rattle.bib_keys.specs.MadeBase.{made_base}
+use Rattle.bib_edit.specs.Asking.{OfEdit}
+use Rattle.bib_journal.specs.UntouchedItems.{KeepsUntouched, items_are_kept}
+use Rattle.bib_journal.proofs.MadeFiles.{of-made}
+
+made-items : (edit : Edit) (db db' : Reading) → OfEdit edit (IsAccepted made_base db) → OfEdit edit (λ e. db' ≡ edited made_base db e) → KeepsUntouched edit db db'
+made-items edit db db' allowed is e asks =
+    subst (KeepsItems (is_gone db e) (is_changed made_base db e) (new_number db e) db) (sym (is e asks)) (untouched_items-stay made_base db e (allowed e asks))
+
+pub items-are-kept : items_are_kept
+items-are-kept = of-made KeepsUntouched made-items

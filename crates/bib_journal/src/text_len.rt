@@ -1,0 +1,54 @@
+//! How long the text of a step is after an edit joins it.
+
+ghost use Rattle.std.specs.Prelude.{◌≡◌, ◌+◌, ◌-◌, ◌^◌, ◌≤◌, length, min, take, drop, decimal};
+ghost use Rattle.std.specs.List.{flat_map};
+ghost use Rattle.bib_spec.specs.Text.{Text};
+ghost use Rattle.history_spec.specs.Steps.{piece_text, step_text_len};
+ghost use Rattle.bib_steps.specs.Amending.{IsWithin, AreWithin, amended};
+
+use bib_steps::{Amendment, Replacement};
+use bib_store::Piece;
+use journal_format::{decimal_len, piece_texts_len};
+
+/// How long the texts of the pieces are that a replacement takes away, or the greatest number.
+fn removed_len(pieces: &[Piece], change: &Replacement) -> u64
+    requires { IsWithin (length pieces.now) change.now }
+    ensures { result ≡ min (length (flat_map piece_text (take (change.now.to - change.now.from) (drop change.now.from pieces.now)))) (2 ^ 64 - 1) }
+{
+    let (_, rest) = pieces.split_at(change.from);
+    let (removed, _) = rest.split_at(change.to - change.from);
+    piece_texts_len(removed)
+}
+
+/// How long texts are, or the greatest number, if so many bytes of pieces go and so many come, and the number of the pieces
+/// changes.
+fn changed_len(len: u64, gone: u64, come: u64, before: usize, now: usize) -> u64
+    ensures { result ≡ min (min (len - min (gone + length (decimal before)) (2 ^ 64 - 1) + come) (2 ^ 64 - 1) + length (decimal now)) (2 ^ 64 - 1) }
+{
+    len.saturating_sub(gone.saturating_add(decimal_len(before as u64)))
+        .saturating_add(come)
+        .saturating_add(decimal_len(now as u64))
+}
+
+/// How long texts are, or the greatest number, once an edit has joined one of their steps, which has these pieces; `len` is
+/// how long they are before.
+pub(crate) fn amended_len(len: u64, pieces: &[Piece], change: &Amendment) -> u64
+    requires within { AreWithin (length pieces.now) change.now }
+    requires few { length pieces.now ≤ 67174399 }
+    ensures { (label : Text) → step_text_len (record { label = label; pieces = pieces.now }) ≤ len → len ≤ 67174399
+        → result ≡ min (len - step_text_len (record { label = label; pieces = pieces.now }) + step_text_len (record { label = label; pieces = amended change.now pieces.now })) (2 ^ 64 - 1) }
+{
+    let last = &change.last;
+    let gone = removed_len(pieces, last);
+    let come = piece_texts_len(last.pieces.as_slice());
+    let count = pieces.len() - (last.to - last.from) + last.pieces.as_slice().len();
+    match &change.others {
+        None => changed_len(len, gone, come, pieces.len(), count),
+        Some(first) => {
+            let gone = gone.saturating_add(removed_len(pieces, first));
+            let come = come.saturating_add(piece_texts_len(first.pieces.as_slice()));
+            let now = count - (first.to - first.from) + first.pieces.as_slice().len();
+            changed_len(len, gone, come, pieces.len(), now)
+        }
+    }
+}

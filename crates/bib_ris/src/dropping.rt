@@ -1,0 +1,84 @@
+//! Fields of a file's entries that RIS leaves out.
+
+ghost use Rattle.std.specs.Prelude.{◌≡◌, ◌<◌, ◌++◌, [], length, All, IfOk, IfErr, OnOk};
+ghost use Rattle.std.specs.List.{flat_map};
+ghost use Rattle.std.specs.Option.{option_map_or};
+ghost use Rattle.bib_spec.specs.Records.{entries_of, expanded, IsDepth};
+ghost use Rattle.bib_store.specs.Meaning.{OfReading, IsEntryNumber};
+ghost use Rattle.ris_format.specs.declared.fault.MappingFault.TheVariants.{Memory};
+ghost use Rattle.bib_ris.specs.Dropped.{dropped_line, dropped_lines, entries_dropped};
+
+use bib_scan::{Seq, Text};
+use bib_store::{Database, ItemList, Record};
+use ris_format::{MappingFault, to_ris};
+use std::alloc::{AllocError, Global};
+
+/// Adds a key, a tab, and the name of a field, a line.
+fn add_name(text: &mut Vec<u8>, key: &[u8], name: &[u8]) -> Result<(), AllocError>
+    ensures { OnOk result (text.new.items ≡ text.old.items ++ dropped_line key.now name.now) }
+{
+    text.extend_from_slice(key)?;
+    text.extend_from_slice(b"\t")?;
+    text.extend_from_slice(name)?;
+    text.extend_from_slice(b"\n")
+}
+
+/// Adds a line for each of these names.
+fn add_names(text: &mut Vec<u8>, key: &[u8], names: &[Text]) -> Result<(), AllocError>
+    ensures { OnOk result (text.new.items ≡ text.old.items ++ flat_map (dropped_line key.now) names.now) }
+{
+    'names: for name in names {
+        add_name(text, key, name.as_slice())?;
+    }
+    Ok(())
+}
+
+/// Adds a line for each field of the record that RIS leaves out.
+fn add_record(alloc: Global, text: &mut Vec<u8>, rec: &Record) -> Result<(), MappingFault>
+    ensures text { OnOk result (text.new.items ≡ text.old.items ++ dropped_lines rec.now) }
+    ensures memory { IfErr result (λ fault. fault ≡ Memory) }
+{
+    let (_, names) = to_ris(alloc, rec)?;
+    add_names(text, rec.key.as_slice(), names.as_slice())?;
+    Ok(())
+}
+
+/// Adds a line for each field that RIS leaves out of entry `n`, with what it inherits at this depth.
+fn add_entry<L: ItemList>(
+    alloc: Global,
+    text: &mut Vec<u8>,
+    db: &Database<L>,
+    n: usize,
+    depth: u8,
+) -> Result<(), MappingFault>
+    requires number { IsEntryNumber db.now n }
+    requires depth { IsDepth depth }
+    ensures text { OnOk result (OfReading db.now (λ r. text.new.items ≡ text.old.items ++ option_map_or dropped_lines (expanded depth (entries_of r) n) [])) }
+    ensures memory { IfErr result (λ fault. fault ≡ Memory) }
+{
+    let Ok(expanded) = db.expanded(n, depth) else {
+        return Err(MappingFault::Memory);
+    };
+    add_record(alloc, text, &expanded.rec)
+}
+
+/// A line for each field that the RIS text of these entries leaves out: the key of its entry, a tab, and its name. Each entry
+/// is taken with what it inherits at this depth. It takes time in the lengths of the entries, and memory for the lines. The
+/// one refusal is want of memory.
+pub fn entries_dropped<L: ItemList>(
+    alloc: Global,
+    db: &Database<L>,
+    list: &[usize],
+    depth: u8,
+) -> Result<Text, MappingFault>
+    requires numbers { OfReading db.now (λ r. All (λ n. n < length (entries_of r)) list.now) }
+    requires depth { IsDepth depth }
+    ensures text { IfOk result (λ text. OfReading db.now (λ r. text ≡ entries_dropped depth (entries_of r) list.now)) }
+    ensures memory { IfErr result (λ fault. fault ≡ Memory) }
+{
+    let mut text = Vec::new(alloc);
+    'entries: for n in list {
+        add_entry(alloc, &mut text, db, *n, depth)?;
+    }
+    Ok(Seq::from_vec(text))
+}

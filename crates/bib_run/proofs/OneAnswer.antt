@@ -1,0 +1,408 @@
+-- What each command answers is determined by the bytes of its sources.
+use Rattle.std.proofs.Common.{◌≡◌, ◌≢◌, ◌≤◌, ◌==◌, ℕ, Bool, true, false, List, [], length, bytes_eq, codes, Option, Some, None, option_map, replicate, inl, inr, refl, sym, ◌∙◌, ap, ap₂, subst, arith}
+use Rattle.std.specs.List.{list_all}
+use Rattle.std.proofs.lemmas.Bool.{false≢true}
+use Rattle.std.proofs.lemmas.Option.{none-some, same_Some}
+use Rattle.bib_spec.specs.Bytes.{name_limit, file_limit}
+use Rattle.bib_spec.specs.Text.{Text}
+use Rattle.bib_spec.specs.Reading.{Reading, Reads, HasReading, HasReadingWithin}
+use Rattle.bib_spec.specs.Texts.{IsOpenable, too_long_at}
+use Rattle.bib_spec.specs.Fault.{IsReadFault, IsFaultAt, fault_number, too_long, no_reading, no_memory}
+use Rattle.bib_scan.proofs.OneReading.{one_reading}
+use Rattle.bib_scan.proofs.PlaceLaws.{one_place, one_fault}
+use Rattle.bib_store.specs.Meaning.{IsOpenFault}
+use Rattle.history_spec.specs.Steps.{KeptSteps}
+use Rattle.bib_data.specs.declared.edit.NewEntry.{NewEntry}
+use Rattle.bib_data.specs.declared.edit.Edit.TheVariants.{AddMany}
+use Rattle.bib_data.specs.declared.request.Request.{Request}
+use Rattle.bib_data.specs.declared.request.Request.TheVariants as request
+use Rattle.bib_names.specs.Template.{Pattern}
+use Rattle.bib_names.proofs.TemplateLaws as templates
+use Rattle.journal_format.proofs.JournalLaws as journals
+use Rattle.ris_text.specs.declared.records.RisFile.{RisFile}
+use Rattle.ris_text.specs.Lines.{lines_of}
+use Rattle.ris_text.proofs.MeaningLaws as meanings
+use Rattle.bib_ris.specs.declared.fault.ImportFault.{ImportFault}
+use Rattle.bib_ris.specs.declared.fault.ImportFault.TheVariants.{Unread, UnbalancedText, Memory}
+use Rattle.bib_ris.specs.declared.importing.Additions.{Additions}
+use Rattle.bib_ris.specs.Import.{AreAdditions, RefusesImport, records_of, imported}
+use Rattle.ris_format.specs.Entry.{are_balanced}
+use Rattle.bib_journal.specs.declared.fault.SessionFault.{SessionFault}
+use Rattle.bib_journal.specs.declared.saving.Saved.{Saved}
+use Rattle.bib_journal.specs.Loading.{Saves}
+use Rattle.bib_journal.specs.OpenSteps.{SessionState, idle}
+use Rattle.bib_journal.specs.OneResult.{IsGood}
+use Rattle.bib_journal.specs.Session.{started, Opens, IsOpened}
+use Rattle.bib_journal.specs.Turns.{HasTurned}
+use Rattle.bib_journal.proofs.SeveralRuns.{one-opening, opened_is_sound}
+use Rattle.bib_journal.proofs.SavedLoads.{open_fault}
+use Rattle.bib_journal.proofs.Moves.{none_open}
+use Rattle.bib_journal.proofs.OneResult.{one-result, one_saved, one_does, one_refusal, not_both}
+use Rattle.bib_words.specs.declared.commands.Command.{Command}
+use Rattle.bib_answers.specs.declared.answers.Answer.{Answer}
+use Rattle.bib_answers.specs.Messages.{refusal_line}
+use Rattle.bib_answers.specs.Outcome.{answer_of}
+use Rattle.bib_answers.specs.Cat.{IsCatAnswer}
+use Rattle.bib_answers.specs.Opened.{AnswersFile}
+use Rattle.bib_answers.specs.Check.{check_answer}
+use Rattle.bib_answers.specs.Show.{show_answer}
+use Rattle.bib_answers.specs.Cite.{cite_answer}
+use Rattle.bib_answers.specs.Labels.{labels_answer}
+use Rattle.bib_answers.specs.Names.{Spells, names_answer}
+use Rattle.bib_script.specs.Script.{said_of}
+use Rattle.bib_answers.specs.Json.{json_answer}
+use Rattle.bib_answers.specs.NewKeys.{newkeys_answer}
+use Rattle.bib_answers.specs.Positions.{position_of}
+use Rattle.bib_answers.specs.Lint.{IsLintAnswer, lint_answer, error_line}
+use Rattle.bib_run.specs.Ris.{ris_answer}
+use Rattle.bib_run.specs.Sessions.{IsUnopened, IsUnopenedAnswer, IsUnfit, OpensWith, judged_journal, bad_journal_line, fault_line, outcome_left}
+use Rattle.bib_run.specs.Inputs.{AnswersSession, AnswersInput}
+use Rattle.bib_run.specs.EditAnswer.{HasEdited, HasEditedBy, HasEditedByWords, IsEditAnswer, IsWordsAnswer, edited_answer, stop_line, fault_message}
+use Rattle.bib_run.specs.ImportAnswer.{HasAdded, HasImported, IsImportAnswer, import_fault_line, added_answer}
+use Rattle.bib_run.specs.Turns.{IsTurnAnswer, turned_line}
+use Rattle.bib_run.specs.Log.{IsLogAnswer, IsForgetAnswer, log_text, journal_left}
+use Rattle.bib_run.specs.Answers.{IsStoredAnswer, IsAnswerTo, first_word, key_word, key_words, template_word}
+use Rattle.bib_run.specs.Shown.{shown}
+use Rattle.bib_run.specs.OneAnswer.{one_answer}
+use Rattle.bib_run.proofs.StoredRuns.{not_unopened, not_unfit, not_refused_with, not_one, opened-is}
+
+-- at most one answer is such
+abbrev One : (Answer → Type 0) → Type 0
+One P = (a b : Answer) → P a → P b → a ≡ b
+
+-- ---- why a file is not opened
+
+not_read : (file : Text) (kind place : ℕ) (db : Reading) → kind ≢ 10 → length file ≤ file_limit → Reads file db → IsReadFault file kind place → ⊥
+not_read file kind place db told short reads (too_long over) = omega (arith, over, short)
+not_read file kind place db told short reads (no_reading fault at within failing wrong) = failing.fails (db, reads)
+not_read file kind place db told short reads (no_memory within) = told refl
+
+abbrev SamePlace : ℕ → ℕ → ℕ → ℕ → Type 0
+SamePlace kind place kind' place' = (kind ≡ kind') × (place ≡ place')
+
+one_read_fault : (file : Text) (kind place kind' place' : ℕ) → kind ≢ 10 → kind' ≢ 10 → IsReadFault file kind place → IsReadFault file kind' place' → SamePlace kind place kind' place'
+one_read_fault file kind place kind' place' told told' (too_long over) (too_long over') = (refl, refl)
+one_read_fault file kind place kind' place' told told' (too_long over) (no_reading fault at within failing wrong) = absurd (omega (arith, over, within))
+one_read_fault file kind place kind' place' told told' (too_long over) (no_memory within) = absurd (told' refl)
+one_read_fault file kind place kind' place' told told' (no_reading fault at within failing wrong) (too_long over) = absurd (omega (arith, over, within))
+one_read_fault file kind place kind' place' told told' (no_reading fault at within failing wrong) (no_reading fault' at' within' failing' wrong') =
+    let same : at ≡ at' = one_place HasReading file at at' failing failing' in
+    (ap fault_number (one_fault HasReadingWithin file at fault fault' wrong (subst (λ (p : ℕ). IsFaultAt HasReadingWithin file p fault') (sym same) wrong')), same)
+one_read_fault file kind place kind' place' told told' (no_reading fault at within failing wrong) (no_memory within') = absurd (told' refl)
+one_read_fault file kind place kind' place' told told' (no_memory within) other = absurd (told refl)
+
+one_open_fault : (file : Text) (kind place kind' place' : ℕ) → kind ≢ 10 → kind' ≢ 10 → IsOpenFault file kind place → IsOpenFault file kind' place' → SamePlace kind place kind' place'
+one_open_fault file kind place kind' place' told told' (inl fault) (inl fault') = one_read_fault file kind place kind' place' told told' fault fault'
+one_open_fault file kind place kind' place' told told' (inl fault) (inr text) = absurd (not_read file kind place text.db told text.short text.reads fault)
+one_open_fault file kind place kind' place' told told' (inr text) (inl fault) = absurd (not_read file kind' place' text.db told' text.short text.reads fault)
+one_open_fault file kind place kind' place' told told' (inr text) (inr text') = (
+  text.number ∙ sym text'.number,
+  same_Some place place' (sym text.first ∙ ap too_long_at (one_reading name_limit file text.db text'.db text.reads text'.reads) ∙ text'.first),
+)
+
+same_refusal : (kind place kind' place' : ℕ) → SamePlace kind place kind' place' → answer_of [] (refusal_line kind place) 1 ≡ answer_of [] (refusal_line kind' place') 1
+same_refusal kind place kind' place' same = ap₂ (λ (k p : ℕ). answer_of [] (refusal_line k p) 1) same.0 same.1
+
+-- ---- commands that read the file alone
+
+one_cat : (file : Text) → One (IsCatAnswer file)
+one_cat file a b (IsCatAnswer.copied within reads) (IsCatAnswer.copied within' reads') = refl
+one_cat file a b (IsCatAnswer.copied within reads) (IsCatAnswer.refused kind place told fault) = absurd (not_read file kind place reads.0 told within reads.1 fault)
+one_cat file a b (IsCatAnswer.refused kind place told fault) (IsCatAnswer.copied within reads) = absurd (not_read file kind place reads.0 told within reads.1 fault)
+one_cat file a b (IsCatAnswer.refused kind place told fault) (IsCatAnswer.refused kind' place' told' fault') =
+    same_refusal kind place kind' place' (one_read_fault file kind place kind' place' told told' fault fault')
+
+one_of_file : (answers : Reading → Answer) (file : Text) → One (AnswersFile answers file)
+one_of_file answers file a b (AnswersFile.opened db opens is) (AnswersFile.opened db' opens' is') = is ∙ ap answers (one_reading name_limit file db db' opens.reads opens'.reads) ∙ sym is'
+one_of_file answers file a b (AnswersFile.opened db opens is) (AnswersFile.refused kind place told fault is') = absurd (told (open_fault file kind place (db, opens) fault))
+one_of_file answers file a b (AnswersFile.refused kind place told fault is) (AnswersFile.opened db opens is') = absurd (told (open_fault file kind place (db, opens) fault))
+one_of_file answers file a b (AnswersFile.refused kind place told fault is) (AnswersFile.refused kind' place' told' fault' is') =
+    is ∙ same_refusal kind place kind' place' (one_open_fault file kind place kind' place' told told' fault fault') ∙ sym is'
+
+one_lint : (name file : Text) → One (IsLintAnswer name file)
+one_lint name file a b (IsLintAnswer.opened db opens is) (IsLintAnswer.opened db' opens' is') =
+    is ∙ ap (lint_answer name file) (one_reading name_limit file db db' opens.reads opens'.reads) ∙ sym is'
+one_lint name file a b (IsLintAnswer.opened db opens is) (IsLintAnswer.refused kind place told fault is') = absurd (told (open_fault file kind place (db, opens) fault))
+one_lint name file a b (IsLintAnswer.refused kind place told fault is) (IsLintAnswer.opened db opens is') = absurd (told (open_fault file kind place (db, opens) fault))
+one_lint name file a b (IsLintAnswer.refused kind place told fault is) (IsLintAnswer.refused kind' place' told' fault' is') =
+    let same = one_open_fault file kind place kind' place' told told' fault fault' in
+    is ∙ ap₂ (λ (k p : ℕ). answer_of (error_line name (position_of file p) k) [] 1) same.0 same.1 ∙ sym is'
+
+one_pattern : (bytes : Text) (p q : Option Pattern) → Spells bytes p → Spells bytes q → p ≡ q
+one_pattern bytes p q (Spells.spelled s is e) (Spells.spelled t is' e') = ap Some (templates.one_template s t is is' (sym e ∙ e'))
+one_pattern bytes p q (Spells.spelled s is e) (Spells.misspelled none) = absurd (none s is e)
+one_pattern bytes p q (Spells.misspelled none) (Spells.spelled t is e) = absurd (none t is e)
+one_pattern bytes p q (Spells.misspelled none) (Spells.misspelled none') = refl
+
+-- what `names` answers
+abbrev OfNames : ℕ → Text → Text → Text → Answer → Type 0
+OfNames depth key template file answer = (p : Option Pattern) × Spells template p × AnswersFile (names_answer depth key p) file answer
+
+one_of_names : (depth : ℕ) (key template file : Text) → One (OfNames depth key template file)
+one_of_names depth key template file a b (p, spells, answers) (q, spells', answers') =
+    one_of_file (names_answer depth key q) file a b (subst (λ (o : Option Pattern). AnswersFile (names_answer depth key o) file a) (one_pattern template p q spells spells') answers) answers'
+
+-- ---- sessions
+
+one_message : (file : Text) (journal : Option Text) (m n : Text) → IsUnopened file journal m → IsUnopened file journal n → m ≡ n
+one_message file journal m n (IsUnopened.file _ kind place told fault) (IsUnopened.file _ kind' place' told' fault') =
+    let same = one_open_fault file kind place kind' place' told told' fault fault' in
+    ap₂ refusal_line same.0 same.1
+one_message file journal m n (IsUnopened.file _ kind place told fault) (IsUnopened.journal text place' opens none) = absurd (told (open_fault file kind place opens fault))
+one_message file journal m n (IsUnopened.file _ kind place told fault) (IsUnopened.mismatch text is) = absurd (told (open_fault file kind place is.opens fault))
+one_message file journal m n (IsUnopened.journal text place opens none) (IsUnopened.file _ kind place' told fault) = absurd (told (open_fault file kind place' opens fault))
+one_message file journal m n (IsUnopened.journal text place opens none) (IsUnopened.journal _ place' opens' none') = ap bad_journal_line (journals.one-place text place place' none.wrong none'.wrong)
+one_message file journal m n (IsUnopened.journal text place opens none) (IsUnopened.mismatch _ is) = absurd (none.none is.contents is.journal)
+one_message file journal m n (IsUnopened.mismatch text is) (IsUnopened.file _ kind place told fault) = absurd (told (open_fault file kind place is.opens fault))
+one_message file journal m n (IsUnopened.mismatch text is) (IsUnopened.journal _ place opens none) = absurd (none.none is.contents is.journal)
+one_message file journal m n (IsUnopened.mismatch text is) (IsUnopened.mismatch _ is') = refl
+
+one_unopened : (file : Text) (journal : Option Text) → One (IsUnopenedAnswer file journal)
+one_unopened file journal a b x y = x.answered ∙ ap (λ (m : Text). answer_of [] m 1) (one_message file journal x.message y.message x.why y.why) ∙ sym y.answered
+
+-- a session that was opened is good
+good_opened : (file : Text) (journal : Option Text) (s : SessionState) → IsOpened file journal s → IsGood s
+good_opened file journal s is = (opened_is_sound file journal s.steps is.opens, none_open s.steps s.current is.closed)
+
+one_opened : (file : Text) (journal : Option Text) (s t : SessionState) → IsOpened file journal s → IsOpened file journal t → s ≡ t
+one_opened file journal s t is also = opened-is file journal t.steps s also.opens is ∙ sym (opened-is file journal t.steps t also.opens also)
+
+good_with : (new_journal : Bool) (file : Text) (journal : Option Text) (s : SessionState) → OpensWith new_journal file journal s → IsGood s
+good_with new_journal file journal s (OpensWith.fitting is) = good_opened file journal s is
+good_with new_journal file journal s (OpensWith.begun text asked is_text unfit is) = good_opened file None s is
+
+-- a journal that fits is not unfit
+not_both_ways : (file text : Text) (journal : Option Text) (s : SessionState) → IsOpened file journal s → journal ≡ Some text → IsUnfit file text → ⊥
+not_both_ways file text journal s is is_text unfit = not_unfit file text s.steps (subst (λ (j : Option Text). Opens file j s.steps) is_text is.opens) unfit
+
+one_opened_with : (new_journal : Bool) (file : Text) (journal : Option Text) (s t : SessionState) → OpensWith new_journal file journal s → OpensWith new_journal file journal t → s ≡ t
+one_opened_with new_journal file journal s t (OpensWith.fitting is) (OpensWith.fitting also) = one_opened file journal s t is also
+one_opened_with new_journal file journal s t (OpensWith.fitting is) (OpensWith.begun text asked is_text unfit also) = absurd (not_both_ways file text journal s is is_text unfit)
+one_opened_with new_journal file journal s t (OpensWith.begun text asked is_text unfit is) (OpensWith.fitting also) = absurd (not_both_ways file text journal t also is_text unfit)
+one_opened_with new_journal file journal s t (OpensWith.begun text asked is_text unfit is) (OpensWith.begun text' asked' is_text' unfit' also) = one_opened file None s t is also
+
+one_session : (new_journal : Bool) (answers : SessionState → Answer → Type 0) (file : Text) (journal : Option Text) → ((s : SessionState) → IsGood s → One (answers s))
+    → One (AnswersSession new_journal answers file journal)
+one_session new_journal answers file journal one a b (AnswersSession.answered s with has) (AnswersSession.answered t with' has') =
+    one t (good_with new_journal file journal t with') a b
+    (subst (λ (s : SessionState). answers s a) (one_opened_with new_journal file journal s t with with') has) has'
+one_session new_journal answers file journal one a b (AnswersSession.answered s with has) (AnswersSession.unopened u) =
+    absurd (not_refused_with new_journal file journal s u.message with u.why)
+one_session new_journal answers file journal one a b (AnswersSession.unopened u) (AnswersSession.answered t with has) =
+    absurd (not_refused_with new_journal file journal t u.message with u.why)
+one_session new_journal answers file journal one a b (AnswersSession.unopened u) (AnswersSession.unopened v) = one_unopened file (judged_journal new_journal journal) a b u v
+
+one_input : (answers : Text → SessionState → Answer → Type 0) (input : Text) (s : SessionState) → One (answers input s) → One (AnswersInput answers input s)
+one_input answers input s one a b (AnswersInput.within short has) (AnswersInput.within short' has') = one a b has has'
+one_input answers input s one a b (AnswersInput.within short has) (AnswersInput.too_long far e) = absurd (omega (arith, short, far))
+one_input answers input s one a b (AnswersInput.too_long far e) (AnswersInput.within short has) = absurd (omega (arith, short, far))
+one_input answers input s one a b (AnswersInput.too_long far e) (AnswersInput.too_long far' e') = e ∙ sym e'
+
+-- ---- what the commands of sessions answer
+
+saved_same : (s t : SessionState) (a b : Saved) → s ≡ t → Saves s.steps a → Saves t.steps b → a ≡ b
+saved_same s t a b same x y = one_saved t.steps a b (subst (λ (s : SessionState). Saves s.steps a) same x) y
+
+one_edited : (requests : List Request) (message : ℕ → Option SessionFault → Option Text) (s : SessionState) → IsGood s → One (HasEdited requests message s)
+one_edited requests message s good a b x y =
+    let r = one-result requests x.done y.done x.fault y.fault s x.closed y.closed good x.told y.told x.performs y.performs in
+    x.answered
+    ∙ ap (λ (n : ℕ). edited_answer requests n (message n x.fault) x.saved) r.0
+    ∙ ap (λ (f : Option SessionFault). edited_answer requests y.done (message y.done f) x.saved) r.1
+    ∙ ap (λ (v : Saved). edited_answer requests y.done (message y.done y.fault) v) (saved_same x.closed y.closed x.saved y.saved r.2 x.saves y.saves)
+    ∙ sym y.answered
+
+one_words : (words : List Text) (s : SessionState) → IsGood s → One (HasEditedByWords words s)
+one_words words s good a b (HasEditedByWords.said requests said has) (HasEditedByWords.said requests' said' has') =
+    let same : requests ≡ requests' = same_Some requests requests' (sym said ∙ said') in
+    one_edited requests' fault_message s good a b (subst (λ (rs : List Request). HasEdited rs fault_message s a) same has) has'
+one_words words s good a b (HasEditedByWords.said requests said has) (HasEditedByWords.bad none e) = absurd (none-some requests (sym none ∙ said))
+one_words words s good a b (HasEditedByWords.bad none e) (HasEditedByWords.said requests said has) = absurd (none-some requests (sym none ∙ said))
+one_words words s good a b (HasEditedByWords.bad none e) (HasEditedByWords.bad none' e') = e ∙ sym e'
+
+abbrev of_turn : Text → ℕ → Option SessionFault → Saved → Answer
+of_turn word done fault saved = record { output = turned_line word done; outcome = outcome_left done (option_map fault_line fault) saved }
+
+one_turned : (word : Text) (request : Request) (n : ℕ) (file : Text) (journal : Option Text) → One (IsTurnAnswer word request n file journal)
+one_turned word request n file journal a b (IsTurnAnswer.turned t turns is) (IsTurnAnswer.turned u turns' is') =
+    let x : HasTurned request n (idle turns'.opened) t =
+    subst (λ (k : KeptSteps). HasTurned request n (idle k) t) (one-opening file journal turns.opened turns'.opened turns.opens turns'.opens) turns.has_turned in
+    let y = turns'.has_turned in
+    let r = one-result (replicate n request) t.performed.done u.performed.done t.performed.fault u.performed.fault (idle turns'.opened) x.closed y.closed
+    (opened_is_sound file journal turns'.opened turns'.opens, tt) x.told y.told x.performs y.performs in
+    is
+    ∙ ap (λ (n : ℕ). of_turn word n t.performed.fault t.saved) r.0
+    ∙ ap (λ (f : Option SessionFault). of_turn word u.performed.done f t.saved) r.1
+    ∙ ap (λ (v : Saved). of_turn word u.performed.done u.performed.fault v) (saved_same x.closed y.closed t.saved u.saved r.2 x.saves y.saves)
+    ∙ sym is'
+one_turned word request n file journal a b (IsTurnAnswer.turned t turns is) (IsTurnAnswer.unopened u) = absurd (not_unopened file journal turns.opened u.message turns.opens u.why)
+one_turned word request n file journal a b (IsTurnAnswer.unopened u) (IsTurnAnswer.turned t turns is) = absurd (not_unopened file journal turns.opened u.message turns.opens u.why)
+one_turned word request n file journal a b (IsTurnAnswer.unopened u) (IsTurnAnswer.unopened v) = one_unopened file journal a b u v
+
+one_log : (file : Text) (journal : Option Text) → One (IsLogAnswer file journal)
+one_log file journal a b (IsLogAnswer.listed kept opens is) (IsLogAnswer.listed kept' opens' is') =
+    is ∙ ap (λ (k : KeptSteps). answer_of (log_text k) [] 0) (one-opening file journal kept kept' opens opens') ∙ sym is'
+one_log file journal a b (IsLogAnswer.listed kept opens is) (IsLogAnswer.unopened u) = absurd (not_unopened file journal kept u.message opens u.why)
+one_log file journal a b (IsLogAnswer.unopened u) (IsLogAnswer.listed kept opens is) = absurd (not_unopened file journal kept u.message opens u.why)
+one_log file journal a b (IsLogAnswer.unopened u) (IsLogAnswer.unopened v) = one_unopened file journal a b u v
+
+one_forget : (file : Text) → One (IsForgetAnswer file)
+one_forget file a b (IsForgetAnswer.forgot saved opens saves is) (IsForgetAnswer.forgot saved' opens' saves' is') =
+    is ∙ ap (λ (v : Saved). record { output = []; outcome = journal_left v.journal }) (one_saved (started file) saved saved' saves saves') ∙ sym is'
+one_forget file a b (IsForgetAnswer.forgot saved opens saves is) (IsForgetAnswer.unforgotten u) = absurd (not_unopened file None (started file) u.message (opens, refl) u.why)
+one_forget file a b (IsForgetAnswer.unforgotten u) (IsForgetAnswer.forgot saved opens saves is) = absurd (not_unopened file None (started file) u.message (opens, refl) u.why)
+one_forget file a b (IsForgetAnswer.unforgotten u) (IsForgetAnswer.unforgotten v) = one_unopened file None a b u v
+
+-- ---- what an import answers
+
+one_additions : (file text : Text) (a b : Additions) → IsOpenable file → AreAdditions file text a → AreAdditions file text b → a ≡ b
+one_additions file text a b opens x y =
+    let said : x.said ≡ y.said = meanings.says_one (lines_of text) x.said y.said x.reads y.reads in
+    ap (λ (es : List NewEntry). record { entries = es; skipped = a.skipped })
+    (x.entries opens.0 opens.1.reads ∙ ap (λ (s : RisFile). imported opens.0 (records_of s.records)) said ∙ sym (y.entries opens.0 opens.1.reads))
+    ∙ ap (λ (n : ℕ). record { entries = b.entries; skipped = n }) (x.skipped ∙ ap (λ (s : RisFile). s.skipped) said ∙ sym y.skipped)
+
+-- a text that adds entries gives some
+not_refused : (file text : Text) (a : Additions) (fault : ImportFault) → fault ≢ Memory → AreAdditions file text a → RefusesImport fault text → ⊥
+not_refused file text a Memory told adds why = told refl
+not_refused file text a (Unread fault) told adds why = meanings.wrong_says_nothing (length text) (lines_of text) adds.said fault adds.reads why.1
+not_refused file text a UnbalancedText told adds why =
+    false≢true (sym why.unbalanced ∙ ap (λ (s : RisFile). list_all are_balanced (records_of s.records)) (meanings.says_one (lines_of text) why.said adds.said why.reads adds.reads) ∙ adds.balanced)
+
+one_import_fault : (text : Text) (f g : ImportFault) → f ≢ Memory → g ≢ Memory → RefusesImport f text → RefusesImport g text → f ≡ g
+one_import_fault text (Unread f) (Unread g) told told' why why' = ap Unread (meanings.one_fault (length text) (lines_of text) f g why.1 why'.1)
+one_import_fault text (Unread f) UnbalancedText told told' why why' = absurd (meanings.wrong_says_nothing (length text) (lines_of text) why'.said f why'.reads why.1)
+one_import_fault text (Unread f) Memory told told' why why' = absurd (told' refl)
+one_import_fault text UnbalancedText (Unread g) told told' why why' = absurd (meanings.wrong_says_nothing (length text) (lines_of text) why.said g why.reads why'.1)
+one_import_fault text UnbalancedText UnbalancedText told told' why why' = refl
+one_import_fault text UnbalancedText Memory told told' why why' = absurd (told' refl)
+one_import_fault text Memory g told told' why why' = absurd (told refl)
+
+one_added : (a : Additions) (s : SessionState) → IsGood s → One (HasAdded a s)
+one_added a s good x y (HasAdded.added closed saved makes saves is) (HasAdded.added closed' saved' makes' saves' is') =
+    let same : closed ≡ closed' = one_does (request.Edit (AddMany a.entries)) s closed closed' good.0.present makes makes' in
+    is ∙ ap (added_answer (length a.entries) a.skipped) (saved_same closed closed' saved saved' same saves saves') ∙ sym is'
+one_added a s good x y (HasAdded.added closed saved makes saves is) (HasAdded.refused fault told refuses is') =
+    absurd (not_both (request.Edit (AddMany a.entries)) fault s closed good.0.present told refuses makes)
+one_added a s good x y (HasAdded.refused fault told refuses is) (HasAdded.added closed saved makes saves is') =
+    absurd (not_both (request.Edit (AddMany a.entries)) fault s closed good.0.present told refuses makes)
+one_added a s good x y (HasAdded.refused fault told refuses is) (HasAdded.refused fault' told' refuses' is') =
+    is ∙ ap (λ (f : SessionFault). answer_of [] (fault_line f) 1) (one_refusal (request.Edit (AddMany a.entries)) fault fault' s good.0.present told told' refuses refuses') ∙ sym is'
+
+one_imported : (text : Text) (s : SessionState) → IsGood s → One (HasImported text s)
+one_imported text s good x y (HasImported.read a adds has) (HasImported.read b adds' has') =
+    one_added b s good x y (subst (λ (a : Additions). HasAdded a s x) (one_additions s.steps.present text a b good.0.present adds adds') has) has'
+one_imported text s good x y (HasImported.read a adds has) (HasImported.unread fault told refuses is) = absurd (not_refused s.steps.present text a fault told adds refuses)
+one_imported text s good x y (HasImported.unread fault told refuses is) (HasImported.read a adds has) = absurd (not_refused s.steps.present text a fault told adds refuses)
+one_imported text s good x y (HasImported.unread fault told refuses is) (HasImported.unread fault' told' refuses' is') =
+    is ∙ ap (λ (f : ImportFault). answer_of [] (import_fault_line f) 1) (one_import_fault text fault fault' told told' refuses refuses') ∙ sym is'
+
+-- ---- all commands
+
+-- the one of two, by a test
+abbrev Either : Bool → Type 0 → Type 0 → Type 0
+Either true P Q = P
+Either false P Q = Q
+
+-- what `edit` answers, by a script or by words
+abbrev OfEdit : Command → Text → Option Text → Text → Answer → Type 0
+OfEdit command file journal input answer =
+    Either (length command.words == 1) (IsEditAnswer command.new_journal file journal input answer) (IsWordsAnswer command.new_journal (key_words command) file journal answer)
+
+-- what a command of this name answers, which is not `explain`
+abbrev Chosen : Command → Text → Option Text → Text → Text → Answer → Type 0
+Chosen command file journal input name answer =
+    Either (bytes_eq name (codes "cat")) (IsCatAnswer file answer)
+    (Either (bytes_eq name (codes "check")) (AnswersFile check_answer file answer)
+    (Either (bytes_eq name (codes "show")) (AnswersFile (show_answer command.depth (key_word command)) file answer)
+    (Either (bytes_eq name (codes "cite")) (AnswersFile (cite_answer (key_words command) command.n) file answer)
+    (Either (bytes_eq name (codes "labels")) (AnswersFile (labels_answer command.depth (key_words command)) file answer)
+    (Either (bytes_eq name (codes "json")) (AnswersFile (json_answer command.depth (key_words command)) file answer)
+    (Either (bytes_eq name (codes "newkeys")) (AnswersFile (newkeys_answer command.depth) file answer)
+    (Either (bytes_eq name (codes "ris")) (AnswersFile (ris_answer command.dropped command.depth (key_words command)) file answer)
+    (Either (bytes_eq name (codes "names")) (OfNames command.depth (key_word command) (template_word command) file answer)
+    (Either (bytes_eq name (codes "lint")) (IsLintAnswer (first_word command) file answer)
+    (Either (bytes_eq name (codes "edit")) (OfEdit command file journal input answer)
+    (Either (bytes_eq name (codes "undo")) (IsTurnAnswer (codes "undone") request.Undo command.n file journal answer)
+    (Either (bytes_eq name (codes "redo")) (IsTurnAnswer (codes "redone") request.Redo command.n file journal answer)
+    (Either (bytes_eq name (codes "log")) (IsLogAnswer file journal answer)
+    (Either (bytes_eq name (codes "import")) (IsImportAnswer command.new_journal file journal input answer)
+    (IsForgetAnswer file answer)))))))))))))))
+
+one_if : (b : Bool) (P Q : Answer → Type 0) → One P → One Q → One (λ a. Either b (P a) (Q a))
+one_if true P Q one other = one
+one_if false P Q one other = other
+
+one_edit : (command : Command) (file : Text) (journal : Option Text) (input : Text) → One (OfEdit command file journal input)
+one_edit command file journal input =
+    one_if (length command.words == 1) _ _
+    (one_session command.new_journal (AnswersInput HasEditedBy input) file journal
+    (λ s good. one_input HasEditedBy input s (one_edited (said_of input).requests (stop_line (said_of input)) s good)))
+    (one_session command.new_journal (HasEditedByWords (key_words command)) file journal (one_words (key_words command)))
+
+one_chosen : (command : Command) (file : Text) (journal : Option Text) (input name : Text) → One (Chosen command file journal input name)
+one_chosen command file journal input name =
+    one_if (bytes_eq name (codes "cat")) _ _ (one_cat file)
+    (one_if (bytes_eq name (codes "check")) _ _ (one_of_file check_answer file)
+    (one_if (bytes_eq name (codes "show")) _ _ (one_of_file (show_answer command.depth (key_word command)) file)
+    (one_if (bytes_eq name (codes "cite")) _ _ (one_of_file (cite_answer (key_words command) command.n) file)
+    (one_if (bytes_eq name (codes "labels")) _ _ (one_of_file (labels_answer command.depth (key_words command)) file)
+    (one_if (bytes_eq name (codes "json")) _ _ (one_of_file (json_answer command.depth (key_words command)) file)
+    (one_if (bytes_eq name (codes "newkeys")) _ _ (one_of_file (newkeys_answer command.depth) file)
+    (one_if (bytes_eq name (codes "ris")) _ _ (one_of_file (ris_answer command.dropped command.depth (key_words command)) file)
+    (one_if (bytes_eq name (codes "names")) _ _ (one_of_names command.depth (key_word command) (template_word command) file)
+    (one_if (bytes_eq name (codes "lint")) _ _ (one_lint (first_word command) file)
+    (one_if (bytes_eq name (codes "edit")) _ _ (one_edit command file journal input)
+    (one_if (bytes_eq name (codes "undo")) _ _ (one_turned (codes "undone") request.Undo command.n file journal)
+    (one_if (bytes_eq name (codes "redo")) _ _ (one_turned (codes "redone") request.Redo command.n file journal)
+    (one_if (bytes_eq name (codes "log")) _ _ (one_log file journal)
+    (one_if (bytes_eq name (codes "import")) _ _
+    (one_session command.new_journal (AnswersInput HasImported input) file journal (λ s good. one_input HasImported input s (one_imported input s good)))
+    (one_forget file)))))))))))))))
+
+named : (command : Command) (file : Text) (journal : Option Text) (input name : Text) (answer : Answer) → command.name ≡ name → Chosen command file journal input name answer
+    → Chosen command file journal input command.name answer
+named command file journal input name answer e is = subst (λ (n : Text). Chosen command file journal input n answer) (sym e) is
+
+chosen_of : (command : Command) (file : Text) (journal : Option Text) (input : Text) (answer : Answer) (answers : Reading → Answer) → IsAnswerTo command answers → AnswersFile answers file answer
+    → Chosen command file journal input command.name answer
+chosen_of command file journal input answer answers (IsAnswerTo.check e) is = named command file journal input (codes "check") answer e is
+chosen_of command file journal input answer answers (IsAnswerTo.show e) is = named command file journal input (codes "show") answer e is
+chosen_of command file journal input answer answers (IsAnswerTo.cite e) is = named command file journal input (codes "cite") answer e is
+chosen_of command file journal input answer answers (IsAnswerTo.labels e) is = named command file journal input (codes "labels") answer e is
+chosen_of command file journal input answer answers (IsAnswerTo.json e) is = named command file journal input (codes "json") answer e is
+chosen_of command file journal input answer answers (IsAnswerTo.newkeys e) is = named command file journal input (codes "newkeys") answer e is
+chosen_of command file journal input answer answers (IsAnswerTo.ris e) is = named command file journal input (codes "ris") answer e is
+chosen_of command file journal input answer answers (IsAnswerTo.names e p spells) is = named command file journal input (codes "names") answer e (p, spells, is)
+
+of_edit : (command : Command) (file : Text) (journal : Option Text) (input : Text) (answer : Answer) (b : Bool) → (length command.words == 1) ≡ b
+    → Either b (IsEditAnswer command.new_journal file journal input answer) (IsWordsAnswer command.new_journal (key_words command) file journal answer) → OfEdit command file journal input answer
+of_edit command file journal input answer b e is =
+    subst
+    (λ (b : Bool). Either b (IsEditAnswer command.new_journal file journal input answer) (IsWordsAnswer command.new_journal (key_words command) file journal answer))
+    (sym e)
+    is
+
+chosen : (command : Command) (file : Text) (journal : Option Text) (input : Text) (answer : Answer) → command.name ≢ codes "explain" → IsStoredAnswer command file journal input answer
+    → Chosen command file journal input command.name answer
+chosen command file journal input answer other (IsStoredAnswer.cat e is) = named command file journal input (codes "cat") answer e is
+chosen command file journal input answer other (IsStoredAnswer.of_reading answers to is) = chosen_of command file journal input answer answers to is
+chosen command file journal input answer other (IsStoredAnswer.lint e is) = named command file journal input (codes "lint") answer e is
+chosen command file journal input answer other (IsStoredAnswer.explain e is) = absurd (other e)
+chosen command file journal input answer other (IsStoredAnswer.edit e lone is) =
+    named command file journal input (codes "edit") answer e (of_edit command file journal input answer true (ap (λ n. n == 1) lone) is)
+chosen command file journal input answer other (IsStoredAnswer.edit_words e more is) =
+    named command file journal input (codes "edit") answer e (of_edit command file journal input answer false (not_one (length command.words) more) is)
+chosen command file journal input answer other (IsStoredAnswer.undo e is) = named command file journal input (codes "undo") answer e is
+chosen command file journal input answer other (IsStoredAnswer.redo e is) = named command file journal input (codes "redo") answer e is
+chosen command file journal input answer other (IsStoredAnswer.log e is) = named command file journal input (codes "log") answer e is
+chosen command file journal input answer other (IsStoredAnswer.import e is) = named command file journal input (codes "import") answer e is
+chosen command file journal input answer other (IsStoredAnswer.forget e is) = named command file journal input (codes "forget") answer e is
+
+pub one-answer : one_answer
+one-answer command file journal input a b other is also =
+    is.shown
+    ∙ ap (shown command.print)
+    (one_chosen command file journal input command.name is.stored also.stored (chosen command file journal input is.stored other is.answers)
+    (chosen command file journal input also.stored other also.answers))
+    ∙ sym also.shown

@@ -1,0 +1,38 @@
+-- A journal that is unfit, and a file that is.
+use Rattle.std.proofs.Common.{◌≡◌, true, false, Option, Some, None, refl}
+use Rattle.bib_spec.specs.Text.{Text}
+use Rattle.bib_journal.specs.declared.fault.SessionFault.{SessionFault}
+use Rattle.bib_journal.specs.declared.fault.SessionFault.TheVariants.{Unopened, Refused, JournalFull, NothingToUndo, NothingToRedo, BadJournal, JournalMismatch, StepOpen, NoOpenStep, Memory}
+use Rattle.bib_journal.specs.OpenSteps.{SessionState}
+use Rattle.bib_journal.specs.Session.{IsOpened, RefusesOpen}
+use Rattle.bib_run.specs.Sessions.{OpensWith, is_of_journal, none, mismatch, begun}
+
+-- where the journal is at fault, the file is opened as one to which nothing was done
+pub opens_anew : (fault : SessionFault) (file : Text) (journal : Option Text) (state : SessionState) → is_of_journal fault ≡ true → RefusesOpen fault file journal
+    → IsOpened file None state → OpensWith true file journal state
+opens_anew (BadJournal place) file None state is refuses opens = absurd refuses
+opens_anew (BadJournal place) file (Some text) state is refuses opens = begun text refl refl (none place refuses.1) opens
+opens_anew JournalMismatch file None state is refuses opens = absurd refuses
+opens_anew JournalMismatch file (Some text) state is refuses opens = begun text refl refl (mismatch refuses) opens
+opens_anew (Unopened fault) file journal state is refuses opens = cc
+opens_anew (Refused fault) file journal state is refuses opens = cc
+opens_anew JournalFull file journal state is refuses opens = cc
+opens_anew NothingToUndo file journal state is refuses opens = cc
+opens_anew NothingToRedo file journal state is refuses opens = cc
+opens_anew StepOpen file journal state is refuses opens = cc
+opens_anew NoOpenStep file journal state is refuses opens = cc
+opens_anew Memory file journal state is refuses opens = cc
+
+-- where it is not, the file is
+pub file_refuses : (fault : SessionFault) (file : Text) (journal : Option Text) → is_of_journal fault ≡ false → RefusesOpen fault file journal → RefusesOpen fault file None
+file_refuses fault file None is refuses = refuses
+file_refuses (BadJournal place) file (Some text) is refuses = cc
+file_refuses JournalMismatch file (Some text) is refuses = cc
+file_refuses (Unopened fault) file (Some text) is refuses = refuses
+file_refuses (Refused fault) file (Some text) is refuses = refuses
+file_refuses JournalFull file (Some text) is refuses = refuses
+file_refuses NothingToUndo file (Some text) is refuses = refuses
+file_refuses NothingToRedo file (Some text) is refuses = refuses
+file_refuses StepOpen file (Some text) is refuses = refuses
+file_refuses NoOpenStep file (Some text) is refuses = refuses
+file_refuses Memory file (Some text) is refuses = refuses

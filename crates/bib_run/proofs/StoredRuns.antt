@@ -1,0 +1,502 @@
+-- Runs of the program, as sessions that do what the commands ask for.
+use Rattle.std.proofs.Common.{◌≡◌, ◌≢◌, ℕ, suc, Bool, true, false, ◌||◌, ◌&&◌, ◌==◌, if◌then◌else◌, List, [], ◌∷◌, ◌++◌, length, take, replicate, bytes_eq, codes, Option, Some, None, option_map, unwrap_or, ◌⊎◌, inl, inr, ⊎_elim, refl, sym, ◌∙◌, ap, subst, arith, eqb-true}
+use Rattle.std.specs.List.{list_all}
+use Rattle.std.specs.Option.{option_map_or}
+use Rattle.std.proofs.lemmas.Bool.{cases_Bool, cond-true, cond-false, false≢true, and_parts}
+use Rattle.std.proofs.lemmas.List.Folds.{list_all-append}
+use Rattle.std.proofs.lemmas.List.Sums.{sum_by-cons}
+use Rattle.std.proofs.lemmas.Option.{none-some, same_Some}
+use Rattle.bib_spec.specs.Text.{Text}
+use Rattle.bib_spec.specs.Reading.{Reading}
+use Rattle.bib_spec.specs.Texts.{IsOpenable, is_empty}
+use Rattle.bib_spec.proofs.Names.{eq-true}
+use Rattle.bib_scan.specs.declared.fault.ReadFault.{ReadFault}
+use Rattle.bib_store.specs.Meaning.{IsOpenFault}
+use Rattle.history_spec.specs.Steps.{KeptSteps, IsSound, label_of, history_of}
+use Rattle.bib_data.specs.declared.edit.Edit.{Edit}
+use Rattle.bib_data.specs.declared.edit.Edit.TheVariants.{AddMany}
+use Rattle.bib_data.specs.declared.request.Request.{Request}
+use Rattle.bib_data.specs.declared.request.Request.TheVariants as request
+use Rattle.bib_journal.specs.declared.fault.SessionFault.{SessionFault}
+use Rattle.bib_journal.specs.declared.fault.SessionFault.TheVariants.{Memory, Unopened, BadJournal, JournalMismatch}
+use Rattle.bib_journal.specs.declared.saving.Saved.{Saved}
+use Rattle.bib_journal.specs.declared.open_step.OpenStep.{OpenStep}
+use Rattle.bib_journal.specs.Loading.{Saves}
+use Rattle.bib_journal.specs.OpenSteps.{SessionState, idle}
+use Rattle.bib_journal.specs.Session.{Opens, IsOpened, RefusesOpen, DoesAll, Performs}
+use Rattle.bib_journal.specs.Runs.{OnDisk, left, leaves_open, ended, requests_of, IsOneSession}
+use Rattle.bib_journal.specs.Turns.{HasTurned}
+use Rattle.bib_journal.specs.Renaming.{OfReadings, KeepsTexts, is_renaming}
+use Rattle.bib_journal.proofs.SeveralRuns.{one-opening, opened_is_sound, opened_present, all_keep_sound, left_opens, sessions-are-one, first_file, session_keeps_first}
+use Rattle.bib_journal.proofs.EndedSessions.{ended_session, undone_all, redone_all}
+use Rattle.bib_journal.proofs.KeptRecords.{all-keep, some-pass}
+use Rattle.bib_journal.proofs.SavedLoads.{open_fault, open_refused}
+use Rattle.bib_ris.specs.declared.importing.Additions.{Additions}
+use Rattle.bib_script.specs.Parting.{words_of, lines_of}
+use Rattle.bib_script.specs.Script.{Said, said_of, said_by, said_first, nothing_said, request_of, edit_of, group_of, end_of}
+use Rattle.bib_script.specs.Words.{asked_by_words, step_of, label_of_words}
+use Rattle.bib_words.specs.declared.commands.Command.{Command}
+use Rattle.bib_answers.specs.declared.answers.Answer.{Answer}
+use Rattle.bib_run.specs.Sessions.{IsUnopened, IsUnfit, OpensWith, judged_journal, bad_journal_line, mismatch_line, fault_line, outcome_left}
+use Rattle.bib_run.specs.Inputs.{AnswersSession, AnswersInput}
+use Rattle.bib_run.specs.EditAnswer.{HasEdited, HasEditedBy, HasEditedByWords, IsEditAnswer, IsWordsAnswer, changes_of, edits_in, stop_line, fault_message}
+use Rattle.bib_run.specs.ImportAnswer.{HasAdded, HasImported, IsImportAnswer}
+use Rattle.bib_run.specs.Turns.{IsTurnAnswer}
+use Rattle.bib_run.specs.Log.{IsLogAnswer}
+use Rattle.bib_run.specs.Answers.{IsStoredAnswer, IsAnswerTo, key_words}
+use Rattle.bib_run.specs.Shown.{shown}
+use Rattle.bib_run.specs.StoredRuns.{edits_asked, stored, OpensSession, Asks, Accepts, a_run_is_a_session, Call, AreAccepted, runs_of_the_program_are_one_session, one_undo_leads_to_the_first_file, one_redo_leads_to_the_last_file, renames, runs_of_renamings_keep_every_record}
+
+-- ---- names
+
+-- the names of the commands of which a run is a session
+abbrev reads_name : Text → Bool
+reads_name name = (((bytes_eq name (codes "edit") || bytes_eq name (codes "undo")) || bytes_eq name (codes "redo")) || bytes_eq name (codes "log")) || bytes_eq name (codes "import")
+
+reader-named : (command : Command) → OpensSession command → reads_name command.name ≡ true
+reader-named command (OpensSession.edit e) = ap reads_name e
+reader-named command (OpensSession.undo e) = ap reads_name e
+reader-named command (OpensSession.redo e) = ap reads_name e
+reader-named command (OpensSession.log e) = ap reads_name e
+reader-named command (OpensSession.import e) = ap reads_name e
+
+-- a command of another name does not
+no_reader : (command : Command) (name : Text) → OpensSession command → command.name ≡ name → reads_name name ≡ false → ⊥
+no_reader command name reads e other = false≢true (sym other ∙ ap reads_name (sym e) ∙ reader-named command reads)
+
+of_other : (command : Command) (answers : Reading → Answer) → OpensSession command → IsAnswerTo command answers → ⊥
+of_other command answers reads (IsAnswerTo.check e) = no_reader command (codes "check") reads e refl
+of_other command answers reads (IsAnswerTo.show e) = no_reader command (codes "show") reads e refl
+of_other command answers reads (IsAnswerTo.cite e) = no_reader command (codes "cite") reads e refl
+of_other command answers reads (IsAnswerTo.labels e) = no_reader command (codes "labels") reads e refl
+of_other command answers reads (IsAnswerTo.json e) = no_reader command (codes "json") reads e refl
+of_other command answers reads (IsAnswerTo.newkeys e) = no_reader command (codes "newkeys") reads e refl
+of_other command answers reads (IsAnswerTo.ris e) = no_reader command (codes "ris") reads e refl
+of_other command answers reads (IsAnswerTo.names e pattern spells) = no_reader command (codes "names") reads e refl
+
+-- ---- scripts
+
+-- the request is an edit, or begins or ends a step
+abbrev is_scripted : Request → Bool
+is_scripted (request.Edit edit) = true
+is_scripted (request.Begin label) = true
+is_scripted request.End = true
+is_scripted request.Undo = false
+is_scripted request.Redo = false
+
+-- if anything is asked for, then such a request
+abbrev IsScripted : Option Request → Type 0
+IsScripted asked = (r : Request) → asked ≡ Some r → is_scripted r ≡ true
+
+none_scripted : IsScripted None
+none_scripted r e = absurd (none-some r e)
+
+map_scripted : {X : Type 0} (f : X → Request) → ((x : X) → is_scripted (f x) ≡ true) → (o : Option X) → IsScripted (option_map f o)
+map_scripted f is None r e = absurd (none-some r e)
+map_scripted f is (Some x) r e = ap is_scripted (sym (same_Some (f x) r e)) ∙ is x
+
+choice_scripted : (b : Bool) (one other : Option Request) → IsScripted one → IsScripted other → IsScripted (if b then one else other)
+choice_scripted true one other is is' = is
+choice_scripted false one other is is' = is'
+
+group_scripted : (words : List Text) → IsScripted (group_of words)
+group_scripted [] = none_scripted
+group_scripted (label ∷ []) = map_scripted request.Begin (λ x. refl) (label_of label)
+group_scripted (label ∷ word ∷ words) = none_scripted
+
+end_scripted : (words : List Text) → IsScripted (end_of words)
+end_scripted [] = λ r e. ap is_scripted (sym (same_Some request.End r e))
+end_scripted (word ∷ words) = none_scripted
+
+asked_scripted : (words : List Text) → IsScripted (request_of words)
+asked_scripted [] = none_scripted
+asked_scripted (verb ∷ words) =
+    choice_scripted (bytes_eq verb (codes "group")) (group_of words)
+    (if bytes_eq verb (codes "end") then end_of words else option_map request.Edit (edit_of (verb ∷ words)))
+    (group_scripted words)
+    (choice_scripted (bytes_eq verb (codes "end")) (end_of words) (option_map request.Edit (edit_of (verb ∷ words)))
+    (end_scripted words) (map_scripted request.Edit (λ x. refl) (edit_of (verb ∷ words))))
+
+abbrev said_on : ℕ → Bool → Option Request → Said → Said
+said_on n b asked rest = if b then rest else option_map_or (λ a. said_first n a rest) asked (nothing_said (Some n))
+
+line_scripted : (n : ℕ) (b : Bool) (asked : Option Request) (rest : Said) → IsScripted asked → list_all is_scripted rest.requests ≡ true
+    → list_all is_scripted (said_on n b asked rest).requests ≡ true
+line_scripted n true asked rest is all = all
+line_scripted n false None rest is all = refl
+line_scripted n false (Some r) rest is all = ap (λ b. b && list_all is_scripted rest.requests) (is r refl) ∙ all
+
+lines_scripted : (n : ℕ) (lines : List Text) → list_all is_scripted (said_by n lines).requests ≡ true
+lines_scripted n [] = refl
+lines_scripted n (line ∷ lines) =
+    line_scripted n (is_empty line) (request_of (words_of line)) (said_by (suc n) lines) (asked_scripted (words_of line)) (lines_scripted (suc n) lines)
+
+-- the step that words say
+words_scripted : (words : List Text) (requests : List Request) → asked_by_words words ≡ Some requests → list_all is_scripted requests ≡ true
+words_scripted words requests is = of_step (edit_of words) is
+  where
+    of_step : (edit : Option Edit) → option_map (step_of (label_of_words words)) edit ≡ Some requests → list_all is_scripted requests ≡ true
+    of_step None none = absurd (none-some requests none)
+    of_step (Some edit) some = ap (list_all is_scripted) (sym (same_Some (step_of (label_of_words words) edit) requests some))
+
+-- where no edit is among such requests, nothing is changed
+no_edit_changes : (requests : List Request) (old new : SessionState) → list_all is_scripted requests ≡ true → edits_in requests ≡ 0 → DoesAll requests old new → new.steps ≡ old.steps
+no_edit_changes [] old new all none did = ap (λ (s : SessionState). s.steps) did
+no_edit_changes (request.Edit edit ∷ requests) old new all none did = absurd (omega (arith, none, sum_by-cons changes_of (request.Edit edit) requests))
+no_edit_changes (request.Begin label ∷ requests) old new all none did =
+    no_edit_changes requests did.0 new (and_parts true (list_all is_scripted requests) all).1 (omega (arith, none, sum_by-cons changes_of (request.Begin label) requests)) did.2 ∙ did.1.steps
+no_edit_changes (request.End ∷ requests) old new all none did =
+    no_edit_changes requests did.0 new (and_parts true (list_all is_scripted requests) all).1 (omega (arith, none, sum_by-cons changes_of request.End requests)) did.2 ∙ did.1.steps
+no_edit_changes (request.Undo ∷ requests) old new all none did = absurd (false≢true all)
+no_edit_changes (request.Redo ∷ requests) old new all none did = absurd (false≢true all)
+
+-- ---- what is stored
+
+abbrev text_by : Bool → Text → Option Text
+text_by b text = if b then None else Some text
+
+abbrev stored_by : OnDisk → Saved → Text → Bool → OnDisk
+stored_by old saved message b = stored old (record { file = text_by b saved.file; journal = text_by b saved.journal; message = message; status = 1 })
+
+-- the outcome of a session is stored, or leaves what was there where the session changed nothing
+stored_left : (changes : ℕ) (message : Option Text) (saved : Saved) (old : OnDisk) →
+    (stored old (outcome_left changes message saved) ≡ left saved) ⊎ ((changes ≡ 0) × (stored old (outcome_left changes message saved) ≡ old))
+stored_left changes None saved old = inl refl
+stored_left changes (Some message) saved old =
+    ⊎_elim
+    (λ (h : (changes == 0) ≡ true). inr (eqb-true changes 0 h, ap (stored_by old saved message) h))
+    (λ (h : (changes == 0) ≡ false). inl (ap (stored_by old saved message) h))
+    (cases_Bool (changes == 0))
+
+-- ---- opening
+
+refused_file : (fault : ReadFault) (file : Text) (journal : Option Text) → fault.kind ≢ 10 → IsOpenFault file fault.kind fault.place → RefusesOpen (Unopened fault) file journal
+refused_file fault file None told is = (told, is)
+refused_file fault file (Some text) told is = (told, is)
+
+-- nothing says why a session is not opened that opens
+pub not_unopened : (file : Text) (journal : Option Text) (kept : KeptSteps) (message : Text) → Opens file journal kept → IsUnopened file journal message → ⊥
+not_unopened file journal kept message opens (IsUnopened.file _ kind place told fault) =
+    let it : ReadFault = record { kind = kind; place = place } in
+    let same = open_refused file journal kept opens (Unopened it) (refused_file it file journal told fault) in
+    cc
+not_unopened file journal kept message opens (IsUnopened.journal text place is none) =
+    let same = open_refused file (Some text) kept opens (BadJournal place) (is, none) in
+    cc
+not_unopened file journal kept message opens (IsUnopened.mismatch text is) =
+    let same = open_refused file (Some text) kept opens JournalMismatch is in
+    cc
+
+-- a file that is opened can be opened
+pub opened_openable : (file : Text) (journal : Option Text) (kept : KeptSteps) → Opens file journal kept → IsOpenable file
+opened_openable file journal kept opens = subst IsOpenable (opened_present file journal kept opens) (opened_is_sound file journal kept opens).present
+
+-- a journal with which a file opens is not unfit
+pub not_unfit : (file text : Text) (kept : KeptSteps) → Opens file (Some text) kept → IsUnfit file text → ⊥
+not_unfit file text kept opens (IsUnfit.none place is) =
+    not_unopened file (Some text) kept (bad_journal_line place) opens (IsUnopened.journal text place (opened_openable file (Some text) kept opens) is)
+not_unfit file text kept opens (IsUnfit.mismatch is) = not_unopened file (Some text) kept mismatch_line opens (IsUnopened.mismatch text is)
+
+-- a file that is opened, with its journal or with a new one, can be opened
+openable_with : (new_journal : Bool) (file : Text) (journal : Option Text) (opened : SessionState) → OpensWith new_journal file journal opened → IsOpenable file
+openable_with new_journal file journal opened (OpensWith.fitting is) = opened_openable file journal opened.steps is.opens
+openable_with new_journal file journal opened (OpensWith.begun text asked is_text unfit is) = opened_openable file None opened.steps is.opens
+
+-- nothing says why a session is not opened that is opened so
+pub not_refused_with : (new_journal : Bool) (file : Text) (journal : Option Text) (opened : SessionState) (message : Text) → OpensWith new_journal file journal opened
+    → IsUnopened file (judged_journal new_journal journal) message → ⊥
+not_refused_with false file journal opened message (OpensWith.fitting is) why = not_unopened file journal opened.steps message is.opens why
+not_refused_with false file journal opened message (OpensWith.begun text asked is_text unfit is) why = false≢true asked
+not_refused_with true file journal opened message opens (IsUnopened.file _ kind place told fault) =
+    told (open_fault file kind place (openable_with true file journal opened opens) fault)
+
+-- ---- one run
+
+abbrev IsSession : Command → Text → KeptSteps → OnDisk → Type 0
+IsSession command input kept new = (accepted : List Request) × (one : IsOneSession (ended accepted) kept new) × Accepts command input accepted kept one.closed
+
+-- what a session was asked for and accepts, if what it keeps then opens from the new disk
+as_session : (command : Command) (input : Text) (kept : KeptSteps) (new : OnDisk) (requests : List Request) (done : ℕ) (fault : Option SessionFault) (reached : SessionState)
+    → Asks command kept.present input requests → fault ≢ Some Memory → Performs requests done fault (idle kept) reached → Opens new.file new.journal reached.steps
+    → IsSession command input kept new
+as_session command input kept new requests done fault reached asks told performs opens =
+    let one = ended_session (take done requests) kept reached new performs.did opens in (
+      take done requests,
+      one.0,
+      record { requests = requests; asks = asks; done = done; fault = fault; told = told; reached = reached; performs = performs; first = refl; kept = one.1 },
+    )
+
+nothing_done : (kept : KeptSteps) → Performs [] 0 None (idle kept) (idle kept)
+nothing_done kept = record { within = omega arith; did = refl; stops = tt }
+
+nothing_told : None ≢ Some Memory
+nothing_told e = none-some Memory e
+
+same_disk : (kept : KeptSteps) (old new : OnDisk) → new ≡ old → Opens old.file old.journal kept → Opens new.file new.journal kept
+same_disk kept old new is opens = subst (λ (p : OnDisk). Opens p.file p.journal kept) (sym is) opens
+
+-- nothing is asked for, and nothing stored
+asks_nothing : (command : Command) (input : Text) (kept : KeptSteps) (old new : OnDisk) → Asks command kept.present input [] → Opens old.file old.journal kept → new ≡ old
+    → IsSession command input kept new
+asks_nothing command input kept old new asks opens is =
+    as_session command input kept new [] 0 None (idle kept) asks nothing_told (nothing_done kept) (same_disk kept old new is opens)
+
+-- what a session leaves that was asked for these requests is stored
+leave_session : (command : Command) (input : Text) (kept : KeptSteps) (old new : OnDisk) (requests : List Request) (done : ℕ) (fault : Option SessionFault) (reached : SessionState)
+    (saved : Saved) (changes : ℕ) (message : Option Text) → Opens old.file old.journal kept → Asks command kept.present input requests → fault ≢ Some Memory
+    → Performs requests done fault (idle kept) reached → Saves reached.steps saved → (changes ≡ 0 → reached.steps ≡ kept) → new ≡ stored old (outcome_left changes message saved)
+    → IsSession command input kept new
+leave_session command input kept old new requests done fault reached saved changes message opens asks told performs saves unchanged stores =
+    let sound : IsSound reached.steps = (all_keep_sound (take done requests) (idle kept) reached (opened_is_sound old.file old.journal kept opens, tt) performs.did).0 in
+    as_session command input kept new requests done fault reached asks told performs
+    (⊎_elim
+    (λ (is : stored old (outcome_left changes message saved) ≡ left saved). left_opens reached.steps saved new sound saves (stores ∙ is))
+    (λ (is : (changes ≡ 0) × (stored old (outcome_left changes message saved) ≡ old)).
+    same_disk reached.steps old new (stores ∙ is.1) (subst (λ (k : KeptSteps). Opens old.file old.journal k) (sym (unchanged is.0)) opens))
+    (stored_left changes message saved old))
+
+-- what is opened is idle, and what was opened before
+pub opened-is : (file : Text) (journal : Option Text) (kept : KeptSteps) (opened : SessionState) → Opens file journal kept → IsOpened file journal opened → opened ≡ idle kept
+opened-is file journal kept opened opens is =
+    ap (λ (o : OpenStep). record { steps = opened.steps; current = o }) is.closed ∙ ap idle (one-opening file journal opened.steps kept is.opens opens)
+
+-- what is opened, with `--new-journal` or without, is what was opened before
+opened-with : (new_journal : Bool) (file : Text) (journal : Option Text) (kept : KeptSteps) (opened : SessionState) → Opens file journal kept → OpensWith new_journal file journal opened
+    → opened ≡ idle kept
+opened-with new_journal file journal kept opened opens (OpensWith.fitting is) = opened-is file journal kept opened opens is
+opened-with new_journal file journal kept opened opens (OpensWith.begun text asked is_text unfit is) =
+    absurd (not_unfit file text kept (subst (λ (j : Option Text). Opens file j kept) is_text opens) unfit)
+
+-- a session with these steps is opened with the journal
+fits : (new_journal : Bool) (file : Text) (journal : Option Text) (kept : KeptSteps) → Opens file journal kept → OpensWith new_journal file journal (idle kept)
+fits new_journal file journal kept opens = OpensWith.fitting (record { opens = opens; closed = refl })
+
+-- another number than 1
+pub not_one : (n : ℕ) → n ≢ 1 → (n == 1) ≡ false
+not_one n other =
+    ⊎_elim
+    (λ (h : (n == 1) ≡ true). absurd (other (eqb-true n 1 h)))
+    (λ (h : (n == 1) ≡ false). h)
+    (cases_Bool (n == 1))
+
+-- what a script asks for
+script_asks : (command : Command) (present input : Text) → command.name ≡ codes "edit" → length command.words ≡ 1 → Asks command present input (said_of input).requests
+script_asks command present input named lone =
+    let is : edits_asked command input ≡ (said_of input).requests = cond-true (length command.words == 1) (said_of input).requests (unwrap_or (asked_by_words (key_words command)) []) (ap (λ n. n == 1) lone) in
+    subst (λ (rs : List Request). Asks command present input rs) is (Asks.edits named)
+
+-- what words ask for
+words_ask : (command : Command) (present input : Text) (asked : Option (List Request)) → command.name ≡ codes "edit" → length command.words ≢ 1
+    → asked_by_words (key_words command) ≡ asked → Asks command present input (unwrap_or asked [])
+words_ask command present input asked named more said =
+    let other = not_one (length command.words) more in
+    let is : edits_asked command input ≡ unwrap_or (asked_by_words (key_words command)) [] = cond-false (length command.words == 1) (said_of input).requests (unwrap_or (asked_by_words (key_words command)) []) other in
+    subst (λ (rs : List Request). Asks command present input rs) (is ∙ ap (λ (o : Option (List Request)). unwrap_or o []) said) (Asks.edits named)
+
+-- requests are done in order, and what they leave is stored
+edited_run : (command : Command) (input : Text) (kept : KeptSteps) (old new : OnDisk) (answer : Answer) (requests : List Request) (message : ℕ → Option SessionFault → Option Text)
+    → Opens old.file old.journal kept → Asks command kept.present input requests → list_all is_scripted requests ≡ true → HasEdited requests message (idle kept) answer
+    → new ≡ stored old answer.outcome → IsSession command input kept new
+edited_run command input kept old new answer requests message opens asks scripted has stores =
+    leave_session command input kept old new requests has.done has.fault has.closed has.saved (edits_in (take has.done requests)) (message has.done has.fault)
+    opens asks has.told has.performs has.saves
+    (λ none. no_edit_changes (take has.done requests) (idle kept) has.closed (some-pass is_scripted has.done requests scripted) none has.performs.did)
+    (stores ∙ ap (λ (a : Answer). stored old a.outcome) has.answered)
+
+edit_run : (command : Command) (input : Text) (kept : KeptSteps) (old new : OnDisk) (answer : Answer) → Opens old.file old.journal kept → command.name ≡ codes "edit"
+    → length command.words ≡ 1 → IsEditAnswer command.new_journal old.file old.journal input answer → new ≡ stored old answer.outcome → IsSession command input kept new
+edit_run command input kept old new answer opens named lone (AnswersSession.answered opened with (AnswersInput.within short has)) stores =
+    edited_run command input kept old new answer (said_of input).requests (stop_line (said_of input)) opens (script_asks command kept.present input named lone) (lines_scripted 1 (lines_of input))
+    (subst (λ (s : SessionState). HasEditedBy input s answer) (opened-with command.new_journal old.file old.journal kept opened opens with) has) stores
+edit_run command input kept old new answer opens named lone (AnswersSession.answered opened with (AnswersInput.too_long far told)) stores =
+    asks_nothing command input kept old new (Asks.long_script named far) opens (stores ∙ ap (λ (a : Answer). stored old a.outcome) told)
+edit_run command input kept old new answer opens named lone (AnswersSession.unopened is) stores =
+    absurd (not_refused_with command.new_journal old.file old.journal (idle kept) is.message (fits command.new_journal old.file old.journal kept opens) is.why)
+
+words_run : (command : Command) (input : Text) (kept : KeptSteps) (old new : OnDisk) (answer : Answer) → Opens old.file old.journal kept → command.name ≡ codes "edit"
+    → length command.words ≢ 1 → IsWordsAnswer command.new_journal (key_words command) old.file old.journal answer → new ≡ stored old answer.outcome → IsSession command input kept new
+words_run command input kept old new answer opens named more (AnswersSession.answered opened with (HasEditedByWords.said requests said has)) stores =
+    edited_run command input kept old new answer requests fault_message opens (words_ask command kept.present input (Some requests) named more said) (words_scripted (key_words command) requests said)
+    (subst (λ (s : SessionState). HasEdited requests fault_message s answer) (opened-with command.new_journal old.file old.journal kept opened opens with) has) stores
+words_run command input kept old new answer opens named more (AnswersSession.answered opened with (HasEditedByWords.bad none told)) stores =
+    asks_nothing command input kept old new (words_ask command kept.present input None named more none) opens (stores ∙ ap (λ (a : Answer). stored old a.outcome) told)
+words_run command input kept old new answer opens named more (AnswersSession.unopened is) stores =
+    absurd (not_refused_with command.new_journal old.file old.journal (idle kept) is.message (fits command.new_journal old.file old.journal kept opens) is.why)
+
+turn_run : (command : Command) (input : Text) (kept : KeptSteps) (old new : OnDisk) (answer : Answer) (word : Text) (request : Request) → Opens old.file old.journal kept
+    → Asks command kept.present input (replicate command.n request) → IsTurnAnswer word request command.n old.file old.journal answer → new ≡ stored old answer.outcome
+    → IsSession command input kept new
+turn_run command input kept old new answer word request opens asks (IsTurnAnswer.turned turned turns is) stores =
+    let has : HasTurned request command.n (idle kept) turned =
+    subst (λ (k : KeptSteps). HasTurned request command.n (idle k) turned) (one-opening old.file old.journal turns.opened kept turns.opens opens) turns.has_turned in
+    leave_session command input kept old new (replicate command.n request) turned.performed.done turned.performed.fault has.closed turned.saved turned.performed.done
+    (option_map fault_line turned.performed.fault) opens asks has.told has.performs has.saves
+    (λ none. ap (λ (s : SessionState). s.steps) (subst (λ n. DoesAll (take n (replicate command.n request)) (idle kept) has.closed) none has.performs.did))
+    (stores ∙ ap (λ (a : Answer). stored old a.outcome) is)
+turn_run command input kept old new answer word request opens asks (IsTurnAnswer.unopened is) stores =
+    absurd (not_unopened old.file old.journal kept is.message opens is.why)
+
+added_run : (command : Command) (input : Text) (kept : KeptSteps) (old new : OnDisk) (answer : Answer) (a : Additions) → Opens old.file old.journal kept
+    → Asks command kept.present input (request.Edit (AddMany a.entries) ∷ []) → HasAdded a (idle kept) answer → new ≡ stored old answer.outcome → IsSession command input kept new
+added_run command input kept old new answer a opens asks (HasAdded.added closed saved makes saves is) stores =
+    leave_session command input kept old new (request.Edit (AddMany a.entries) ∷ []) 1 None closed saved 1 None opens asks nothing_told
+    (record { within = omega arith; did = (closed, makes, refl); stops = tt }) saves (λ one. absurd (omega (arith, one))) (stores ∙ ap (λ (x : Answer). stored old x.outcome) is)
+added_run command input kept old new answer a opens asks (HasAdded.refused fault told refuses is) stores =
+    as_session command input kept new (request.Edit (AddMany a.entries) ∷ []) 0 (Some fault) (idle kept) asks (λ e. told (same_Some fault Memory e))
+    (record { within = omega arith; did = refl; stops = refuses }) (same_disk kept old new (stores ∙ ap (λ (x : Answer). stored old x.outcome) is) opens)
+
+read_run : (command : Command) (input : Text) (kept : KeptSteps) (old new : OnDisk) (answer : Answer) → Opens old.file old.journal kept → command.name ≡ codes "import"
+    → HasImported input (idle kept) answer → new ≡ stored old answer.outcome → IsSession command input kept new
+read_run command input kept old new answer opens named (HasImported.read a adds has) stores =
+    added_run command input kept old new answer a opens (Asks.addition named a adds) has stores
+read_run command input kept old new answer opens named (HasImported.unread fault told refuses is) stores =
+    asks_nothing command input kept old new (Asks.no_text named fault told refuses) opens (stores ∙ ap (λ (a : Answer). stored old a.outcome) is)
+
+import_run : (command : Command) (input : Text) (kept : KeptSteps) (old new : OnDisk) (answer : Answer) → Opens old.file old.journal kept → command.name ≡ codes "import"
+    → IsImportAnswer command.new_journal old.file old.journal input answer → new ≡ stored old answer.outcome → IsSession command input kept new
+import_run command input kept old new answer opens named (AnswersSession.answered opened with (AnswersInput.within short has)) stores =
+    read_run command input kept old new answer opens named
+    (subst (λ (s : SessionState). HasImported input s answer) (opened-with command.new_journal old.file old.journal kept opened opens with) has) stores
+import_run command input kept old new answer opens named (AnswersSession.answered opened with (AnswersInput.too_long far told)) stores =
+    asks_nothing command input kept old new (Asks.long_text named far) opens (stores ∙ ap (λ (a : Answer). stored old a.outcome) told)
+import_run command input kept old new answer opens named (AnswersSession.unopened is) stores =
+    absurd (not_refused_with command.new_journal old.file old.journal (idle kept) is.message (fits command.new_journal old.file old.journal kept opens) is.why)
+
+log_run : (command : Command) (input : Text) (kept : KeptSteps) (old new : OnDisk) (answer : Answer) → Opens old.file old.journal kept → command.name ≡ codes "log"
+    → IsLogAnswer old.file old.journal answer → new ≡ stored old answer.outcome → IsSession command input kept new
+log_run command input kept old new answer opens named (IsLogAnswer.listed opened is told) stores =
+    asks_nothing command input kept old new (Asks.nothing named) opens (stores ∙ ap (λ (a : Answer). stored old a.outcome) told)
+log_run command input kept old new answer opens named (IsLogAnswer.unopened is) stores =
+    absurd (not_unopened old.file old.journal kept is.message opens is.why)
+
+answered_run : (command : Command) (input : Text) (kept : KeptSteps) (old new : OnDisk) (answer : Answer) → OpensSession command → Opens old.file old.journal kept
+    → IsStoredAnswer command old.file old.journal input answer → new ≡ stored old answer.outcome → IsSession command input kept new
+answered_run command input kept old new answer reads opens (IsStoredAnswer.cat e a) stores = absurd (no_reader command (codes "cat") reads e refl)
+answered_run command input kept old new answer reads opens (IsStoredAnswer.of_reading answers to a) stores = absurd (of_other command answers reads to)
+answered_run command input kept old new answer reads opens (IsStoredAnswer.lint e a) stores = absurd (no_reader command (codes "lint") reads e refl)
+answered_run command input kept old new answer reads opens (IsStoredAnswer.explain e a) stores = absurd (no_reader command (codes "explain") reads e refl)
+answered_run command input kept old new answer reads opens (IsStoredAnswer.edit e lone a) stores = edit_run command input kept old new answer opens e lone a stores
+answered_run command input kept old new answer reads opens (IsStoredAnswer.edit_words e more a) stores = words_run command input kept old new answer opens e more a stores
+answered_run command input kept old new answer reads opens (IsStoredAnswer.undo e a) stores =
+    turn_run command input kept old new answer (codes "undone") request.Undo opens (Asks.undos e) a stores
+answered_run command input kept old new answer reads opens (IsStoredAnswer.redo e a) stores =
+    turn_run command input kept old new answer (codes "redone") request.Redo opens (Asks.redos e) a stores
+answered_run command input kept old new answer reads opens (IsStoredAnswer.log e a) stores = log_run command input kept old new answer opens e a stores
+answered_run command input kept old new answer reads opens (IsStoredAnswer.import e a) stores = import_run command input kept old new answer opens e a stores
+answered_run command input kept old new answer reads opens (IsStoredAnswer.forget e a) stores = absurd (no_reader command (codes "forget") reads e refl)
+
+pub a-run-is-a-session : a_run_is_a_session
+a-run-is-a-session command input kept old new reads opens run =
+    let same : run.answer ≡ run.answers.stored = run.answers.shown ∙ ap (λ (b : Bool). shown b run.answers.stored) run.kept in
+    answered_run command input kept old new run.answers.stored reads opens run.answers.answers (run.stores ∙ ap (λ (a : Answer). stored old a.outcome) same)
+
+-- ---- runs one after another
+
+abbrev no_runs : (kept : KeptSteps) (new : OnDisk) → Opens new.file new.journal kept → IsOneSession [] kept new
+no_runs kept new opens = record { closed = kept; did = refl; opens = opens; moved = refl }
+
+pub runs-are-one-session : runs_of_the_program_are_one_session
+runs-are-one-session [] kept old new opens runs = ([], no_runs kept new (same_disk kept old new runs opens), refl)
+runs-are-one-session (call ∷ calls) kept old new opens runs =
+    let mid : OnDisk = runs.0 in
+    let first : IsSession call.command call.input kept mid = a-run-is-a-session call.command call.input kept old mid runs.1 opens runs.2 in
+    let rest = runs-are-one-session calls first.1.closed mid new first.1.opens runs.3 in
+    let all : IsOneSession (ended first.0 ++ requests_of rest.0) kept new = sessions-are-one (ended first.0) (requests_of rest.0) kept first.1.closed mid new first.1 first.1.opens rest.1 in
+    let same : rest.1.closed ≡ all.closed = one-opening new.file new.journal rest.1.closed all.closed rest.1.opens all.opens in
+    (first.0 ∷ rest.0, all, (first.1.closed, first.2, subst (λ (k : KeptSteps). AreAccepted calls rest.0 first.1.closed k) same rest.2))
+
+-- ---- the first file, and the last
+
+-- a command has one name
+two_names : (command : Command) (a b : Text) → command.name ≡ a → command.name ≡ b → bytes_eq a b ≡ false → bytes_eq a a ≡ true → ⊥
+two_names command a b e e' other same = false≢true (sym other ∙ ap (bytes_eq a) (sym e' ∙ e) ∙ same)
+
+undos_asked : (command : Command) (present input : Text) (requests : List Request) → command.name ≡ codes "undo" → Asks command present input requests → requests ≡ replicate command.n request.Undo
+undos_asked command present input requests named (Asks.undos e) = refl
+undos_asked command present input requests named (Asks.edits e) = absurd (two_names command (codes "undo") (codes "edit") named e refl refl)
+undos_asked command present input requests named (Asks.redos e) = absurd (two_names command (codes "undo") (codes "redo") named e refl refl)
+undos_asked command present input requests named (Asks.addition e a adds) = absurd (two_names command (codes "undo") (codes "import") named e refl refl)
+undos_asked command present input requests named (Asks.no_text e fault told refuses) = absurd (two_names command (codes "undo") (codes "import") named e refl refl)
+undos_asked command present input requests named (Asks.long_script e far) = absurd (two_names command (codes "undo") (codes "edit") named e refl refl)
+undos_asked command present input requests named (Asks.long_text e far) = absurd (two_names command (codes "undo") (codes "import") named e refl refl)
+undos_asked command present input requests named (Asks.nothing e) = absurd (two_names command (codes "undo") (codes "log") named e refl refl)
+
+redos_asked : (command : Command) (present input : Text) (requests : List Request) → command.name ≡ codes "redo" → Asks command present input requests → requests ≡ replicate command.n request.Redo
+redos_asked command present input requests named (Asks.redos e) = refl
+redos_asked command present input requests named (Asks.edits e) = absurd (two_names command (codes "redo") (codes "edit") named e refl refl)
+redos_asked command present input requests named (Asks.undos e) = absurd (two_names command (codes "redo") (codes "undo") named e refl refl)
+redos_asked command present input requests named (Asks.addition e a adds) = absurd (two_names command (codes "redo") (codes "import") named e refl refl)
+redos_asked command present input requests named (Asks.no_text e fault told refuses) = absurd (two_names command (codes "redo") (codes "import") named e refl refl)
+redos_asked command present input requests named (Asks.long_script e far) = absurd (two_names command (codes "redo") (codes "edit") named e refl refl)
+redos_asked command present input requests named (Asks.long_text e far) = absurd (two_names command (codes "redo") (codes "import") named e refl refl)
+redos_asked command present input requests named (Asks.nothing e) = absurd (two_names command (codes "redo") (codes "log") named e refl refl)
+
+pub one-undo-leads-to-the-first-file : one_undo_leads_to_the_first_file
+one-undo-leads-to-the-first-file calls undo input first kept old mid new begins runs opens named enough run =
+    let before = runs-are-one-session calls first old mid begins runs in
+    let same : before.1.closed ≡ kept = one-opening mid.file mid.journal before.1.closed kept before.1.opens opens in
+    let this : IsSession undo input kept new = a-run-is-a-session undo input kept mid new (OpensSession.undo named) opens run in
+    let accepts = this.2 in
+    let performs : Performs (replicate undo.n request.Undo) accepts.done accepts.fault (idle kept) accepts.reached =
+    subst (λ (rs : List Request). Performs rs accepts.done accepts.fault (idle kept) accepts.reached) (undos_asked undo kept.present input accepts.requests named accepts.asks) accepts.performs in
+    sym (opened_present new.file new.journal this.1.closed this.1.opens)
+    ∙ ap (λ (k : KeptSteps). k.present) accepts.kept
+    ∙ (undone_all undo.n accepts.done accepts.fault kept accepts.reached enough accepts.told performs).1
+    ∙ ap (λ (k : KeptSteps). first_file (history_of k)) (sym same)
+    ∙ session_keeps_first (requests_of before.0) old.file old.journal first mid begins before.1
+
+pub one-redo-leads-to-the-last-file : one_redo_leads_to_the_last_file
+one-redo-leads-to-the-last-file redo input kept mid new opens named enough run =
+    let this : IsSession redo input kept new = a-run-is-a-session redo input kept mid new (OpensSession.redo named) opens run in
+    let accepts = this.2 in
+    let performs : Performs (replicate redo.n request.Redo) accepts.done accepts.fault (idle kept) accepts.reached =
+    subst (λ (rs : List Request). Performs rs accepts.done accepts.fault (idle kept) accepts.reached) (redos_asked redo kept.present input accepts.requests named accepts.asks) accepts.performs in
+    sym (opened_present new.file new.journal this.1.closed this.1.opens)
+    ∙ ap (λ (k : KeptSteps). k.present) accepts.kept
+    ∙ (redone_all redo.n accepts.done accepts.fault kept accepts.reached enough accepts.told performs).1
+
+-- ---- renamings
+
+abbrev AllRename : List Request → Type 0
+AllRename requests = list_all is_renaming requests ≡ true
+
+both_rename : (requests others : List Request) → AllRename requests → AllRename others → AllRename (requests ++ others)
+both_rename requests others all all' = list_all-append is_renaming requests others ∙ ap (λ b. b && list_all is_renaming others) all ∙ all'
+
+ended_rename : (requests : List Request) → AllRename requests → AllRename (ended requests)
+ended_rename requests all = by_end (leaves_open false requests)
+  where
+    by_end : (b : Bool) → AllRename (if b then requests ++ request.End ∷ [] else requests)
+    by_end true = both_rename requests (request.End ∷ []) all refl
+    by_end false = all
+
+edits_rename : (command : Command) (present input : Text) (requests : List Request) → command.name ≡ codes "edit" → AllRename (edits_asked command input) → Asks command present input requests
+    → AllRename requests
+edits_rename command present input requests named all (Asks.edits e) = all
+edits_rename command present input requests named all (Asks.undos e) = absurd (two_names command (codes "edit") (codes "undo") named e refl refl)
+edits_rename command present input requests named all (Asks.redos e) = absurd (two_names command (codes "edit") (codes "redo") named e refl refl)
+edits_rename command present input requests named all (Asks.addition e a adds) = absurd (two_names command (codes "edit") (codes "import") named e refl refl)
+edits_rename command present input requests named all (Asks.no_text e fault told refuses) = refl
+edits_rename command present input requests named all (Asks.long_script e far) = refl
+edits_rename command present input requests named all (Asks.long_text e far) = refl
+edits_rename command present input requests named all (Asks.nothing e) = refl
+
+accepted_rename : (calls : List Call) (accepted : List (List Request)) (old new : KeptSteps) → list_all renames calls ≡ true → AreAccepted calls accepted old new
+    → AllRename (requests_of accepted)
+accepted_rename [] [] old new all are = refl
+accepted_rename [] (requests ∷ others) old new all are = absurd are
+accepted_rename (call ∷ calls) [] old new all are = absurd are
+accepted_rename (call ∷ calls) (requests ∷ others) old new all are =
+    let both = and_parts (renames call) (list_all renames calls) all in
+    let this = and_parts (bytes_eq call.command.name (codes "edit")) (list_all is_renaming (edits_asked call.command call.input)) both.0 in
+    let named : call.command.name ≡ codes "edit" = eq-true call.command.name (codes "edit") this.0 in
+    let asked : AllRename are.1.requests = edits_rename call.command old.present call.input are.1.requests named this.1 are.1.asks in
+    let here : AllRename requests = ap (λ (rs : List Request). list_all is_renaming rs) are.1.first ∙ some-pass is_renaming are.1.done are.1.requests asked in
+    both_rename (ended requests) (requests_of others) (ended_rename requests here) (accepted_rename calls others are.0 new both.1 are.2)
+
+pub runs-of-renamings-keep-every-record : runs_of_renamings_keep_every_record
+runs-of-renamings-keep-every-record calls kept old new opens all runs =
+    let one = runs-are-one-session calls kept old new opens runs in
+    subst (λ (file : Text). OfReadings old.file file KeepsTexts) (opened_present new.file new.journal one.1.closed one.1.opens)
+    (subst (λ (file : Text). OfReadings file one.1.closed.present KeepsTexts) (opened_present old.file old.journal kept opens)
+    (all-keep (requests_of one.0) (idle kept) (idle one.1.closed) (accepted_rename calls one.0 kept one.1.closed all one.2) one.1.did))

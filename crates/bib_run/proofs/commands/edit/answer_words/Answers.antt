@@ -1,0 +1,6 @@
+use Rattle.std.proofs.lemmas.Result.{IfOk-weaker}
+use Rattle.bib_run.specs.Inputs.{answered}
+use Rattle.bib_run.proofs.commands.edit.answer_words.Goals as goal
+
+pub returns-in-Ok : goal.returns-in-Ok
+returns-in-Ok c = IfOk-weaker c.edit_by_words-answer.result _ _ (λ answer h. answered _ c.in-Ok.ensures.opened h) c.edit_by_words-answer.ensures

@@ -1,0 +1,9 @@
+use Rattle.std.proofs.Common.{◌≡◌, ◌≤◌, take, sum_by}
+use Rattle.bib_run.specs.EditAnswer.{changes_of}
+use Rattle.bib_run.proofs.commands.edit.edits_in.Given as goal
+
+abbrev pub invariant-request : goal.invariant-request
+invariant-request l = record {
+  counted : l.edits ≡ sum_by changes_of (take l.request-index l.requests);
+  small : l.edits ≤ l.request-index;
+}

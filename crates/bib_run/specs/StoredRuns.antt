@@ -1,0 +1,138 @@
+-- Runs of the program, one after another, over one file: what an answer leaves is stored, and the next run reads it. (dialect)
+use Rattle.std.specs.Prelude.{ℕ, ◌≡◌, ◌≢◌, ◌<◌, ◌≤◌, ◌&&◌, ◌==◌, if◌then◌else◌, Bool, true, false, List, [], ◌∷◌, length, take, replicate, bytes_eq, codes, Option, Some, None, unwrap_or}
+use Rattle.std.specs.List.{list_all}
+use Rattle.bib_spec.specs.Bytes.{file_limit}
+use Rattle.bib_spec.specs.Text.{Text}
+use Rattle.history_spec.specs.Steps.{KeptSteps, first_of}
+use Rattle.bib_data.specs.declared.edit.Edit.TheVariants.{AddMany}
+use Rattle.bib_data.specs.declared.request.Request.{Request}
+use Rattle.bib_data.specs.declared.request.Request.TheVariants as request
+use Rattle.bib_journal.specs.declared.fault.SessionFault.{SessionFault}
+use Rattle.bib_journal.specs.declared.fault.SessionFault.TheVariants.{Memory}
+use Rattle.bib_journal.specs.Loading.{last_of}
+use Rattle.bib_journal.specs.OpenSteps.{SessionState, idle}
+use Rattle.bib_journal.specs.Session.{Opens, Performs}
+use Rattle.bib_journal.specs.Runs.{OnDisk, ended, requests_of, IsOneSession}
+use Rattle.bib_journal.specs.Renaming.{OfReadings, KeepsTexts, is_renaming}
+use Rattle.bib_ris.specs.declared.fault.ImportFault.{ImportFault}
+use Rattle.bib_ris.specs.declared.fault.ImportFault.TheVariants as import_fault
+use Rattle.bib_ris.specs.declared.importing.Additions.{Additions}
+use Rattle.bib_ris.specs.Import.{AreAdditions, RefusesImport}
+use Rattle.bib_script.specs.Script.{said_of}
+use Rattle.bib_script.specs.Words.{asked_by_words}
+use Rattle.bib_words.specs.declared.commands.Command.{Command}
+use Rattle.bib_answers.specs.declared.answers.Outcome.{Outcome}
+use Rattle.bib_answers.specs.declared.answers.Answer.{Answer}
+use Rattle.bib_run.specs.Answers.{IsAnswer, key_words}
+
+-- ---- what is stored
+
+-- the new one, or the old one where there is none
+abbrev pub or_old : Option Text → Option Text → Option Text
+or_old None old = old
+or_old (Some new) old = Some new
+
+-- what stands on the disk once what an outcome leaves is stored
+abbrev pub stored : OnDisk → Outcome → OnDisk
+stored disk outcome = record { file = unwrap_or outcome.file disk.file; journal = or_old outcome.journal disk.journal }
+
+-- the command, without `--print`, answers to what is on the disk and to this input, and what the answer leaves is stored
+pub record IsStoredRun (command : Command) (input : Text) (old new : OnDisk) : Type 0 where
+  pub kept : command.print ≡ false
+  pub answer : Answer
+  pub answers : IsAnswer command old.file old.journal input answer
+  pub stores : new ≡ stored old answer.outcome
+
+-- ---- what is asked for
+
+-- the commands of which a run is a session: it opens the file and its journal, and leaves both
+pub data OpensSession (c : Command) : Type 0 where
+  edit : c.name ≡ codes "edit" → OpensSession c
+  undo : c.name ≡ codes "undo" → OpensSession c
+  redo : c.name ≡ codes "redo" → OpensSession c
+  log : c.name ≡ codes "log" → OpensSession c
+  import : c.name ≡ codes "import" → OpensSession c
+
+-- What `edit` asks for: the requests of its script; or, if words follow the file, the step of one edit that they say, and nothing
+-- if they say none.
+abbrev pub edits_asked : Command → Text → List Request
+edits_asked command input = if length command.words == 1 then (said_of input).requests else unwrap_or (asked_by_words (key_words command)) []
+
+-- What a command asks of a session whose present file is this: the edits of a script or of words; so many undos or redos; the
+-- addition of what its input says, all at once. `log` asks for nothing, nor does an input that is too long or is no RIS text.
+pub data Asks (command : Command) (present input : Text) : List Request → Type 0 where
+  edits : command.name ≡ codes "edit" → Asks command present input (edits_asked command input)
+  undos : command.name ≡ codes "undo" → Asks command present input (replicate command.n request.Undo)
+  redos : command.name ≡ codes "redo" → Asks command present input (replicate command.n request.Redo)
+  addition : command.name ≡ codes "import" → (a : Additions) → AreAdditions present input a → Asks command present input (request.Edit (AddMany a.entries) ∷ [])
+  no_text : command.name ≡ codes "import" → (fault : ImportFault) → fault ≢ import_fault.Memory → RefusesImport fault input → Asks command present input []
+  long_script : command.name ≡ codes "edit" → file_limit < length input → Asks command present input []
+  long_text : command.name ≡ codes "import" → file_limit < length input → Asks command present input []
+  nothing : command.name ≡ codes "log" → Asks command present input []
+
+-- A session that keeps the first steps is asked for what the command asks for, and accepts these requests: all, or those before
+-- the first that is refused. It keeps the second steps then.
+pub record Accepts (command : Command) (input : Text) (accepted : List Request) (old new : KeptSteps) : Type 0 where
+  pub requests : List Request
+  pub asks : Asks command old.present input requests
+  pub done : ℕ
+  pub fault : Option SessionFault
+  pub told : fault ≢ Some Memory
+  pub reached : SessionState
+  pub performs : Performs requests done fault (idle old) reached
+  pub first : accepted ≡ take done requests
+  pub kept : new ≡ reached.steps
+
+-- ---- one run
+
+-- A run of such a command is one session that does the requests of the command that are accepted, with the end
+-- of a step that is open then: the file and the journal that stand there afterwards open as what that session keeps.
+abbrev pub a_run_is_a_session : Type 0
+a_run_is_a_session = (command : Command) (input : Text) (kept : KeptSteps) (old new : OnDisk) → OpensSession command → Opens old.file old.journal kept
+    → IsStoredRun command input old new
+    → (accepted : List Request) × (one : IsOneSession (ended accepted) kept new) × Accepts command input accepted kept one.closed
+
+-- ---- runs one after another
+
+-- a command, and what its standard input says
+pub record Call : Type 0 where
+  pub command : Command
+  pub input : Text
+
+-- runs of such commands, each over what the one before left
+abbrev pub AreStoredRuns : List Call → OnDisk → OnDisk → Type 0
+AreStoredRuns [] old new = new ≡ old
+AreStoredRuns (call ∷ calls) old new = (mid : OnDisk) × OpensSession call.command × IsStoredRun call.command call.input old mid × AreStoredRuns calls mid new
+
+-- each run in turn accepts these requests, from the first steps to the second
+abbrev pub AreAccepted : List Call → List (List Request) → KeptSteps → KeptSteps → Type 0
+AreAccepted [] [] old new = new ≡ old
+AreAccepted [] (accepted ∷ others) old new = ⊥
+AreAccepted (call ∷ calls) [] old new = ⊥
+AreAccepted (call ∷ calls) (accepted ∷ others) old new = (mid : KeptSteps) × Accepts call.command call.input accepted old mid × AreAccepted calls others mid new
+
+-- Any runs of the program over a file and its journal, whatever each of them was refused, are one session that does the requests
+-- that each accepted: so the file that each leaves is that of the history.
+abbrev pub runs_of_the_program_are_one_session : Type 0
+runs_of_the_program_are_one_session = (calls : List Call) (kept : KeptSteps) (old new : OnDisk) → Opens old.file old.journal kept → AreStoredRuns calls old new
+    → (accepted : List (List Request)) × (one : IsOneSession (requests_of accepted) kept new) × AreAccepted calls accepted kept one.closed
+
+-- After any runs, one `undo` of at least as many changes as there are to undo leads to the first file of the history.
+abbrev pub one_undo_leads_to_the_first_file : Type 0
+one_undo_leads_to_the_first_file = (calls : List Call) (undo : Command) (input : Text) (first kept : KeptSteps) (old mid new : OnDisk)
+    → Opens old.file old.journal first → AreStoredRuns calls old mid → Opens mid.file mid.journal kept
+    → undo.name ≡ codes "undo" → length kept.past ≤ undo.n → IsStoredRun undo input mid new → new.file ≡ first_of first.past first.present
+
+-- From whatever stands there, one `redo` of at least as many changes as there are to redo leads to the last file of the history.
+abbrev pub one_redo_leads_to_the_last_file : Type 0
+one_redo_leads_to_the_last_file = (redo : Command) (input : Text) (kept : KeptSteps) (mid new : OnDisk) → Opens mid.file mid.journal kept
+    → redo.name ≡ codes "redo" → length kept.future ≤ redo.n → IsStoredRun redo input mid new → new.file ≡ last_of kept.future kept.present
+
+-- the command is `edit`, and all that it asks for are renamings
+abbrev pub renames : Call → Bool
+renames call = bytes_eq call.command.name (codes "edit") && list_all is_renaming (edits_asked call.command call.input)
+
+-- Any runs that ask for renamings alone, whatever each was refused, keep every record but for its key.
+abbrev pub runs_of_renamings_keep_every_record : Type 0
+runs_of_renamings_keep_every_record = (calls : List Call) (kept : KeptSteps) (old new : OnDisk) → Opens old.file old.journal kept
+    → list_all renames calls ≡ true → AreStoredRuns calls old new → OfReadings old.file new.file KeepsTexts

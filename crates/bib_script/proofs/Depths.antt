@@ -1,0 +1,161 @@
+-- What lines ask for has depths of 1 to 8.
+use Rattle.std.proofs.Common.{◌≡◌, ◌-◌, ◌&&◌, nat_le, Bool, true, false, cond, List, [], ◌∷◌, Option, Some, None, IfSome, option_map, option_and_then, bytes_eq, codes, refl, subst, arith}
+use Rattle.std.proofs.lemmas.Bool.{and_parts, leb-true}
+use Rattle.bib_spec.specs.Text.{Text}
+use Rattle.bib_spec.specs.Records.{IsDepth}
+use Rattle.bib_data.specs.Depths.{HasDepth, AsksWithDepth}
+use Rattle.bib_data.specs.declared.edit.Edit.{Edit}
+use Rattle.bib_data.specs.declared.edit.Edit.TheVariants.{AddEntry, MoveEntry, RegenerateKeys}
+use Rattle.bib_data.specs.declared.label.Label.{Label}
+use Rattle.bib_data.specs.declared.request.Request.{Request}
+use Rattle.bib_data.specs.declared.request.Request.TheVariants as request
+use Rattle.history_spec.specs.Steps.{label_of}
+use Rattle.bib_script.specs.Script.{number_of, fields_of, new_entry, set_of, drop_of, add_of, remove_of, move_of, rename_key_of, rename_macro_of, inline_of, introduce_of, depth_of, regenerate_of, renaming_of, edit_of, group_of, end_of, request_of}
+
+-- the edit, if there is one, asks for such a depth
+abbrev Fits : Option Edit → Type 0
+Fits edit = IfSome edit HasDepth
+
+either : (b : Bool) (x y : Option Edit) → Fits x → Fits y → Fits (cond b x y)
+either true x y first second = first
+either false x y first second = second
+
+mapped : {X : Type 0} (f : X → Edit) (o : Option X) → ((x : X) → HasDepth (f x)) → Fits (option_map f o)
+mapped f None each = tt
+mapped f (Some x) each = each x
+
+joined : {X : Type 0} (f : X → Option Edit) (o : Option X) → ((x : X) → Fits (f x)) → Fits (option_and_then f o)
+joined f None each = tt
+joined f (Some x) each = each x
+
+-- ---- the words of each edit
+
+set-fits : (words : List Text) → Fits (set_of words)
+set-fits [] = tt
+set-fits (a ∷ []) = tt
+set-fits (a ∷ b ∷ []) = tt
+set-fits (a ∷ b ∷ c ∷ []) = tt
+set-fits (a ∷ b ∷ c ∷ d ∷ words) = tt
+
+drop-fits : (words : List Text) → Fits (drop_of words)
+drop-fits [] = tt
+drop-fits (a ∷ []) = tt
+drop-fits (a ∷ b ∷ []) = tt
+drop-fits (a ∷ b ∷ c ∷ words) = tt
+
+add-fits : (words : List Text) → Fits (add_of words)
+add-fits [] = tt
+add-fits (a ∷ []) = tt
+add-fits (a ∷ b ∷ []) = tt
+add-fits (a ∷ b ∷ c ∷ words) =
+    joined (λ n. option_map (λ fields. AddEntry n (new_entry b c fields)) (fields_of words)) (number_of a) (λ n. mapped (λ fields. AddEntry n (new_entry b c fields)) (fields_of words) (λ fields. tt))
+
+remove-fits : (words : List Text) → Fits (remove_of words)
+remove-fits [] = tt
+remove-fits (a ∷ []) = tt
+remove-fits (a ∷ b ∷ words) = tt
+
+move-fits : (words : List Text) → Fits (move_of words)
+move-fits [] = tt
+move-fits (a ∷ []) = tt
+move-fits (a ∷ b ∷ []) = mapped (MoveEntry a) (number_of b) (λ n. tt)
+move-fits (a ∷ b ∷ c ∷ words) = tt
+
+rename_key-fits : (words : List Text) → Fits (rename_key_of words)
+rename_key-fits [] = tt
+rename_key-fits (a ∷ []) = tt
+rename_key-fits (a ∷ b ∷ []) = tt
+rename_key-fits (a ∷ b ∷ c ∷ words) = tt
+
+rename_macro-fits : (words : List Text) → Fits (rename_macro_of words)
+rename_macro-fits [] = tt
+rename_macro-fits (a ∷ []) = tt
+rename_macro-fits (a ∷ b ∷ []) = tt
+rename_macro-fits (a ∷ b ∷ c ∷ words) = tt
+
+inline-fits : (words : List Text) → Fits (inline_of words)
+inline-fits [] = tt
+inline-fits (a ∷ []) = tt
+inline-fits (a ∷ b ∷ words) = tt
+
+introduce-fits : (words : List Text) → Fits (introduce_of words)
+introduce-fits [] = tt
+introduce-fits (a ∷ []) = tt
+introduce-fits (a ∷ b ∷ []) = tt
+introduce-fits (a ∷ b ∷ c ∷ words) = tt
+
+-- a digit says such a depth
+digit-fits : (word : Text) → IfSome (depth_of word) IsDepth
+digit-fits [] = tt
+digit-fits (digit ∷ []) = at (nat_le 49 digit && nat_le digit 56) refl
+  where
+    at : (b : Bool) → (nat_le 49 digit && nat_le digit 56) ≡ b → IfSome (cond b (Some (digit - 48)) None) IsDepth
+    at true is =
+        let parts = and_parts (nat_le 49 digit) (nat_le digit 56) is in
+        let low = leb-true 49 digit parts.0 in
+        let high = leb-true digit 56 parts.1 in
+        record { least = omega (arith, low, high); most = omega (arith, low, high) }
+    at false is = tt
+digit-fits (digit ∷ other ∷ word) = tt
+
+regenerate-fits : (words : List Text) → Fits (regenerate_of words)
+regenerate-fits [] = record { least = omega arith; most = omega arith }
+regenerate-fits (word ∷ []) = at (depth_of word) (digit-fits word)
+  where
+    at : (o : Option _) → IfSome o IsDepth → Fits (option_map RegenerateKeys o)
+    at None is = tt
+    at (Some depth) is = is
+regenerate-fits (a ∷ b ∷ words) = tt
+
+renaming-fits : (verb : Text) (words : List Text) → Fits (renaming_of verb words)
+renaming-fits verb words =
+    either (bytes_eq verb (codes "rename-key")) _ _ (rename_key-fits words)
+    (either (bytes_eq verb (codes "rename-macro")) _ _ (rename_macro-fits words)
+    (either (bytes_eq verb (codes "inline")) _ _ (inline-fits words)
+    (either (bytes_eq verb (codes "introduce")) _ _ (introduce-fits words)
+    (either (bytes_eq verb (codes "regenerate")) _ _ (regenerate-fits words) tt))))
+
+edit-fits : (words : List Text) → IfSome (edit_of words) HasDepth
+edit-fits [] = tt
+edit-fits (verb ∷ words) =
+    either (bytes_eq verb (codes "set")) _ _ (set-fits words)
+    (either (bytes_eq verb (codes "drop")) _ _ (drop-fits words)
+    (either (bytes_eq verb (codes "add")) _ _ (add-fits words)
+    (either (bytes_eq verb (codes "remove")) _ _ (remove-fits words)
+    (either (bytes_eq verb (codes "move")) _ _ (move-fits words) (renaming-fits verb words)))))
+
+-- ---- what a line asks for
+
+abbrev Asks : Option Request → Type 0
+Asks asked = IfSome asked AsksWithDepth
+
+either-asks : (b : Bool) (x y : Option Request) → Asks x → Asks y → Asks (cond b x y)
+either-asks true x y first second = first
+either-asks false x y first second = second
+
+edit-asks : (edit : Option Edit) → Fits edit → Asks (option_map request.Edit edit)
+edit-asks None fits = tt
+edit-asks (Some edit) fits = fits
+
+group-asks : (words : List Text) → Asks (group_of words)
+group-asks [] = tt
+group-asks (label ∷ []) = at (label_of label)
+  where
+    at : (o : Option _) → Asks (option_map request.Begin o)
+    at None = tt
+    at (Some label) = tt
+group-asks (a ∷ b ∷ words) = tt
+
+end-asks : (words : List Text) → Asks (end_of words)
+end-asks [] = tt
+end-asks (a ∷ words) = tt
+
+request-asks : (words : List Text) → Asks (request_of words)
+request-asks [] = tt
+request-asks (verb ∷ words) =
+    either-asks (bytes_eq verb (codes "group")) _ _ (group-asks words)
+    (either-asks (bytes_eq verb (codes "end")) _ _ (end-asks words) (edit-asks (edit_of (verb ∷ words)) (edit-fits (verb ∷ words))))
+
+-- what a line asks for
+pub said-asks : (words : List Text) (asked : Request) → request_of words ≡ Some asked → AsksWithDepth asked
+said-asks words asked is = subst (λ (o : Option Request). IfSome o AsksWithDepth) is (request-asks words)

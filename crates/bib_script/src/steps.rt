@@ -1,0 +1,49 @@
+//! One edit by its words.
+
+ghost use Rattle.std.specs.Prelude.{◌≡◌, ◌∷◌, [], map, All, IfOk, IfSome};
+ghost use Rattle.bib_data.specs.Depths.{HasDepth, AsksWithDepth};
+ghost use Rattle.bib_script.specs.Words.{step_of, asked_by_words};
+
+use crate::labels::label_of_words;
+use crate::verbs::edit_of;
+use bib_data::{Edit, Label, Request};
+use bib_scan::{Seq, Text};
+use std::alloc::{AllocError, Global};
+
+/// Reads the words of one edit, as a line of a script has them, but each with any bytes. They ask for a step of that edit, whose
+/// label they are. The begin and the end of a step are no edit. (dialect)
+pub fn read_words(alloc: Global, words: &[Text]) -> Result<Option<Seq<Request>>, AllocError>
+    ensures said { IfOk result (λ asked. asked ≡ asked_by_words words.now) }
+    ensures depths { IfOk result (λ asked. IfSome asked (All AsksWithDepth)) }
+{
+    let slices = slices(alloc, words)?;
+    match edit_of(alloc, slices.as_slice())? {
+        Some(edit) => {
+            let label = label_of_words(alloc, words)?;
+            Ok(Some(step_of(alloc, label, edit)?))
+        }
+        None => Ok(None),
+    }
+}
+
+/// A step of one edit, with this label.
+fn step_of(alloc: Global, label: Label, edit: Edit) -> Result<Seq<Request>, AllocError>
+    ensures { IfOk result (λ requests. requests ≡ step_of label edit) }
+{
+    let mut requests = Vec::new(alloc);
+    requests.push(Request::Begin(label))?;
+    requests.push(Request::Edit(edit))?;
+    requests.push(Request::End)?;
+    Ok(Seq::from_vec(requests))
+}
+
+/// The words, lent.
+fn slices(alloc: Global, words: &[Text]) -> Result<Vec<&[u8]>, AllocError>
+    ensures { IfOk result (λ slices. map (λ w. w.now) slices.items ≡ words.now) }
+{
+    let mut slices = Vec::new(alloc);
+    'word: for word in words {
+        slices.push(word.as_slice())?;
+    }
+    Ok(slices)
+}

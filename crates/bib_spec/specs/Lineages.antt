@@ -1,0 +1,18 @@
+-- The parent of an entry, its parent and so on, as they are found one after another, with no look at those that were met.
+use Rattle.std.specs.Prelude.{ℕ, zero, suc, ◌≡◌, List, [], ◌∷◌, Option}
+use Rattle.std.specs.Option.{option_map_or}
+use Rattle.bib_spec.specs.Records.{EntryTexts, parent, default_depth, ancestors, fields_at, with_inherited}
+
+-- the parent, its parent and so on, at most `depth` of them; where they come round again, so does the list
+abbrev pub lineage : (ℕ → Option ℕ) → ℕ → ℕ → List ℕ
+lineage parents zero n = []
+lineage parents (suc depth) n = option_map_or (λ m. m ∷ lineage parents depth m) (parents n) []
+
+-- An entry inherits the same from its lineage as from its ancestors: one that comes round again has given all that it has.
+abbrev pub rings_give_nothing_more : Type 0
+rings_give_nothing_more = (entries : List EntryTexts) (depth n : ℕ) →
+    with_inherited entries (fields_at entries n) (lineage (parent entries) depth n) ≡ with_inherited entries (fields_at entries n) (ancestors entries depth n)
+
+-- At depth 1 an entry inherits from its parent, if it has one, and from no other entry.
+abbrev pub parent_alone_at_depth_1 : Type 0
+parent_alone_at_depth_1 = (entries : List EntryTexts) (n : ℕ) → ancestors entries default_depth n ≡ option_map_or (λ m. m ∷ []) (parent entries n) []

@@ -1,0 +1,3 @@
+pub mod Positions
+mod Renewed
+mod Turned

@@ -1,0 +1,62 @@
+-- How an edit changes the pieces of a step. (dialect)
+use Rattle.std.specs.Prelude.{ℕ, zero, suc, ◌+◌, ◌≤◌, Option, Some, None, List, length, take, drop, slice_index_or}
+use Rattle.bib_spec.specs.Pieces.{Piece, reversed_from}
+use Rattle.history_spec.specs.Composing.{old_end, new_end, BeginsAfter, EndBefore, Replacement, replaced}
+
+-- pieces near the last ones of the edit are replaced, and then, where its others lie far from these, pieces before them
+pub record Amendment : Type 0 where
+  pub last : Replacement
+  pub others : Option Replacement
+
+-- the list with the replacement, if there is one
+abbrev pub replaced_by : Option Replacement → List Piece → List Piece
+replaced_by None ps = ps
+replaced_by (Some r) ps = replaced r ps
+
+-- the list with both
+abbrev pub amended : Amendment → List Piece → List Piece
+amended a ps = replaced_by a.others (replaced a.last ps)
+
+-- ---- positions
+
+-- the replacement takes pieces of a list of this length
+pub record IsWithin (n : ℕ) (r : Replacement) : Type 0 where
+  pub ordered : r.from ≤ r.to
+  pub inside : r.to ≤ n
+
+-- the replacement, if there is one, takes pieces before this position
+abbrev pub IsBefore : ℕ → Option Replacement → Type 0
+IsBefore n None = Unit {0}
+IsBefore n (Some r) = IsWithin n r
+
+-- both take pieces of a list of this length, and the last ones come after the others
+pub record AreWithin (n : ℕ) (a : Amendment) : Type 0 where
+  pub last : IsWithin n a.last
+  pub others : IsBefore a.last.from a.others
+
+-- how many pieces both bring
+abbrev pub count_in : Option Replacement → ℕ
+count_in None = 0
+count_in (Some r) = length r.pieces
+
+abbrev pub added_count : Amendment → ℕ
+added_count a = length a.last.pieces + count_in a.others
+
+-- ---- what an edit lies near
+
+-- where the pieces before this position end, if these are the ends of all
+abbrev pub end_at : List ℕ → ℕ → ℕ
+end_at ends zero = 0
+end_at ends (suc n) = slice_index_or ends n 0
+
+-- the pieces from this position on begin after this place of the text that all of them make
+abbrev pub BeginBehind : List Piece → ℕ → ℕ → Type 0
+BeginBehind ps position place =
+    BeginsAfter place (reversed_from (old_end 0 (take position ps)) (new_end 0 0 (take position ps)) (drop position ps))
+
+-- the pieces before `from` end before the part of an edit begins, and those from `to` on begin after it ends
+pub record IsNear (ps part : List Piece) (from to : ℕ) : Type 0 where
+  pub ordered : from ≤ to
+  pub inside : to ≤ length ps
+  pub front : EndBefore (take from ps) part
+  pub back : BeginBehind ps to (old_end 0 part)

@@ -1,0 +1,52 @@
+//! How an edit changes the pieces of a step.
+
+ghost use Rattle.std.specs.Prelude.{◌≡◌};
+ghost use Rattle.bib_steps.specs.Amending.{added_count};
+
+use bib_data::Piece;
+use bib_scan::Seq;
+use std::marker::Model;
+
+/// What replaces pieces of a list: those from one position up to another.
+#[derive(Debug, Drop)]
+pub struct Replacement {
+    pub from: usize,
+    pub to: usize,
+    pub pieces: Seq<Piece>,
+}
+
+impl Model for Replacement {
+    ghost use Rattle.history_spec.specs.Composing.{Replacement as PieceReplacement};
+
+    ghost Value = { PieceReplacement };
+
+    ghost view = { λ r. record { from = r.from; to = r.to; pieces = r.pieces } };
+}
+
+/// What an edit replaces: pieces near its last ones, and then, where its others lie far from these, pieces before them.
+#[derive(Debug, Drop)]
+pub struct Amendment {
+    pub last: Replacement,
+    pub others: Option<Replacement>,
+}
+
+impl Model for Amendment {
+    ghost use Rattle.bib_steps.specs.Amending.{Amendment as PieceAmendment};
+
+    ghost Value = { PieceAmendment };
+
+    ghost view = { λ a. record { last = a.last; others = a.others } };
+}
+
+impl Amendment {
+    /// How many pieces it brings.
+    pub fn added_count(&self) -> usize
+        ensures { result ≡ added_count self.now }
+    {
+        let last = self.last.pieces.as_slice().len();
+        match &self.others {
+            Some(first) => last + first.pieces.as_slice().len(),
+            None => last,
+        }
+    }
+}

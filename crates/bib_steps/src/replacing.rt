@@ -1,0 +1,48 @@
+//! Replacing items of a list in place.
+
+ghost use Rattle.std.specs.Prelude.{◌≡◌, ◌+◌, ◌-◌, ◌≤◌, ◌++◌, take, drop, vec_len, vec_capacity};
+
+/// Turns the items from a position on, so that the first of them, as many as `count`, come last.
+fn turn<T>(items: &mut Vec<T>, from: usize, count: usize)
+    requires { from + count ≤ vec_len items.old }
+    ensures items { items.new.items ≡ take from items.old.items ++ (drop count (drop from items.old.items) ++ take count (drop from items.old.items)) }
+    ensures len { vec_len items.new ≡ vec_len items.old }
+    ensures capacity { vec_capacity items.new ≡ vec_capacity items.old }
+{
+    items[from..].rotate_left(count);
+}
+
+/// Exchanges the items from a position on for as many others.
+fn exchange<T>(items: &mut Vec<T>, from: usize, others: &mut Vec<T>)
+    requires { from + vec_len others.old ≤ vec_len items.old }
+    ensures items { items.new.items ≡ take from items.old.items ++ (others.old.items ++ drop (from + vec_len others.old) items.old.items) }
+    ensures len { vec_len items.new ≡ vec_len items.old }
+    ensures capacity { vec_capacity items.new ≡ vec_capacity items.old }
+{
+    let to = from + others.len();
+    items[from..to].swap_with_slice(others.as_mut_slice());
+}
+
+/// Puts these in place of the items from one position up to another, where there is room. It asks for no memory, and moves
+/// the items after them as memory.
+pub(crate) fn replace<T: Drop>(items: &mut Vec<T>, from: usize, to: usize, new: Vec<T>)
+    requires ordered { from ≤ to }
+    requires inside { to ≤ vec_len items.old }
+    requires room { vec_len items.old + vec_len new ≤ vec_capacity items.old }
+    ensures items { items.new.items ≡ take from items.old.items ++ (new.items ++ drop to items.old.items) }
+    ensures len { vec_len items.new + (to - from) ≡ vec_len items.old + vec_len new }
+    ensures capacity { vec_capacity items.old ≤ vec_capacity items.new }
+{
+    let mut new = new;
+    let count = new.len();
+    if count == to - from {
+        return exchange(items, from, &mut new);
+    }
+    if items.append(&mut new).is_err() {
+        unreachable!()
+    }
+    turn(items, from, to - from);
+    let len = items.len() - (to - from);
+    items.truncate(len);
+    turn(items, from, len - from - count);
+}

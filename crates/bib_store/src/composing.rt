@@ -1,0 +1,70 @@
+//! Two edits in turn as one.
+
+ghost use Rattle.std.specs.Prelude.{◌≡◌, IfOk, IfErr};
+ghost use Rattle.bib_spec.specs.Text.{Text};
+ghost use Rattle.bib_spec.specs.Pieces.{Fit, applied};
+ghost use Rattle.bib_items.specs.declared.fault.StoreFault.TheVariants.{Memory};
+ghost use Rattle.history_spec.specs.Composing.{IsComposable, IsComposableAt, composed, composed_at};
+
+use crate::applying::apply;
+use crate::grouping::first_group;
+use crate::reversing::reverse_from;
+use bib_data::Piece;
+use bib_items::StoreFault;
+use bib_scan::Seq;
+use std::alloc::Global;
+
+/// The pieces of two edits in turn, as those of one. The first fit some text, and the second what the first make of it;
+/// neither text is longer than a file. In the text in the middle each piece of the first covers its new bytes, and each
+/// of the second its old ones: those whose closed ranges share a point, be it through others, make one piece that covers
+/// them all. It takes memory and time in the number of the pieces and their bytes.
+pub fn compose(alloc: Global, first: &[Piece], second: &[Piece]) -> Result<Seq<Piece>, StoreFault>
+    requires composable { IsComposable first.now second.now }
+    ensures value { IfOk result (λ pieces. pieces ≡ composed first.now second.now) }
+    ensures fit { IfOk result (λ pieces. (text : Text) → Fit first.now text → Fit second.now (applied first.now text) → Fit pieces text) }
+    ensures lead { IfOk result (λ pieces. (text : Text) → Fit first.now text → Fit second.now (applied first.now text)
+        → applied pieces text ≡ applied second.now (applied first.now text)) }
+    ensures only { IfErr result (λ fault. fault ≡ Memory) }
+{
+    compose_at(alloc, 0, 0, first, second)
+}
+
+/// The same, of pieces that come after others, which end at `from` in the text before the first edit and at `middle_from` in
+/// the text between the two. It takes memory and time in the number of these pieces and their bytes.
+pub fn compose_at(
+    alloc: Global,
+    from: u64,
+    middle_from: u64,
+    first: &[Piece],
+    second: &[Piece],
+) -> Result<Seq<Piece>, StoreFault>
+    requires composable { IsComposableAt from middle_from first.now second.now }
+    ensures value { IfOk result (λ pieces. pieces ≡ composed_at from middle_from first.now second.now) }
+    ensures only { IfErr result (λ fault. fault ≡ Memory) }
+{
+    let back = reverse_from(alloc, first, from, middle_from)?;
+    let mut pieces = Vec::new(alloc);
+    let mut backs = back.as_slice();
+    let mut ons = second;
+    let mut end = from;
+    let mut middle_end = middle_from;
+    'groups: while !backs.is_empty() || !ons.is_empty() {
+        let group = first_group(alloc, backs, ons)?;
+        let covered = group.covered.as_slice();
+        let (members_back, next_backs) = backs.split_at(group.backs);
+        let (members_on, next_ons) = ons.split_at(group.ons);
+        let old = apply(alloc, covered, group.place as usize, members_back)?;
+        let new = apply(alloc, covered, group.place as usize, members_on)?;
+        let place = end + (group.place - middle_end);
+        end = place + old.len() as u64;
+        middle_end = group.place + covered.len() as u64;
+        backs = next_backs;
+        ons = next_ons;
+        pieces.push(Piece {
+            place,
+            old: Seq::from_vec(old),
+            new: Seq::from_vec(new),
+        })?;
+    }
+    Ok(Seq::from_vec(pieces))
+}

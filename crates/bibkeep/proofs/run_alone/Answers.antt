@@ -1,0 +1,5 @@
+use Rattle.bibkeep.specs.Ending.{EndsFor}
+use Rattle.bibkeep.proofs.run_alone.Goals as goal
+
+pub returns : goal.returns
+returns g c = EndsFor.ran _ _ _ c.run_over-outcome.ensures c.end_run.ensures.status

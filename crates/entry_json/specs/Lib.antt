@@ -1,0 +1,2 @@
+pub mod EntryJson
+pub mod Laws

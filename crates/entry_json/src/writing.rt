@@ -1,0 +1,123 @@
+//! The text of an entry.
+
+ghost use Rattle.std.specs.Prelude.{◌≡◌, ◌≢◌, ◌++◌, ◌∷◌, [], true, false, IfOk, IfErr, OnOk, codes};
+ghost use Rattle.std.specs.Option.{option_copied};
+ghost use Rattle.std.specs.Str.{is_utf8};
+ghost use Rattle.json.specs.Token.{key, string};
+ghost use Rattle.json.specs.Tree.{json_tokens, members_tokens};
+ghost use Rattle.entry_json.specs.EntryJson.{parent_json, fields_json, entry_json, json_line, is_parent_utf8, are_fields_utf8, is_told_utf8};
+ghost use Rattle.entry_json.specs.declared.fault.JsonFault.TheVariants.{Memory};
+
+use crate::fault::JsonFault;
+use bib_data::Record;
+use bib_scan::Text;
+use json::Writer;
+use std::str;
+
+/// The bytes as characters.
+fn utf8(bytes: &[u8]) -> Result<&str, JsonFault>
+    ensures text { IfOk result (λ text. (is_utf8 bytes.now ≡ true) × (text.now ≡ bytes.now)) }
+    ensures fault { IfErr result (λ fault. (fault ≢ Memory) × (is_utf8 bytes.now ≡ false)) }
+{
+    match str::from_utf8(bytes) {
+        Ok(text) => Ok(text),
+        Err(_) => Err(JsonFault::NotUtf8),
+    }
+}
+
+/// Writes a string.
+fn write_string(writer: &mut Writer, text: &[u8]) -> Result<(), JsonFault>
+    ensures before { writer.new.before ≡ writer.old.before }
+    ensures text { OnOk result (writer.new.tokens ≡ writer.old.tokens ++ string text.now ∷ []) }
+    ensures utf8 { OnOk result (is_utf8 text.now ≡ true) }
+    ensures fault { IfErr result (λ fault. fault ≢ Memory → is_utf8 text.now ≡ false) }
+{
+    let text = utf8(text)?;
+    writer.string(text)?;
+    Ok(())
+}
+
+/// Writes a member whose value is a string, and whose name is text.
+fn write_member(writer: &mut Writer, name: &str, text: &[u8]) -> Result<(), JsonFault>
+    ensures before { writer.new.before ≡ writer.old.before }
+    ensures text { OnOk result (writer.new.tokens ≡ (writer.old.tokens ++ key name.now ∷ []) ++ string text.now ∷ []) }
+    ensures utf8 { OnOk result (is_utf8 text.now ≡ true) }
+    ensures fault { IfErr result (λ fault. fault ≢ Memory → is_utf8 text.now ≡ false) }
+{
+    writer.key(name)?;
+    write_string(writer, text)
+}
+
+/// Writes the key of a parent, or null.
+fn write_parent(writer: &mut Writer, parent: Option<&[u8]>) -> Result<(), JsonFault>
+    ensures before { writer.new.before ≡ writer.old.before }
+    ensures text { OnOk result (writer.new.tokens ≡ writer.old.tokens ++ json_tokens (parent_json (option_copied parent.entry))) }
+    ensures utf8 { OnOk result (is_parent_utf8 (option_copied parent.entry) ≡ true) }
+    ensures fault { IfErr result (λ fault. fault ≢ Memory → is_parent_utf8 (option_copied parent.entry) ≡ false) }
+{
+    match parent {
+        Some(key) => write_string(writer, key),
+        None => {
+            writer.null()?;
+            Ok(())
+        }
+    }
+}
+
+/// Writes a field.
+fn write_field(writer: &mut Writer, field: &(Text, Text)) -> Result<(), JsonFault>
+    ensures before { writer.new.before ≡ writer.old.before }
+    ensures text { OnOk result (writer.new.tokens ≡ (writer.old.tokens ++ key field.now.0 ∷ []) ++ string field.now.1 ∷ []) }
+    ensures utf8 { OnOk result (are_fields_utf8 (field.now ∷ []) ≡ true) }
+    ensures fault { IfErr result (λ fault. fault ≢ Memory → are_fields_utf8 (field.now ∷ []) ≡ false) }
+{
+    let name = utf8(field.0.as_slice())?;
+    write_member(writer, name, field.1.as_slice())
+}
+
+/// Writes fields, and the end of the object that has them.
+fn write_fields(writer: &mut Writer, fields: &[(Text, Text)]) -> Result<(), JsonFault>
+    ensures before { writer.new.before ≡ writer.old.before }
+    ensures text { OnOk result (writer.new.tokens ≡ writer.old.tokens ++ members_tokens (fields_json fields.now)) }
+    ensures utf8 { OnOk result (are_fields_utf8 fields.now ≡ true) }
+    ensures fault { IfErr result (λ fault. fault ≢ Memory → are_fields_utf8 fields.now ≡ false) }
+{
+    'fields: for field in fields {
+        write_field(writer, field)?;
+    }
+    writer.end_object()?;
+    Ok(())
+}
+
+/// Writes an entry.
+fn write_entry(writer: &mut Writer, rec: &Record, parent: Option<&[u8]>) -> Result<(), JsonFault>
+    ensures before { writer.new.before ≡ writer.old.before }
+    ensures text { OnOk result (writer.new.tokens ≡ writer.old.tokens ++ json_tokens (entry_json (rec.now, option_copied parent.entry))) }
+    ensures utf8 { OnOk result (is_told_utf8 (rec.now, option_copied parent.entry) ≡ true) }
+    ensures fault { IfErr result (λ fault. fault ≢ Memory → is_told_utf8 (rec.now, option_copied parent.entry) ≡ false) }
+{
+    writer.begin_object()?;
+    write_member(writer, "type", rec.kind_name.as_slice())?;
+    write_member(writer, "key", rec.key.as_slice())?;
+    writer.key("parent")?;
+    write_parent(writer, parent)?;
+    writer.key("fields")?;
+    writer.begin_object()?;
+    write_fields(writer, rec.fields.as_slice())?;
+    writer.end_object()?;
+    Ok(())
+}
+
+/// The text, and after it the line of an entry with this record, whose parent has this key. It takes time in the record's
+/// length, and memory for the line. It is refused where a text of the entry is not UTF-8, or for want of memory.
+pub fn add_line(text: Vec<u8>, rec: &Record, parent: Option<&[u8]>) -> Result<Vec<u8>, JsonFault>
+    ensures line { IfOk result (λ lines. lines.items ≡ text.items ++ json_line (rec.now, option_copied parent.entry)) }
+    ensures utf8 { OnOk result (is_told_utf8 (rec.now, option_copied parent.entry) ≡ true) }
+    ensures fault { IfErr result (λ fault. fault ≢ Memory → is_told_utf8 (rec.now, option_copied parent.entry) ≡ false) }
+{
+    let mut writer = Writer::new(text);
+    write_entry(&mut writer, rec, parent)?;
+    let mut lines = writer.into_inner();
+    lines.extend_from_slice(b"\n")?;
+    Ok(lines)
+}

@@ -1,0 +1,322 @@
+//! The pages on faults, by their numbers. tests/docs/explanations.py writes this file from docs/FAULTS.md.
+
+ghost use Rattle.std.specs.Prelude.{◌≡◌, find};
+ghost use Rattle.std.specs.Option.{option_map};
+ghost use Rattle.fault_pages.specs.Heads.{head_of, is_asked, faults_of_bytes, faults_of_limits, faults_of_questions, faults_of_edits, faults_of_journals, faults_of_inputs};
+
+use crate::asking::{Page, is_asked};
+
+/// The page on one of these faults, if the word names one: the bytes of a file are none of the grammar.
+pub(crate) fn faults_of_bytes(word: &[u8]) -> Option<Page>
+    ensures { option_map head_of result ≡ find (is_asked word.now) faults_of_bytes }
+{
+    if is_asked(word, b"1", b"Unended") {
+        return Some(Page {
+            number: b"1",
+            name: b"Unended",
+            text: b"The file ends inside an entry, macro definition or preamble: a brace, a parenthesis or a quotation mark is never closed.\nThe offset is the file's length.\n\n  $ printf '@misc{' | bibkeep cat\n  bibkeep: 1 Unended at 6\n\nClose it. The mistake is often hundreds of lines earlier, where a closing brace is missing; `GUIDE.md` has a command that\nfinds the entry.\n",
+        });
+    }
+    if is_asked(word, b"2", b"ExpectedName") {
+        return Some(Page {
+            number: b"2",
+            name: b"ExpectedName",
+            text: b"After a comma comes the name of a field, or the end of the entry.\n\n  $ printf '@misc{a,,}' | bibkeep cat\n  bibkeep: 2 ExpectedName at 8\n\nRemove the second comma, or write `name = value` there.\n",
+        });
+    }
+    if is_asked(word, b"3", b"ExpectedEquals") {
+        return Some(Page {
+            number: b"3",
+            name: b"ExpectedEquals",
+            text: b"A name is followed by `=` and a value. Names contain no white space.\n\n  $ printf '@misc{a,t}' | bibkeep cat\n  bibkeep: 3 ExpectedEquals at 9\n\nWrite `= {value}` after the name, or join the words of the name: `book-title`.\n",
+        });
+    }
+    if is_asked(word, b"4", b"ExpectedCommaOrClose") {
+        return Some(Page {
+            number: b"4",
+            name: b"ExpectedCommaOrClose",
+            text: b"Something follows a complete value or key that is neither a comma nor the closing delimiter.\n\n  $ printf '@misc{a b}' | bibkeep cat\n  bibkeep: 4 ExpectedCommaOrClose at 8\n\nWrite a comma between two fields, or `#` between two parts of a value. If a comma is there, look just before it for a\nbrace that closed a text too early. In free text, an address that is followed by a parenthesis begins an entry:\n\n  $ printf 'joe@x.org (work phone)\\n' | bibkeep cat\n  bibkeep: 4 ExpectedCommaOrClose at 16\n\nThere, remove the at-sign or the parenthesis.\n",
+        });
+    }
+    if is_asked(word, b"5", b"ExpectedValue") {
+        return Some(Page {
+            number: b"5",
+            name: b"ExpectedValue",
+            text: b"A value is missing after `=` or `#`.\n\n  $ printf '@misc{a,t=}' | bibkeep cat\n  bibkeep: 5 ExpectedValue at 10\n\nWrite `{text}`, `\"text\"`, a number or a macro's name.\n",
+        });
+    }
+    if is_asked(word, b"6", b"UnbalancedBrace") {
+        return Some(Page {
+            number: b"6",
+            name: b"UnbalancedBrace",
+            text: b"A brace is closed inside quotation marks that was not opened there. A backslash does not protect a brace.\n\n  $ printf '@misc{a,t=\"}\"}' | bibkeep cat\n  bibkeep: 6 UnbalancedBrace at 11\n\nRemove the `}` or open it before; or write the text in braces.\n",
+        });
+    }
+    if is_asked(word, b"7", b"KeyTooLong") {
+        return Some(Page {
+            number: b"7",
+            name: b"KeyTooLong",
+            text: b"A key or name has more than 255 bytes.\n\n  $ printf '@misc{%0256d}' 0 | bibkeep cat\n  bibkeep: 7 KeyTooLong at 261\n\nShorten it. Often the comma after the key is missing.\n",
+        });
+    }
+    None
+}
+
+/// The page on one of these faults, if the word names one: something is too long, or too much.
+pub(crate) fn faults_of_limits(word: &[u8]) -> Option<Page>
+    ensures { option_map head_of result ≡ find (is_asked word.now) faults_of_limits }
+{
+    if is_asked(word, b"8", b"TextTooLong") {
+        return Some(Page {
+            number: b"8",
+            name: b"TextTooLong",
+            text: b"With its macros expanded, the text of a field, a definition or a preamble has more than 1,048,576 bytes. When a file is\nopened, the offset is the first byte of the first such value; an edit or import that would make such a text is refused\nwithout an offset. `cat` does not expand macros, so it never says 8.\n\n  $ (printf '@misc{a, t = {'; head -c 1048577 /dev/zero | tr '\\0' x; printf '}}\\n') > long.bib\n  $ bibkeep check long.bib\n  bibkeep: 8 TextTooLong at 13\n  $ bibkeep cat long.bib | wc -c\n  1048594\n\nWrite a shorter text. Look for a chain of macros in which each contains the one before it twice, and for a closing\ndelimiter that is missing where the text should end.\n",
+        });
+    }
+    if is_asked(word, b"9", b"FileTooLong") {
+        return Some(Page {
+            number: b"9",
+            name: b"FileTooLong",
+            text: b"A file has more than 16,777,216 bytes, which is the offset; or an edit would make it so long, without an offset. `edit`\nand `import` report 9 for their input too, with the same message: check the size of the file and of the input.\n\n  $ head -c 16777217 /dev/zero | bibkeep cat\n  bibkeep: 9 FileTooLong at 16777216\n\nSplit the file.\n",
+        });
+    }
+    if is_asked(word, b"10", b"Memory") {
+        return Some(Page {
+            number: b"10",
+            name: b"Memory",
+            text: b"bibkeep is out of memory. Nothing is changed; the status is 4. Give the program more memory.\n",
+        });
+    }
+    None
+}
+
+/// The page on one of these faults, if the word names one: what is asked for is not there, or cannot be said.
+pub(crate) fn faults_of_questions(word: &[u8]) -> Option<Page>
+    ensures { option_map head_of result ≡ find (is_asked word.now) faults_of_questions }
+{
+    if is_asked(word, b"11", b"NoSuchEntry") {
+        return Some(Page {
+            number: b"11",
+            name: b"NoSuchEntry",
+            text: b"No entry has the key. `show`, `names`, `labels`, `json` and `ris` say so; `cite` lists unknown keys and refuses none. An empty\nkey is never found.\n\n  $ printf '@misc{a, t = 1, t = 2}\\n@misc{b, crossref = {c}}\\n@misc{c}\\n' > f.bib\n  $ bibkeep show f.bib q\n  bibkeep: 11 NoSuchEntry\n\n`bibkeep cite F '*'` lists the keys.\n",
+        });
+    }
+    if is_asked(word, b"12", b"BadSplice") {
+        return Some(Page {
+            number: b"12",
+            name: b"BadSplice",
+            text: b"Only the library says this, from `Database::{splice, splice_in_turn}`: the replacements are not in order, an old text is\nnot at its place, or the new file would not be valid. Make the replacements from the bytes that the database has now.\n",
+        });
+    }
+    if is_asked(word, b"13", b"NoSuchFault") {
+        return Some(Page {
+            number: b"13",
+            name: b"NoSuchFault",
+            text: b"`explain` is asked about a word that is neither the number nor the name of a fault.\n\n  $ bibkeep explain 99\n  bibkeep: 13 NoSuchFault\n\nGive the number or the name that the message has, without `bibkeep:`.\n",
+        });
+    }
+    if is_asked(word, b"21", b"TooManyCommas") {
+        return Some(Page {
+            number: b"21",
+            name: b"TooManyCommas",
+            text: b"A name has more than two commas outside braces, not counting those at its end. A name is `First von Last`,\n`von Last, First` or `von Last, Jr, First`.\n\n  $ printf '@misc{a, author = {Lee, A, B, C}}\\n' > names.bib\n  $ bibkeep names names.bib a '{ll}'\n  bibkeep: 21 TooManyCommas\n\nWrite `and` between two names, or braces around the comma: `{Barnes, Inc.}`.\n",
+        });
+    }
+    if is_asked(word, b"22", b"UnbalancedName") {
+        return Some(Page {
+            number: b"22",
+            name: b"UnbalancedName",
+            text: b"The braces of a name or of a list of names do not match. Only the library meets this, from `split_names` and\n`split_name`: in a valid file the braces of every text match. Close each brace.\n",
+        });
+    }
+    if is_asked(word, b"23", b"BadTemplate") {
+        return Some(Page {
+            number: b"23",
+            name: b"BadTemplate",
+            text: b"The template of `names` is not one: see `NAMES.md`.\n\n  $ bibkeep names names.bib a '{l'\n  bibkeep: 23 BadTemplate\n\nWrite a template such as `'{ll}{, f.}'`, in single quotes for the shell.\n",
+        });
+    }
+    if is_asked(word, b"24", b"NotUtf8") {
+        return Some(Page {
+            number: b"24",
+            name: b"NotUtf8",
+            text: b"`json` writes UTF-8, and the type, the key, a field's name or a text of an entry is not UTF-8. The message ends with the\nentry's key; it is the first such entry of the list. Nothing is written.\n\n  $ printf '@misc{a, t = {caf\\351}}\\n' > latin.bib\n  $ bibkeep json latin.bib a\n  bibkeep: 24 NotUtf8 in a\n\nConvert the file: `iconv -f LATIN1 -t UTF-8 F > new.bib`.\n",
+        });
+    }
+    None
+}
+
+/// The page on one of these faults, if the word names one: an edit is refused.
+pub(crate) fn faults_of_edits(word: &[u8]) -> Option<Page>
+    ensures { option_map head_of result ≡ find (is_asked word.now) faults_of_edits }
+{
+    if is_asked(word, b"31", b"BadKey") {
+        return Some(Page {
+            number: b"31",
+            name: b"BadKey",
+            text: b"A new key is not valid: it could not be read back, or no crossref could name it. A new key has 1 to 255 bytes above the\nspace, without DEL, comma or braces. Keys that an edit looks up may be anything.\n\n  $ printf '%s\\t%s\\t%s\\n' rename-key a 'knuth 86' | bibkeep edit f.bib\n  applied 0\n  bibkeep: line 1: 31 BadKey\n\nWrite `knuth-86`.\n",
+        });
+    }
+    if is_asked(word, b"32", b"BadName") {
+        return Some(Page {
+            number: b"32",
+            name: b"BadName",
+            text: b"The name of a field or macro is not valid, or the type of a new entry is not: `string`, `preamble` and `comment` are not\ntypes of entries. `FORMAT-BIB.md` says what a name is.\n\n  $ printf '%s\\t%s\\t%s\\t%s\\n' set a 'x=y' 1 | bibkeep edit f.bib\n  applied 0\n  bibkeep: line 1: 32 BadName\n\nWrite a name without white space and `=`. Look for words in the wrong order.\n",
+        });
+    }
+    if is_asked(word, b"33", b"BadValue") {
+        return Some(Page {
+            number: b"33",
+            name: b"BadValue",
+            text: b"A value is not one as in a file; or, for `introduce`, the braces of the text do not match.\n\n  $ printf '%s\\t%s\\t%s\\t%s\\n' set a x '{1' | bibkeep edit f.bib\n  applied 0\n  bibkeep: line 1: 33 BadValue\n\nWrite `{text}`, `\"text\"`, a number, a macro's name, or such parts with `#` between them.\n",
+        });
+    }
+    if is_asked(word, b"34", b"BadPosition") {
+        return Some(Page {
+            number: b"34",
+            name: b"BadPosition",
+            text: b"The position is greater than the number of items; for `move`, than the number of the other items.\n\n  $ printf '%s\\t%s\\t%s\\t%s\\n' add 4 misc x | bibkeep edit f.bib\n  applied 0\n  bibkeep: line 1: 34 BadPosition\n\n`bibkeep check F` prints the number of items; that number is the end of the file.\n",
+        });
+    }
+    if is_asked(word, b"35", b"NotFound") {
+        return Some(Page {
+            number: b"35",
+            name: b"NotFound",
+            text: b"There is nothing to change. No entry has the key, or the entry has no such field to drop; the file does not define the\nmacro (a month is not a definition); or no part of a value is the text to introduce.\n\n  $ printf '%s\\t%s\\t%s\\n' drop b t | bibkeep edit f.bib\n  applied 0\n  bibkeep: line 1: 35 NotFound\n\n`bibkeep cite F '*'` lists the keys. A field that `show` prints may be inherited: change it in the parent.\n",
+        });
+    }
+    if is_asked(word, b"36", b"Ambiguous") {
+        return Some(Page {
+            number: b"36",
+            name: b"Ambiguous",
+            text: b"Two entries have the key; or the entry has the field twice, or a new entry would; or the macro is defined twice.\n\n  $ printf '%s\\t%s\\t%s\\t%s\\n' set a t 3 | bibkeep edit f.bib\n  applied 0\n  bibkeep: line 1: 36 Ambiguous\n\n`bibkeep check F` reports repeated entries and extra fields. Remove one of the two by hand.\n",
+        });
+    }
+    if is_asked(word, b"37", b"KeyInUse") {
+        return Some(Page {
+            number: b"37",
+            name: b"KeyInUse",
+            text: b"Another entry has the new key already, or another new entry would get it; an import says so too. `rename-key` also\nrefuses a key that no entry has but that a crossref names, since the renamed entry would become a parent unasked. (`add`\nand `import` accept such a key: the new entry becomes the parent.)\n\n  $ printf '%s\\t%s\\t%s\\t%s\\n' add 0 misc C | bibkeep edit f.bib\n  applied 0\n  bibkeep: line 1: 37 KeyInUse\n\nChoose another key.\n",
+        });
+    }
+    if is_asked(word, b"38", b"NameInUse") {
+        return Some(Page {
+            number: b"38",
+            name: b"NameInUse",
+            text: b"The new name of a macro is a month's, or the file defines or uses it already: some text would change. `rename-macro` may\nchange the case of a name.\n\n  $ printf '@string{m = 1}@misc{a, t = m}' > macro.bib\n  $ printf '%s\\t%s\\t%s\\n' rename-macro m jan | bibkeep edit macro.bib\n  applied 0\n  bibkeep: line 1: 38 NameInUse\n\nChoose a name that the file does not have.\n",
+        });
+    }
+    if is_asked(word, b"39", b"Referred") {
+        return Some(Page {
+            number: b"39",
+            name: b"Referred",
+            text: b"Another entry names the entry that you remove in its `crossref`, and would lose what it inherits.\n\n  $ printf '%s\\t%s\\n' remove c | bibkeep edit f.bib\n  applied 0\n  bibkeep: line 1: 39 Referred\n  $ bibkeep cite f.bib '*' | awk -F'\\t' 'tolower($2) == \"c\" { print $1 }'\n  b\n\nThe last command lists the entries that refer to `c`. `drop` or `set` their `crossref` first.\n",
+        });
+    }
+    if is_asked(word, b"40", b"WouldMerge") {
+        return Some(Page {
+            number: b"40",
+            name: b"WouldMerge",
+            text: b"The edit would turn text into something else. The text before and after a removed entry would join and begin an item, or\ncontinue the word `comment`; or, in an entry that was opened with `(`, the closing `)` would become a byte of the key.\n\n  $ printf 'x @book@misc{a}{b}' > merged.bib; printf '%s\\t%s\\n' remove a | bibkeep edit merged.bib\n  applied 0\n  bibkeep: line 1: 40 WouldMerge\n  $ printf '@misc(a, t = 1)' > round.bib; printf '%s\\t%s\\t%s\\n' drop a t | bibkeep edit round.bib\n  applied 0\n  bibkeep: line 1: 40 WouldMerge\n  $ printf '@misc(a, t = 1 )' > spaced.bib; printf '%s\\t%s\\t%s\\n' drop a t | bibkeep edit spaced.bib; cat spaced.bib; echo\n  applied 1\n  @misc(a )\n\nChange the text between the items by hand; write white space before the `)`.\n",
+        });
+    }
+    if is_asked(word, b"41", b"JournalFull") {
+        return Some(Page {
+            number: b"41",
+            name: b"JournalFull",
+            text: b"The journal would have more than 65,535 steps that can be undone, or more than 67,174,399 bytes of steps.\n\n  $ printf '@misc{a, t = 1}\\n' > full.bib\n  $ yes \"$(printf 'set\\ta\\tt\\t2')\" | head -n 65536 > script\n  $ bibkeep edit full.bib < script\n  applied 65535\n  bibkeep: line 65536: 41 JournalFull\n\n`bibkeep forget F` starts a new journal; earlier changes can then no longer be undone. Then run the rest of the script.\nThe edits between `group` and `end` are one step.\n",
+        });
+    }
+    None
+}
+
+/// The page on one of these faults, if the word names one: nothing can be undone or redone, a journal does not fit, or steps do not.
+pub(crate) fn faults_of_journals(word: &[u8]) -> Option<Page>
+    ensures { option_map head_of result ≡ find (is_asked word.now) faults_of_journals }
+{
+    if is_asked(word, b"51", b"NothingToUndo") {
+        return Some(Page {
+            number: b"51",
+            name: b"NothingToUndo",
+            text: b"There are fewer changes to undo than you ask for. Those that there are, are undone; the status is 1 all the same.\n\n  $ printf '@misc{a}\\n' > new.bib; bibkeep undo new.bib\n  undone 0\n  bibkeep: 51 NothingToUndo\n\n`bibkeep log F` lists the changes.\n",
+        });
+    }
+    if is_asked(word, b"52", b"NothingToRedo") {
+        return Some(Page {
+            number: b"52",
+            name: b"NothingToRedo",
+            text: b"There are fewer changes to redo than you ask for. Those that there are, are redone. An edit discards what could be\nredone.\n\n  $ bibkeep redo new.bib\n  redone 0\n  bibkeep: 52 NothingToRedo\n\n`bibkeep log F` lists the changes.\n",
+        });
+    }
+    if is_asked(word, b"53", b"BadJournal") {
+        return Some(Page {
+            number: b"53",
+            name: b"BadJournal",
+            text: b"`F.bibkeep` is not a journal; the offset is where it goes wrong (`FORMAT-JOURNAL.md`). Nothing is done.\n\n  $ printf 'not a journal\\n' > new.bib.bibkeep; bibkeep log new.bib\n  bibkeep: 53 BadJournal at 0\n\nRestore the journal from a copy; or start a new one by `bibkeep forget F`, or `--new-journal` of `edit` and `import`.\n",
+        });
+    }
+    if is_asked(word, b"54", b"JournalMismatch") {
+        return Some(Page {
+            number: b"54",
+            name: b"JournalMismatch",
+            text: b"`F.bibkeep` is a journal, but not of this file as it is now. You, your editor, `git checkout` or another program changed\nthe file since the last run of bibkeep. Or a run was interrupted after it stored the file and before it stored the\njournal. Nothing is done, because undo would change the wrong bytes.\n\n  $ printf '@misc{a, t = 1}\\n' > kept.bib\n  $ printf '%s\\t%s\\t%s\\t%s\\n' set a t 2 | bibkeep edit kept.bib\n  applied 1\n  $ printf '@misc{b}\\n' >> kept.bib\n  $ bibkeep undo kept.bib; echo status $?\n  bibkeep: 54 JournalMismatch\n  status 1\n  $ bibkeep forget kept.bib; bibkeep log kept.bib\n  $ cat kept.bib\n  @misc{a, t = 2}\n  @misc{b}\n\nTo keep your change, run `bibkeep forget F`, or `edit` and `import` with `--new-journal`: this starts a new journal, and undo\nreaches back to this moment. To keep undo, restore the file as the last run left it, to the last byte.\n",
+        });
+    }
+    if is_asked(word, b"55", b"StepOpen") {
+        return Some(Page {
+            number: b"55",
+            name: b"StepOpen",
+            text: b"A line `group` comes inside a step. In the library `begin`, `undo` and `redo` say so while a step is open.\n\n  $ printf 'group\\tone\\ngroup\\ttwo\\n' | bibkeep edit f.bib\n  applied 0\n  bibkeep: line 2: 55 StepOpen\n\nWrite `end` before it.\n",
+        });
+    }
+    if is_asked(word, b"56", b"NoOpenStep") {
+        return Some(Page {
+            number: b"56",
+            name: b"NoOpenStep",
+            text: b"A line `end` has no `group` before it.\n\n  $ printf 'end\\n' | bibkeep edit f.bib\n  applied 0\n  bibkeep: line 1: 56 NoOpenStep\n\nWrite `group LABEL` before the edits of the step.\n",
+        });
+    }
+    None
+}
+
+/// The page on one of these faults, if the word names one: a RIS text or a script is not read.
+pub(crate) fn faults_of_inputs(word: &[u8]) -> Option<Page>
+    ensures { option_map head_of result ≡ find (is_asked word.now) faults_of_inputs }
+{
+    if is_asked(word, b"61", b"NoStart") {
+        return Some(Page {
+            number: b"61",
+            name: b"NoStart",
+            text: b"A line of a RIS text with a tag other than TY is outside a record. The offset is that line's first byte.\n\n  $ : > new2.bib; printf 'AU  - x\\n' | bibkeep import new2.bib\n  bibkeep: 61 NoStart at 0\n\nWrite a line `TY  - BOOK`, or another type, before it.\n",
+        });
+    }
+    if is_asked(word, b"62", b"NoEnd") {
+        return Some(Page {
+            number: b"62",
+            name: b"NoEnd",
+            text: b"A RIS record has no line ER: another TY line begins inside it, or the text ends there.\n\n  $ printf 'TY  - BOOK\\nTI  - One\\nTY  - BOOK\\nER  - \\n' | bibkeep import new2.bib\n  bibkeep: 62 NoEnd at 21\n\nWrite a line `ER  - ` before it.\n",
+        });
+    }
+    if is_asked(word, b"63", b"EmptyType") {
+        return Some(Page {
+            number: b"63",
+            name: b"EmptyType",
+            text: b"A RIS record has no type, and every record needs one. The offset is that of its TY line.\n\n  $ printf 'TY  -\\nTI  - One\\nER  - \\n' | bibkeep import new2.bib\n  bibkeep: 63 EmptyType at 0\n\nWrite a type in the TY line: `TY  - JOUR`.\n",
+        });
+    }
+    if is_asked(word, b"64", b"UnbalancedText") {
+        return Some(Page {
+            number: b"64",
+            name: b"UnbalancedText",
+            text: b"The braces of a text of a RIS record do not match, so no value can hold the text.\n\n  $ printf 'TY  - BOOK\\nTI  - a}b\\nER  - \\n' | bibkeep import new2.bib\n  bibkeep: 64 UnbalancedText\n\nCorrect the braces in the RIS text.\n",
+        });
+    }
+    if is_asked(word, b"71", b"BadScript") {
+        return Some(Page {
+            number: b"71",
+            name: b"BadScript",
+            text: b"A line of the script is neither an edit nor `group` or `end`, or the words after the file are not an edit: an unknown first\nword, too few or too many words, a field without a value, a position that is not 1 to 9 digits, a label of more than 255 bytes\nor with a control byte.\n\n  $ printf 'set a t 3\\n' | bibkeep edit f.bib\n  applied 0\n  bibkeep: line 1: 71 BadScript\n  $ printf 'set a t 3\\n' | cat -t\n  set a t 3\n\nMost often the words are separated by spaces and not by tabs, which `cat -t` shows as `^I`; or `printf` changed a\nbackslash. `bibkeep help edit` lists the lines.\n",
+        });
+    }
+    None
+}

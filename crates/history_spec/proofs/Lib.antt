@@ -1,0 +1,14 @@
+-- ---- a stretch of a text
+pub mod Shifts
+-- ---- pieces of two edits in turn
+pub mod Ordered
+pub mod Covered
+pub mod Grouped
+pub mod Glued
+pub mod Parted
+pub mod Untouched
+pub mod Around
+pub mod Near
+-- ---- histories and steps
+pub mod HistoryLemmas
+pub mod StepLemmas

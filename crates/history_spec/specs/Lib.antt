@@ -1,0 +1,4 @@
+pub mod Shifting
+pub mod Composing
+pub mod History
+pub mod Steps

@@ -1,0 +1,149 @@
+"""BibTeX and bibkeep, as they answer about a file."""
+
+import os
+import re
+import subprocess
+from typing import NamedTuple, Optional
+
+MISSING = re.compile(rb'Warning--I didn\'t find a database entry for "(.*)"')
+# What BibTeX reports that `check` reports too.
+REPORTS = {
+    re.compile(rb'Warning--string name "(.*)" is undefined'): b"undefined macro %s",
+    re.compile(rb'Warning--string name "(.*)" is used in its own definition'): b"own macro %s",
+    re.compile(rb'Warning--I\'m ignoring (.*)\'s extra "(.*)" field'): b"extra field %s %s",
+}
+# A fault of an item, with its line; but at-signs that begin no item, and entries whose key was met before, are none.
+FAULT = re.compile(rb"(?!.*entry type---|I was expecting a `{' or a `\('---|Repeated entry---).*---line (\d+) of file file.bib")
+PLACE = re.compile(rb"bibkeep: [1-7] \w+ at (\d+)\n")
+
+
+class Record(NamedTuple):
+    """An entry as a style is given it. BibTeX tells no type (None) where the style doesn't know it."""
+
+    kind: Optional[bytes]
+    key: bytes
+    parent: Optional[bytes]
+    fields: dict
+
+
+class Answer(NamedTuple):
+    """The listed entries, and the cited keys without an entry."""
+
+    records: list
+    unknown: list
+    # the prints of names, a list for each template
+    names: dict
+    # what it reports, in the words of `check`
+    reports: list
+    # the lines of faults
+    faults: list
+
+
+class Bibtex:
+    def __init__(self, command, folder):
+        self.command = command
+        self.folder = folder
+        # nothing outside of the folder is looked for
+        self.environment = dict(os.environ, BIBINPUTS=".", BSTINPUTS=".", LC_ALL="C")
+
+    def takes(self, file, style):
+        """The file and the style that the next answers are about."""
+        write(self.folder, "file.bib", file)
+        write(self.folder, "style.bst", style.text)
+
+    def answer(self, keys, minimum=2):
+        """What the style prints for these keys, where so many children add their parent."""
+        citations = [b"\\citation{%s}\n" % key for key in keys]
+        write(self.folder, "list.aux", b"".join([*citations, b"\\bibstyle{style}\n\\bibdata{file}\n"]))
+        words = [self.command, f"-min-crossrefs={minimum}", "list"]
+        ran = subprocess.run(words, cwd=self.folder, env=self.environment, stdin=subprocess.DEVNULL, stdout=subprocess.PIPE)
+        return answer_in(ran.stdout)
+
+
+def write(folder, name, content):
+    with open(os.path.join(folder, name), "wb") as file:
+        file.write(content)
+
+
+def answer_in(output):
+    """The answer in what BibTeX wrote: each line of the style begins with a bar."""
+    answer = Answer([], [], {}, [], [])
+    for line in output.split(b"\n"):
+        if line.startswith(b"|entry "):
+            _, kind, key = line.split(b" ", 2)
+            answer.records.append(Record(kind or None, key, None, {}))
+        elif line.startswith(b"|field "):
+            _, name, text = line.split(b" ", 2)
+            last = answer.records[-1]
+            if name == b"crossref":
+                answer.records[-1] = last._replace(parent=text)
+            else:
+                last.fields[name] = text
+        elif line.startswith(b"|name "):
+            _, template, text = line.split(b" ", 2)
+            answer.names.setdefault(int(template), []).append(text)
+        else:
+            take_message(answer, line)
+    return answer
+
+
+def take_message(answer, line):
+    missing, fault = MISSING.fullmatch(line), FAULT.fullmatch(line)
+    if missing:
+        answer.unknown.append(missing.group(1))
+    if fault:
+        answer.faults.append(int(fault.group(1)))
+    for pattern, words in REPORTS.items():
+        found = pattern.fullmatch(line)
+        if found:
+            answer.reports.append(words % found.groups())
+
+
+class Bibkeep:
+    def __init__(self, program, folder):
+        self.program = program
+        self.path = os.path.join(folder, "bibkeep.bib")
+
+    def takes(self, file):
+        """The file that the next answers are about. Returns whether it can be opened."""
+        with open(self.path, "wb") as made:
+            made.write(file)
+        return self.run("check").returncode == 0
+
+    def place_of_fault(self):
+        """Where the file is refused."""
+        found = PLACE.fullmatch(self.run("cat").stderr)
+        return int(found.group(1)) if found else None
+
+    def reports(self):
+        """What `check` says of the file after its five counts."""
+        return self.lines("check")[5:]
+
+    def run(self, command, *words, options=()):
+        words = [self.program, command, *options, "--", self.path, *words]
+        return subprocess.run(words, stdin=subprocess.DEVNULL, stdout=subprocess.PIPE, stderr=subprocess.PIPE)
+
+    def lines(self, command, *words, options=()):
+        """The lines of an answer, or nothing where the program refuses."""
+        ran = self.run(command, *words, options=options)
+        return ran.stdout.split(b"\n")[:-1] if ran.returncode == 0 else None
+
+    def show(self, key, depth=1):
+        lines = self.lines("show", key, options=["--depth", str(depth)])
+        if lines is None:
+            return None
+        kind, key = lines[0][1:].split(b" ", 1)
+        fields = dict(line.split(b" = ", 1) for line in lines[1:])
+        return Record(kind, key, fields.pop(b"crossref", None), fields)
+
+    def cite(self, keys, minimum=2):
+        """The listed keys, each with that of its parent where that is listed too; and the unknown keys."""
+        lines = self.lines("cite", *keys, options=["--min-crossrefs", str(minimum)])
+        if lines is None:
+            return None
+        listed = [line for line in lines if not line.startswith(b"? ")]
+        unknown = [line[2:] for line in lines if line.startswith(b"? ")]
+        return [tuple((line.split(b"\t") + [None])[:2]) for line in listed], unknown
+
+    def names(self, key, template):
+        return self.lines("names", key, template)

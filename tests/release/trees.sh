@@ -1,0 +1,63 @@
+# The trees in which the cases run.
+# shellcheck shell=sh
+
+given row.bib 'mail joe@x.org\n@Misc{a,}\n'
+mkdir folder
+
+# Runs a command with an empty environment, on a path with these commands of the system alone: neither rt nor python3.
+mkdir alone
+for name in awk basename cat chmod cp dirname find gzip mkdir mv rm sed sh sha256sum sort touch uname; do
+    ln -s "$(command -v "$name")" "alone/$name"
+done
+alone="env -i PATH=$work/alone"
+
+# A toolchain that proves nothing: the program that it builds prints the sources of the crate below it.
+given rt '#!/bin/sh
+case $1 in
+version) echo "a toolchain" ;;
+lib) grep -qv wrong src/lib.rt && mkdir -p out/rlib && : >out/rlib/stamp ;;
+run) mkdir -p out && { echo "#!/bin/sh"; echo cat "$PWD/../low/src/lib.rt"; } >out/bibkeep && chmod 755 out/bibkeep ;;
+esac
+'
+chmod 755 rt
+
+# Copies what a clone of this tree has, but for its crates.
+copy_scripts() {
+    mkdir -p "$1/tests"
+    cp -R "$root/bibkeep" "$root/install" "$root/tools" "$root/man" "$root/completions" "$root/docs" "$root/README.md" "$root/HANDLES" "$1"
+    cp -R "$root/tests/release" "$1/tests"
+}
+
+# A small tree with a release that was made from its sources, of the program that was built in this one.
+copy_scripts fits
+given fits/crates.txt '# the program last\nbeside: low\nlow:\nbibkeep: low indexmap # and no other\n'
+mkdir -p fits/crates/low/src fits/crates/low/specs fits/crates/low/proofs fits/crates/low/must-fail fits/crates/beside/src fits/crates/bibkeep/src fits/crates/bibkeep/out
+given fits/crates/low/src/lib.rt 'low\n'
+given fits/crates/low/specs/Lib.antt 'specs\n'
+given fits/crates/low/proofs/Lib.antt 'proofs\n'
+given fits/crates/low/must-fail/a.edit 'edit\n'
+given fits/crates/beside/src/lib.rt 'beside\n'
+given fits/crates/bibkeep/src/main.rt 'main\n'
+cp "$program" fits/crates/bibkeep/out
+RT=$work/rt fits/tools/release
+rm -r fits/crates/bibkeep/out
+
+given_tree() { rm -rf tree && cp -R -p fits tree; }
+
+# The same with this program built in it.
+given_built_tree() {
+    given_tree
+    mkdir -p tree/crates/bibkeep/out tree/crates/low/out/rlib
+    : >tree/crates/low/out/rlib/stamp
+    cp "$1" tree/crates/bibkeep/out/bibkeep
+    chmod 755 tree/crates/bibkeep/out/bibkeep
+}
+
+# Has the release state another value under a name.
+restate() { sed -i "s|^$1 .*|$1 $2|" tree/release/SUMS; }
+
+# Packs another program into the release, whose sum it states.
+pack() {
+    gzip -9nc "$1" >tree/release/bibkeep-x86_64-linux.gz
+    restate program "$(sha256sum <"$1" | cut -d ' ' -f 1)"
+}
