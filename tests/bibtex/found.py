@@ -23,7 +23,8 @@ HEAD = re.compile(
     rb"(?:(\{[ \t\r\n]*)[^ \t\r\n,}]*|(\([ \t\r\n]*)[^ \t\r\n,]*)"
 )
 NO_ENTRY = (b"comment", b"string", b"preamble")
-CROSSREF = re.compile(rb"(?i)\bcrossref(?=[ \t\r\n]*=)")
+# The name of a field, and not that of a macro where it is defined.
+CROSSREF = re.compile(rb"(?i)(?<!@string[{(])\bcrossref(?=[ \t\r\n]*=)")
 
 sys.path.append(os.path.join(ROOT, "tests/docs"))
 from console import commands_of, run  # noqa: E402
