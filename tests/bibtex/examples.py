@@ -90,9 +90,9 @@ CITED = [
         [misc(b"a"), misc(b"b"), misc(b"c")],
         [misc(b"a"), misc(b"b")],
     ),
-    Cited("goes-on-behind-faults", b"@misc{a, t = 1 u = 2}\n@misc{b}\n\n", ALL, 2, None, [misc(b"a", t=b"1"), misc(b"b")]),
-    Cited("goes-on-behind-faults", b"@misc{a, t = {x}, u = }\n@misc{b}\n\n", ALL, 2, None, [misc(b"a", t=b"x"), misc(b"b")]),
-    Cited("goes-on-behind-faults", b"@string{m = {x}, n}\n@misc{b, t = m}\n\n", ALL, 2, None, [misc(b"b", t=b"x")]),
+    Cited("goes-on-after-faults", b"@misc{a, t = 1 u = 2}\n@misc{b}\n\n", ALL, 2, None, [misc(b"a", t=b"1"), misc(b"b")]),
+    Cited("goes-on-after-faults", b"@misc{a, t = {x}, u = }\n@misc{b}\n\n", ALL, 2, None, [misc(b"a", t=b"x"), misc(b"b")]),
+    Cited("goes-on-after-faults", b"@string{m = {x}, n}\n@misc{b, t = m}\n\n", ALL, 2, None, [misc(b"b", t=b"x")]),
 ]
 PRINTED = [
     Printed("more-templates", b"Jean Knuth", b"{FF} {ll{{x}}}", None, b"Jean Knuth"),

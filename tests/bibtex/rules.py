@@ -29,6 +29,6 @@ READING = {
     "delete-in-names": "the byte DEL may stand in the names of types, fields and macros",
     "long-names": "a name or a key may have more than 255 bytes",
     "one-item-in-last-line": "of the items that begin in the last line the first alone is read",
-    "goes-on-behind-faults": "the rows before a fault stand, and reading goes on behind it",
+    "goes-on-after-faults": "the rows before a fault stand, and reading goes on after it",
 }
 RULES = {**CITING, **PRINTING, **READING}

@@ -10,7 +10,7 @@ use Rattle.bib_spec.specs.Text.{Text}
 use Rattle.bib_spec.specs.Tree.{Part, Value, Link, part_bytes, link_bytes}
 use Rattle.bib_spec.specs.Texts.{Macros, parts_of}
 use Rattle.bib_scan.specs.View.{Field}
-use Rattle.bib_scan.specs.ValueParts.{IsPartsOf, spans_of, spans_behind, span_start}
+use Rattle.bib_scan.specs.ValueParts.{IsPartsOf, spans_of, spans_after, span_start}
 use Rattle.bib_scan.specs.declared.parts.PartSpan.{PartSpan}
 use Rattle.bib_scan.proofs.TakenApart.{one_value}
 use Rattle.bib_value.specs.Raw.{OfValue}
@@ -34,7 +34,7 @@ findings_append w xs ys = ap (λ (t : Text). record w { text = t })
 -- ---- uses
 
 -- as many places as parts
-length-spans : (before : Text) (links : List Link) → length (spans_behind before links) ≡ length links
+length-spans : (before : Text) (links : List Link) → length (spans_after before links) ≡ length links
 length-spans before [] = refl
 length-spans before (l ∷ links) = omega (arith, length-spans (before ++ link_bytes l) links)
 

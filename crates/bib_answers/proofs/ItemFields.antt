@@ -8,7 +8,7 @@ use Rattle.bib_spec.specs.Tree.{Tree, CommentTree, DefinitionTree, PreambleTree,
 use Rattle.bib_spec.specs.Reading.{Item, Reading, Reads, IsItem}
 use Rattle.bib_spec.specs.Texts.{months, macros_at}
 use Rattle.bib_spec.specs.Records.{texts_of, entries_of, crossref_text, target, is_repeated}
-use Rattle.bib_scan.specs.View.{View, Field, view_of, fields_of, fields_behind, kind_of, key_of}
+use Rattle.bib_scan.specs.View.{View, Field, view_of, fields_of, fields_after, kind_of, key_of}
 use Rattle.bib_scan.specs.declared.view.Kind.{Kind}
 use Rattle.bib_store.specs.Meaning.{is_entry_tree, entry_items}
 use Rattle.bib_value.proofs.Entries.{name_short}
@@ -26,7 +26,7 @@ field_of_assignment a field is named valued = record {
   bytes = sym valued;
 }
 
-fields_of_rows : (before : Text) (rows : List Row) → All (IsRow name_limit) rows → AreFieldsOf (map row_assigned rows) (fields_behind before rows)
+fields_of_rows : (before : Text) (rows : List Row) → All (IsRow name_limit) rows → AreFieldsOf (map row_assigned rows) (fields_after before rows)
 fields_of_rows before [] all = tt
 fields_of_rows before (row ∷ rows) all = (
   field_of_assignment row.assignment _ (all 0 row (omega arith)).assignment refl refl,

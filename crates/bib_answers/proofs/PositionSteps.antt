@@ -8,39 +8,39 @@ use Rattle.bib_spec.specs.Bytes.{line_feed}
 use Rattle.bib_spec.specs.Text.{Text}
 use Rattle.bib_answers.specs.declared.positions.Position.{Position}
 use Rattle.bib_answers.specs.declared.positions.Known.{Known}
-use Rattle.bib_answers.specs.Positions.{position, behind, position_of, IsKnown}
+use Rattle.bib_answers.specs.Positions.{position, position_after, position_of, IsKnown}
 
 -- after so many bytes neither number is larger by more
 abbrev IsNear : Position → ℕ → Position → Type 0
 IsNear from count at = (at.line ≤ from.line + count) × (at.column ≤ from.column + count)
 
-near : (bytes : Text) (from : Position) → 1 ≤ from.column → IsNear from (length bytes) (fold behind from bytes)
+near : (bytes : Text) (from : Position) → 1 ≤ from.column → IsNear from (length bytes) (fold position_after from bytes)
 near [] from least = (omega arith, omega arith)
 near (b ∷ bytes) from least = ⊎_elim
-    (λ t. subst (λ (p : Position). IsNear from (suc (length bytes)) (fold behind p bytes)) (sym (cond-true (b == line_feed) (position (from.line + 1) 1) (position from.line (from.column + 1)) t))
+    (λ t. subst (λ (p : Position). IsNear from (suc (length bytes)) (fold position_after p bytes)) (sym (cond-true (b == line_feed) (position (from.line + 1) 1) (position from.line (from.column + 1)) t))
     (let rest = near bytes (position (from.line + 1) 1) (omega arith) in (omega (arith, rest.0), omega (arith, rest.1, least))))
-    (λ f. subst (λ (p : Position). IsNear from (suc (length bytes)) (fold behind p bytes)) (sym (cond-false (b == line_feed) (position (from.line + 1) 1) (position from.line (from.column + 1)) f))
+    (λ f. subst (λ (p : Position). IsNear from (suc (length bytes)) (fold position_after p bytes)) (sym (cond-false (b == line_feed) (position (from.line + 1) 1) (position from.line (from.column + 1)) f))
     (let rest = near bytes (position from.line (from.column + 1)) (omega arith) in (omega (arith, rest.0), omega (arith, rest.1))))
     (cases_Bool (b == line_feed))
 
 -- one more byte
-pub behind_more : (from : Position) (bytes : Text) (i : ℕ) (byte : ℕ) → i < length bytes → byte ≡ get_or bytes i byte → behind (fold behind from (take i bytes)) byte ≡ fold behind from (take (i + 1) bytes)
-behind_more from bytes i byte within at =
-    ap (behind (fold behind from (take i bytes))) at
-    ∙ sym (fold-append behind from (take i bytes) (get_or bytes i byte ∷ []))
-    ∙ sym (ap (fold behind from) (take_more bytes i byte within))
+pub after_more : (from : Position) (bytes : Text) (i : ℕ) (byte : ℕ) → i < length bytes → byte ≡ get_or bytes i byte → position_after (fold position_after from (take i bytes)) byte ≡ fold position_after from (take (i + 1) bytes)
+after_more from bytes i byte within at =
+    ap (position_after (fold position_after from (take i bytes))) at
+    ∙ sym (fold-append position_after from (take i bytes) (get_or bytes i byte ∷ []))
+    ∙ sym (ap (fold position_after from) (take_more bytes i byte within))
 
-pub behind_all : (from : Position) (bytes : Text) (i : ℕ) → length bytes ≤ i → fold behind from (take i bytes) ≡ fold behind from bytes
-behind_all from bytes i end = ap (fold behind from) (take_all i bytes end)
+pub after_all : (from : Position) (bytes : Text) (i : ℕ) → length bytes ≤ i → fold position_after from (take i bytes) ≡ fold position_after from bytes
+after_all from bytes i end = ap (fold position_after from) (take_all i bytes end)
 
 -- from a known place on
-pub position_later : (file : Text) (place end : ℕ) → place ≤ end → fold behind (position_of file place) (take (end - place) (drop place file)) ≡ position_of file end
+pub position_later : (file : Text) (place end : ℕ) → place ≤ end → fold position_after (position_of file place) (take (end - place) (drop place file)) ≡ position_of file end
 position_later file place end le =
-    sym (fold-append behind (position 1 1) (take place file) (take (end - place) (drop place file)))
-    ∙ ap (fold behind (position 1 1)) (sym (take-add place (end - place) file) ∙ ap (λ n. take n file) (let e : place + (end - place) ≡ end = omega (arith, le) in e))
+    sym (fold-append position_after (position 1 1) (take place file) (take (end - place) (drop place file)))
+    ∙ ap (fold position_after (position 1 1)) (sym (take-add place (end - place) file) ∙ ap (λ n. take n file) (let e : place + (end - place) ≡ end = omega (arith, le) in e))
 
 pub position_end : (file : Text) (place end : ℕ) → end ≡ min place (length file) → position_of file end ≡ position_of file place
-position_end file place end is = ap (λ n. position_of file n) is ∙ ap (fold behind (position 1 1)) (take_min place file)
+position_end file place end is = ap (λ n. position_of file n) is ∙ ap (fold position_after (position 1 1)) (take_min place file)
 
 -- the numbers of what follows a known place fit
 pub numbers_fit : (file : Text) (known : Known) (end : ℕ) → IsKnown file known → known.place ≤ end → end ≤ length file → length file < 2 ^ 63
@@ -56,9 +56,9 @@ numbers_fit file known end is le within small =
       omega (arith, close.1, column, before, part, rest, le, within, small),
     )
 
--- behind the end of the file all places have one position
+-- after the end of the file all places have one position
 position_past : (file : Text) (a b : ℕ) → length file ≤ a → length file ≤ b → position_of file a ≡ position_of file b
-position_past file a b long longer = ap (fold behind (position 1 1)) (take_all a file long ∙ sym (take_all b file longer))
+position_past file a b long longer = ap (fold position_after (position 1 1)) (take_all a file long ∙ sym (take_all b file longer))
 
 -- a sum that stops at the greatest number of the machine has the position of the sum
 pub position_capped : (file : Text) (start at more place : ℕ) → length file < 2 ^ 63 → place ≡ min (min (start + at) (2 ^ 64 - 1) + more) (2 ^ 64 - 1)

@@ -8,13 +8,13 @@ use Rattle.bib_answers.specs.declared.positions.Known.{Known}
 abbrev pub position : ℕ → ℕ → Position
 position line column = record { line = line; column = column }
 
--- the position behind a byte that has this position: a line feed is the last byte of its line
-abbrev pub behind : Position → ℕ → Position
-behind at b = if b == line_feed then position (at.line + 1) 1 else position at.line (at.column + 1)
+-- the position after a byte that has this position: a line feed is the last byte of its line
+abbrev pub position_after : Position → ℕ → Position
+position_after at b = if b == line_feed then position (at.line + 1) 1 else position at.line (at.column + 1)
 
 -- the position of the byte at a place in the file: lines and columns count from 1, and columns count bytes
 abbrev pub position_of : Text → ℕ → Position
-position_of file place = fold behind (position 1 1) (take place file)
+position_of file place = fold position_after (position 1 1) (take place file)
 
 -- a place in the file, and its position
 pub record IsKnown (file : Text) (known : Known) : Type 0 where

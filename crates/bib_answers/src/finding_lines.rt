@@ -59,9 +59,9 @@ impl<'a> FindingLines<'a> {
         self.start = start;
     }
 
-    /// Adds the line of a finding at a place in the item, or this much behind it, which says these words with a name or text
+    /// Adds the line of a finding at a place in the item, or this much after it, which says these words with a name or text
     /// between them.
-    pub fn add_behind(
+    pub fn add_after(
         &mut self,
         at: usize,
         more: usize,
@@ -94,7 +94,7 @@ impl<'a> FindingLines<'a> {
     ) -> Result<(), AllocError>
         ensures { OnOk result (self.new ≡ with_findings self.old (found at before.now name.now after.now)) }
     {
-        self.add_behind(at, 0, before, name, after)
+        self.add_after(at, 0, before, name, after)
     }
 
     /// The lines.

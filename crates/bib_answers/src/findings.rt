@@ -339,7 +339,7 @@ fn add_part_uses<M: MacroTable>(
     Ok(())
 }
 
-/// A use of a macro, this much behind the value's place.
+/// A use of a macro, this much after the value's place.
 fn add_use<M: MacroTable>(
     lines: &mut FindingLines<'_>,
     at: usize,
@@ -354,10 +354,10 @@ fn add_use<M: MacroTable>(
         return Ok(());
     };
     if is_own(name, own) {
-        return lines.add_behind(at, more, b"macro ", name, b" is used in its own definition");
+        return lines.add_after(at, more, b"macro ", name, b" is used in its own definition");
     }
     if macros.text_of(name).is_none() {
-        return lines.add_behind(at, more, b"macro ", name, b" is not defined");
+        return lines.add_after(at, more, b"macro ", name, b" is not defined");
     }
     Ok(())
 }

@@ -1,7 +1,7 @@
 //! Lines and columns.
 
 ghost use Rattle.std.specs.Prelude.{◌≡◌, ◌+◌, ◌<◌, ◌≤◌, ◌^◌, ℕ, List, length, fold};
-ghost use Rattle.bib_answers.specs.Positions.{behind, position_of, IsKnown};
+ghost use Rattle.bib_answers.specs.Positions.{position_after, position_of, IsKnown};
 
 /// Where a byte stands in a file, counted from 1. Columns count bytes.
 #[derive(Clone, Copy, Debug, PartialEq, Eq)]
@@ -28,7 +28,7 @@ pub fn first_known() -> Known
     }
 }
 
-/// A known place that is not behind this one.
+/// A known place that is not after this one.
 fn known_before(known: Known, place: usize) -> Known
     ensures known { (file : List ℕ) → IsKnown file known → IsKnown file result }
     ensures place { result.place ≤ place }
@@ -40,11 +40,11 @@ fn known_before(known: Known, place: usize) -> Known
     }
 }
 
-/// The position behind these bytes, the first of which has this position.
+/// The position after these bytes, the first of which has this position.
 fn moved(from: Position, bytes: &[u8]) -> Position
     requires line { from.line + length bytes.now < 2 ^ 64 }
     requires column { from.column + length bytes.now < 2 ^ 64 }
-    ensures { result ≡ fold behind from bytes.now }
+    ensures { result ≡ fold position_after from bytes.now }
 {
     let mut line = from.line;
     let mut column = from.column;
@@ -59,7 +59,7 @@ fn moved(from: Position, bytes: &[u8]) -> Position
     Position { line, column }
 }
 
-/// This place of the file, or its end where the place is behind that, with the position. It takes time in the length of what
+/// This place of the file, or its end where the place is after that, with the position. It takes time in the length of what
 /// stands between the known place and this one; where this one is before the known place, all that stands before it.
 pub fn known_at(file: &[u8], known: Known, place: usize) -> Known
     requires { IsKnown file.now known }

@@ -16,7 +16,7 @@ use Rattle.bib_spec.specs.Pieces.{Chunk, Kept, Replaced, pieces_from}
 use Rattle.edit_spec.specs.Edits.{DropField, is_entry, of_entry, row_before, without_field, entry_without_field, drop_field, ends_in_key, tree_ends_in_key}
 use Rattle.edit_spec.specs.EditChunks.{kept_rows, entry_chunks, field_dropped, pieces_of}
 use Rattle.edit_spec.proofs.TreeChunks.{row-parts}
-use Rattle.bib_scan.specs.View.{Field, field_behind, fields_behind, view_of}
+use Rattle.bib_scan.specs.View.{Field, field_after, fields_after, view_of}
 use Rattle.bib_scan.specs.Layout.{start_of}
 use Rattle.bib_tokens.specs.PlacedParts.{field_end}
 use Rattle.bib_edit.specs.Addressing.{is_field, item_named}
@@ -36,9 +36,9 @@ spaced_rows rows = rows.0 ++ rows_bytes rows.1
 pub record IsCut (name key_text before : Text) (rows : List Row) (field : Field) : Type 0 where
   pub kept : Text
   pub gone : Text
-  pub behind : Text
-  pub old : before ++ rows_bytes rows ≡ kept ++ (gone ++ behind)
-  pub new : spaced_rows (without_field name before rows) ≡ kept ++ behind
+  pub after : Text
+  pub old : before ++ rows_bytes rows ≡ kept ++ (gone ++ after)
+  pub new : spaced_rows (without_field name before rows) ≡ kept ++ after
   pub start : field.start ≡ length (key_text ++ kept)
   pub end : field_end field ≡ length (key_text ++ kept) + length gone
   pub pieces : (at : ℕ) → pieces_from at (field_dropped name before rows) ≡ record { place = at + length kept; old = gone; new = [] } ∷ []
@@ -54,45 +54,45 @@ text_regroup k p s v a = simp append_assoc
 
 module _ (name : Text) where
   abbrev dropped : Text → Row → List Row → List Chunk
-  dropped before row rows = Kept before ∷ Replaced (row_start row ++ value_bytes row.assignment.value) [] ∷ Kept row.assignment.space_behind ∷ kept_rows rows
+  dropped before row rows = Kept before ∷ Replaced (row_start row ++ value_bytes row.assignment.value) [] ∷ Kept row.assignment.space_after ∷ kept_rows rows
 
   abbrev passed : Text → Row → List Row → List Chunk
-  passed before row rows = Kept before ∷ Kept (row_start row) ∷ Kept (value_bytes row.assignment.value) ∷ field_dropped name row.assignment.space_behind rows
+  passed before row rows = Kept before ∷ Kept (row_start row) ∷ Kept (value_bytes row.assignment.value) ∷ field_dropped name row.assignment.space_after rows
 
   abbrev cut_rows : Text → Row → List Row → Text × List Row
-  cut_rows before row rows = (before ++ row.assignment.space_behind, rows)
+  cut_rows before row rows = (before ++ row.assignment.space_after, rows)
 
   abbrev passed_rows : Text → Row → List Row → Text × List Row
   passed_rows before row rows =
-      let rest = without_field name row.assignment.space_behind rows in (before, row_before rest.0 row ∷ rest.1)
+      let rest = without_field name row.assignment.space_after rows in (before, row_before rest.0 row ∷ rest.1)
 
   cut-here : (key_text before : Text) (row : Row) (rows : List Row) (field : Field) → same row.assignment.name name ≡ true →
-      field_behind (length (key_text ++ before)) ((key_text ++ before) ++ comma ∷ row.space_before_name) row.assignment ≡ field → IsCut name key_text before (row ∷ rows) field
+      field_after (length (key_text ++ before)) ((key_text ++ before) ++ comma ∷ row.space_before_name) row.assignment ≡ field → IsCut name key_text before (row ∷ rows) field
   cut-here key_text before row rows field t is =
       let text : Text = key_text ++ before in
-      let it : Field = field_behind (length text) (text ++ comma ∷ row.space_before_name) row.assignment in
+      let it : Field = field_after (length text) (text ++ comma ∷ row.space_before_name) row.assignment in
       let place : it.value_at ≡ length text + length (row_start row) = value-place text row in
       let long : length (row_start row ++ value_bytes row.assignment.value) ≡ length (row_start row) + length (value_bytes row.assignment.value) = length-append (row_start row) (value_bytes row.assignment.value) in
       let end : field_end it ≡ length text + length (row_start row ++ value_bytes row.assignment.value) = omega (arith, place, long) in
       record {
         kept = before;
         gone = row_start row ++ value_bytes row.assignment.value;
-        behind = row.assignment.space_behind ++ rows_bytes rows;
-        old = ap (λ t. before ++ t) (ap (λ t. t ++ rows_bytes rows) (row-parts row) ∙ cut_regroup (row_start row) (value_bytes row.assignment.value) row.assignment.space_behind (rows_bytes rows));
-        new = ap spaced_rows (cond-true (same row.assignment.name name) (cut_rows before row rows) (passed_rows before row rows) t) ∙ append_assoc before row.assignment.space_behind (rows_bytes rows);
+        after = row.assignment.space_after ++ rows_bytes rows;
+        old = ap (λ t. before ++ t) (ap (λ t. t ++ rows_bytes rows) (row-parts row) ∙ cut_regroup (row_start row) (value_bytes row.assignment.value) row.assignment.space_after (rows_bytes rows));
+        new = ap spaced_rows (cond-true (same row.assignment.name name) (cut_rows before row rows) (passed_rows before row rows) t) ∙ append_assoc before row.assignment.space_after (rows_bytes rows);
         start = sym (ap (λ (f : Field). f.start) is);
         end = sym (ap field_end is) ∙ end;
         pieces = λ at. ap (pieces_from at) (cond-true (same row.assignment.name name) (dropped before row rows) (passed before row rows) t)
             ∙ ap (λ ps. record { place = at + length before; old = row_start row ++ value_bytes row.assignment.value; new = [] } ∷ ps)
-            (pieces-kept_rows (at + length before + length (row_start row ++ value_bytes row.assignment.value) + length row.assignment.space_behind) rows);
+            (pieces-kept_rows (at + length before + length (row_start row ++ value_bytes row.assignment.value) + length row.assignment.space_after) rows);
       }
 
   cut-later : (key_text before : Text) (row : Row) (rows : List Row) (field : Field) → same row.assignment.name name ≡ false →
-      IsCut name (((key_text ++ before) ++ row_start row) ++ value_bytes row.assignment.value) row.assignment.space_behind rows field → IsCut name key_text before (row ∷ rows) field
+      IsCut name (((key_text ++ before) ++ row_start row) ++ value_bytes row.assignment.value) row.assignment.space_after rows field → IsCut name key_text before (row ∷ rows) field
   cut-later key_text before row rows field t rest =
       let s : Text = row_start row in
       let v : Text = value_bytes row.assignment.value in
-      let later = without_field name row.assignment.space_behind rows in
+      let later = without_field name row.assignment.space_after rows in
       let front : Text = (before ++ s) ++ v in
       let whole : (((key_text ++ before) ++ s) ++ v) ++ rest.kept ≡ key_text ++ (front ++ rest.kept) = text_regroup key_text before s v rest.kept in
       let long : length (front ++ rest.kept) ≡ length before + length s + length v + length rest.kept =
@@ -100,12 +100,12 @@ module _ (name : Text) where
       record {
         kept = front ++ rest.kept;
         gone = rest.gone;
-        behind = rest.behind;
-        old = ap (λ t. before ++ (t ++ rows_bytes rows)) (row-parts row) ∙ pass_regroup before s v row.assignment.space_behind (rows_bytes rows)
-            ∙ ap (λ t. front ++ t) rest.old ∙ sym (append_assoc front rest.kept (rest.gone ++ rest.behind));
+        after = rest.after;
+        old = ap (λ t. before ++ (t ++ rows_bytes rows)) (row-parts row) ∙ pass_regroup before s v row.assignment.space_after (rows_bytes rows)
+            ∙ ap (λ t. front ++ t) rest.old ∙ sym (append_assoc front rest.kept (rest.gone ++ rest.after));
         new = ap spaced_rows (cond-false (same row.assignment.name name) (cut_rows before row rows) (passed_rows before row rows) t)
             ∙ ap (λ t. before ++ (t ++ rows_bytes later.1)) (row-parts (row_before later.0 row)) ∙ pass_regroup before s v later.0 (rows_bytes later.1)
-            ∙ ap (λ t. front ++ t) rest.new ∙ sym (append_assoc front rest.kept rest.behind);
+            ∙ ap (λ t. front ++ t) rest.new ∙ sym (append_assoc front rest.kept rest.after);
         start = rest.start ∙ ap length whole;
         end = rest.end ∙ ap (λ t. length t + length rest.gone) whole;
         pieces = λ at. ap (pieces_from at) (cond-false (same row.assignment.name name) (dropped before row rows) (passed before row rows) t)
@@ -113,16 +113,16 @@ module _ (name : Text) where
             ∙ ap (λ n. record { place = n; old = rest.gone; new = [] } ∷ []) (omega (arith, long));
       }
 
-  pub cut-rows : (key_text before : Text) (rows : List Row) (field : Field) → Some field ≡ find (is_field name) (fields_behind (key_text ++ before) rows) → IsCut name key_text before rows field
+  pub cut-rows : (key_text before : Text) (rows : List Row) (field : Field) → Some field ≡ find (is_field name) (fields_after (key_text ++ before) rows) → IsCut name key_text before rows field
   cut-rows key_text before [] field found = absurd (none-some field (sym found))
   cut-rows key_text before (row ∷ rows) field found =
       let text : Text = key_text ++ before in
-      let it : Field = field_behind (length text) (text ++ comma ∷ row.space_before_name) row.assignment in
-      let others : List Field = fields_behind (text ++ row_bytes row) rows in
+      let it : Field = field_after (length text) (text ++ comma ∷ row.space_before_name) row.assignment in
+      let others : List Field = fields_after (text ++ row_bytes row) rows in
       ⊎_elim
       (λ t. cut-here key_text before row rows field t (same_Some it field (sym (cond-true (same row.assignment.name name) (Some it) (find (is_field name) others) t) ∙ sym found)))
-      (λ t. cut-later key_text before row rows field t (cut-rows ((text ++ row_start row) ++ value_bytes row.assignment.value) row.assignment.space_behind rows field
-      (found ∙ cond-false (same row.assignment.name name) (Some it) (find (is_field name) others) t ∙ ap (λ u. find (is_field name) (fields_behind u rows)) (sym (before-next text row)))))
+      (λ t. cut-later key_text before row rows field t (cut-rows ((text ++ row_start row) ++ value_bytes row.assignment.value) row.assignment.space_after rows field
+      (found ∙ cond-false (same row.assignment.name name) (Some it) (find (is_field name) others) t ∙ ap (λ u. find (is_field name) (fields_after u rows)) (sym (before-next text row)))))
       (cases_Bool (same row.assignment.name name))
 
 -- ---- the body
@@ -157,21 +157,21 @@ module _ (name : Text) (e : Entry) (trail : Text) (field : Field) (found : Some 
   abbrev close : Text
   close = close_byte e.opening.delimiter ∷ []
 
-  cut_here : IsCut name key_text e.space_behind_key e.rows field
-  cut_here = cut-rows name key_text e.space_behind_key e.rows field found
+  cut_here : IsCut name key_text e.space_after_key e.rows field
+  cut_here = cut-rows name key_text e.space_after_key e.rows field found
 
   abbrev front : Text
   front = key_text ++ cut_here.kept
 
   abbrev rest : Text
-  rest = cut_here.behind ++ (last_comma_bytes e.last_comma ++ close)
+  rest = cut_here.after ++ (last_comma_bytes e.last_comma ++ close)
 
   body : entry_bytes e ≡ front ++ (cut_here.gone ++ rest)
   body = ap (λ t. key_text ++ ((t ++ last_comma_bytes e.last_comma) ++ close)) cut_here.old
-      ∙ body_regroup (opening_bytes e.opening) e.key cut_here.kept cut_here.gone cut_here.behind (last_comma_bytes e.last_comma) close
+      ∙ body_regroup (opening_bytes e.opening) e.key cut_here.kept cut_here.gone cut_here.after (last_comma_bytes e.last_comma) close
 
   rest-long : 0 < length rest
-  rest-long = let l = length-append cut_here.behind (last_comma_bytes e.last_comma ++ close) in let m = length-append (last_comma_bytes e.last_comma) close in omega (arith, l, m)
+  rest-long = let l = length-append cut_here.after (last_comma_bytes e.last_comma ++ close) in let m = length-append (last_comma_bytes e.last_comma) close in omega (arith, l, m)
 
   pub row-begins : field.start ≤ field_end field
   row-begins = let s = cut_here.start in let t = cut_here.end in omega (arith, s, t)
@@ -192,8 +192,8 @@ module _ (name : Text) (e : Entry) (trail : Text) (field : Field) (found : Some 
       let len : field_end field - field.start ≡ length cut_here.gone = omega (arith, s, t) in
       ap₂ (λ n t. take n t) len (ap₂ drop cut_here.start body ∙ drop_at front (cut_here.gone ++ rest) (length front) refl) ∙ take_at cut_here.gone rest (length cut_here.gone) refl
 
-  behind-row : drop (field_end field) (entry_bytes e) ≡ rest
-  behind-row =
+  after-row : drop (field_end field) (entry_bytes e) ≡ rest
+  after-row =
       ap₂ drop cut_here.end (body ∙ sym (append_assoc front cut_here.gone rest))
       ∙ drop_at (front ++ cut_here.gone) rest (length front + length cut_here.gone) (length-append front cut_here.gone)
 
@@ -201,9 +201,9 @@ module _ (name : Text) (e : Entry) (trail : Text) (field : Field) (found : Some 
   pub joins-row : ends_in_key (entry_without_field name e) ≡ joins_key (view_of (item_at (EntryTree e) trail)) field
   joins-row =
       ap (λ t. bytes_eq ((t ++ last_comma_bytes e.last_comma) ++ close) (close_paren ∷ [])) cut_here.new
-      ∙ ap (λ t. bytes_eq t (close_paren ∷ [])) (key_regroup cut_here.kept cut_here.behind (last_comma_bytes e.last_comma) close)
+      ∙ ap (λ t. bytes_eq t (close_paren ∷ [])) (key_regroup cut_here.kept cut_here.after (last_comma_bytes e.last_comma) close)
       ∙ joined key_text cut_here.kept rest rest-long
-      ∙ ap₂ (λ n t. (n == length key_text) && bytes_eq t (close_paren ∷ [])) (sym cut_here.start) (sym behind-row)
+      ∙ ap₂ (λ n t. (n == length key_text) && bytes_eq t (close_paren ∷ [])) (sym cut_here.start) (sym after-row)
       ∙ ap (λ n. (field.start == n) && bytes_eq (drop (field_end field) (entry_bytes e)) (close_paren ∷ [])) (length-append (opening_bytes e.opening) e.key)
 
   module _ (db : Reading) (key : Text) (n : ℕ) (named : item_named key db ≡ Some n) (at : slice_get db.items n ≡ Some (item_at (EntryTree e) trail)) where
@@ -214,8 +214,8 @@ module _ (name : Text) (e : Entry) (trail : Text) (field : Field) (found : Some 
         let long : length key_text ≡ length (opening_bytes e.opening) + length e.key = length-append (opening_bytes e.opening) e.key in
         let kept : length front ≡ length key_text + length cut_here.kept = length-append key_text cut_here.kept in
         let s = cut_here.start in
-        pieces-entry_as (λ e. entry_chunks (Kept e.key) (field_dropped name e.space_behind_key e.rows) e) db key n e trail named at
-        ∙ pieces-entry start (field_dropped name e.space_behind_key e.rows) e
+        pieces-entry_as (λ e. entry_chunks (Kept e.key) (field_dropped name e.space_after_key e.rows) e) db key n e trail named at
+        ∙ pieces-entry start (field_dropped name e.space_after_key e.rows) e
         ∙ cut_here.pieces (start + length (opening_bytes e.opening) + length e.key)
         ∙ ap₂ (λ n t. record { place = n; old = t; new = [] } ∷ []) (omega (arith, long, kept, s)) (sym row-bytes)
 

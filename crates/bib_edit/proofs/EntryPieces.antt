@@ -20,7 +20,7 @@ use Rattle.bib_entries.proofs.Tables.{numbers_from, numbered_first, numbered_lat
 use Rattle.bib_store.specs.Meaning.{is_entry_tree, entry_items, entry_numbers}
 use Rattle.bib_store.specs.Tables.{crossrefs_of}
 use Rattle.bib_store.proofs.EntryItems.{length-entry_items, length-entry_numbers, entry_at, entry_stands}
-use Rattle.bib_edit.specs.NewKeys.{key_of, new_target, key_piece, crossref_piece, IsEntrySeen, rekeying, entry_pieces, pieces_at, pieces_behind, RefersAt, ArePassed, AreQuiet, HavePieces}
+use Rattle.bib_edit.specs.NewKeys.{key_of, new_target, key_piece, crossref_piece, IsEntrySeen, rekeying, entry_pieces, pieces_at, pieces_after, RefersAt, ArePassed, AreQuiet, HavePieces}
 use Rattle.bib_edit.specs.declared.new_keys.NewKeys.{NewKeys}
 use Rattle.bib_edit.proofs.KeyPieces.{keyed_chunks, pieces-other, pieces-more, entry-is}
 use Rattle.bib_tokens.proofs.PlacedItems.{item-ends}
@@ -84,8 +84,8 @@ module _ (db : Reading) (key : Text) where
   sooner j k n m lt e f = numbers-ascend (refers key) 0 (crossrefs_of db) j k n m lt e f
 
   -- those from number k on are not before entry n, where number k is not
-  all-behind : (k n : ℕ) → ((m : ℕ) → RefersAt db key k m → n ≤ m) → (j m : ℕ) → k ≤ j → RefersAt db key j m → n ≤ m
-  all-behind k n first j m le at = ⊎_elim
+  all-after : (k n : ℕ) → ((m : ℕ) → RefersAt db key k m → n ≤ m) → (j m : ℕ) → k ≤ j → RefersAt db key j m → n ≤ m
+  all-after k n first j m le at = ⊎_elim
       (λ none. absurd (none-some m (sym (none-after refs k j le none) ∙ at)))
       (λ some. ⊎_elim
       (λ lt. let low = first some.0 some.1 in let after = sooner k j some.0 m lt some.1 at in omega (arith, low, after))
@@ -94,22 +94,22 @@ module _ (db : Reading) (key : Text) where
       (option_cases (slice_get refs k))
 
   pub none-passed : ArePassed db key 0 0
-  none-passed = record { before = λ j m lt at. absurd (omega (arith, lt)); behind = λ j m le at. omega arith }
+  none-passed = record { before = λ j m lt at. absurd (omega (arith, lt)); after = λ j m le at. omega arith }
 
-  pub behind-with : (k n : ℕ) → ArePassed db key k n → RefersAt db key k n → ArePassed db key (k + 1) (n + 1)
-  behind-with k n passed at = record {
+  pub after-with : (k n : ℕ) → ArePassed db key k n → RefersAt db key k n → ArePassed db key (k + 1) (n + 1)
+  after-with k n passed at = record {
     before = λ j m lt there. ⊎_elim
         (λ few. let before = passed.before j m few there in omega (arith, before))
         (λ many. let same : j ≡ k = omega (arith, lt, many) in let is : m ≡ n = same_Some m n (sym there ∙ ap (slice_get refs) same ∙ at) in omega (arith, is))
         (cases_lt j k);
-    behind = λ j m le there. (let later = sooner k j n m (omega (arith, le)) at there in omega (arith, later));
+    after = λ j m le there. (let later = sooner k j n m (omega (arith, le)) at there in omega (arith, later));
   }
 
-  pub behind-without : (k n : ℕ) → ArePassed db key k n → (RefersAt db key k n → ⊥) → ArePassed db key k (n + 1)
-  behind-without k n passed other = record {
+  pub after-without : (k n : ℕ) → ArePassed db key k n → (RefersAt db key k n → ⊥) → ArePassed db key k (n + 1)
+  after-without k n passed other = record {
     before = λ j m lt there. (let before = passed.before j m lt there in omega (arith, before));
-    behind = all-behind k (n + 1) (λ m at.
-        let low = passed.behind k m (omega arith) at in
+    after = all-after k (n + 1) (λ m at.
+        let low = passed.after k m (omega arith) at in
         omega (arith, low, (λ (same : m ≡ n). other (subst (λ (x : ℕ). RefersAt db key k x) same at))));
   }
 
@@ -130,42 +130,42 @@ module _ (new : NewKeys) (db : Reading) where
   abbrev count : ℕ
   count = length (entries_of db)
 
-  pub behind-next : (n : ℕ) → n < count → pieces_behind new db n ≡ pieces_at new db n ++ pieces_behind new db (n + 1)
-  behind-next n lt = ap (λ (k : ℕ). flat_map (pieces_at new db) (range_with_len n k)) (one_more n count lt)
+  pub after-next : (n : ℕ) → n < count → pieces_after new db n ≡ pieces_at new db n ++ pieces_after new db (n + 1)
+  after-next n lt = ap (λ (k : ℕ). flat_map (pieces_at new db) (range_with_len n k)) (one_more n count lt)
     where
       one_more : (n k : ℕ) → n < k → k - n ≡ suc (k - (n + 1))
       one_more n k lt = omega (arith, lt)
 
-  pub behind-last : (n : ℕ) → count ≤ n → pieces_behind new db n ≡ []
-  behind-last n le = ap (λ (k : ℕ). flat_map (pieces_at new db) (range_with_len n k)) (none n count le)
+  pub after-last : (n : ℕ) → count ≤ n → pieces_after new db n ≡ []
+  after-last n le = ap (λ (k : ℕ). flat_map (pieces_at new db) (range_with_len n k)) (none n count le)
     where
       none : (n k : ℕ) → k ≤ n → k - n ≡ 0
       none n k le = omega (arith, le)
 
   -- entries without pieces are passed
-  skip : (d a : ℕ) → a + d ≤ count → ((n : ℕ) → a ≤ n → n < a + d → pieces_at new db n ≡ []) → pieces_behind new db a ≡ pieces_behind new db (a + d)
-  skip zero a le none = ap (pieces_behind new db) (zeroth a)
+  skip : (d a : ℕ) → a + d ≤ count → ((n : ℕ) → a ≤ n → n < a + d → pieces_at new db n ≡ []) → pieces_after new db a ≡ pieces_after new db (a + d)
+  skip zero a le none = ap (pieces_after new db) (zeroth a)
     where
       zeroth : (a : ℕ) → a ≡ a + 0
       zeroth a = omega arith
   skip (suc d) a le none =
-      behind-next a (omega (arith, le)) ∙ ap (λ ps. ps ++ pieces_behind new db (a + 1)) (none a (omega arith) (omega arith))
-      ∙ skip d (a + 1) (omega (arith, le)) (λ n low high. none n (omega (arith, low)) (omega (arith, high))) ∙ ap (pieces_behind new db) (next a d)
+      after-next a (omega (arith, le)) ∙ ap (λ ps. ps ++ pieces_after new db (a + 1)) (none a (omega arith) (omega arith))
+      ∙ skip d (a + 1) (omega (arith, le)) (λ n low high. none n (omega (arith, low)) (omega (arith, high))) ∙ ap (pieces_after new db) (next a d)
     where
       next : (a d : ℕ) → a + 1 + d ≡ a + suc d
       next a d = omega arith
 
-  skip-to : (a b : ℕ) → a ≤ b → b ≤ count → ((n : ℕ) → a ≤ n → n < b → pieces_at new db n ≡ []) → pieces_behind new db a ≡ pieces_behind new db b
+  skip-to : (a b : ℕ) → a ≤ b → b ≤ count → ((n : ℕ) → a ≤ n → n < b → pieces_at new db n ≡ []) → pieces_after new db a ≡ pieces_after new db b
   skip-to a b le high none =
       let there : a + (b - a) ≡ b = omega (arith, le) in
-      skip (b - a) a (omega (arith, there, high)) (λ n low lt. none n low (omega (arith, lt, there))) ∙ ap (pieces_behind new db) there
+      skip (b - a) a (omega (arith, there, high)) (λ n low lt. none n low (omega (arith, lt, there))) ∙ ap (pieces_after new db) there
 
   -- the items from one on have the pieces of the entries among them
   items-pieces : (before items : List Item) → db.items ≡ before ++ items →
-      pieces_from (length db.front + length (flat_map item_bytes before)) (keyed_chunks (key_of new) (entries_of db) (length (entry_items before)) items) ≡ pieces_behind new db (length (entry_items before))
+      pieces_from (length db.front + length (flat_map item_bytes before)) (keyed_chunks (key_of new) (entries_of db) (length (entry_items before)) items) ≡ pieces_after new db (length (entry_items before))
   items-pieces before [] is =
       let all = ap (λ (l : List Item). length (entry_items l)) (sym (is ∙ append-nil before)) ∙ length-entry_items db in
-      sym (behind-last (length (entry_items before)) (omega (arith, all)))
+      sym (after-last (length (entry_items before)) (omega (arith, all)))
   items-pieces before (item ∷ items) is = ⊎_elim
       (λ t.
       let e = entry-is item t in
@@ -181,13 +181,13 @@ module _ (new : NewKeys) (db : Reading) where
       ∙ ap (λ (x : Item). entry_pieces new db k start x ++ pieces_from (start + (length (tree_bytes x.tree) + length x.trail)) (keyed_chunks (key_of new) (entries_of db) (k + 1) items)) (sym e.1)
       ∙ ap₂ (λ (here later : List Piece). here ++ later) (sym its)
       (ap₂ (λ (s m : ℕ). pieces_from s (keyed_chunks (key_of new) (entries_of db) m items)) (sym ends) (sym one)
-      ∙ items-pieces (before ++ item ∷ []) items moved ∙ ap (pieces_behind new db) one)
-      ∙ sym (behind-next k low))
+      ∙ items-pieces (before ++ item ∷ []) items moved ∙ ap (pieces_after new db) one)
+      ∙ sym (after-next k low))
       (λ t.
       let one : length (entry_items (before ++ item ∷ [])) ≡ k = filter-more such before item ∙ ap (λ (l : List Item). k + length l) (cond-false (is_entry_tree item.tree) (item ∷ []) [] t) ∙ add-zero k in
       pieces-other (key_of new) (entries_of db) start k item items t
       ∙ ap₂ (λ (s m : ℕ). pieces_from s (keyed_chunks (key_of new) (entries_of db) m items)) (sym ends) (sym one)
-      ∙ items-pieces (before ++ item ∷ []) items moved ∙ ap (pieces_behind new db) one)
+      ∙ items-pieces (before ++ item ∷ []) items moved ∙ ap (pieces_after new db) one)
       (cases_Bool (is_entry_tree item.tree))
     where
       such : Item → Bool
@@ -210,22 +210,22 @@ module _ (new : NewKeys) (db : Reading) where
           let parts = length-append (tree_bytes item.tree) item.trail in
           omega (arith, long, both, one, parts)
 
-  pub behind-first : pieces_behind new db 0 ≡ rekeying new db
-  behind-first =
+  pub after-first : pieces_after new db 0 ≡ rekeying new db
+  after-first =
       sym (items-pieces [] db.items refl)
       ∙ ap (λ (at : ℕ). pieces_from at (keyed_chunks (key_of new) (entries_of db) 0 db.items)) (add-zero (length db.front) ∙ sym (zero-add (length db.front)))
 
   -- the pieces of all entries, in turn
-  pub first-pieces : (done : List Piece) → done ≡ [] → done ++ pieces_behind new db 0 ≡ rekeying new db
-  first-pieces done none = ap (λ ps. ps ++ pieces_behind new db 0) none ∙ behind-first
+  pub first-pieces : (done : List Piece) → done ≡ [] → done ++ pieces_after new db 0 ≡ rekeying new db
+  first-pieces done none = ap (λ ps. ps ++ pieces_after new db 0) none ∙ after-first
 
-  pub next-pieces : (n : ℕ) (done more : List Piece) → n < count → done ++ pieces_behind new db n ≡ rekeying new db → more ≡ done ++ pieces_at new db n → more ++ pieces_behind new db (n + 1) ≡ rekeying new db
+  pub next-pieces : (n : ℕ) (done more : List Piece) → n < count → done ++ pieces_after new db n ≡ rekeying new db → more ≡ done ++ pieces_at new db n → more ++ pieces_after new db (n + 1) ≡ rekeying new db
   next-pieces n done more lt is more_is =
-      ap (λ ps. ps ++ pieces_behind new db (n + 1)) more_is ∙ append_assoc done (pieces_at new db n) (pieces_behind new db (n + 1))
-      ∙ ap (λ ps. done ++ ps) (sym (behind-next n lt)) ∙ is
+      ap (λ ps. ps ++ pieces_after new db (n + 1)) more_is ∙ append_assoc done (pieces_at new db n) (pieces_after new db (n + 1))
+      ∙ ap (λ ps. done ++ ps) (sym (after-next n lt)) ∙ is
 
-  pub all-pieces : (n : ℕ) (done : List Piece) → count ≤ n → done ++ pieces_behind new db n ≡ rekeying new db → done ≡ rekeying new db
-  all-pieces n done le is = sym (append-nil done) ∙ ap (λ ps. done ++ ps) (sym (behind-last n le)) ∙ is
+  pub all-pieces : (n : ℕ) (done : List Piece) → count ≤ n → done ++ pieces_after new db n ≡ rekeying new db → done ≡ rekeying new db
+  all-pieces n done le is = sym (append-nil done) ∙ ap (λ ps. done ++ ps) (sym (after-last n le)) ∙ is
 
   -- what is seen of entry n has its pieces
   pub pieces-seen : (n i start : ℕ) (view : View) → n < count → slice_get (entry_numbers db.items) n ≡ Some i → start ≡ start_of db i → ((item : Item) → slice_get (entry_items db.items) n ≡ Some item → view ≡ view_of item)
@@ -252,13 +252,13 @@ module _ (new : NewKeys) (db : Reading) where
     pub pieces-to : (k a b : ℕ) (done : List Piece) → a ≤ b → b ≤ count → AreQuiet new db key a b → HavePieces new db key k a done → ((m : ℕ) → RefersAt db key k m → b ≤ m) → HavePieces new db key k b done
     pieces-to k a b done le high quiet have first =
         let passed = have.passed in
-        let behind = all-behind db key k b first in
+        let after = all-after db key k b first in
         record {
           pieces = ap (λ ps. done ++ ps) (sym (skip-to a b le high (λ n low lt. quiet n low lt (λ j at. ⊎_elim
               (λ few. let before = passed.before j n few at in omega (arith, before, low))
-              (λ many. let later = behind j n many at in omega (arith, later, lt))
+              (λ many. let later = after j n many at in omega (arith, later, lt))
               (cases_lt j k))))) ∙ have.pieces;
-          passed = record { before = λ j m lt at. (let before = passed.before j m lt at in omega (arith, before, le)); behind = behind };
+          passed = record { before = λ j m lt at. (let before = passed.before j m lt at in omega (arith, before, le)); after = after };
         }
 
     -- the next that refers is there too
@@ -267,7 +267,7 @@ module _ (new : NewKeys) (db : Reading) where
         let passed = have.passed in
         record {
           pieces = next-pieces n done more lt have.pieces more_is;
-          passed = behind-with db key k n passed at;
+          passed = after-with db key k n passed at;
         }
 
     -- entries up to one that refers as number k, or to a later one, have their pieces, and none but those that refer gets any up
@@ -283,7 +283,7 @@ module _ (new : NewKeys) (db : Reading) where
         let have = is.have in
         let passed = have.passed in
         let quiet = is.quiet in
-        let low : is.at ≤ n = passed.behind k n (omega arith) refers in
+        let low : is.at ≤ n = passed.after k n (omega arith) refers in
         record {
           at = n + 1;
           within = omega (arith, lt);
@@ -302,7 +302,7 @@ module _ (new : NewKeys) (db : Reading) where
         let passed = have.passed in
         let all : HavePieces new db key count is.at done = record {
           pieces = have.pieces;
-          passed = record { before = λ j m lt at. passed.before j m (omega (arith, lt, le)) at; behind = λ j m many at. absurd (few-refer db key j m many at) };
+          passed = record { before = λ j m lt at. passed.before j m (omega (arith, lt, le)) at; after = λ j m many at. absurd (few-refer db key j m many at) };
         } in
         pieces-to count is.at end done is.within high is.quiet all (λ m at. absurd (few-refer db key count m (omega arith) at))
 
@@ -333,5 +333,5 @@ module _ (new : NewKeys) (db : Reading) where
       pub quiet-before : AreQuiet new db key 0 n
       quiet-before i low lt quiet = untouched i (λ same. omega (arith, lt, same)) quiet
 
-      pub quiet-behind : AreQuiet new db key (n + 1) count
-      quiet-behind i low lt quiet = untouched i (λ same. omega (arith, low, same)) quiet
+      pub quiet-after : AreQuiet new db key (n + 1) count
+      quiet-after i low lt quiet = untouched i (λ same. omega (arith, low, same)) quiet

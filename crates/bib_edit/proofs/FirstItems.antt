@@ -17,8 +17,8 @@ module _ (test : Tree → Bool) where
   pub record IsFirstItem (items : List Item) (n : ℕ) : Type 0 where
     pub before : List Item
     pub item : Item
-    pub behind : List Item
-    pub is : items ≡ before ++ item ∷ behind
+    pub after : List Item
+    pub is : items ≡ before ++ item ∷ after
     pub passes : test item.tree ≡ true
     pub none : AllByRecursion (λ i. test i.tree ≡ false) before
     pub number : length before ≡ n
@@ -29,7 +29,7 @@ module _ (test : Tree → Bool) where
       (λ t. record {
         before = [];
         item = item;
-        behind = items;
+        after = items;
         is = refl;
         passes = t;
         none = tt;
@@ -40,7 +40,7 @@ module _ (test : Tree → Bool) where
       record {
         before = item ∷ rest.before;
         item = rest.item;
-        behind = rest.behind;
+        after = rest.after;
         is = ap (λ l. item ∷ l) rest.is;
         passes = rest.passes;
         none = (t, rest.none);
@@ -49,51 +49,51 @@ module _ (test : Tree → Bool) where
       (cases_Bool (test item.tree))
 
   module _ (change : Item → List Item → List Chunk) where
-    chunks_behind : (before : List Item) (item : Item) (behind : List Item) → test item.tree ≡ true → AllByRecursion (λ i. test i.tree ≡ false) before →
-        chunks_from_first test change (before ++ item ∷ behind) ≡ kept_items before ++ change item behind
-    chunks_behind [] item behind t none = cond-true (test item.tree) (change item behind) (kept_item item ∷ chunks_from_first test change behind) t
-    chunks_behind (x ∷ before) item behind t none =
-        cond-false (test x.tree) (change x (before ++ item ∷ behind)) (kept_item x ∷ chunks_from_first test change (before ++ item ∷ behind)) none.0
-        ∙ ap (λ l. kept_item x ∷ l) (chunks_behind before item behind t none.1)
+    chunks_after : (before : List Item) (item : Item) (after : List Item) → test item.tree ≡ true → AllByRecursion (λ i. test i.tree ≡ false) before →
+        chunks_from_first test change (before ++ item ∷ after) ≡ kept_items before ++ change item after
+    chunks_after [] item after t none = cond-true (test item.tree) (change item after) (kept_item item ∷ chunks_from_first test change after) t
+    chunks_after (x ∷ before) item after t none =
+        cond-false (test x.tree) (change x (before ++ item ∷ after)) (kept_item x ∷ chunks_from_first test change (before ++ item ∷ after)) none.0
+        ∙ ap (λ l. kept_item x ∷ l) (chunks_after before item after t none.1)
 
     -- the items before it are kept, and it and those after it are as said
-    pub chunks-first : (items : List Item) (n : ℕ) (first : IsFirstItem items n) → chunks_from_first test change items ≡ kept_items first.before ++ change first.item first.behind
-    chunks-first items n first = ap (chunks_from_first test change) first.is ∙ chunks_behind first.before first.item first.behind first.passes first.none
+    pub chunks-first : (items : List Item) (n : ℕ) (first : IsFirstItem items n) → chunks_from_first test change items ≡ kept_items first.before ++ change first.item first.after
+    chunks-first items n first = ap (chunks_from_first test change) first.is ∙ chunks_after first.before first.item first.after first.passes first.none
 
   module _ (change : List Item → List Item) where
-    items_behind : (before : List Item) (item : Item) (behind : List Item) → test item.tree ≡ true → AllByRecursion (λ i. test i.tree ≡ false) before →
-        from_first test change (before ++ item ∷ behind) ≡ before ++ change (item ∷ behind)
-    items_behind [] item behind t none = cond-true (test item.tree) (change (item ∷ behind)) (item ∷ from_first test change behind) t
-    items_behind (x ∷ before) item behind t none =
-        cond-false (test x.tree) (change (x ∷ (before ++ item ∷ behind))) (x ∷ from_first test change (before ++ item ∷ behind)) none.0
-        ∙ ap (λ l. x ∷ l) (items_behind before item behind t none.1)
+    items_after : (before : List Item) (item : Item) (after : List Item) → test item.tree ≡ true → AllByRecursion (λ i. test i.tree ≡ false) before →
+        from_first test change (before ++ item ∷ after) ≡ before ++ change (item ∷ after)
+    items_after [] item after t none = cond-true (test item.tree) (change (item ∷ after)) (item ∷ from_first test change after) t
+    items_after (x ∷ before) item after t none =
+        cond-false (test x.tree) (change (x ∷ (before ++ item ∷ after))) (x ∷ from_first test change (before ++ item ∷ after)) none.0
+        ∙ ap (λ l. x ∷ l) (items_after before item after t none.1)
 
-    pub items-first : (items : List Item) (n : ℕ) (first : IsFirstItem items n) → from_first test change items ≡ first.before ++ change (first.item ∷ first.behind)
-    items-first items n first = ap (from_first test change) first.is ∙ items_behind first.before first.item first.behind first.passes first.none
+    pub items-first : (items : List Item) (n : ℕ) (first : IsFirstItem items n) → from_first test change items ≡ first.before ++ change (first.item ∷ first.after)
+    items-first items n first = ap (from_first test change) first.is ∙ items_after first.before first.item first.after first.passes first.none
 
-item_after : (before : List Item) (item : Item) (behind : List Item) → slice_get (before ++ item ∷ behind) (length before) ≡ Some item
-item_after [] item behind = refl
-item_after (x ∷ before) item behind = item_after before item behind
+item_after : (before : List Item) (item : Item) (after : List Item) → slice_get (before ++ item ∷ after) (length before) ≡ Some item
+item_after [] item after = refl
+item_after (x ∷ before) item after = item_after before item after
 
-before_at : (before : List Item) (item : Item) (behind : List Item) → take (length before) (before ++ item ∷ behind) ≡ before
-before_at [] item behind = refl
-before_at (x ∷ before) item behind = ap (λ l. x ∷ l) (before_at before item behind)
+before_at : (before : List Item) (item : Item) (after : List Item) → take (length before) (before ++ item ∷ after) ≡ before
+before_at [] item after = refl
+before_at (x ∷ before) item after = ap (λ l. x ∷ l) (before_at before item after)
 
 module _ (test : Tree → Bool) (items : List Item) (n : ℕ) (first : IsFirstItem test items n) where
   pub item-first : slice_get items n ≡ Some first.item
-  item-first = ap₂ slice_get first.is (sym first.number) ∙ item_after first.before first.item first.behind
+  item-first = ap₂ slice_get first.is (sym first.number) ∙ item_after first.before first.item first.after
 
   pub before-first : take n items ≡ first.before
-  before-first = ap₂ take (sym first.number) first.is ∙ before_at first.before first.item first.behind
+  before-first = ap₂ take (sym first.number) first.is ∙ before_at first.before first.item first.after
 
 -- an item stands after the front and those before it
 pub start-first : (test : Tree → Bool) (db : Reading) (n : ℕ) (first : IsFirstItem test db.items n) → start_of db n ≡ length db.front + length (flat_map item_bytes first.before)
 start-first test db n first = ap (λ l. length db.front + length (flat_map item_bytes l)) (before-first test db.items n first)
 
-find_after : (test : Tree → Bool) (before : List Item) (item : Item) (behind : List Item) → test item.tree ≡ true → AllByRecursion (λ i. test i.tree ≡ false) before →
-    find (λ i. test i.tree) (before ++ item ∷ behind) ≡ Some item
-find_after test [] item behind t none = cond-true (test item.tree) (Some item) (find (λ i. test i.tree) behind) t
-find_after test (x ∷ before) item behind t none = cond-false (test x.tree) (Some x) (find (λ i. test i.tree) (before ++ item ∷ behind)) none.0 ∙ find_after test before item behind t none.1
+find_after : (test : Tree → Bool) (before : List Item) (item : Item) (after : List Item) → test item.tree ≡ true → AllByRecursion (λ i. test i.tree ≡ false) before →
+    find (λ i. test i.tree) (before ++ item ∷ after) ≡ Some item
+find_after test [] item after t none = cond-true (test item.tree) (Some item) (find (λ i. test i.tree) after) t
+find_after test (x ∷ before) item after t none = cond-false (test x.tree) (Some x) (find (λ i. test i.tree) (before ++ item ∷ after)) none.0 ∙ find_after test before item after t none.1
 
 -- where the first item stays one that passes the test, it is found again
 pub found-again : (test : Tree → Bool) (change : Tree → Tree) (items : List Item) (n : ℕ) (item : Item) → first_item test items ≡ Some n → slice_get items n ≡ Some item → test (change item.tree) ≡ true →
@@ -102,5 +102,5 @@ found-again test change items n item e at still =
     let first : IsFirstItem test items n = found_first test items n e in
     let it : item ≡ first.item = same_Some item first.item (sym at ∙ item-first test items n first) in
     ap (find (λ i. test i.tree)) (items-first test (with_first_tree change) items n first
-    ∙ sym (ap (λ (i : Item). let new : Item = record i { tree = change i.tree } in first.before ++ new ∷ first.behind) it))
-    ∙ find_after test first.before (record item { tree = change item.tree }) first.behind still first.none
+    ∙ sym (ap (λ (i : Item). let new : Item = record i { tree = change i.tree } in first.before ++ new ∷ first.after) it))
+    ∙ find_after test first.before (record item { tree = change item.tree }) first.after still first.none

@@ -7,15 +7,15 @@ use Rattle.bib_spec.specs.Clean.{IsCleanTrail}
 use Rattle.bib_spec.specs.Tree.{Tree, is_comment}
 use Rattle.bib_spec.specs.Reading.{Item, Reading, Reads}
 use Rattle.edit_spec.specs.Edits.{without_first, HasCleanTexts}
-use Rattle.bib_edit.specs.Removal.{IsFirstAt, trail_at, text_before, is_behind_comment, JoinsCleanly}
+use Rattle.bib_edit.specs.Removal.{IsFirstAt, trail_at, text_before, is_after_comment, JoinsCleanly}
 
 abbrev AreClean : List Item → Type 0
 AreClean items = All (λ item. IsCleanTrail (is_comment item.tree) item.trail) items
 
 -- the front stands after a comment, or does not
-abbrev behind : Bool → List Item → ℕ → Bool
-behind c items zero = c
-behind c items (suc n) = is_behind_comment items (suc n)
+abbrev after : Bool → List Item → ℕ → Bool
+after c items zero = c
+after c items (suc n) = is_after_comment items (suc n)
 
 abbrev CleanAfter : Bool → Reading → Type 0
 CleanAfter c db = IsCleanTrail c db.front × AreClean db.items
@@ -30,7 +30,7 @@ module _ (test : Tree → Bool) where
       record { front = front; items = record item { trail = rest.front } ∷ rest.items }
 
   abbrev Joins : Bool → Text → List Item → ℕ → Type 0
-  Joins c front items n = IsCleanTrail (behind c items n) (text_before front items n ++ trail_at items n)
+  Joins c front items n = IsCleanTrail (after c items n) (text_before front items n ++ trail_at items n)
 
   joined : (c : Bool) (front : Text) (items : List Item) (n : ℕ) → IsFirstAt test items n → IsCleanTrail c front → AreClean items → Joins c front items n → CleanAfter c (without_first test front items)
   joined c front [] n f front_clean are joins = absurd f
@@ -62,7 +62,7 @@ module _ (test : Tree → Bool) where
       sooner item items zero j = j
       sooner item items (suc n) j = j
 
-  plain : (items : List Item) (n : ℕ) → behind false items n ≡ is_behind_comment items n
+  plain : (items : List Item) (n : ℕ) → after false items n ≡ is_after_comment items n
   plain items zero = refl
   plain items (suc n) = refl
 

@@ -10,9 +10,9 @@ use Rattle.bib_spec.specs.Texts.{row_start}
 use Rattle.bib_spec.specs.Records.{EntryTexts, crossref, target}
 use Rattle.bib_spec.specs.Pieces.{Piece, Chunk, Kept, Replaced, old_of, pieces_from, end_of}
 use Rattle.edit_spec.specs.Edits.{in_braces, next_number}
-use Rattle.edit_spec.specs.EditChunks.{token, kept_rows, value_replaced, crossref_chunks, behind_rows, entry_chunks, tree_key_chunks, item_key_chunks}
+use Rattle.edit_spec.specs.EditChunks.{token, kept_rows, value_replaced, crossref_chunks, after_rows, entry_chunks, tree_key_chunks, item_key_chunks}
 use Rattle.edit_spec.proofs.TreeChunks.{read, old-read, last-read, entry-read, token_old, rows-kept, row-parts}
-use Rattle.bib_scan.specs.View.{Field, field_behind, fields_behind, View, view_of}
+use Rattle.bib_scan.specs.View.{Field, field_after, fields_after, View, view_of}
 use Rattle.bib_store.specs.Meaning.{is_entry_tree}
 use Rattle.bib_edit.specs.Addressing.{is_field}
 use Rattle.bib_edit.specs.Definitions.{braced}
@@ -30,17 +30,17 @@ module _ (start : ℕ) (key : Text) where
   first_field fields = find (is_field crossref) fields
 
   abbrev there : Row → List Row → List Chunk
-  there row rows = Kept (row_start row) ∷ Replaced (value_bytes row.assignment.value) (value_bytes (in_braces key)) ∷ Kept row.assignment.space_behind ∷ kept_rows rows
+  there row rows = Kept (row_start row) ∷ Replaced (value_bytes row.assignment.value) (value_bytes (in_braces key)) ∷ Kept row.assignment.space_after ∷ kept_rows rows
 
   abbrev further : Row → List Row → List Chunk
   further row rows = Kept (row_bytes row) ∷ value_replaced crossref (in_braces key) rows
 
   -- the rows stand after the text `before`
-  pieces-valued : (before : Text) (rows : List Row) → pieces_from (start + length before) (value_replaced crossref (in_braces key) rows) ≡ value_piece start key (first_field (fields_behind before rows))
+  pieces-valued : (before : Text) (rows : List Row) → pieces_from (start + length before) (value_replaced crossref (in_braces key) rows) ≡ value_piece start key (first_field (fields_after before rows))
   pieces-valued before [] = refl
   pieces-valued before (row ∷ rows) =
-      let field : Field = field_behind (length before) (before ++ comma ∷ row.space_before_name) row.assignment in
-      let others : List Field = fields_behind (before ++ row_bytes row) rows in
+      let field : Field = field_after (length before) (before ++ comma ∷ row.space_before_name) row.assignment in
+      let others : List Field = fields_after (before ++ row_bytes row) rows in
       let at : field.value_at ≡ length before + length (row_start row) = value-place before row in
       let place : start + length before + length (row_start row) ≡ start + field.value_at = omega (arith, at) in
       let long : length (before ++ row_bytes row) ≡ length before + length (row_bytes row) = length-append before (row_bytes row) in
@@ -48,7 +48,7 @@ module _ (start : ℕ) (key : Text) where
       ⊎_elim
       (λ t. ap (pieces_from (start + length before)) (cond-true (same row.assignment.name crossref) (there row rows) (further row rows) t)
       ∙ ap₂ (λ (n : ℕ) (ps : List Piece). record { place = n; old = value_bytes row.assignment.value; new = value_bytes (in_braces key) } ∷ ps) place
-      (pieces-kept_rows (start + length before + length (row_start row) + length (value_bytes row.assignment.value) + length row.assignment.space_behind) rows)
+      (pieces-kept_rows (start + length before + length (row_start row) + length (value_bytes row.assignment.value) + length row.assignment.space_after) rows)
       ∙ ap (λ (new : Text). let p : Piece = record { place = start + field.value_at; old = value_bytes row.assignment.value; new = new } in p ∷ []) (braces-are key)
       ∙ sym (ap (value_piece start key) (cond-true (same row.assignment.name crossref) (Some field) (first_field others) t)))
       (λ t. ap (pieces_from (start + length before)) (cond-false (same row.assignment.name crossref) (there row rows) (further row rows) t)
@@ -60,7 +60,7 @@ module _ (start : ℕ) (key : Text) where
 -- ---- an entry
 
 abbrev before_rows : Entry → Text
-before_rows e = opening_bytes e.opening ++ e.key ++ e.space_behind_key
+before_rows e = opening_bytes e.opening ++ e.key ++ e.space_after_key
 
 pieces-crossref : (start : ℕ) (o : Option Text) (e : Entry) (trail : Text) →
     pieces_from (start + length (before_rows e)) (crossref_chunks o e.rows) ≡ crossref_piece start (view_of (entry_item e trail)) o
@@ -77,7 +77,7 @@ pieces-then_kept at chunks t = pieces-append at chunks (Kept t ∷ []) ∙ appen
 
 module _ (start : ℕ) (key named : Option Text) (e : Entry) (trail : Text) where
   abbrev its_rows : List Chunk
-  its_rows = Kept e.space_behind_key ∷ crossref_chunks named e.rows
+  its_rows = Kept e.space_after_key ∷ crossref_chunks named e.rows
 
   abbrev pub its_chunks : List Chunk
   its_chunks = entry_chunks (token e.key key) its_rows e ++ Kept trail ∷ []
@@ -85,13 +85,13 @@ module _ (start : ℕ) (key named : Option Text) (e : Entry) (trail : Text) wher
   pub pieces-entry : pieces_from start its_chunks ≡ key_piece start (view_of (entry_item e trail)) key ++ crossref_piece start (view_of (entry_item e trail)) named
   pieces-entry =
       let inside : ℕ = start + length (opening_bytes e.opening) + length e.key in
-      let long : length (before_rows e) ≡ length (opening_bytes e.opening ++ e.key) + length e.space_behind_key = length-append (opening_bytes e.opening ++ e.key) e.space_behind_key in
+      let long : length (before_rows e) ≡ length (opening_bytes e.opening ++ e.key) + length e.space_after_key = length-append (opening_bytes e.opening ++ e.key) e.space_after_key in
       let short : length (opening_bytes e.opening ++ e.key) ≡ length (opening_bytes e.opening) + length e.key = length-append (opening_bytes e.opening) e.key in
-      let place : inside + length e.space_behind_key ≡ start + length (before_rows e) = omega (arith, long, short) in
+      let place : inside + length e.space_after_key ≡ start + length (before_rows e) = omega (arith, long, short) in
       pieces-then_kept start (entry_chunks (token e.key key) its_rows e) trail
-      ∙ pieces-key start key e trail (its_rows ++ Kept (behind_rows e) ∷ [])
+      ∙ pieces-key start key e trail (its_rows ++ Kept (after_rows e) ∷ [])
       ∙ ap (λ ps. key_piece start (view_of (entry_item e trail)) key ++ ps)
-      (pieces-then_kept inside its_rows (behind_rows e)
+      (pieces-then_kept inside its_rows (after_rows e)
       ∙ ap (λ n. pieces_from n (crossref_chunks named e.rows)) place
       ∙ pieces-crossref start named e trail)
 
@@ -116,13 +116,13 @@ replaced-old : (name : Text) (value : Value) (rows : List Row) → read false (v
 replaced-old name value [] = refl
 replaced-old name value (row ∷ rows) = ⊎_elim
     (λ t. ap (read false) (cond-true (same row.assignment.name name)
-    (Kept (row_start row) ∷ Replaced (value_bytes row.assignment.value) (value_bytes value) ∷ Kept row.assignment.space_behind ∷ kept_rows rows) (Kept (row_bytes row) ∷ value_replaced name value rows) t)
-    ∙ ap (λ r. row_start row ++ (value_bytes row.assignment.value ++ (row.assignment.space_behind ++ r))) (rows-kept false rows)
-    ∙ ap (λ r. row_start row ++ r) (regroup (value_bytes row.assignment.value) row.assignment.space_behind (flat_map row_bytes rows))
-    ∙ regroup (row_start row) (value_bytes row.assignment.value ++ row.assignment.space_behind) (flat_map row_bytes rows)
+    (Kept (row_start row) ∷ Replaced (value_bytes row.assignment.value) (value_bytes value) ∷ Kept row.assignment.space_after ∷ kept_rows rows) (Kept (row_bytes row) ∷ value_replaced name value rows) t)
+    ∙ ap (λ r. row_start row ++ (value_bytes row.assignment.value ++ (row.assignment.space_after ++ r))) (rows-kept false rows)
+    ∙ ap (λ r. row_start row ++ r) (regroup (value_bytes row.assignment.value) row.assignment.space_after (flat_map row_bytes rows))
+    ∙ regroup (row_start row) (value_bytes row.assignment.value ++ row.assignment.space_after) (flat_map row_bytes rows)
     ∙ ap (λ r. r ++ flat_map row_bytes rows) (sym (row-parts row)))
     (λ t. ap (read false) (cond-false (same row.assignment.name name)
-    (Kept (row_start row) ∷ Replaced (value_bytes row.assignment.value) (value_bytes value) ∷ Kept row.assignment.space_behind ∷ kept_rows rows) (Kept (row_bytes row) ∷ value_replaced name value rows) t)
+    (Kept (row_start row) ∷ Replaced (value_bytes row.assignment.value) (value_bytes value) ∷ Kept row.assignment.space_after ∷ kept_rows rows) (Kept (row_bytes row) ∷ value_replaced name value rows) t)
     ∙ ap (λ r. row_bytes row ++ r) (replaced-old name value rows))
     (cases_Bool (same row.assignment.name name))
 
@@ -130,13 +130,13 @@ crossref-old : (o : Option Text) (rows : List Row) → read false (crossref_chun
 crossref-old None rows = rows-kept false rows
 crossref-old (Some key) rows = replaced-old crossref (in_braces key) rows
 
-entry-old : (key named : Option Text) (e : Entry) (trail : Text) → old_of (entry_chunks (token e.key key) (Kept e.space_behind_key ∷ crossref_chunks named e.rows) e ++ Kept trail ∷ []) ≡ item_bytes (entry_item e trail)
+entry-old : (key named : Option Text) (e : Entry) (trail : Text) → old_of (entry_chunks (token e.key key) (Kept e.space_after_key ∷ crossref_chunks named e.rows) e ++ Kept trail ∷ []) ≡ item_bytes (entry_item e trail)
 entry-old key named e trail =
-    let chunks : List Chunk = entry_chunks (token e.key key) (Kept e.space_behind_key ∷ crossref_chunks named e.rows) e in
+    let chunks : List Chunk = entry_chunks (token e.key key) (Kept e.space_after_key ∷ crossref_chunks named e.rows) e in
     old-read (chunks ++ Kept trail ∷ [])
     ∙ last-read false chunks trail (entry_bytes e)
-    (entry-read false (token e.key key) (Kept e.space_behind_key ∷ crossref_chunks named e.rows) e e.key e.space_behind_key e.rows (token_old e.key key)
-    (ap (λ t. e.space_behind_key ++ t) (crossref-old named e.rows)))
+    (entry-read false (token e.key key) (Kept e.space_after_key ∷ crossref_chunks named e.rows) e e.key e.space_after_key e.rows (token_old e.key key)
+    (ap (λ t. e.space_after_key ++ t) (crossref-old named e.rows)))
 
 module _ (start : ℕ) (view : View) (seen : IsEntrySeen start view) where
   within-entry : (key named : Option Text) → EndWithin file_limit (key_piece start view key ++ crossref_piece start view named)

@@ -144,29 +144,29 @@ module _ (m : Macros) where
     set_long : (before : Text) (rows : List Row) → rows_long rows ≡ false → rows_long (with_field name value before rows).1 ≡ is_long (raw_text m value)
     set_long before [] short = or_none (is_long (raw_text m value))
     set_long before (row ∷ rows) short =
-        let rest = with_field name value row.assignment.space_behind rows in
+        let rest = with_field name value row.assignment.space_after rows in
         let both = or_parts (is_long (raw_text m row.assignment.value)) (rows_long rows) short in
         ⊎_elim
         (λ e. ap (λ (r : Text × List Row). rows_long r.1) (cond-true (same row.assignment.name name) (before, row_to value row ∷ rows) (before, row_before rest.0 row ∷ rest.1) e)
         ∙ ap (λ b. is_long (raw_text m value) || b) both.1 ∙ or_none (is_long (raw_text m value)))
         (λ e. ap (λ (r : Text × List Row). rows_long r.1) (cond-false (same row.assignment.name name) (before, row_to value row ∷ rows) (before, row_before rest.0 row ∷ rest.1) e)
-        ∙ ap (λ b. b || rows_long rest.1) both.0 ∙ set_long row.assignment.space_behind rows both.1)
+        ∙ ap (λ b. b || rows_long rest.1) both.0 ∙ set_long row.assignment.space_after rows both.1)
         (cases_Bool (same row.assignment.name name))
 
     pub long-set : (e : Entry) → list_any is_long (raw_texts_in m (EntryTree e)) ≡ false → list_any is_long (raw_texts_in m (EntryTree (entry_with_field name value e))) ≡ is_long (raw_text m value)
-    long-set e short = set_long e.space_behind_key e.rows short
+    long-set e short = set_long e.space_after_key e.rows short
 
   module _ (name : Text) where
     dropped_long : (before : Text) (rows : List Row) → rows_long rows ≡ false → rows_long (without_field name before rows).1 ≡ false
     dropped_long before [] short = refl
     dropped_long before (row ∷ rows) short =
-        let rest = without_field name row.assignment.space_behind rows in
+        let rest = without_field name row.assignment.space_after rows in
         let both = or_parts (is_long (raw_text m row.assignment.value)) (rows_long rows) short in
         ⊎_elim
-        (λ e. ap (λ (r : Text × List Row). rows_long r.1) (cond-true (same row.assignment.name name) (before ++ row.assignment.space_behind, rows) (before, row_before rest.0 row ∷ rest.1) e) ∙ both.1)
-        (λ e. ap (λ (r : Text × List Row). rows_long r.1) (cond-false (same row.assignment.name name) (before ++ row.assignment.space_behind, rows) (before, row_before rest.0 row ∷ rest.1) e)
-        ∙ ap (λ b. b || rows_long rest.1) both.0 ∙ dropped_long row.assignment.space_behind rows both.1)
+        (λ e. ap (λ (r : Text × List Row). rows_long r.1) (cond-true (same row.assignment.name name) (before ++ row.assignment.space_after, rows) (before, row_before rest.0 row ∷ rest.1) e) ∙ both.1)
+        (λ e. ap (λ (r : Text × List Row). rows_long r.1) (cond-false (same row.assignment.name name) (before ++ row.assignment.space_after, rows) (before, row_before rest.0 row ∷ rest.1) e)
+        ∙ ap (λ b. b || rows_long rest.1) both.0 ∙ dropped_long row.assignment.space_after rows both.1)
         (cases_Bool (same row.assignment.name name))
 
     pub short-dropped : (e : Entry) → list_any is_long (raw_texts_in m (EntryTree e)) ≡ false → list_any is_long (raw_texts_in m (EntryTree (entry_without_field name e))) ≡ false
-    short-dropped e short = dropped_long e.space_behind_key e.rows short
+    short-dropped e short = dropped_long e.space_after_key e.rows short

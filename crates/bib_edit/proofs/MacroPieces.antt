@@ -23,7 +23,7 @@ use Rattle.bib_edit.specs.Removal.{removal_of}
 use Rattle.bib_edit.specs.NewEntries.{insertion_of}
 use Rattle.bib_edit.specs.Limits.{olds_len, news_len}
 use Rattle.bib_edit.proofs.FirstItems.{IsFirstItem, found_first, item-first}
-use Rattle.bib_edit.proofs.TokenPieces.{pieces-items, from-first, behind-first, pieces-first}
+use Rattle.bib_edit.proofs.TokenPieces.{pieces-items, from-first, after-first, pieces-first}
 use Rattle.bib_edit.proofs.DefinedNames.{definition_item}
 
 -- ---- what becomes of parts
@@ -59,7 +59,7 @@ module _ (from to : Text) where
   abbrev with_name : Definition → Option Text → List Chunk
   with_name d o =
       Kept (opening_bytes d.opening)
-      ∷ ((token d.assignment.name o ∷ Kept (d.assignment.space_before_equals ++ equals_sign ∷ d.assignment.space_before_value) ∷ (value_chunks parts d.assignment.value ++ Kept d.assignment.space_behind ∷ []))
+      ∷ ((token d.assignment.name o ∷ Kept (d.assignment.space_before_equals ++ equals_sign ∷ d.assignment.space_before_value) ∷ (value_chunks parts d.assignment.value ++ Kept d.assignment.space_after ∷ []))
       ++ Kept (close_byte d.opening.delimiter ∷ []) ∷ [])
 
   tree_left : (tree : Tree) → defines from tree ≡ false → tree_chunks names parts tree ≡ tree_chunks leaving parts tree
@@ -80,10 +80,10 @@ module _ (from to : Text) where
       let this = undefined item items none in
       ap₂ (λ (l m : List Chunk). (l ++ Kept item.trail ∷ []) ++ m) (tree_left item.tree this) (items_left items (sym (count-no (λ item. defines from item.tree) item items this) ∙ none))
 
-  none_beyond : (before : List Item) (item : Item) (behind : List Item) → AllByRecursion (λ i. defines from i.tree ≡ false) before → defines from item.tree ≡ true → count (before ++ item ∷ behind) ≡ 1 → count behind ≡ 0
-  none_beyond [] item behind none passes once = let c = count-yes (λ item. defines from item.tree) item behind passes in omega (arith, c, once)
-  none_beyond (x ∷ before) item behind none passes once =
-      none_beyond before item behind none.1 passes (sym (count-no (λ item. defines from item.tree) x (before ++ item ∷ behind) none.0) ∙ once)
+  none_beyond : (before : List Item) (item : Item) (after : List Item) → AllByRecursion (λ i. defines from i.tree ≡ false) before → defines from item.tree ≡ true → count (before ++ item ∷ after) ≡ 1 → count after ≡ 0
+  none_beyond [] item after none passes once = let c = count-yes (λ item. defines from item.tree) item after passes in omega (arith, c, once)
+  none_beyond (x ∷ before) item after none passes once =
+      none_beyond before item after none.1 passes (sym (count-no (λ item. defines from item.tree) x (before ++ item ∷ after) none.0) ∙ once)
 
   defined_piece : (at : ℕ) (d : Definition) (rest : List Chunk) → same d.assignment.name from ≡ true →
       pieces_from at (tree_chunks names parts (DefinitionTree d) ++ rest) ≡ replaced_by to (name_token at d) ∷ pieces_from at (tree_chunks leaving parts (DefinitionTree d) ++ rest)
@@ -103,13 +103,13 @@ module _ (from to : Text) where
       let first : IsFirstItem (defines from) db.items n = found_first (defines from) db.items n found in
       let start : ℕ = start_of db n in
       let it : first.item ≡ definition_item d at.0 = same_Some first.item (definition_item d at.0) (sym (item-first (defines from) db.items n first) ∙ at.1) in
-      let none : count first.behind ≡ 0 = none_beyond first.before first.item first.behind first.none first.passes (sym (ap count first.is) ∙ once) in
+      let none : count first.after ≡ 0 = none_beyond first.before first.item first.after first.none first.passes (sym (ap count first.is) ∙ once) in
       pieces-first (defines from) db n first (λ item items. items_chunks names parts (item ∷ items))
-      ∙ ap₂ (λ (i : Item) (l : List Chunk). pieces_from start (item_chunks names parts i ++ l)) it (items_left first.behind none)
-      ∙ item_piece start d at.0 (items_chunks leaving parts first.behind) e
+      ∙ ap₂ (λ (i : Item) (l : List Chunk). pieces_from start (item_chunks names parts i ++ l)) it (items_left first.after none)
+      ∙ item_piece start d at.0 (items_chunks leaving parts first.after) e
       ∙ ap (λ l. replaced_by to (name_token start d) ∷ l)
-      (ap (λ (i : Item). pieces_from start (items_chunks leaving parts (i ∷ first.behind))) (sym it)
-      ∙ pieces-items (uses from) parts to (renamed-becomes from to) start (first.item ∷ first.behind)
+      (ap (λ (i : Item). pieces_from start (items_chunks leaving parts (i ∷ first.after))) (sym it)
+      ∙ pieces-items (uses from) parts to (renamed-becomes from to) start (first.item ∷ first.after)
       ∙ ap (λ l. map (replaced_by to) (tokens_of (uses from) (items_placed start l))) (sym (from-first (defines from) db n first)))
 
 -- ---- lengths
@@ -132,13 +132,13 @@ inlined-pieces base db name n found =
     let text : Text = text_of_macro name db in
     let start : ℕ = start_of db n in
     let at = item-first (defines name) db.items n first in
-    let rest : drop (n + 1) db.items ≡ first.behind = behind-first (defines name) db n first in
+    let rest : drop (n + 1) db.items ≡ first.after = after-first (defines name) db n first in
     let next : start + length (tree_bytes first.item.tree) + length first.item.trail ≡ start_of db (n + 1) =
-    (let further = start_more db n first.item first.behind (from-first (defines name) db n first) in omega (arith, further, length-append (tree_bytes first.item.tree) first.item.trail)) in
+    (let further = start_more db n first.item first.after (from-first (defines name) db n first) in omega (arith, further, length-append (tree_bytes first.item.tree) first.item.trail)) in
     pieces-first (defines name) db n first (λ item items. Replaced (tree_bytes item.tree) [] ∷ Kept item.trail ∷ items_chunks leaving (use_inlined name text) items)
     ∙ ap₂ (λ (body : Text) (l : List Piece). record { place = start; old = body; new = [] } ∷ l)
     (sym (ap (λ o. option_map_or (λ item. tree_bytes item.tree) o []) at))
-    (pieces-items (uses name) (use_inlined name text) (braced text) (inlined-becomes name text) (start + length (tree_bytes first.item.tree) + length first.item.trail) first.behind
+    (pieces-items (uses name) (use_inlined name text) (braced text) (inlined-becomes name text) (start + length (tree_bytes first.item.tree) + length first.item.trail) first.after
     ∙ ap₂ (λ (k : ℕ) (l : List Item). map (replaced_by (braced text)) (tokens_of (uses name) (items_placed k l))) next (sym rest))
 
 -- ---- a macro introduced
@@ -161,6 +161,6 @@ introduced-pieces base db name text n found =
     pieces-first (any_part (holds text)) db n first (λ item items. inserted (in_line (DefinitionTree (definition_of name text))) ++ items_chunks leaving (part_introduced name text) (item ∷ items))
     ∙ ap₂ (λ (line : Text) (l : List Piece). record { place = start; old = []; new = line } ∷ l)
     (definition_line name text)
-    (ap (λ k. pieces_from k (items_chunks leaving (part_introduced name text) (first.item ∷ first.behind))) (omega arith)
-    ∙ pieces-items (holds text) (part_introduced name text) name (introduced-becomes name text) start (first.item ∷ first.behind)
+    (ap (λ k. pieces_from k (items_chunks leaving (part_introduced name text) (first.item ∷ first.after))) (omega arith)
+    ∙ pieces-items (holds text) (part_introduced name text) name (introduced-becomes name text) start (first.item ∷ first.after)
     ∙ ap (λ l. map (replaced_by name) (tokens_of (holds text) (items_placed start l))) (sym (from-first (any_part (holds text)) db n first)))

@@ -107,8 +107,8 @@ module _ (name held : Text) where
       let both = or_parts (is_long_in m item.tree) (any_long (macros_after m item.tree) items) short in
       let rest = long-introduced (macros_after m item.tree) items h.1 both.1 in
       cond_both (any_part (holds held) item.tree) (introduced name held (item ∷ items)) (item ∷ introduced_items items) (λ new. any_long m new ≡ false)
-      (λ e. or_from (is_long_in m (DefinitionTree (definition_of name held))) (any_long (introduce.behind name held m) (items_with leaving (part_introduced name held) (item ∷ items)))
+      (λ e. or_from (is_long_in m (DefinitionTree (definition_of name held))) (any_long (introduce.after name held m) (items_with leaving (part_introduced name held) (item ∷ items)))
       (definition_short m (values_within held (macros_in m item.tree) (values_of item.tree) e both.0))
       (any-same leaving (part_introduced name held) (introduce.IsUnused name held) (introduce.IsOther name held) (introduce.Agree name held) (introduce.gives name held) (introduce.stays name held)
-      m (introduce.behind name held m) (introduce.begins name held m) (item ∷ items) h ∙ short))
+      m (introduce.after name held m) (introduce.begins name held m) (item ∷ items) h ∙ short))
       (λ e. or_from (is_long_in m item.tree) (any_long (macros_after m item.tree) (introduced_items items)) both.0 rest)

@@ -103,11 +103,11 @@ module _ (test : Tree → Bool) (text : Text) where
       ∙ ap₂ (λ k j. in_at k text ∷ out_at j (body_at items n) ∷ []) same_in same
 
   -- the place is that of the item, or after it
-  behind : (at : ℕ) (items : List Item) (n place : ℕ) → IsFirstAt test items n → n ≤ place →
+  after : (at : ℕ) (items : List Item) (n place : ℕ) → IsFirstAt test items n → n ≤ place →
       pieces_from at (chunks_at place (groups_without test items))
       ≡ out_at (at + length (items_bytes (take n items))) (body_at items n) ∷ in_at (at + length (items_bytes (take (suc place) items))) text ∷ []
-  behind at [] n place f le = absurd f
-  behind at (item ∷ items) zero place f le =
+  after at [] n place f le = absurd f
+  after at (item ∷ items) zero place f le =
       let inside : ℕ = at + length (tree_bytes item.tree) + length item.trail in
       let here : at ≡ at + 0 = omega arith in
       let own = length-append (tree_bytes item.tree) item.trail in
@@ -118,14 +118,14 @@ module _ (test : Tree → Bool) (text : Text) where
       ∙ ap (λ l. out_at at (tree_bytes item.tree) ∷ l) (pieces-after_items inside (take place items) (new ++ kept_items (drop place items))
       ∙ ap (λ l. in_at (inside + length (items_bytes (take place items))) text ∷ l) (pieces-kept_items (inside + length (items_bytes (take place items)) + 0) (drop place items)))
       ∙ ap₂ (λ k j. out_at k (tree_bytes item.tree) ∷ in_at j text ∷ []) here same
-  behind at (item ∷ items) (suc n) zero f le = absurd (not-suc-le-zero le)
-  behind at (item ∷ items) (suc n) (suc place) f le =
+  after at (item ∷ items) (suc n) zero f le = absurd (not-suc-le-zero le)
+  after at (item ∷ items) (suc n) (suc place) f le =
       let long = length-append (item_bytes item) (items_bytes (take n items)) in
       let long_in = length-append (item_bytes item) (items_bytes (take (suc place) items)) in
       let same : at + length (item_bytes item) + length (items_bytes (take n items)) ≡ at + length (items_bytes (take (suc n) (item ∷ items))) = omega (arith, long) in
       let same_in : at + length (item_bytes item) + length (items_bytes (take (suc place) items)) ≡ at + length (items_bytes (take (suc (suc place)) (item ∷ items))) = omega (arith, long_in) in
       ap (λ groups. pieces_from at (chunks_at (suc place) groups)) (cond-false (test item.tree) (gone item items) (stays item items) f.0)
-      ∙ behind (at + length (item_bytes item)) items n place f.1 (le_of_suc-le-suc le)
+      ∙ after (at + length (item_bytes item)) items n place f.1 (le_of_suc-le-suc le)
       ∙ ap₂ (λ k j. out_at k (body_at items n) ∷ in_at j text ∷ []) same same_in
 
 -- the pieces of a move, where the entry is item n
@@ -139,7 +139,7 @@ move-pieces key db n place f =
     ∙ ⊎_elim
     (λ t. before (is_entry key) (line_of db n) (length db.front) db.items n place f (ltb-true place n t)
     ∙ sym (cond-true (nat_lt place n) (insertion_of db place (line_of db n) ∷ removal_of db n ∷ []) (removal_of db n ∷ insertion_of db (place + 1) (line_of db n) ∷ []) t))
-    (λ t. behind (is_entry key) (line_of db n) (length db.front) db.items n place f (ltb-false place n t)
+    (λ t. after (is_entry key) (line_of db n) (length db.front) db.items n place f (ltb-false place n t)
     ∙ (let more : suc place ≡ place + 1 = omega arith in ap (λ k. removal_of db n ∷ insertion_of db k (line_of db n) ∷ []) more)
     ∙ sym (cond-false (nat_lt place n) (insertion_of db place (line_of db n) ∷ removal_of db n ∷ []) (removal_of db n ∷ insertion_of db (place + 1) (line_of db n) ∷ []) t))
     (cases_Bool (nat_lt place n))

@@ -9,7 +9,7 @@ use Rattle.bib_spec.specs.Tree.{Row, Entry, Tree, CommentTree, DefinitionTree, P
 use Rattle.bib_spec.specs.Reading.{Item, Reading}
 use Rattle.bib_spec.specs.Texts.{Macros, months, macros_at, macros_after, raw_text}
 use Rattle.edit_spec.specs.Edits.{is_entry, without_first}
-use Rattle.bib_scan.specs.View.{Field, fields_behind, fields_of}
+use Rattle.bib_scan.specs.View.{Field, fields_after, fields_of}
 use Rattle.bib_edit.specs.Removal.{IsFirstAt}
 use Rattle.bib_edit.specs.NewEntries.{IsLong}
 use Rattle.bib_edit.specs.Moving.{seat, FieldsHaveValues, IsFieldLong}
@@ -64,7 +64,7 @@ module _ (key : Text) where
 
 -- ---- fields that are seen
 
-rows-have_values : (before : Text) (rows : List Row) → All (IsRow name_limit) rows → FieldsHaveValues (fields_behind before rows)
+rows-have_values : (before : Text) (rows : List Row) → All (IsRow name_limit) rows → FieldsHaveValues (fields_after before rows)
 rows-have_values before [] are = tt
 rows-have_values before (row ∷ rows) are = (
   (row.assignment.value, (All-head (IsRow name_limit) row rows are).assignment.value, refl),
@@ -82,7 +82,7 @@ module _ (db : Reading) (n : ℕ) where
   or_true true = refl
   or_true false = refl
 
-  rows-long : (long : Bool) (before : Text) (rows : List Row) → All (IsRow name_limit) rows → IsFieldLong long db n (fields_behind before rows) → rows_long rows ≡ long
+  rows-long : (long : Bool) (before : Text) (rows : List Row) → All (IsRow name_limit) rows → IsFieldLong long db n (fields_after before rows) → rows_long rows ≡ long
   rows-long long before [] are h = h
   rows-long false before (row ∷ rows) are h =
       ap₂ ◌||◌ (h.0 row.assignment.value (All-head (IsRow name_limit) row rows are).assignment.value refl) (rows-long false (before ++ row_bytes row) rows (All-tail (IsRow name_limit) row rows are) h.1)

@@ -32,13 +32,13 @@ module _ (key : Text) where
   abbrev IsNumbered : ℕ → List Item → ℕ → Type 0
   IsNumbered at items k = (j : ℕ) × (first_item (is_entry key) items ≡ Some j) × (k ≡ at + j)
 
-  numbered_behind : (m : Macros) (at : ℕ) (tree : Tree) (trail : Text) (items : List Item) →
+  numbered_after : (m : Macros) (at : ℕ) (tree : Tree) (trail : Text) (items : List Item) →
       ((n k : ℕ) → entry_number (macros_after m tree) items ≡ Some n → slice_get (numbers_from (at + 1) items) n ≡ Some k → IsNumbered (at + 1) items k) →
       (n k : ℕ) → entry_number m (item_at tree trail ∷ items) ≡ Some n → slice_get (numbers_from at (item_at tree trail ∷ items)) n ≡ Some k → IsNumbered at (item_at tree trail ∷ items) k
-  numbered_behind m at (CommentTree h) trail items rest n k e s = let found = rest n k e s in (suc found.0, ap (option_map suc) found.1, omega (arith, found.2))
-  numbered_behind m at (DefinitionTree d) trail items rest n k e s = let found = rest n k e s in (suc found.0, ap (option_map suc) found.1, omega (arith, found.2))
-  numbered_behind m at (PreambleTree p) trail items rest n k e s = let found = rest n k e s in (suc found.0, ap (option_map suc) found.1, omega (arith, found.2))
-  numbered_behind m at (EntryTree x) trail items rest n k e s = ⊎_elim
+  numbered_after m at (CommentTree h) trail items rest n k e s = let found = rest n k e s in (suc found.0, ap (option_map suc) found.1, omega (arith, found.2))
+  numbered_after m at (DefinitionTree d) trail items rest n k e s = let found = rest n k e s in (suc found.0, ap (option_map suc) found.1, omega (arith, found.2))
+  numbered_after m at (PreambleTree p) trail items rest n k e s = let found = rest n k e s in (suc found.0, ap (option_map suc) found.1, omega (arith, found.2))
+  numbered_after m at (EntryTree x) trail items rest n k e s = ⊎_elim
       (λ t.
       let zeroth : zero ≡ n = same_Some zero n (sym (cond-true (is_named key x.key) (Some zero) (option_map suc (entry_number m items)) t) ∙ e) in
       let here : at ≡ k = same_Some at k (ap (slice_get (at ∷ numbers_from (at + 1) items)) zeroth ∙ s) in
@@ -51,7 +51,7 @@ module _ (key : Text) where
 
   numbered : (m : Macros) (at : ℕ) (items : List Item) (n k : ℕ) → entry_number m items ≡ Some n → slice_get (numbers_from at items) n ≡ Some k → IsNumbered at items k
   numbered m at [] n k e s = absurd (none-some n e)
-  numbered m at (item ∷ items) n k e s = numbered_behind m at item.tree item.trail items (numbered (macros_after m item.tree) (at + 1) items) n k e s
+  numbered m at (item ∷ items) n k e s = numbered_after m at item.tree item.trail items (numbered (macros_after m item.tree) (at + 1) items) n k e s
 
   -- the number among the entries leads to the number among the items
   pub named-item : (db : Reading) (n k : ℕ) → entry_named (entries_of db) key ≡ Some n → slice_get (entry_numbers db.items) n ≡ Some k → item_named key db ≡ Some k
@@ -93,12 +93,12 @@ module _ (key : Text) where
   moved : (found : Option EntryTexts) (items : List Item) (n : ℕ) (other : Option EntryTexts) (more : Item) (m : ℕ) → other ≡ found → suc n ≡ m → IsNamedEntry found items n → IsNamedEntry other (more ∷ items) m
   moved found items n other more m f e is = subst (λ (m : ℕ). IsNamedEntry other (more ∷ items) m) e (record { entry = is.entry; trail = is.trail; macros = is.macros; at = is.at; named = is.named; texts = f ∙ is.texts })
 
-  entry_behind : (m : Macros) (tree : Tree) (trail : Text) (items : List Item) → ((n : ℕ) → first_item (is_entry key) items ≡ Some n → IsNamedEntry (found_in (macros_after m tree) items) items n) →
+  entry_after : (m : Macros) (tree : Tree) (trail : Text) (items : List Item) → ((n : ℕ) → first_item (is_entry key) items ≡ Some n → IsNamedEntry (found_in (macros_after m tree) items) items n) →
       (n : ℕ) → first_item (is_entry key) (item_at tree trail ∷ items) ≡ Some n → IsNamedEntry (found_in m (item_at tree trail ∷ items)) (item_at tree trail ∷ items) n
-  entry_behind m (CommentTree h) trail items rest n e = let later = suc_some (first_item (is_entry key) items) n e in moved _ items later.0 _ _ n refl later.2 (rest later.0 later.1)
-  entry_behind m (DefinitionTree d) trail items rest n e = let later = suc_some (first_item (is_entry key) items) n e in moved _ items later.0 _ _ n refl later.2 (rest later.0 later.1)
-  entry_behind m (PreambleTree p) trail items rest n e = let later = suc_some (first_item (is_entry key) items) n e in moved _ items later.0 _ _ n refl later.2 (rest later.0 later.1)
-  entry_behind m (EntryTree x) trail items rest n e = ⊎_elim
+  entry_after m (CommentTree h) trail items rest n e = let later = suc_some (first_item (is_entry key) items) n e in moved _ items later.0 _ _ n refl later.2 (rest later.0 later.1)
+  entry_after m (DefinitionTree d) trail items rest n e = let later = suc_some (first_item (is_entry key) items) n e in moved _ items later.0 _ _ n refl later.2 (rest later.0 later.1)
+  entry_after m (PreambleTree p) trail items rest n e = let later = suc_some (first_item (is_entry key) items) n e in moved _ items later.0 _ _ n refl later.2 (rest later.0 later.1)
+  entry_after m (EntryTree x) trail items rest n e = ⊎_elim
       (λ t. let zeroth : zero ≡ n = same_Some zero n (sym (cond-true (is_named key x.key) (Some zero) (option_map suc (first_item (is_entry key) items)) t) ∙ e) in
       subst (λ (n : ℕ). IsNamedEntry (found_in m (item_at (EntryTree x) trail ∷ items)) (item_at (EntryTree x) trail ∷ items) n) zeroth
       (record { entry = x; trail = trail; macros = m; at = refl; named = t; texts = ap (option_and_then (slice_get (entries m (item_at (EntryTree x) trail ∷ items)))) (cond-true (is_named key x.key) (Some zero) (option_map suc (entry_number m items)) t) }))
@@ -110,7 +110,7 @@ module _ (key : Text) where
 
   entry_found : (m : Macros) (items : List Item) (n : ℕ) → first_item (is_entry key) items ≡ Some n → IsNamedEntry (found_in m items) items n
   entry_found m [] n e = absurd (none-some n e)
-  entry_found m (item ∷ items) n e = entry_behind m item.tree item.trail items (entry_found (macros_after m item.tree) items) n e
+  entry_found m (item ∷ items) n e = entry_after m item.tree item.trail items (entry_found (macros_after m item.tree) items) n e
 
   pub named-entry : (db : Reading) (n : ℕ) → item_named key db ≡ Some n → IsNamedEntry (option_and_then (slice_get (entries_of db)) (entry_named (entries_of db) key)) db.items n
   named-entry db n e = entry_found months db.items n e

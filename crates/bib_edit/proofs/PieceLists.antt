@@ -7,7 +7,7 @@ use Rattle.bib_spec.specs.Reading.{Item, Reading, item_bytes, bytes_of}
 use Rattle.bib_spec.specs.Records.{Record}
 use Rattle.bib_spec.specs.Pieces.{Piece, end_of, Fit, Chunk, Kept, Replaced, old_of, new_of, pieces_from}
 use Rattle.edit_spec.specs.Edits.{Edit, edited}
-use Rattle.edit_spec.specs.EditChunks.{kept_items, kept_rows, behind_rows, entry_chunks, chunks, pieces_of}
+use Rattle.edit_spec.specs.EditChunks.{kept_items, kept_rows, after_rows, entry_chunks, chunks, pieces_of}
 use Rattle.bib_edit.specs.Limits.{olds_len, news_len}
 use Rattle.edit_spec.proofs.EditFiles.{chunks-are-files, pieces-lead}
 use Rattle.edit_spec.proofs.TreeChunks.{old-read, items-kept}
@@ -50,7 +50,7 @@ pieces-before_items at chunks trail items =
 pub pieces-entry : (at : ℕ) (rows : List Chunk) (e : Entry) → pieces_from at (entry_chunks (Kept e.key) rows e) ≡ pieces_from (at + length (opening_bytes e.opening) + length e.key) rows
 pieces-entry at rows e =
     let inside : ℕ = at + length (opening_bytes e.opening) + length e.key in
-    pieces-append inside rows (Kept (behind_rows e) ∷ []) ∙ append-nil (pieces_from inside rows)
+    pieces-append inside rows (Kept (after_rows e) ∷ []) ∙ append-nil (pieces_from inside rows)
 
 -- ---- lengths
 

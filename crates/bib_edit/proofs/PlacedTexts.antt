@@ -27,17 +27,17 @@ module _ (key : Text) where
       let rest = without_first (is_entry key) trail items in
       record { front = front; items = item_as tree rest.front ∷ rest.items }
 
-  removed_behind : (m : Macros) (front : Text) (tree : Tree) (trail : Text) (items : List Item) →
+  removed_after : (m : Macros) (front : Text) (tree : Tree) (trail : Text) (items : List Item) →
       (any_long (macros_after m tree) items ≡ false → any_long (macros_after m tree) (without_first (is_entry key) trail items).items ≡ false) →
       any_long m (item_as tree trail ∷ items) ≡ false → any_long m (without_first (is_entry key) front (item_as tree trail ∷ items)).items ≡ false
-  removed_behind m front (CommentTree h) trail items rest none = rest none
-  removed_behind m front (DefinitionTree d) trail items rest none =
+  removed_after m front (CommentTree h) trail items rest none = rest none
+  removed_after m front (DefinitionTree d) trail items rest none =
       let both = or_parts (is_long_in m (DefinitionTree d)) (any_long (macros_after m (DefinitionTree d)) items) none in
       or_from (is_long_in m (DefinitionTree d)) (any_long (macros_after m (DefinitionTree d)) (without_first (is_entry key) trail items).items) both.0 (rest both.1)
-  removed_behind m front (PreambleTree p) trail items rest none =
+  removed_after m front (PreambleTree p) trail items rest none =
       let both = or_parts (is_long_in m (PreambleTree p)) (any_long m items) none in
       or_from (is_long_in m (PreambleTree p)) (any_long m (without_first (is_entry key) trail items).items) both.0 (rest both.1)
-  removed_behind m front (EntryTree e) trail items rest none =
+  removed_after m front (EntryTree e) trail items rest none =
       let both = or_parts (is_long_in m (EntryTree e)) (any_long m items) none in
       ⊎_elim
       (λ t. ap (λ (db : Reading). any_long m db.items) (cond-true (is_entry key (EntryTree e)) (gone front trail items) (stays (EntryTree e) front trail items) t) ∙ both.1)
@@ -47,7 +47,7 @@ module _ (key : Text) where
 
   pub removed-short : (m : Macros) (front : Text) (items : List Item) → any_long m items ≡ false → any_long m (without_first (is_entry key) front items).items ≡ false
   removed-short m front [] none = refl
-  removed-short m front (item ∷ items) none = removed_behind m front item.tree item.trail items (removed-short (macros_after m item.tree) item.trail items) none
+  removed-short m front (item ∷ items) none = removed_after m front item.tree item.trail items (removed-short (macros_after m item.tree) item.trail items) none
 
 -- ---- an insertion
 

@@ -7,7 +7,7 @@ use Rattle.bib_spec.specs.Clean.{IsCleanTrail}
 use Rattle.bib_spec.specs.Reading.{Item, Reading}
 use Rattle.bib_scan.specs.View.{View, view_of}
 use Rattle.bib_tokens.proofs.Elements.{slice_get-within}
-use Rattle.bib_edit.specs.Removal.{body_at, trail_at, is_behind_comment, text_before, JoinsCleanly}
+use Rattle.bib_edit.specs.Removal.{body_at, trail_at, is_after_comment, text_before, JoinsCleanly}
 
 module _ (items : List Item) (n : ℕ) (view : View) (lt : n < length items) (seen : (i : Item) → slice_get items n ≡ Some i → view ≡ view_of i) where
   pub body-seen : view.body ≡ body_at items n
@@ -21,7 +21,7 @@ module _ (items : List Item) (n : ℕ) (view : View) (lt : n < length items) (se
       ap (λ (v : View). v.trail) (seen i.0 i.1) ∙ sym (ap (λ o. option_map_or (λ item. item.trail) o []) i.1)
 
 pub tested-joined : (db : Reading) (n : ℕ) (clean comment : Bool) (bytes : Text) → (IsTrue clean ↔ IsCleanTrail comment bytes) →
-    comment ≡ is_behind_comment db.items n → bytes ≡ text_before db.front db.items n ++ trail_at db.items n → IsTrue clean ↔ JoinsCleanly db n
+    comment ≡ is_after_comment db.items n → bytes ≡ text_before db.front db.items n ++ trail_at db.items n → IsTrue clean ↔ JoinsCleanly db n
 tested-joined db n clean comment bytes tested c b =
     subst (λ (x : Bool). IsTrue clean ↔ IsCleanTrail x (text_before db.front db.items n ++ trail_at db.items n)) c
     (subst (λ (t : Text). IsTrue clean ↔ IsCleanTrail comment t) b tested)

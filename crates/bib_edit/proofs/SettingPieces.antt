@@ -18,7 +18,7 @@ use Rattle.edit_spec.specs.Edits.{SetField, is_entry, fields_named}
 use Rattle.edit_spec.specs.EditChunks.{kept_rows, entry_chunks, entry_as, chunks_from_first, field_set, pieces_of}
 use Rattle.edit_spec.proofs.TreeChunks.{row-parts}
 use Rattle.bib_spec.proofs.Counts.{count-yes, count-no}
-use Rattle.bib_scan.specs.View.{Field, field_behind, fields_behind, View, view_of}
+use Rattle.bib_scan.specs.View.{Field, field_after, fields_after, View, view_of}
 use Rattle.bib_scan.specs.Layout.{start_of}
 use Rattle.bib_tokens.specs.PlacedParts.{field_end}
 use Rattle.bib_tokens.proofs.PlacedFields.{value-place}
@@ -32,9 +32,9 @@ row_regroup : (b s v e : Text) → ((b ++ s) ++ v) ++ e ≡ b ++ (s ++ (v ++ e))
 row_regroup b s v e = simp append_assoc
 
 -- the text before the next row, where the white space after a value is told apart
-pub before-next : (before : Text) (row : Row) → ((before ++ row_start row) ++ value_bytes row.assignment.value) ++ row.assignment.space_behind ≡ before ++ row_bytes row
+pub before-next : (before : Text) (row : Row) → ((before ++ row_start row) ++ value_bytes row.assignment.value) ++ row.assignment.space_after ≡ before ++ row_bytes row
 before-next before row =
-    row_regroup before (row_start row) (value_bytes row.assignment.value) row.assignment.space_behind ∙ ap (λ t. before ++ t) (sym (row-parts row))
+    row_regroup before (row_start row) (value_bytes row.assignment.value) row.assignment.space_after ∙ ap (λ t. before ++ t) (sym (row-parts row))
 
 pub length-to_value : (before : Text) (row : Row) → length ((before ++ row_start row) ++ value_bytes row.assignment.value) ≡ length before + length (row_start row) + length (value_bytes row.assignment.value)
 length-to_value before row =
@@ -51,18 +51,18 @@ module _ (name : Text) (value : Value) (start : ℕ) where
   setting end fields = set_at start name (value_bytes value) (fields_end end fields) (first_of fields)
 
   abbrev replaced : Text → Row → List Row → List Chunk
-  replaced before row rows = Kept before ∷ Kept (row_start row) ∷ Replaced (value_bytes row.assignment.value) (value_bytes value) ∷ Kept row.assignment.space_behind ∷ kept_rows rows
+  replaced before row rows = Kept before ∷ Kept (row_start row) ∷ Replaced (value_bytes row.assignment.value) (value_bytes value) ∷ Kept row.assignment.space_after ∷ kept_rows rows
 
   abbrev passed : Text → Row → List Row → List Chunk
-  passed before row rows = Kept before ∷ Kept (row_start row) ∷ Kept (value_bytes row.assignment.value) ∷ field_set name value row.assignment.space_behind rows
+  passed before row rows = Kept before ∷ Kept (row_start row) ∷ Kept (value_bytes row.assignment.value) ∷ field_set name value row.assignment.space_after rows
 
   -- the rows stand after the text `pre`, and white space before them
-  pieces-set : (pre before : Text) (rows : List Row) → pieces_from (start + length pre) (field_set name value before rows) ≡ setting (length pre) (fields_behind (pre ++ before) rows) ∷ []
+  pieces-set : (pre before : Text) (rows : List Row) → pieces_from (start + length pre) (field_set name value before rows) ≡ setting (length pre) (fields_after (pre ++ before) rows) ∷ []
   pieces-set pre before [] = ap (λ t. record { place = start + length pre; old = []; new = t } ∷ []) (new_start name (value_bytes value))
   pieces-set pre before (row ∷ rows) =
       let text : Text = pre ++ before in
-      let field : Field = field_behind (length text) (text ++ comma ∷ row.space_before_name) row.assignment in
-      let others : List Field = fields_behind (text ++ row_bytes row) rows in
+      let field : Field = field_after (length text) (text ++ comma ∷ row.space_before_name) row.assignment in
+      let others : List Field = fields_after (text ++ row_bytes row) rows in
       let next : Text = (text ++ row_start row) ++ value_bytes row.assignment.value in
       let at : field.value_at ≡ length text + length (row_start row) = value-place text row in
       let long : length text ≡ length pre + length before = length-append pre before in
@@ -73,12 +73,12 @@ module _ (name : Text) (value : Value) (start : ℕ) where
       ⊎_elim
       (λ t. ap (pieces_from (start + length pre)) (cond-true (same row.assignment.name name) (replaced before row rows) (passed before row rows) t)
       ∙ ap₂ (λ (n : ℕ) (ps : List Piece). record { place = n; old = value_bytes row.assignment.value; new = value_bytes value } ∷ ps) there
-      (pieces-kept_rows (start + length pre + length before + length (row_start row) + length (value_bytes row.assignment.value) + length row.assignment.space_behind) rows)
+      (pieces-kept_rows (start + length pre + length before + length (row_start row) + length (value_bytes row.assignment.value) + length row.assignment.space_after) rows)
       ∙ sym (ap (λ o. set_at start name (value_bytes value) (fields_end (field_end field) others) o ∷ []) (cond-true (same row.assignment.name name) (Some field) (first_of others) t)))
       (λ t. ap (pieces_from (start + length pre)) (cond-false (same row.assignment.name name) (replaced before row rows) (passed before row rows) t)
-      ∙ ap (λ n. pieces_from n (field_set name value row.assignment.space_behind rows)) further
-      ∙ pieces-set next row.assignment.space_behind rows
-      ∙ ap₂ (λ (n : ℕ) (fields : List Field). setting n fields ∷ []) end (ap (λ u. fields_behind u rows) (before-next text row))
+      ∙ ap (λ n. pieces_from n (field_set name value row.assignment.space_after rows)) further
+      ∙ pieces-set next row.assignment.space_after rows
+      ∙ ap₂ (λ (n : ℕ) (fields : List Field). setting n fields ∷ []) end (ap (λ u. fields_after u rows) (before-next text row))
       ∙ sym (ap (λ o. set_at start name (value_bytes value) (fields_end (field_end field) others) o ∷ []) (cond-false (same row.assignment.name name) (Some field) (first_of others) t)))
       (cases_Bool (same row.assignment.name name))
 
@@ -93,11 +93,11 @@ end-rows end fields = last_end end None fields
 
 -- ---- how many fields have the name
 
-pub count-fields : (name : Text) (m : Macros) (before : Text) (rows : List Row) → count_by (is_field name) (fields_behind before rows) ≡ count_by (has_name name) (map (field_of m) rows)
+pub count-fields : (name : Text) (m : Macros) (before : Text) (rows : List Row) → count_by (is_field name) (fields_after before rows) ≡ count_by (has_name name) (map (field_of m) rows)
 count-fields name m before [] = refl
 count-fields name m before (row ∷ rows) =
-    let field : Field = field_behind (length before) (before ++ comma ∷ row.space_before_name) row.assignment in
-    let rest : List Field = fields_behind (before ++ row_bytes row) rows in
+    let field : Field = field_after (length before) (before ++ comma ∷ row.space_before_name) row.assignment in
+    let rest : List Field = fields_after (before ++ row_bytes row) rows in
     ⊎_elim
     (λ t. count-yes (is_field name) field rest t ∙ ap (λ n. 1 + n) (count-fields name m (before ++ row_bytes row) rows) ∙ sym (count-yes (has_name name) (field_of m row) (map (field_of m) rows) t))
     (λ t. count-no (is_field name) field rest t ∙ count-fields name m (before ++ row_bytes row) rows ∙ sym (count-no (has_name name) (field_of m row) (map (field_of m) rows) t))
@@ -117,10 +117,10 @@ pieces-entry_as change db key n e trail named at =
     let zero_add : 0 + length db.front ≡ length db.front = omega arith in
     ap (λ k. pieces_from k (chunks_from_first (is_entry key) (entry_as change) db.items)) zero_add
     ∙ ap (pieces_from (length db.front)) (chunks-first (is_entry key) (entry_as change) db.items n first)
-    ∙ pieces-after_items (length db.front) first.before (entry_as change first.item first.behind)
-    ∙ ap (λ k. pieces_from k (entry_as change first.item first.behind)) (sym (start-first (is_entry key) db n first))
-    ∙ sym (ap (λ i. pieces_from (start_of db n) (entry_as change i first.behind)) it)
-    ∙ pieces-before_items (start_of db n) (change e) trail first.behind
+    ∙ pieces-after_items (length db.front) first.before (entry_as change first.item first.after)
+    ∙ ap (λ k. pieces_from k (entry_as change first.item first.after)) (sym (start-first (is_entry key) db n first))
+    ∙ sym (ap (λ i. pieces_from (start_of db n) (entry_as change i first.after)) it)
+    ∙ pieces-before_items (start_of db n) (change e) trail first.after
 
 -- setting a field is one piece
 pub set-one_piece : (base : Record → Text) (db : Reading) (key name : Text) (value : Value) (n : ℕ) (e : Entry) (trail : Text) → item_named key db ≡ Some n → slice_get db.items n ≡ Some (item_at (EntryTree e) trail) →
@@ -128,12 +128,12 @@ pub set-one_piece : (base : Record → Text) (db : Reading) (key name : Text) (v
 set-one_piece base db key name value n e trail named at =
     let start : ℕ = start_of db n in
     let pre : Text = opening_bytes e.opening ++ e.key in
-    let fields : List Field = fields_behind (pre ++ e.space_behind_key) e.rows in
+    let fields : List Field = fields_after (pre ++ e.space_after_key) e.rows in
     let long : length pre ≡ length (opening_bytes e.opening) + length e.key = length-append (opening_bytes e.opening) e.key in
-    pieces-entry_as (λ e. entry_chunks (Kept e.key) (field_set name value e.space_behind_key e.rows) e) db key n e trail named at
-    ∙ pieces-entry start (field_set name value e.space_behind_key e.rows) e
-    ∙ ap (λ k. pieces_from k (field_set name value e.space_behind_key e.rows)) (omega (arith, long))
-    ∙ pieces-set name value start pre e.space_behind_key e.rows
+    pieces-entry_as (λ e. entry_chunks (Kept e.key) (field_set name value e.space_after_key e.rows) e) db key n e trail named at
+    ∙ pieces-entry start (field_set name value e.space_after_key e.rows) e
+    ∙ ap (λ k. pieces_from k (field_set name value e.space_after_key e.rows)) (omega (arith, long))
+    ∙ pieces-set name value start pre e.space_after_key e.rows
     ∙ ap (λ k. set_at start name (value_bytes value) k (find (is_field name) fields) ∷ []) (ap (λ k. fields_end k fields) long ∙ end-rows (length (opening_bytes e.opening) + length e.key) fields)
 
 -- ---- what is seen of the item
@@ -216,5 +216,5 @@ fields-seen db key name n item named at =
     let entry = named-entry key db n named in
     let it : item ≡ item_at (EntryTree entry.entry) entry.trail = same_Some item (item_at (EntryTree entry.entry) entry.trail) (sym at ∙ entry.at) in
     ap (λ o. option_map_or (λ entry. count_by (has_name name) entry.fields) o 0) entry.texts
-    ∙ sym (count-fields name entry.macros (opening_bytes entry.entry.opening ++ entry.entry.key ++ entry.entry.space_behind_key) entry.entry.rows)
+    ∙ sym (count-fields name entry.macros (opening_bytes entry.entry.opening ++ entry.entry.key ++ entry.entry.space_after_key) entry.entry.rows)
     ∙ sym (ap (λ i. count_by (is_field name) (view_of i).fields) it)

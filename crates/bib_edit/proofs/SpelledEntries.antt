@@ -87,8 +87,8 @@ rows-values (field ∷ next ∷ fields) = ap (λ l. field.1 ∷ l) (rows-values 
 
 -- ---- what is written
 
-row-line : (name : Text) (value : Value) (behind : Text) → row_bytes (new_row name value behind) ≡ field_line (name, value_bytes value) ++ behind
-row-line name value behind = regroup (comma ∷ codes "\n  ") name (codes " ") (equals_sign ∷ codes " ") (value_bytes value) behind
+row-line : (name : Text) (value : Value) (after : Text) → row_bytes (new_row name value after) ≡ field_line (name, value_bytes value) ++ after
+row-line name value after = regroup (comma ∷ codes "\n  ") name (codes " ") (equals_sign ∷ codes " ") (value_bytes value) after
   where
     regroup : (c n x y v s : Text) → c ++ (n ++ x ++ y ++ v ++ s) ≡ (c ++ n ++ (x ++ y) ++ v) ++ s
     regroup c n x y v s = simp append_assoc

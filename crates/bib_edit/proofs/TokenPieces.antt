@@ -10,7 +10,7 @@ use Rattle.bib_spec.specs.Reading.{Item, Reading, item_bytes}
 use Rattle.bib_spec.specs.Texts.{row_start, bytes_before_value}
 use Rattle.bib_spec.specs.Pieces.{Piece, Chunk, Kept, pieces_from, pieces_of_chunks}
 use Rattle.edit_spec.specs.Edits.{leaving}
-use Rattle.edit_spec.specs.EditChunks.{token, part_token, link_chunks, value_chunks, assignment_chunks, row_chunks, behind_rows, tree_chunks, item_chunks, items_chunks, chunks_from_first, kept_items}
+use Rattle.edit_spec.specs.EditChunks.{token, part_token, link_chunks, value_chunks, assignment_chunks, row_chunks, after_rows, tree_chunks, item_chunks, items_chunks, chunks_from_first, kept_items}
 use Rattle.bib_scan.specs.Layout.{start_of}
 use Rattle.bib_tokens.specs.PlacedParts.{links_placed, value_placed, rows_placed, tree_placed, items_placed, tokens_of}
 use Rattle.bib_edit.specs.Replacing.{replaced_by}
@@ -45,8 +45,8 @@ module _ (test : Part → Bool) (parts : Part → Option Part) (new : Text) wher
   has-before : (at : ℕ) (t : Text) (xs : List Chunk) (ps : List (ℕ × Part)) (m : ℕ) → HasTokens (at + length t) xs ps m → HasTokens at (Kept t ∷ xs) ps (length t + m)
   has-before at t xs ps m h rest = h rest ∙ ap (λ j. map (replaced_by new) (tokens_of test ps) ++ pieces_from j rest) (omega arith)
 
-  has-behind : (at : ℕ) (xs : List Chunk) (t : Text) (ps : List (ℕ × Part)) (m : ℕ) → HasTokens at xs ps m → HasTokens at (xs ++ Kept t ∷ []) ps (m + length t)
-  has-behind at xs t ps m h rest =
+  has-after : (at : ℕ) (xs : List Chunk) (t : Text) (ps : List (ℕ × Part)) (m : ℕ) → HasTokens at xs ps m → HasTokens at (xs ++ Kept t ∷ []) ps (m + length t)
+  has-after at xs t ps m h rest =
       ap (pieces_from at) (append_assoc xs (Kept t ∷ []) rest) ∙ h (Kept t ∷ rest) ∙ ap (λ j. map (replaced_by new) (tokens_of test ps) ++ pieces_from j rest) (omega arith)
 
   module _ (becomes : Becomes) where
@@ -58,16 +58,16 @@ module _ (test : Part → Bool) (parts : Part → Option Part) (new : Text) wher
         ∙ sym (ap (λ l. map (replaced_by new) l ++ pieces_from (at + length (part_bytes p)) rest) (tokens-unmet test (at, p) [] t)))
         (cases_Bool (test p))
 
-    has-link : (at : ℕ) (l : Link) → HasTokens at (link_chunks parts l) ((at + length (l.space_before_hash ++ hash ∷ l.space_behind_hash), l.part) ∷ []) (length (link_bytes l))
+    has-link : (at : ℕ) (l : Link) → HasTokens at (link_chunks parts l) ((at + length (l.space_before_hash ++ hash ∷ l.space_after_hash), l.part) ∷ []) (length (link_bytes l))
     has-link at l =
-        let s : Text = l.space_before_hash ++ hash ∷ l.space_behind_hash in
+        let s : Text = l.space_before_hash ++ hash ∷ l.space_after_hash in
         has-len at (link_chunks parts l) ((at + length s, l.part) ∷ []) (length s + length (part_bytes l.part)) (length (link_bytes l)) (sym (length-append s (part_bytes l.part)))
         (has-before at s (part_token parts l.part ∷ []) ((at + length s, l.part) ∷ []) (length (part_bytes l.part)) (has-part (at + length s) l.part))
 
     has-links : (at : ℕ) (ls : List Link) → HasTokens at (flat_map (link_chunks parts) ls) (links_placed at ls) (length (flat_map link_bytes ls))
     has-links at [] = has-none at
     has-links at (l ∷ ls) =
-        let s : Text = l.space_before_hash ++ hash ∷ l.space_behind_hash in
+        let s : Text = l.space_before_hash ++ hash ∷ l.space_after_hash in
         has-len at (flat_map (link_chunks parts) (l ∷ ls)) (links_placed at (l ∷ ls)) (length (link_bytes l) + length (flat_map link_bytes ls)) (length (flat_map link_bytes (l ∷ ls))) (sym (length-append (link_bytes l) (flat_map link_bytes ls)))
         (has-both at (link_chunks parts l) (flat_map (link_chunks parts) ls) ((at + length s, l.part) ∷ []) (links_placed (at + length (link_bytes l)) ls) (length (link_bytes l)) (length (flat_map link_bytes ls))
         (has-link at l) (has-links (at + length (link_bytes l)) ls))
@@ -84,12 +84,12 @@ module _ (test : Part → Bool) (parts : Part → Option Part) (new : Text) wher
         let n : Text = a.name in
         let x : Text = a.space_before_equals ++ equals_sign ∷ a.space_before_value in
         let v : Text = value_bytes a.value in
-        let b : Text = a.space_behind in
+        let b : Text = a.space_after in
         has-len at (assignment_chunks leaving parts a) (value_placed place a.value) (length n + (length x + (length v + length b))) (length (assignment_bytes a))
         (sym (ap (length {A = ℕ}) (assignment_parts n a.space_before_equals (equals_sign ∷ a.space_before_value) v b) ∙ length_four n x v b))
         (has-before at n (Kept x ∷ (value_chunks parts a.value ++ Kept b ∷ [])) (value_placed place a.value) (length x + (length v + length b))
         (has-before (at + length n) x (value_chunks parts a.value ++ Kept b ∷ []) (value_placed place a.value) (length v + length b)
-        (has-behind (at + length n + length x) (value_chunks parts a.value) b (value_placed place a.value) (length v)
+        (has-after (at + length n + length x) (value_chunks parts a.value) b (value_placed place a.value) (length v)
         (has-value (at + length n + length x) place a.value (let l = length-append n x in omega (arith, e, l))))))
       where
         assignment_parts : (n s e v b : Text) → (((n ++ s) ++ e) ++ v) ++ b ≡ n ++ ((s ++ e) ++ (v ++ b))
@@ -122,21 +122,21 @@ module _ (test : Part → Bool) (parts : Part → Option Part) (new : Text) wher
         has-len at (tree_chunks leaving parts (DefinitionTree d)) (value_placed place d.assignment.value) (length o + (length a + length c)) (length (tree_bytes (DefinitionTree d)))
         (let l = length-append (o ++ a) c in let m = length-append o a in omega (arith, l, m))
         (has-before at o (assignment_chunks leaving parts d.assignment ++ Kept c ∷ []) (value_placed place d.assignment.value) (length a + length c)
-        (has-behind (at + length o) (assignment_chunks leaving parts d.assignment) c (value_placed place d.assignment.value) (length a)
+        (has-after (at + length o) (assignment_chunks leaving parts d.assignment) c (value_placed place d.assignment.value) (length a)
         (has-assignment (at + length o) place d.assignment (let l = length-append o (bytes_before_value d.assignment) in omega (arith, l)))))
     has-tree at (PreambleTree p) =
         let o : Text = opening_bytes p.opening in
         let v : Text = value_bytes p.value in
-        let c : Text = p.space_behind ++ close_byte p.opening.delimiter ∷ [] in
+        let c : Text = p.space_after ++ close_byte p.opening.delimiter ∷ [] in
         has-len at (tree_chunks leaving parts (PreambleTree p)) (value_placed (at + length o) p.value) (length o + (length v + length c)) (length (tree_bytes (PreambleTree p)))
-        (let l = length-append ((o ++ v) ++ p.space_behind) (close_byte p.opening.delimiter ∷ []) in let m = length-append (o ++ v) p.space_behind in let n = length-append o v in let k = length-append p.space_behind (close_byte p.opening.delimiter ∷ []) in omega (arith, l, m, n, k))
+        (let l = length-append ((o ++ v) ++ p.space_after) (close_byte p.opening.delimiter ∷ []) in let m = length-append (o ++ v) p.space_after in let n = length-append o v in let k = length-append p.space_after (close_byte p.opening.delimiter ∷ []) in omega (arith, l, m, n, k))
         (has-before at o (value_chunks parts p.value ++ Kept c ∷ []) (value_placed (at + length o) p.value) (length v + length c)
-        (has-behind (at + length o) (value_chunks parts p.value) c (value_placed (at + length o) p.value) (length v) (has-value (at + length o) (at + length o) p.value refl)))
+        (has-after (at + length o) (value_chunks parts p.value) c (value_placed (at + length o) p.value) (length v) (has-value (at + length o) (at + length o) p.value refl)))
     has-tree at (EntryTree e) =
         let o : Text = opening_bytes e.opening in
-        let s : Text = e.space_behind_key in
+        let s : Text = e.space_after_key in
         let r : Text = flat_map row_bytes e.rows in
-        let c : Text = behind_rows e in
+        let c : Text = after_rows e in
         let place : ℕ = at + length (o ++ (e.key ++ s)) in
         let lo = length-append o (e.key ++ s) in
         let lk = length-append e.key s in
@@ -144,7 +144,7 @@ module _ (test : Part → Bool) (parts : Part → Option Part) (new : Text) wher
         (sym (ap (length {A = ℕ}) (entry_parts o e.key s r (last_comma_bytes e.last_comma) (close_byte e.opening.delimiter ∷ [])) ∙ entry_length o e.key s r c))
         (has-before at o (Kept e.key ∷ ((Kept s ∷ flat_map (row_chunks parts) e.rows) ++ Kept c ∷ [])) (rows_placed place e.rows) (length e.key + (length s + length r + length c))
         (has-before (at + length o) e.key ((Kept s ∷ flat_map (row_chunks parts) e.rows) ++ Kept c ∷ []) (rows_placed place e.rows) (length s + length r + length c)
-        (has-behind (at + length o + length e.key) (Kept s ∷ flat_map (row_chunks parts) e.rows) c (rows_placed place e.rows) (length s + length r)
+        (has-after (at + length o + length e.key) (Kept s ∷ flat_map (row_chunks parts) e.rows) c (rows_placed place e.rows) (length s + length r)
         (has-before (at + length o + length e.key) s (flat_map (row_chunks parts) e.rows) (rows_placed place e.rows) (length r)
         (subst (λ (k : ℕ). HasTokens k (flat_map (row_chunks parts) e.rows) (rows_placed place e.rows) (length r)) (omega (arith, lo, lk)) (has-rows place e.rows))))))
       where
@@ -160,7 +160,7 @@ module _ (test : Part → Bool) (parts : Part → Option Part) (new : Text) wher
         has-len at (items_chunks leaving parts (item ∷ items)) (items_placed at (item ∷ items)) (length (item_bytes item) + length (flat_map item_bytes items)) (length (flat_map item_bytes (item ∷ items))) (sym (length-append (item_bytes item) (flat_map item_bytes items)))
         (has-both at (item_chunks leaving parts item) (items_chunks leaving parts items) (tree_placed at item.tree) (items_placed (at + length (item_bytes item)) items) (length (item_bytes item)) (length (flat_map item_bytes items))
         (has-len at (item_chunks leaving parts item) (tree_placed at item.tree) (length (tree_bytes item.tree) + length item.trail) (length (item_bytes item)) (sym (length-append (tree_bytes item.tree) item.trail))
-        (has-behind at (tree_chunks leaving parts item.tree) item.trail (tree_placed at item.tree) (length (tree_bytes item.tree)) (has-tree at item.tree)))
+        (has-after at (tree_chunks leaving parts item.tree) item.trail (tree_placed at item.tree) (length (tree_bytes item.tree)) (has-tree at item.tree)))
         (has-items (at + length (item_bytes item)) items))
 
     -- the pieces of items that begin at this place
@@ -169,24 +169,24 @@ module _ (test : Part → Bool) (parts : Part → Option Part) (new : Text) wher
 
 -- ---- from the first item that passes a test on
 
-beyond_at : (before : List Item) (item : Item) (behind : List Item) → drop (length before) (before ++ item ∷ behind) ≡ item ∷ behind
-beyond_at [] item behind = refl
-beyond_at (x ∷ before) item behind = beyond_at before item behind
+beyond_at : (before : List Item) (item : Item) (after : List Item) → drop (length before) (before ++ item ∷ after) ≡ item ∷ after
+beyond_at [] item after = refl
+beyond_at (x ∷ before) item after = beyond_at before item after
 
-past_at : (before : List Item) (item : Item) (behind : List Item) → drop (suc (length before)) (before ++ item ∷ behind) ≡ behind
-past_at [] item behind = refl
-past_at (x ∷ before) item behind = past_at before item behind
+past_at : (before : List Item) (item : Item) (after : List Item) → drop (suc (length before)) (before ++ item ∷ after) ≡ after
+past_at [] item after = refl
+past_at (x ∷ before) item after = past_at before item after
 
 module _ (test : Tree → Bool) (db : Reading) (n : ℕ) (first : IsFirstItem test db.items n) where
-  pub from-first : drop n db.items ≡ first.item ∷ first.behind
-  from-first = ap₂ drop (sym first.number) first.is ∙ beyond_at first.before first.item first.behind
+  pub from-first : drop n db.items ≡ first.item ∷ first.after
+  from-first = ap₂ drop (sym first.number) first.is ∙ beyond_at first.before first.item first.after
 
-  pub pieces-first : (change : Item → List Item → List Chunk) → pieces_of_chunks (Kept db.front ∷ chunks_from_first test change db.items) ≡ pieces_from (start_of db n) (change first.item first.behind)
+  pub pieces-first : (change : Item → List Item → List Chunk) → pieces_of_chunks (Kept db.front ∷ chunks_from_first test change db.items) ≡ pieces_from (start_of db n) (change first.item first.after)
   pieces-first change =
       ap (λ l. pieces_from (0 + length db.front) l) (chunks-first test change db.items n first)
-      ∙ ap (λ k. pieces_from k (kept_items first.before ++ change first.item first.behind)) (zero-add (length db.front))
-      ∙ pieces-after_items (length db.front) first.before (change first.item first.behind)
-      ∙ ap (λ k. pieces_from k (change first.item first.behind)) (sym (start-first test db n first))
+      ∙ ap (λ k. pieces_from k (kept_items first.before ++ change first.item first.after)) (zero-add (length db.front))
+      ∙ pieces-after_items (length db.front) first.before (change first.item first.after)
+      ∙ ap (λ k. pieces_from k (change first.item first.after)) (sym (start-first test db n first))
 
-  pub behind-first : drop (n + 1) db.items ≡ first.behind
-  behind-first = let number = first.number in let next : n + 1 ≡ suc (length first.before) = omega (arith, number) in ap₂ drop next first.is ∙ past_at first.before first.item first.behind
+  pub after-first : drop (n + 1) db.items ≡ first.after
+  after-first = let number = first.number in let next : n + 1 ≡ suc (length first.before) = omega (arith, number) in ap₂ drop next first.is ∙ past_at first.before first.item first.after

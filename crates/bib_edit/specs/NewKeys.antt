@@ -71,8 +71,8 @@ pieces_at new db n =
     option_map_or (λ i. option_map_or (entry_pieces new db n (start_of db i)) (slice_get db.items i) []) (slice_get (entry_numbers db.items) n) []
 
 -- the pieces of the entries from number n on
-abbrev pub pieces_behind : NewKeys → Reading → ℕ → List Piece
-pieces_behind new db n = flat_map (pieces_at new db) (range_with_len n (length (entries_of db) - n))
+abbrev pub pieces_after : NewKeys → Reading → ℕ → List Piece
+pieces_after new db n = flat_map (pieces_at new db) (range_with_len n (length (entries_of db) - n))
 
 -- entry m is number j of those that refer to the key
 abbrev pub RefersAt : Reading → Text → ℕ → ℕ → Type 0
@@ -81,7 +81,7 @@ RefersAt db key j m = slice_get (referrers key (crossrefs_of db)) j ≡ Some m
 -- of the entries that refer to the key, k are before entry n
 pub record ArePassed (db : Reading) (key : Text) (k n : ℕ) : Type 0 where
   pub before : (j m : ℕ) → j < k → RefersAt db key j m → m < n
-  pub behind : (j m : ℕ) → k ≤ j → RefersAt db key j m → n ≤ m
+  pub after : (j m : ℕ) → k ≤ j → RefersAt db key j m → n ≤ m
 
 -- of these entries, only those that refer to the key get pieces
 abbrev pub AreQuiet : NewKeys → Reading → Text → ℕ → ℕ → Type 0
@@ -89,5 +89,5 @@ AreQuiet new db key from to = (n : ℕ) → from ≤ n → n < to → ((j : ℕ)
 
 -- the pieces of the entries before entry n are there, k of which refer to the key
 pub record HavePieces (new : NewKeys) (db : Reading) (key : Text) (k n : ℕ) (done : List Piece) : Type 0 where
-  pub pieces : done ++ pieces_behind new db n ≡ rekeying new db
+  pub pieces : done ++ pieces_after new db n ≡ rekeying new db
   pub passed : ArePassed db key k n

@@ -27,13 +27,13 @@ text_before front items zero = front
 text_before front items (suc n) = trail_at items n
 
 -- the text before item n stands after a comment
-abbrev pub is_behind_comment : List Item → ℕ → Bool
-is_behind_comment items zero = false
-is_behind_comment items (suc n) = option_map_or (λ item. is_comment item.tree) (slice_get items n) false
+abbrev pub is_after_comment : List Item → ℕ → Bool
+is_after_comment items zero = false
+is_after_comment items (suc n) = option_map_or (λ item. is_comment item.tree) (slice_get items n) false
 
 -- the text before item n, joined with that after it, is clean where it then stands
 abbrev pub JoinsCleanly : Reading → ℕ → Type 0
-JoinsCleanly db n = IsCleanTrail (is_behind_comment db.items n) (text_before db.front db.items n ++ trail_at db.items n)
+JoinsCleanly db n = IsCleanTrail (is_after_comment db.items n) (text_before db.front db.items n ++ trail_at db.items n)
 
 -- the body of item n goes
 abbrev pub removal_of : Reading → ℕ → Piece

@@ -71,11 +71,11 @@ fn cut(alloc: Global, start: usize, body: &[u8], row: FieldView<'_>) -> Result<P
     ensures piece { IfOk result (λ p. p ≡ cut_piece start body.now (field_seen row.entry)) }
     ensures only { IfErr result (λ fault. fault ≡ Memory) }
 {
-    let behind = body.split_at(row.start).1;
+    let after = body.split_at(row.start).1;
     let len = row.value_at + row.value.len() - row.start;
     Ok(Piece {
         place: (start + row.start) as u64,
-        old: copied(alloc, behind.split_at(len).0)?,
+        old: copied(alloc, after.split_at(len).0)?,
         new: copied(alloc, b"")?,
     })
 }

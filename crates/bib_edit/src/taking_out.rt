@@ -5,7 +5,7 @@ ghost use Rattle.bib_spec.specs.Tree.{is_comment};
 ghost use Rattle.bib_spec.specs.Reading.{Item};
 ghost use Rattle.bib_scan.specs.View.{view_of};
 ghost use Rattle.bib_store.specs.Meaning.{OfReading, IsItemNumber};
-ghost use Rattle.bib_edit.specs.Removal.{body_at, is_behind_comment, text_before, JoinsCleanly, removal_of};
+ghost use Rattle.bib_edit.specs.Removal.{body_at, is_after_comment, text_before, JoinsCleanly, removal_of};
 ghost use Rattle.bib_edit.specs.declared.fault.EditFault.TheVariants.{Memory};
 
 use crate::fault::EditFault;
@@ -27,7 +27,7 @@ fn is_comment(view: &ItemView<'_>) -> bool
 /// Whether the text before item `n` stands after a comment, and that text.
 fn text_before<'a, L: ItemList>(db: &'a Database<L>, n: usize) -> (bool, &'a [u8])
     requires { IsItemNumber db.now n }
-    ensures { OfReading db.now (λ r. (result.0 ≡ is_behind_comment r.items n) × (result.1.now ≡ text_before r.front r.items n)) }
+    ensures { OfReading db.now (λ r. (result.0 ≡ is_after_comment r.items n) × (result.1.now ≡ text_before r.front r.items n)) }
 {
     if n == 0 {
         return (false, db.front());

@@ -1,4 +1,4 @@
--- The bytes of items, put one after another behind a text.
+-- The bytes of items, put one after another after a text.
 use Rattle.std.proofs.Common.{◌≡◌, ℕ, ◌+◌, ◌-◌, ◌≤◌, ◌<◌, suc, List, [], ◌∷◌, ◌++◌, length, take, drop, get_or, refl, sym, ◌∙◌, ap, arith, append-nil, append_assoc, length-drop}
 use Rattle.std.proofs.lemmas.List.{drop-drop, take_more, get_or-drop, flat_map_more, drop-append-le, drop_at, take-append-le, take-take, take_at, length-append}
 use Rattle.std.proofs.lemmas.List.Concat.{flat_map-append}
@@ -49,7 +49,7 @@ appended_more items from n front now body trail h k b t e =
 
 -- ---- page by page
 
--- so many items of those from one number up to another are left, and the others were put behind the text
+-- so many items of those from one number up to another are left, and the others were put after the text
 pub record IsAppended (pages : List (List Item)) (p from to skip left : ℕ) (front now : Text) : Type 0 where
   pub way : IsOnWay pages p (to - left) skip
   pub most : left ≤ to - from
@@ -65,11 +65,11 @@ in_page pages p n skip m h way within =
     let wide : n + m - n ≡ m = omega arith in
     let long : skip + m - skip ≡ m = omega arith in
     let all : joined pages ≡ front ++ (page ++ rest) = joined-split pages p h in
-    let behind : drop n (front ++ (page ++ rest)) ≡ drop skip (page ++ rest)
+    let after : drop n (front ++ (page ++ rest)) ≡ drop skip (page ++ rest)
     = ap (λ k. drop k (front ++ (page ++ rest))) at ∙ sym (drop-drop skip (length front) (front ++ (page ++ rest))) ∙ ap (drop skip) (drop_at front (page ++ rest) (length front) refl) in
     ap (λ k. take k (drop n (joined pages))) wide
     ∙ ap (λ (l : List Item). take m (drop n l)) all
-    ∙ ap (take m) behind
+    ∙ ap (take m) after
     ∙ ap (take m) (drop-append-le skip page rest (omega (arith, within)))
     ∙ take-append-le m (drop skip page) rest (omega (arith, within, length-drop skip page))
     ∙ sym (ap (λ k. take k (drop skip page)) long)
@@ -85,7 +85,7 @@ between-both items from n m h =
     ∙ sym (take-add (n - from) m (drop from items))
     ∙ ap (λ k. take k (drop from items)) far
 
--- members of a page are put behind the text
+-- members of a page are put after the text
 put_more : (pages : List (List Item)) (p from to skip left m : ℕ) (front now new : Text) → p < length pages → from ≤ to → skip + m ≤ length (page_at pages p) → new ≡ now ++ all_bytes (between skip (skip + m) (page_at pages p))
     → IsAppended pages p from to skip left front now → new ≡ front ++ all_bytes (between from (to - left + m) (joined pages))
 put_more pages p from to skip left m front now new h order within put is =

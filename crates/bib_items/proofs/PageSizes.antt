@@ -9,23 +9,23 @@ use Rattle.bib_items.specs.Pages.{page_limit, IsPage, ArePages, IsRoom}
 pub record IsAround {X : Type 0} (pages : List (List X)) (p : ℕ) : Type 0 where
   pub before : ArePages (take p pages)
   pub page : IsPage (page_at pages p)
-  pub behind : ArePages (drop (suc p) pages)
+  pub after : ArePages (drop (suc p) pages)
 
 pub around : {X : Type 0} (pages : List (List X)) (p : ℕ) → ArePages pages → p < length pages → IsAround pages p
 around pages p all h =
     let whole = subst ArePages (split_pages pages p h) all in
-    let behind = all_back IsPage (take p pages) (page_at pages p ∷ drop (suc p) pages) whole in
-    record { before = all_front IsPage (take p pages) (page_at pages p ∷ drop (suc p) pages) whole; page = behind.0; behind = behind.1 }
+    let after = all_back IsPage (take p pages) (page_at pages p ∷ drop (suc p) pages) whole in
+    record { before = all_front IsPage (take p pages) (page_at pages p ∷ drop (suc p) pages) whole; page = after.0; after = after.1 }
 
 pub pages_set : {X : Type 0} (pages : List (List X)) (p : ℕ) (q : List X) → ArePages pages → p < length pages → IsPage q → ArePages (set pages p q)
 pages_set pages p q all h is =
     let r = around pages p all h in
-    subst ArePages (sym (set_split pages p q h)) (all_append IsPage (take p pages) (q ∷ drop (suc p) pages) r.before (is, r.behind))
+    subst ArePages (sym (set_split pages p q h)) (all_append IsPage (take p pages) (q ∷ drop (suc p) pages) r.before (is, r.after))
 
 pub pages_remove : {X : Type 0} (pages : List (List X)) (p : ℕ) → ArePages pages → p < length pages → ArePages (remove pages p)
 pages_remove pages p all h =
     let r = around pages p all h in
-    all_append IsPage (take p pages) (drop (suc p) pages) r.before r.behind
+    all_append IsPage (take p pages) (drop (suc p) pages) r.before r.after
 
 -- a member more in a page, and one less
 pub page_insert : {X : Type 0} (page : List X) (k : ℕ) (x : X) → k ≤ length page → length page < page_limit → IsPage (insert page k x)
@@ -48,7 +48,7 @@ pages_parted pages p all h full =
     let back = length-drop 32 page in
     let first : IsPage (take 32 page) = record { some = omega arith; within = omega arith } in
     let second : IsPage (drop 32 page) = record { some = omega arith; within = omega arith } in
-    all_append IsPage (take p pages) (take 32 page ∷ (drop 32 page ∷ drop (suc p) pages)) r.before (first, (second, r.behind))
+    all_append IsPage (take p pages) (take 32 page ∷ (drop 32 page ∷ drop (suc p) pages)) r.before (first, (second, r.after))
 
 -- there is room before the seam, and after it
 pub room_before : {X : Type 0} (pages : List (List X)) (n p k : ℕ) → 64 ≤ length (page_at pages p) → IsGap pages n p k → k ≤ 32 → IsRoom (parted_at 32 p pages) n p k

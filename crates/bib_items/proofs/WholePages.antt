@@ -58,7 +58,7 @@ pages_in_two pages n p k all place some =
     let back = length-drop k page in
     let first : IsPage (take k page) = record { some = omega arith; within = omega arith } in
     let second : IsPage (drop k page) = record { some = omega arith; within = omega arith } in
-    all_append IsPage (take p pages) (take k page ∷ (drop k page ∷ _)) r.before (first, (second, r.behind))
+    all_append IsPage (take p pages) (take k page ∷ (drop k page ∷ _)) r.before (first, (second, r.after))
 
 -- ---- pages are put at a seam
 

@@ -24,8 +24,8 @@ module _ (keys : List Text) (base : Text) where
       further : (m j : ℕ) → suc m + j ≡ m + suc j
       further m j = omega arith
 
-  behind : (n count : ℕ) → AreTried keys base n → first_of (candidates base 0 (n + count)) ≡ first_of (candidates base n count)
-  behind n count tried =
+  after : (n count : ℕ) → AreTried keys base n → first_of (candidates base 0 (n + count)) ≡ first_of (candidates base n count)
+  after n count tried =
       skipped n 0 count (λ j lt. ap (λ (i : ℕ). is_taken keys (candidate base i)) (zero-add j) ∙ tried j lt)
       ∙ ap (λ (a : ℕ). first_of (candidates base a count)) (zero-add n)
 
@@ -34,7 +34,7 @@ module _ (keys : List Text) (base : Text) where
       let long : suc (length keys) ≡ n + suc (length keys - n) = omega (arith, le) in
       sym (ap (λ (o : Option Text). unwrap_or o base)
       (ap (λ (count : ℕ). first_of (candidates base 0 count)) long
-      ∙ behind n (suc (length keys - n)) tried
+      ∙ after n (suc (length keys - n)) tried
       ∙ cond-true (not (is_taken keys (candidate base n))) (Some (candidate base n)) (first_of (candidates base (suc n) (length keys - n))) (not_from_false (is_taken keys (candidate base n)) free)))
 
   pub free-exhausted : (n : ℕ) → AreTried keys base n → length keys < n → candidate base 0 ≡ free_key keys base
@@ -43,7 +43,7 @@ module _ (keys : List Text) (base : Text) where
       append-nil base
       ∙ sym (ap (λ (o : Option Text). unwrap_or o base)
       (ap (λ (count : ℕ). first_of (candidates base 0 count)) long
-      ∙ behind (suc (length keys)) 0 (λ k less. tried k (omega (arith, less, lt)))))
+      ∙ after (suc (length keys)) 0 (λ k less. tried k (omega (arith, less, lt)))))
 
   pub tried-more : (n : ℕ) → AreTried keys base n → is_taken keys (candidate base n) ≡ true → AreTried keys base (n + 1)
   tried-more n tried taken = below_more (λ (k : ℕ). is_taken keys (candidate base k) ≡ true) n tried taken

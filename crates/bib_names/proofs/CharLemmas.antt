@@ -43,9 +43,9 @@ within-no text place outside =
     any_range-no (λ f. begins_special text f && nat_lt place (next_level text f)) 0 place (λ f low high. ended text place f (outside f (omega arith)))
 
 within-yes : (text : Text) (place front : ℕ) → front < place → begins_special text front ≡ true → place < next_level text front → is_within_special text place ≡ true
-within-yes text place front lt begins behind =
+within-yes text place front lt begins after =
     any_range-yes (λ f. begins_special text f && nat_lt place (next_level text f)) 0 place front lt
-    (let is : 0 + front ≡ front = omega arith in ap (λ f. begins_special text f && nat_lt place (next_level text f)) is ∙ ap (λ b. b && nat_lt place (next_level text front)) begins ∙ lt-ltb place (next_level text front) behind)
+    (let is : 0 + front ≡ front = omega arith in ap (λ f. begins_special text f && nat_lt place (next_level text f)) is ∙ ap (λ b. b && nat_lt place (next_level text front)) begins ∙ lt-ltb place (next_level text front) after)
 
 -- no special character begins at the place either
 outside_on : (text : Text) (place : ℕ) → Outside text place → begins_special text place ≡ false → Outside text (place + 1)
@@ -63,8 +63,8 @@ joined-no text zero alone = refl
 joined-no text (suc place) alone = ap (λ b. b && (is_plain (get_or text place 0) || is_joined text place)) alone
 
 -- after a byte that is not plain and goes on with none
-joined_behind : (text : Text) (place : ℕ) → is_plain (get_or text place 0) ≡ false → is_joined text place ≡ false → is_joined text (place + 1) ≡ false
-joined_behind text place plain alone =
+joined_after : (text : Text) (place : ℕ) → is_plain (get_or text place 0) ≡ false → is_joined text place ≡ false → is_joined text (place + 1) ≡ false
+joined_after text place plain alone =
     joined_next text place ∙ ap (λ b. goes_on (get_or text (place + 1) 0) && (b || is_joined text place)) plain
     ∙ ap (λ b. goes_on (get_or text (place + 1) 0) && b) alone ∙ and-false (goes_on (get_or text (place + 1) 0))
 
@@ -129,7 +129,7 @@ brace_past text place fresh brace = (
   begins-brace text place brace.special (brace_from (get_or text place 0) brace.plain brace.alone),
   record {
     outside = outside_on text place fresh.outside brace.special;
-    alone = joined_behind text place brace.plain fresh.alone;
+    alone = joined_after text place brace.plain fresh.alone;
   },
 )
 
@@ -207,7 +207,7 @@ stray_passed text place end fresh none plain on is = record {
   inside = λ p low high. absurd (omega arith);
   fresh = subst (λ n. IsFresh text n) (sym is) (record {
     outside = outside_on text place fresh.outside none;
-    alone = joined_behind text place plain fresh.alone;
+    alone = joined_after text place plain fresh.alone;
   });
   ends = rw (none, plain) (sym is);
 }
@@ -257,7 +257,7 @@ special_passed : (text : Text) (place end : ℕ) → IsFresh text place → IsSp
 special_passed text place end fresh special = record {
   begins = begins-special text place special.begins;
   inside = λ p low high. begins-within text p (deep_not_special text p (special_deep text place end special p low high)) (within-yes text p place (omega arith) special.begins (omega (arith, special.ends.is)));
-  fresh = record { outside = outside; alone = ap (is_joined text) last_is ∙ joined_behind text (end - 1) brace.0 (joined-no text (end - 1) brace.1) };
+  fresh = record { outside = outside; alone = ap (is_joined text) last_is ∙ joined_after text (end - 1) brace.0 (joined-no text (end - 1) brace.1) };
   ends = ap (λ b. cond b (next_level text place) (cond (is_plain (get_or text place 0)) (place + 1 + going_on text (place + 1)) (place + 1))) special.begins ∙ sym special.ends.is;
 }
   where
@@ -302,7 +302,7 @@ pub chars_next : (text : Text) (place end : ℕ) → place < length text → IsF
 chars_next text place end lt fresh char =
     let passed = char_passed text place end fresh char in
     let here = places_here (begins_char text) place (length text) lt passed.begins in
-    let past = places_skip_to (begins_char text) (place + 1) end (length text) (omega (arith, char.behind)) char.within passed.inside in
+    let past = places_skip_to (begins_char text) (place + 1) end (length text) (omega (arith, char.after)) char.within passed.inside in
     ap (chars_at text) here ∙ ap (λ e. slice_range text place e ∷ chars_at text (places_from (begins_char text) (place + 1) (length text - (place + 1)))) passed.ends
     ∙ ap (λ ps. slice_range text place end ∷ chars_at text ps) past
 

@@ -17,8 +17,8 @@ pub commas_whole : (text : Text) → commas text ≡ commas_from text 0
 commas_whole text = let whole : length text ≡ length text - 0 = omega arith in ap (places_from (is_comma text) 0) whole
 
 -- after a comma at depth 0 the depth is 0
-pub level_behind : (text : Text) (place : ℕ) → place < length text → is_level text place ≡ true → get_or text place 0 ≡ 44 → is_level text (place + 1) ≡ true
-level_behind text place lt level is =
+pub level_after : (text : Text) (place : ℕ) → place < length text → is_level text place ≡ true → get_or text place 0 ≡ 44 → is_level text (place + 1) ≡ true
+level_after text place lt level is =
     let here = eqb-true (opened_before text place) (closed_before text place) level in
     let opened = opened_more text place lt ∙ ap (λ b. opened_before text place + one_if 123 b) is in
     let closed = closed_more text place lt ∙ ap (λ b. closed_before text place + one_if 125 b) is in
@@ -34,7 +34,7 @@ comma_found text start place after lt far passes =
     record {
       after = after;
       within = lt;
-      level = level_behind text place lt parts.0 (eqb-true (get_or text place 0) 44 parts.1);
+      level = level_after text place lt parts.0 (eqb-true (get_or text place 0) 44 parts.1);
       first = sym far.same ∙ places_here (is_comma text) place (length text) lt passes;
     }
 

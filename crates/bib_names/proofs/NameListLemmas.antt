@@ -59,7 +59,7 @@ pub names_cut : (text : Text) (names : List Text) (start place : ℕ) → place 
     → (start ≤ place) × AreNamesSoFar text (names ++ trimmed (slice_range text start place) ∷ []) (place + 3) (place + 1)
 names_cut text names start place lt far passes =
     let ends = both _ _ (both (is_level text place) (is_and text place) passes).1 in
-    let behind = ends.1 in
+    let after = ends.1 in
     let apart = and_apart (drop place text) (both _ _ ends.0).1 in
     let next : is_space (get_or text (place + 1) 0) ≡ false = rw get_or-drop at apart.1 in
     let third : is_space (get_or text (place + 2) 0) ≡ false = rw get_or-drop at apart.2 in
@@ -69,8 +69,8 @@ names_cut text names start place lt far passes =
       omega (arith, far.near, not_next, not_third),
       record {
         near = omega arith;
-        within = omega (arith, space_within text (place + 3) behind);
-        space = λ _. behind;
+        within = omega (arith, space_within text (place + 3) after);
+        space = λ _. after;
         told = append_assoc names (trimmed (slice_range text start place) ∷ []) _ ∙ ap (λ ps. names ++ names_between text start ps) (sym here) ∙ far.told;
       },
     )

@@ -35,7 +35,7 @@ group_found text place last low high none level = record {
     | false ↦ λ e. let end : last + 1 ≡ length text = omega (arith, ltb-false (last + 1) (length text) e) in
         end ∙ sym (next_level_end text place (omega arith) (λ p l h. none p l (omega arith)))
   ] refl;
-  behind = omega arith;
+  after = omega arith;
   within = omega arith;
   level = level;
 }
@@ -65,7 +65,7 @@ pub special_found : (text : Text) (place end : ℕ) → is_level text place ≡ 
 special_found text place end level opening ends = record {
   begins = rw (level, opening) (ap (is_level text) (sym ends.is) ∙ ends.level);
   ends = ends;
-  long = opening_deep text place end ends.behind ends.within level opening ends.level;
+  long = opening_deep text place end ends.after ends.within level opening ends.level;
 }
 
 pub special_open : (text : Text) (place : ℕ) → is_level text (next_level text place) ≡ false → begins_special text place ≡ false

@@ -34,8 +34,8 @@ run_len p (x ∷ xs) ys all stops =
 run_front : (p : ℕ → Bool) (xs ys : Text) → list_all p xs ≡ true → does_not_begin_with p ys ≡ true → take_while p (xs ++ ys) ≡ xs
 run_front p xs ys all stops = ap (λ n. take n (xs ++ ys)) (run_len p xs ys all stops) ∙ take-append_seam xs ys
 
-run_behind : (p : ℕ → Bool) (xs ys : Text) → list_all p xs ≡ true → does_not_begin_with p ys ≡ true → after_run p (xs ++ ys) ≡ ys
-run_behind p xs ys all stops = ap (λ n. drop n (xs ++ ys)) (run_len p xs ys all stops) ∙ drop-append_seam xs ys
+run_after : (p : ℕ → Bool) (xs ys : Text) → list_all p xs ≡ true → does_not_begin_with p ys ≡ true → after_run p (xs ++ ys) ≡ ys
+run_after p xs ys all stops = ap (λ n. drop n (xs ++ ys)) (run_len p xs ys all stops) ∙ drop-append_seam xs ys
 
 run_whole : (p : ℕ → Bool) (t : Text) → t ≡ take_while p t ++ after_run p t
 run_whole p t = sym (take-append-drop (prefix_len p t) t)
@@ -87,14 +87,14 @@ part_named-found letter part e = go (eqb letter 102) (eqb letter 118) (eqb lette
 
 form_at-found : (part : Part) (letter : ℕ) (t : Text) → letter ≡ letter_of part → letter ∷ t ≡ letters_of (form_at part letter t).0 (form_at part letter t).1 ++ (form_at part letter t).2
 form_at-found part letter [] is = ap (λ l. l ∷ []) is
-form_at-found part letter (next ∷ behind) is = go (eqb next letter) refl
+form_at-found part letter (next ∷ after) is = go (eqb next letter) refl
   where
     found : Part × Form × Text → Type 0
-    found f = letter ∷ next ∷ behind ≡ letters_of f.0 f.1 ++ f.2
+    found f = letter ∷ next ∷ after ≡ letters_of f.0 f.1 ++ f.2
 
-    go : (b : Bool) → eqb next letter ≡ b → found (cond b (part, Words, behind) (part, Initials, next ∷ behind))
-    go true h = ap (λ n. letter ∷ n ∷ behind) (eqb-true next letter h) ∙ ap (λ l. l ∷ l ∷ behind) is
-    go false h = ap (λ l. l ∷ next ∷ behind) is
+    go : (b : Bool) → eqb next letter ≡ b → found (cond b (part, Words, after) (part, Initials, next ∷ after))
+    go true h = ap (λ n. letter ∷ n ∷ after) (eqb-true next letter h) ∙ ap (λ l. l ∷ l ∷ after) is
+    go false h = ap (λ l. l ∷ next ∷ after) is
 
 letters_at-found : (t : Text) (l : Part × Form × Text) → letters_at t ≡ Some l → t ≡ letters_of l.0 l.1 ++ l.2
 letters_at-found [] l e = absurd (cc)
@@ -110,12 +110,12 @@ AreBetween t b = (is_between b.0 ≡ true) × (t ≡ between_bytes b.0 ++ b.1)
 between_inside-found : (inside : Text) (b : Option Text × Text) → between_inside inside ≡ Some b → AreBetween (123 ∷ inside) b
 unfolding AreBetween
 between_inside-found inside b e =
-    let closed = map_some (λ behind. (Some (take_while is_no_brace inside), behind)) (after_byte 125 (after_run is_no_brace inside)) b e in
+    let closed = map_some (λ after. (Some (take_while is_no_brace inside), after)) (after_byte 125 (after_run is_no_brace inside)) b e in
     let between = take_while is_no_brace inside in
-    let behind = closed.0 in
-    let rest : after_run is_no_brace inside ≡ 125 ∷ behind = after_byte-found 125 (after_run is_no_brace inside) behind closed.1 in
-    let whole : inside ≡ between ++ 125 ∷ behind = run_whole is_no_brace inside ∙ ap (λ t. between ++ t) rest in
-    let joined : between ++ 125 ∷ behind ≡ (between ++ 125 ∷ []) ++ behind = simp append_assoc in
+    let after = closed.0 in
+    let rest : after_run is_no_brace inside ≡ 125 ∷ after = after_byte-found 125 (after_run is_no_brace inside) after closed.1 in
+    let whole : inside ≡ between ++ 125 ∷ after = run_whole is_no_brace inside ∙ ap (λ t. between ++ t) rest in
+    let joined : between ++ 125 ∷ after ≡ (between ++ 125 ∷ []) ++ after = simp append_assoc in
     subst (λ (p : Option Text × Text). (is_between p.0 ≡ true) × (123 ∷ inside ≡ between_bytes p.0 ++ p.1)) closed.2
     (run_passes is_no_brace inside, ap (λ t. 123 ∷ t) (whole ∙ joined))
 
@@ -136,18 +136,18 @@ pub record IsFound (inside : Text) (g : Group) (rest : Text) : Type 0 where
   pub spelled : inside ≡ group_inside g ++ rest
   pub stops : does_not_begin_with is_no_brace rest ≡ true
 
-found_after : (pre post behind : Text) (l : Part × Form × Text) (b : Option Text × Text) (inside : Text) → list_all is_ornament pre ≡ true → list_all is_ornament post ≡ true
-    → inside ≡ pre ++ (letters_of l.0 l.1 ++ l.2) → AreBetween l.2 b → b.1 ≡ post ++ 125 ∷ behind
-    → IsFound inside (record { pre = pre; part = l.0; form = l.1; between = b.0; post = post; trail = take_while is_no_brace behind }) (after_run is_no_brace behind)
+found_after : (pre post after : Text) (l : Part × Form × Text) (b : Option Text × Text) (inside : Text) → list_all is_ornament pre ≡ true → list_all is_ornament post ≡ true
+    → inside ≡ pre ++ (letters_of l.0 l.1 ++ l.2) → AreBetween l.2 b → b.1 ≡ post ++ 125 ∷ after
+    → IsFound inside (record { pre = pre; part = l.0; form = l.1; between = b.0; post = post; trail = take_while is_no_brace after }) (after_run is_no_brace after)
 unfolding AreBetween
-found_after pre post behind l b inside pre_is post_is whole in_between rest =
-    let trail = take_while is_no_brace behind in
-    let more = after_run is_no_brace behind in
+found_after pre post after l b inside pre_is post_is whole in_between rest =
+    let trail = take_while is_no_brace after in
+    let more = after_run is_no_brace after in
     let apart : pre ++ (letters_of l.0 l.1 ++ (between_bytes b.0 ++ (post ++ (125 ∷ (trail ++ more))))) ≡ (pre ++ (letters_of l.0 l.1 ++ (between_bytes b.0 ++ (post ++ (125 ∷ trail))))) ++ more = simp append_assoc in
     record {
-      group = record { pre = pre_is; between = in_between.0; post = post_is; trail = run_passes is_no_brace behind };
-      spelled = whole ∙ ap (λ t. pre ++ (letters_of l.0 l.1 ++ t)) (in_between.1 ∙ ap (λ t. between_bytes b.0 ++ t) (rest ∙ ap (λ t. post ++ 125 ∷ t) (run_whole is_no_brace behind))) ∙ apart;
-      stops = run_stops is_no_brace behind;
+      group = record { pre = pre_is; between = in_between.0; post = post_is; trail = run_passes is_no_brace after };
+      spelled = whole ∙ ap (λ t. pre ++ (letters_of l.0 l.1 ++ t)) (in_between.1 ∙ ap (λ t. between_bytes b.0 ++ t) (rest ∙ ap (λ t. post ++ 125 ∷ t) (run_whole is_no_brace after))) ∙ apart;
+      stops = run_stops is_no_brace after;
     }
 
 closed_found : (inside pre : Text) (l : Part × Form × Text) (b : Option Text × Text) (g : Group) (rest : Text) → list_all is_ornament pre ≡ true → inside ≡ pre ++ (letters_of l.0 l.1 ++ l.2) → AreBetween l.2 b
@@ -155,7 +155,7 @@ closed_found : (inside pre : Text) (l : Part × Form × Text) (b : Option Text �
 closed_found inside pre l b g rest pre_is whole in_between e =
     let post = take_while is_ornament b.1 in
     let t = after_run is_ornament b.1 in
-    let closed = map_some (λ behind. (record { pre = pre; part = l.0; form = l.1; between = b.0; post = post; trail = take_while is_no_brace behind }, after_run is_no_brace behind)) (after_byte 125 t) (g, rest) e in
+    let closed = map_some (λ after. (record { pre = pre; part = l.0; form = l.1; between = b.0; post = post; trail = take_while is_no_brace after }, after_run is_no_brace after)) (after_byte 125 t) (g, rest) e in
     let there : b.1 ≡ post ++ 125 ∷ closed.0 = run_whole is_ornament b.1 ∙ ap (λ u. post ++ u) (after_byte-found 125 t closed.0 closed.1) in
     subst (λ (p : Group × Text). IsFound inside p.0 p.1) closed.2
     (found_after pre post closed.0 l b inside pre_is (run_passes is_ornament b.1) whole in_between there)
@@ -204,19 +204,19 @@ letters_stop part Initials t = ap not (letter_no_ornament part)
 letters_stop part Words t = ap not (letter_no_ornament part)
 
 -- after the letters stands no letter
-ornament_behind : (post t : Text) → list_all is_ornament post ≡ true → does_not_begin_with is_ascii_alphabetic (post ++ 125 ∷ t) ≡ true
-ornament_behind [] t all = refl
-ornament_behind (x ∷ xs) t all = ap not (ornament_no_letter x (both (is_ornament x) (list_all is_ornament xs) all).0)
+ornament_after : (post t : Text) → list_all is_ornament post ≡ true → does_not_begin_with is_ascii_alphabetic (post ++ 125 ∷ t) ≡ true
+ornament_after [] t all = refl
+ornament_after (x ∷ xs) t all = ap not (ornament_no_letter x (both (is_ornament x) (list_all is_ornament xs) all).0)
 
-no_letter_behind : (between : Option Text) (post t : Text) → list_all is_ornament post ≡ true → does_not_begin_with is_ascii_alphabetic (between_bytes between ++ (post ++ 125 ∷ t)) ≡ true
-no_letter_behind None post t all = ornament_behind post t all
-no_letter_behind (Some between) post t all = refl
+no_letter_after : (between : Option Text) (post t : Text) → list_all is_ornament post ≡ true → does_not_begin_with is_ascii_alphabetic (between_bytes between ++ (post ++ 125 ∷ t)) ≡ true
+no_letter_after None post t all = ornament_after post t all
+no_letter_after (Some between) post t all = refl
 
 form_at-one : (part : Part) (t : Text) → does_not_begin_with is_ascii_alphabetic t ≡ true → form_at part (letter_of part) t ≡ (part, Initials, t)
 form_at-one part [] none = refl
-form_at-one part (next ∷ behind) none =
+form_at-one part (next ∷ after) none =
     let other : eqb next (letter_of part) ≡ false = ne_eqb next (letter_of part) (λ e. let computed : not true ≡ true = ap not (sym (letter_is_letter part)) ∙ ap (λ n. not (is_ascii_alphabetic n)) (sym e) ∙ none in absurd (cc)) in
-    ap (λ b. cond b (part, Words, behind) (part, Initials, next ∷ behind)) other
+    ap (λ b. cond b (part, Words, after) (part, Initials, next ∷ after)) other
 
 letter_twice : (part : Part) → eqb (letter_of part) (letter_of part) ≡ true
 letter_twice First = refl
@@ -242,9 +242,9 @@ between_at-there (Some between) post t plain all =
     let rest = post ++ 125 ∷ t in
     let apart : (between ++ 125 ∷ []) ++ rest ≡ between ++ 125 ∷ rest = simp append_assoc in
     let front = run_front is_no_brace between (125 ∷ rest) plain refl in
-    let behind = run_behind is_no_brace between (125 ∷ rest) plain refl in
+    let after = run_after is_no_brace between (125 ∷ rest) plain refl in
     ap between_inside apart
-    ∙ ap (λ t. option_map (λ behind. (Some (take_while is_no_brace (between ++ 125 ∷ rest)), behind)) (after_byte 125 t)) behind
+    ∙ ap (λ t. option_map (λ after. (Some (take_while is_no_brace (between ++ 125 ∷ rest)), after)) (after_byte 125 t)) after
     ∙ ap (λ t. Some (Some t, rest)) front
 
 pub group_at-there : (g : Group) (rest : Text) → IsGroup g → does_not_begin_with is_no_brace rest ≡ true → group_at (group_inside g ++ rest) ≡ Some (g, rest)
@@ -258,22 +258,22 @@ group_at-there g rest is stops =
     let l : Part × Form × Text = (g.part, g.form, e2) in
     let apart : group_inside g ++ rest ≡ e0 = simp append_assoc in
     let pre = run_front is_ornament g.pre e1 is.pre (letters_stop g.part g.form e2) in
-    let behind_pre = run_behind is_ornament g.pre e1 is.pre (letters_stop g.part g.form e2) in
-    let letters = letters_at-there g.part g.form e2 (no_letter_behind g.between g.post e5 is.post) in
+    let after_pre = run_after is_ornament g.pre e1 is.pre (letters_stop g.part g.form e2) in
+    let letters = letters_at-there g.part g.form e2 (no_letter_after g.between g.post e5 is.post) in
     let between = between_at-there g.between g.post e5 is.between is.post in
     let post = run_front is_ornament g.post e4 is.post refl in
-    let behind_post = run_behind is_ornament g.post e4 is.post refl in
+    let after_post = run_after is_ornament g.post e4 is.post refl in
     let trail = run_front is_no_brace g.trail rest is.trail stops in
-    let behind_trail = run_behind is_no_brace g.trail rest is.trail stops in
+    let after_trail = run_after is_no_brace g.trail rest is.trail stops in
     ap group_at apart
     ∙ ap (λ p. group_after p (after_run is_ornament e0)) pre
-    ∙ ap (group_after g.pre) behind_pre
+    ∙ ap (group_after g.pre) after_pre
     ∙ ap (option_and_then (group_after_letters g.pre)) letters
     ∙ ap (option_and_then (group_after_between g.pre l)) between
     ∙ ap (λ p. group_closed g.pre g.part g.form g.between p (after_run is_ornament e3)) post
-    ∙ ap (group_closed g.pre g.part g.form g.between g.post) behind_post
+    ∙ ap (group_closed g.pre g.part g.form g.between g.post) after_post
     ∙ ap (λ (t : Text). Some (record { pre = g.pre; part = g.part; form = g.form; between = g.between; post = g.post; trail = t }, after_run is_no_brace e5)) trail
-    ∙ ap (λ (t : Text). Some (g, t)) behind_trail
+    ∙ ap (λ (t : Text). Some (g, t)) after_trail
 
 -- ---- templates
 
@@ -295,7 +295,7 @@ read_front bytes = record {
   sound = tt;
   only = λ t is e.
       let front = ap (take_while is_no_brace) e ∙ run_front is_no_brace t.front (flat_map group_bytes t.groups) is.front (groups_stop t.groups) in
-      let rest = ap (after_run is_no_brace) e ∙ run_behind is_no_brace t.front (flat_map group_bytes t.groups) is.front (groups_stop t.groups) in
+      let rest = ap (after_run is_no_brace) e ∙ run_after is_no_brace t.front (flat_map group_bytes t.groups) is.front (groups_stop t.groups) in
       (t.groups, ap (λ (f : Text). record { front = f; groups = t.groups }) (sym front), is.groups, rest);
 }
 
@@ -311,21 +311,21 @@ all_more : (P : Group → Type 0) (xs : List Group) (x : Group) → AllByRecursi
 all_more P [] x all here = (here, tt)
 all_more P (y ∷ ys) x all here = (all.0, all_more P ys x all.1 here)
 
-pub read_more : (bytes front : Text) (groups : List Group) (inside : Text) (g : Group) (behind : Text) → IsReadSoFar bytes front groups (123 ∷ inside) → group_at inside ≡ Some (g, behind) → IsReadSoFar bytes front (groups ++ g ∷ []) behind
-read_more bytes front groups inside g behind far is =
-    let found = group_at-found inside g behind is in
+pub read_more : (bytes front : Text) (groups : List Group) (inside : Text) (g : Group) (after : Text) → IsReadSoFar bytes front groups (123 ∷ inside) → group_at inside ≡ Some (g, after) → IsReadSoFar bytes front (groups ++ g ∷ []) after
+read_more bytes front groups inside g after far is =
+    let found = group_at-found inside g after is in
     let one : flat_map group_bytes (groups ++ g ∷ []) ≡ flat_map group_bytes groups ++ group_bytes g = flat_map-append group_bytes groups (g ∷ []) ∙ ap (λ t. flat_map group_bytes groups ++ t) (append-nil (group_bytes g)) in
-    let apart : flat_map group_bytes groups ++ (group_bytes g ++ behind) ≡ (flat_map group_bytes groups ++ group_bytes g) ++ behind = sym (append_assoc (flat_map group_bytes groups) (group_bytes g) behind) in
+    let apart : flat_map group_bytes groups ++ (group_bytes g ++ after) ≡ (flat_map group_bytes groups ++ group_bytes g) ++ after = sym (append_assoc (flat_map group_bytes groups) (group_bytes g) after) in
     record {
-      spelled = far.spelled ∙ ap (λ t. front ++ (flat_map group_bytes groups ++ (123 ∷ t))) found.spelled ∙ ap (λ t. front ++ t) (apart ∙ ap (λ t. t ++ behind) (sym one));
+      spelled = far.spelled ∙ ap (λ t. front ++ (flat_map group_bytes groups ++ (123 ∷ t))) found.spelled ∙ ap (λ t. front ++ t) (apart ∙ ap (λ t. t ++ after) (sym one));
       plain = far.plain;
       sound = all_more IsGroup groups g far.sound found.group;
       only = λ t ist e.
           let told = far.only t ist e in
           let first = first_found inside told.0 told.2 told.3 in
-          let pair : (first.0, flat_map group_bytes first.1) ≡ (g, behind) = some_same (first.0, flat_map group_bytes first.1) (g, behind) (sym first.4 ∙ is) in
+          let pair : (first.0, flat_map group_bytes first.1) ≡ (g, after) = some_same (first.0, flat_map group_bytes first.1) (g, after) (sym first.4 ∙ is) in
           let same : first.0 ≡ g = ap (λ (p : Group × Text). p.0) pair in
-          let rest : flat_map group_bytes first.1 ≡ behind = ap (λ (p : Group × Text). p.1) pair in
+          let rest : flat_map group_bytes first.1 ≡ after = ap (λ (p : Group × Text). p.1) pair in
           let groups_are : groups ++ told.0 ≡ (groups ++ g ∷ []) ++ first.1 = ap (λ gs. groups ++ gs) (first.2 ∙ ap (λ h. h ∷ first.1) same) ∙ sym (append_assoc groups (g ∷ []) first.1) in
           (first.1, told.1 ∙ ap (λ gs. record { front = front; groups = gs }) groups_are, first.3, sym rest);
     }
@@ -356,9 +356,9 @@ pub read_all : (bytes front : Text) (groups : List Group) → IsReadSoFar bytes 
 read_all bytes front groups far = (record { front = far.plain; groups = far.sound }, far.spelled ∙ ap (λ t. front ++ t) (append-nil (flat_map group_bytes groups)))
 
 -- a group takes at least a byte
-pub length-after : (rest inside : Text) (g : Group) (behind : Text) → rest ≡ 123 ∷ inside → group_at inside ≡ Some (g, behind) → length behind < length rest
-length-after rest inside g behind is found =
-    let spelled = ap length (group_at-found inside g behind found).spelled ∙ length-append (group_inside g) behind in
+pub length-after : (rest inside : Text) (g : Group) (after : Text) → rest ≡ 123 ∷ inside → group_at inside ≡ Some (g, after) → length after < length rest
+length-after rest inside g after is found =
+    let spelled = ap length (group_at-found inside g after found).spelled ∙ length-append (group_inside g) after in
     let whole = ap length is in
     omega (arith, spelled, whole)
 
@@ -385,7 +385,7 @@ one_groups (g ∷ gs) (h ∷ hs) all also e =
 pub one_template : OneTemplate
 one_template s t is also e =
     let front_of = λ (u : Pattern) (k : IsTemplate u). run_front is_no_brace u.front (flat_map group_bytes u.groups) k.front (groups_stop u.groups) in
-    let rest_of = λ (u : Pattern) (k : IsTemplate u). run_behind is_no_brace u.front (flat_map group_bytes u.groups) k.front (groups_stop u.groups) in
+    let rest_of = λ (u : Pattern) (k : IsTemplate u). run_after is_no_brace u.front (flat_map group_bytes u.groups) k.front (groups_stop u.groups) in
     let front = sym (front_of s is) ∙ ap (take_while is_no_brace) e ∙ front_of t also in
     let rest = sym (rest_of s is) ∙ ap (after_run is_no_brace) e ∙ rest_of t also in
     let groups = one_groups s.groups t.groups is.groups also.groups rest in

@@ -47,8 +47,8 @@ run_here text place lt none =
     ap (run_start text) e ∙ ap (λ b. cond b (run_start text (place - 1)) (suc (place - 1))) none ∙ sym e
 
 -- after a gap a word may begin
-front_behind : (text : Text) (place : ℕ) → is_gap text place ≡ true → (eqb (place + 1) 0 || is_gap text (place + 1 - 1)) ≡ true
-front_behind text place gap =
+front_after : (text : Text) (place : ℕ) → is_gap text place ≡ true → (eqb (place + 1) 0 || is_gap text (place + 1 - 1)) ≡ true
+front_after text place gap =
     let e : place + 1 - 1 ≡ place = omega arith in
     ap (λ b. b || is_gap text (place + 1 - 1)) (ne_eqb (place + 1) 0 (λ i. omega arith)) ∙ ap (is_gap text) e ∙ gap
 
@@ -59,7 +59,7 @@ words_gap at text words start sep place lt far is gap =
     let told_from = λ (s : ℕ). words ++ map (word_at (stretch at text)) (places_from (begins_word text) s (length text - s)) in
     record {
       within = omega arith;
-      front = front_behind text place gap;
+      front = front_after text place gap;
       inside = λ p low high. absurd (omega arith);
       sep = far.sep ∙ ap (sep_before text) is ∙ ap (λ r. cond (eqb r 0) 32 (kept_separator (get_or text r 0))) (sym (run_next text place gap));
       told = ap (λ ps. words ++ map (word_at (stretch at text)) ps) (sym (places_past (begins_word text) place (length text) lt past)) ∙ ap told_from (sym is) ∙ far.told;
@@ -96,7 +96,7 @@ words_end at text words start sep place lt far before gap =
     let shown = ap (λ r. cond (eqb r 0) 32 (kept_separator (get_or text r 0))) run in
     record {
       within = omega arith;
-      front = front_behind text place gap;
+      front = front_after text place gap;
       inside = λ p low high. absurd (omega arith);
       sep = sym (shown ∙ ap (λ b. cond b 32 (kept_separator (get_or text place 0))) (ne_eqb place 0 (λ i. omega arith)));
       told = append_assoc words _ _ ∙ ap (λ w. words ++ w ∷ map f (places_from (begins_word text) (place + 1) (length text - (place + 1)))) (sym word)

@@ -19,7 +19,7 @@ pub record AreBraces (text : Text) (place opened closed : ℕ) : Type 0 where
 -- the group that begins at the place ends here
 pub record IsGroupEnd (text : Text) (place end : ℕ) : Type 0 where
   pub is : end ≡ next_level text place
-  pub behind : place < end
+  pub after : place < end
   pub within : end ≤ length text
   pub level : is_level text end ≡ true
 
@@ -33,7 +33,7 @@ pub record IsSpecial (text : Text) (place end : ℕ) : Type 0 where
 
 -- the text character at a place: a special one, one of a plain byte, or one byte that goes on with none
 pub record IsChar (text : Text) (place end : ℕ) : Type 0 where
-  pub behind : place < end
+  pub after : place < end
   pub within : end ≤ length text
   pub kind : IsSpecial text place end
       ⊎ ((begins_special text place ≡ false) × (is_plain (slice_index text place) ≡ true) × (end ≡ place + 1 + going_on text (place + 1)))

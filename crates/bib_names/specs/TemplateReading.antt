@@ -27,7 +27,7 @@ part_named letter =
 -- the form of a letter that stands before the text, and the text after a second one
 abbrev pub form_at : Part → ℕ → Text → Part × Form × Text
 form_at part letter [] = (part, Initials, [])
-form_at part letter (next ∷ behind) = if next == letter then (part, Words, behind) else (part, Initials, next ∷ behind)
+form_at part letter (next ∷ after) = if next == letter then (part, Words, after) else (part, Initials, next ∷ after)
 
 abbrev pub letters_at : Text → Option (Part × Form × Text)
 letters_at [] = None
@@ -36,7 +36,7 @@ letters_at (letter ∷ rest) = option_map (λ part. form_at part letter rest) (p
 -- the text between words and the text after it, if a brace closes it
 abbrev pub between_inside : Text → Option (Option Text × Text)
 between_inside inside =
-    option_map (λ behind. (Some (take_while is_no_brace inside), behind)) (after_byte close_brace (after_run is_no_brace inside))
+    option_map (λ after. (Some (take_while is_no_brace inside), after)) (after_byte close_brace (after_run is_no_brace inside))
 
 abbrev pub between_at : Text → Option (Option Text × Text)
 between_at [] = Some (None, [])
@@ -46,7 +46,7 @@ between_at (first ∷ rest) = if first == open_brace then between_inside rest el
 abbrev pub group_closed : Text → Part → Form → Option Text → Text → Text → Option (Group × Text)
 group_closed pre part form between post rest =
     option_map
-    (λ behind. (record { pre = pre; part = part; form = form; between = between; post = post; trail = take_while is_no_brace behind }, after_run is_no_brace behind))
+    (λ after. (record { pre = pre; part = part; form = form; between = between; post = post; trail = take_while is_no_brace after }, after_run is_no_brace after))
     (after_byte close_brace rest)
 
 -- the same with what stands before: the letters, the ornament at the front, and nothing but that brace

@@ -152,7 +152,7 @@ fn split_letters(text: &[u8]) -> Option<(Part, Form, &[u8])>
     };
     let part = part_named(*letter)?;
     match after_byte(rest, *letter) {
-        Some(behind) => Some((part, Form::Words, behind)),
+        Some(after) => Some((part, Form::Words, after)),
         None => Some((part, Form::Initials, rest)),
     }
 }
@@ -166,8 +166,8 @@ fn split_between(text: &[u8]) -> Option<(Option<&[u8]>, &[u8])>
         return Some((None, text));
     };
     let (between, rest) = split_plain(inside);
-    let behind = after_byte(rest, b'}')?;
-    Some((Some(between), behind))
+    let after = after_byte(rest, b'}')?;
+    Some((Some(between), after))
 }
 
 /// The group whose opening brace stands before the text, and the text after the group; none if there is no group.
@@ -251,11 +251,11 @@ impl Template {
         let (front, mut rest) = split_plain(bytes);
         let mut groups = Vec::new(alloc);
         while let Some(inside) = after_byte(rest, b'{') {
-            let Some((group, behind)) = split_group(inside) else {
+            let Some((group, after)) = split_group(inside) else {
                 return Err(NameFault::BadTemplate);
             };
             push_group(alloc, &mut groups, &group)?;
-            rest = behind;
+            rest = after;
         }
         if !rest.is_empty() {
             return Err(NameFault::BadTemplate);

@@ -109,7 +109,7 @@ counted test now ids n distinct is = record {
       ap (λ l. is_among (take n now) (get_or l k d)) whole
       ∙ ap (is_among (take n now)) (get_or-append_right first rest (length first) k d refl high)
       ∙ lacks_among (take n now) (get_or rest (k - length first) d)
-      (all_get (λ x. Lacks (take n now) x) rest (k - length first) d (all_holders (λ x. Lacks (take n now) x) test (drop n now) behind) (omega (arith, within, high, total, length-append first rest)));
+      (all_get (λ x. Lacks (take n now) x) rest (k - length first) d (all_holders (λ x. Lacks (take n now) x) test (drop n now) after) (omega (arith, within, high, total, length-append first rest)));
 }
   where
     first : List ℕ
@@ -127,8 +127,8 @@ counted test now ids n distinct is = record {
     count : length first ≡ before test now n
     count = length-filter test (take n now)
 
-    behind : AllByRecursion (λ (y : ℕ). Lacks (take n now) y) (drop n now)
-    behind = apart (take n now) (drop n now) (subst IsDistinct (sym (take-append-drop n now)) distinct)
+    after : AllByRecursion (λ (y : ℕ). Lacks (take n now) y) (drop n now)
+    after = apart (take n now) (drop n now) (subst IsDistinct (sym (take-append-drop n now)) distinct)
 
 -- where the last is among the first n, all are
 pub counted_last : (now ids : List ℕ) (n count last : ℕ) → IsCounted now ids n count → slice_get ids (length ids - 1) ≡ Some last → is_among (take n now) last ≡ true → length ids ≡ count

@@ -6,14 +6,14 @@ use Rattle.std.proofs.lemmas.List.Edits.{get_or-insert_below, get_or-insert_abov
 use Rattle.bib_order.specs.Orders.{after_insert, after_remove, KeepsOrder}
 
 -- where an id stands afterwards, on both sides of another
-record IsShifted (at n moved behind : ℕ) (below : Bool) : Type 0 where
+record IsShifted (at n moved after : ℕ) (below : Bool) : Type 0 where
   low : below ≡ true → (n < at) × (moved ≡ n)
-  high : below ≡ false → (at ≤ n) × (moved ≡ behind)
+  high : below ≡ false → (at ≤ n) × (moved ≡ after)
 
-shifted : (at n behind : ℕ) → IsShifted at n (cond (nat_lt n at) n behind) behind (nat_lt n at)
-shifted at n behind = record {
-  low = λ e. (ltb-true n at e, cond-true (nat_lt n at) n behind e);
-  high = λ e. (ltb-false n at e, cond-false (nat_lt n at) n behind e);
+shifted : (at n after : ℕ) → IsShifted at n (cond (nat_lt n at) n after) after (nat_lt n at)
+shifted at n after = record {
+  low = λ e. (ltb-true n at e, cond-true (nat_lt n at) n after e);
+  high = λ e. (ltb-false n at e, cond-false (nat_lt n at) n after e);
 }
 
 inserted : (ids : List ℕ) (at id n : ℕ) → at ≤ length ids → n < length ids → slice_index (insert ids at id) (after_insert at n) ≡ slice_index ids n

@@ -23,7 +23,7 @@ use Rattle.bib_answers.specs.Cat.{IsCatAnswer, copied, refused}
 use Rattle.bib_answers.specs.Lint as linting
 use Rattle.bib_answers.specs.Lint.{IsLintAnswer, error_line}
 use Rattle.bib_answers.specs.Outcome.{answer_of}
-use Rattle.bib_answers.specs.Positions.{position, behind, position_of}
+use Rattle.bib_answers.specs.Positions.{position, position_after, position_of}
 use Rattle.bib_answers.specs.declared.positions.Position.{Position}
 use Rattle.bib_run.specs.Answers.{IsAnswer, IsStoredAnswer, key_words, cat, of_reading, edit, edit_words, import, undo, redo, log, forget, lint, explain, first_word}
 use Rattle.bib_run.specs.Inputs as inputs
@@ -141,7 +141,7 @@ IsForgetAnswer-long bytes answer long (logging.unforgotten w) = logging.unforgot
 
 -- the place of a file that is too long has the position that it has in the front
 fault_position : (bytes : Text) (kind place : ℕ) → file_limit < length bytes → IsOpenFault (take (file_limit + 1) bytes) kind place → position_of (take (file_limit + 1) bytes) place ≡ position_of bytes place
-fault_position bytes kind place long (inl (too_long over)) = ap (fold behind (position 1 1)) (
+fault_position bytes kind place long (inl (too_long over)) = ap (fold position_after (position 1 1)) (
     ap (take file_limit) (take-add file_limit 1 bytes)
     ∙ subst (λ n. take n (take file_limit bytes ++ take 1 (drop file_limit bytes)) ≡ take file_limit bytes) (length-take-le file_limit bytes (omega (arith, long)))
     (take-append_seam (take file_limit bytes) (take 1 (drop file_limit bytes))))

@@ -84,14 +84,14 @@ pub links_after : (limit : ℕ) (ls : List Link) (r : Text) → All (IsLink limi
 links_after limit [] r all after = after
 links_after limit (l ∷ ls) r all after =
     let ok = All-head (IsLink limit) l ls all in
-    let shape : (flat_map link_bytes (l ∷ ls)) ++ r ≡ l.space_before_hash ++ (35 ∷ (l.space_behind_hash ++ (part_bytes l.part ++ (flat_map link_bytes ls ++ r)))) = simp append_assoc in
+    let shape : (flat_map link_bytes (l ∷ ls)) ++ r ≡ l.space_before_hash ++ (35 ∷ (l.space_after_hash ++ (part_bytes l.part ++ (flat_map link_bytes ls ++ r)))) = simp append_assoc in
     subst AfterPart (sym shape) (after_space l.space_before_hash 35 _ ok.space_before_hash hash_breaks)
 
 links_len : (ls : List Link) → length ls ≤ length (flat_map link_bytes ls)
 links_len [] = omega arith
 links_len (l ∷ ls) =
-    let some = length-append l.space_before_hash (35 ∷ l.space_behind_hash) in
-    let more = length-append (l.space_before_hash ++ 35 ∷ l.space_behind_hash) (part_bytes l.part) in
+    let some = length-append l.space_before_hash (35 ∷ l.space_after_hash) in
+    let more = length-append (l.space_before_hash ++ 35 ∷ l.space_after_hash) (part_bytes l.part) in
     let all = length-append (link_bytes l) (flat_map link_bytes ls) in
     omega (arith, links_len ls)
 
@@ -101,9 +101,9 @@ links_again limit (l ∷ ls) n r all room after end =
     let ok = All-head (IsLink limit) l ls all in
     let later : Text = flat_map link_bytes ls ++ r in
     let next : Text = part_bytes l.part ++ later in
-    let shape : (flat_map link_bytes (l ∷ ls)) ++ r ≡ l.space_before_hash ++ (35 ∷ (l.space_behind_hash ++ next)) = simp append_assoc in
-    let skipped : after_run is_space (l.space_before_hash ++ (35 ∷ (l.space_behind_hash ++ next))) ≡ 35 ∷ (l.space_behind_hash ++ next) = skip_space l.space_before_hash (35 ∷ (l.space_behind_hash ++ next)) ok.space_before_hash (hash_stands (l.space_behind_hash ++ next)) in
-    let inner : after_run is_space (l.space_behind_hash ++ next) ≡ next = skip_space l.space_behind_hash next ok.space_behind_hash (part_stands limit l.part later ok.part) in
+    let shape : (flat_map link_bytes (l ∷ ls)) ++ r ≡ l.space_before_hash ++ (35 ∷ (l.space_after_hash ++ next)) = simp append_assoc in
+    let skipped : after_run is_space (l.space_before_hash ++ (35 ∷ (l.space_after_hash ++ next))) ≡ 35 ∷ (l.space_after_hash ++ next) = skip_space l.space_before_hash (35 ∷ (l.space_after_hash ++ next)) ok.space_before_hash (hash_stands (l.space_after_hash ++ next)) in
+    let inner : after_run is_space (l.space_after_hash ++ next) ≡ next = skip_space l.space_after_hash next ok.space_after_hash (part_stands limit l.part later ok.part) in
     let found : Some next ≡ past_hash (after_run is_space (flat_map link_bytes (l ∷ ls) ++ r)) = sym (ap (λ (u : Text). past_hash (after_run is_space u)) shape ∙ ap past_hash skipped ∙ ap Some inner) in
     let read = part_again limit l.part later ok.part (links_after limit ls r (All-tail (IsLink limit) l ls all) after) in
     links_more limit n _ next (l.part, later) (omega arith) found read ∙ links_again limit ls (n - 1) r (All-tail (IsLink limit) l ls all) (omega arith) after end
@@ -144,20 +144,20 @@ equals_stands x = refl
 
 -- what is read of an assignment with this text after it
 abbrev pub assigned_of : Assignment → Text → Assigned
-assigned_of a u = record { name = a.name; value = value_bytes a.value; value_left = length (value_bytes a.value ++ (a.space_behind ++ u)) }
+assigned_of a u = record { name = a.name; value = value_bytes a.value; value_left = length (value_bytes a.value ++ (a.space_after ++ u)) }
 
 pub assignment_again : (limit : ℕ) (a : Assignment) (b : ℕ) (x : Text) → IsAssignment limit a → EndsRow b → read_assignment limit (assignment_inside a (b ∷ x)) ≡ Ok (assigned_of a (b ∷ x), b ∷ x)
 unfolding read_assignment
 assignment_again limit a b x is ends =
-    let t6 : Text = a.space_behind ++ (b ∷ x) in
+    let t6 : Text = a.space_after ++ (b ∷ x) in
     let t5 : Text = value_bytes a.value ++ t6 in
     let t3 : Text = 61 ∷ (a.space_before_value ++ t5) in
     let t1 : Text = a.name ++ (a.space_before_equals ++ t3) in
     let e2 : read_name limit t1 ≡ Ok (a.name, a.space_before_equals ++ t3) = name_again limit a.name (a.space_before_equals ++ t3) is.name (after_space a.space_before_equals 61 (a.space_before_value ++ t5) is.space_before_equals equals_breaks).name in
     let e3 : after_run is_space (a.space_before_equals ++ t3) ≡ t3 = skip_space a.space_before_equals t3 is.space_before_equals (equals_stands (a.space_before_value ++ t5)) in
     let e4 : after_run is_space (a.space_before_value ++ t5) ≡ t5 = skip_space a.space_before_value t5 is.space_before_value (value_stands limit a.value t6 is.value) in
-    let e5 : read_value limit t5 ≡ Ok (value_bytes a.value, t6) = value_again limit a.value t6 is.value (after_space a.space_behind b x is.space_behind ends.breaks) (no_link a.space_behind b x is.space_behind ends) in
-    let e6 : after_run is_space t6 ≡ b ∷ x = skip_space a.space_behind (b ∷ x) is.space_behind (not_from_false _ ends.no_space) in
+    let e5 : read_value limit t5 ≡ Ok (value_bytes a.value, t6) = value_again limit a.value t6 is.value (after_space a.space_after b x is.space_after ends.breaks) (no_link a.space_after b x is.space_after ends) in
+    let e6 : after_run is_space t6 ≡ b ∷ x = skip_space a.space_after (b ∷ x) is.space_after (not_from_false _ ends.no_space) in
     rw (e2, e3, e4, e5, e6) refl
 
 pub row_again : (limit : ℕ) (r : Row) (b : ℕ) (x : Text) → IsRow limit r → EndsRow b → read_row limit (row_inside r (b ∷ x)) ≡ Ok (b ∷ x)

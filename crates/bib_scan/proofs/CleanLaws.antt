@@ -44,11 +44,11 @@ begins_at b v x =
     let named = stopped_rest is_space 64 v x at_no_space in
     let w = after_run is_space v in
     let name : take_while is_type_byte (after_run is_space (v ++ 64 ∷ x)) ≡ take_while is_type_byte w = ap (take_while is_type_byte) named ∙ stopped_front is_type_byte 64 w x at_no_type in
-    let behind : opens_body (after_run is_space (after_run is_type_byte (after_run is_space (v ++ 64 ∷ x)))) ≡ opens_body (after_run is_space (after_run is_type_byte w)) =
+    let after : opens_body (after_run is_space (after_run is_type_byte (after_run is_space (v ++ 64 ∷ x)))) ≡ opens_body (after_run is_space (after_run is_type_byte w)) =
     ap (λ (u : Text). opens_body (after_run is_space u)) (ap (after_run is_type_byte) named ∙ stopped_rest is_type_byte 64 w x at_no_type)
     ∙ ap opens_body (stopped_rest is_space 64 (after_run is_type_byte w) x at_no_space) ∙ opens_at (after_run is_space (after_run is_type_byte w)) x in
     let G : Text → Bool → Bool = λ n o. b == 64 && is_name n && (same n (codes "comment") || o) in
-    ap (λ (n : Text). G n (opens_body (after_run is_space (after_run is_type_byte (after_run is_space (v ++ 64 ∷ x)))))) name ∙ ap (λ (o : Bool). G (take_while is_type_byte w) o) behind
+    ap (λ (n : Text). G n (opens_body (after_run is_space (after_run is_type_byte (after_run is_space (v ++ 64 ∷ x)))))) name ∙ ap (λ (o : Bool). G (take_while is_type_byte w) o) after
 
 -- ---- clean texts
 

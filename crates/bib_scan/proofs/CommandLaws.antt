@@ -6,7 +6,7 @@ use Rattle.std.specs.Prelude.{codes}
 use Rattle.std.specs.List.{take_while, flat_map}
 use Rattle.bib_spec.specs.Text.{Text, is_space, is_type_byte, same, does_not_begin_with, after_run}
 use Rattle.bib_spec.specs.Clean.{begins_command, opens_body}
-use Rattle.bib_spec.specs.Tree.{Entry, Definition, Preamble, Head, Opening, Delimiter, Tree, CommentTree, DefinitionTree, PreambleTree, EntryTree, value_bytes, assignment_bytes, row_bytes, last_comma_bytes, open_byte, close_byte, head_bytes, opening_bytes, behind_key_bytes, tree_bytes, is_comment, goes_on_key, is_no_keyword, IsSpace, IsHead, IsOpening, IsDefinition, IsPreamble, IsEntry, IsTree}
+use Rattle.bib_spec.specs.Tree.{Entry, Definition, Preamble, Head, Opening, Delimiter, Tree, CommentTree, DefinitionTree, PreambleTree, EntryTree, value_bytes, assignment_bytes, row_bytes, last_comma_bytes, open_byte, close_byte, head_bytes, opening_bytes, after_key_bytes, tree_bytes, is_comment, goes_on_key, is_no_keyword, IsSpace, IsHead, IsOpening, IsDefinition, IsPreamble, IsEntry, IsTree}
 use Rattle.bib_scan.specs.LeftToRight.{read_value, read_row, read_entry, read_definition, read_preamble, delimiter_of, read_body, read_command}
 use Rattle.bib_scan.proofs.RunLaws.{bind_ok, chosen, ok_same, run_split, run_passes, run_stops, limited_ok}
 use Rattle.bib_scan.proofs.PartLaws.{type_name_from}
@@ -23,18 +23,18 @@ pub record IsTyped (y : Typed) : Type 0 where
   pub space_before_delimiter : IsSpace y.space_before_delimiter
 
 abbrev pub opening : Typed → Delimiter → Text → Opening
-opening y d behind = record {
+opening y d after = record {
   head = y.head;
   space_before_delimiter = y.space_before_delimiter;
   delimiter = d;
-  space_behind = behind;
+  space_after = after;
 }
 
-pub is_opening : (y : Typed) (d : Delimiter) (behind : Text) → IsTyped y → IsSpace behind → IsOpening (opening y d behind)
-is_opening y d behind ok space = record {
+pub is_opening : (y : Typed) (d : Delimiter) (after : Text) → IsTyped y → IsSpace after → IsOpening (opening y d after)
+is_opening y d after ok space = record {
   head = ok.head;
   space_before_delimiter = ok.space_before_delimiter;
-  space_behind = space;
+  space_after = space;
 }
 
 -- the bytes up to the delimiter
@@ -52,8 +52,8 @@ is_no_comment P e = cc
 abbrev pub IsTreeOf : ℕ → Text → Text → Type 0
 IsTreeOf limit whole rest = (tree : Tree) × IsTree limit tree × (whole ≡ tree_bytes tree ++ rest) × EndsName tree rest
 
-opening_shape : (y : Typed) (d : Delimiter) (behind u : Text) → typed_bytes y ++ (open_byte d ∷ (behind ++ u)) ≡ opening_bytes (opening y d behind) ++ u
-opening_shape y d behind u = sym (append_assoc (typed_bytes y) (open_byte d ∷ behind) u)
+opening_shape : (y : Typed) (d : Delimiter) (after u : Text) → typed_bytes y ++ (open_byte d ∷ (after ++ u)) ≡ opening_bytes (opening y d after) ++ u
+opening_shape y d after u = sym (append_assoc (typed_bytes y) (open_byte d ∷ after) u)
 
 definition_ok : (limit : ℕ) (y : Typed) (d : Delimiter) (t rest : Text) → IsTyped y → same y.head.type_name (codes "string") ≡ true → read_definition limit (close_byte d) t ≡ Ok rest → IsTreeOf limit (typed_bytes y ++ (open_byte d ∷ t)) rest
 definition_ok limit y d t rest ok named is =
@@ -84,19 +84,19 @@ preamble_ok limit y d t rest ok named is =
     let v = value_ok limit _ _ x.1 in
     let end = closing_ok _ _ _ x.2 in
     let before = take_while is_space t in
-    let behind = take_while is_space x.0.1 in
+    let after = take_while is_space x.0.1 in
     let o = opening y d before in
-    let tree : Preamble = record { opening = o; value = v.0; space_behind = behind } in
+    let tree : Preamble = record { opening = o; value = v.0; space_after = after } in
     let good : IsPreamble limit tree = record {
       opening = is_opening y d before ok (run_passes is_space t);
       type_name = named;
       value = v.1;
-      space_behind = run_passes is_space x.0.1;
+      space_after = run_passes is_space x.0.1;
     } in
-    let last : x.0.1 ≡ behind ++ (close_byte d ∷ rest) = space_split x.0.1 ∙ ap (λ (u : Text). behind ++ u) end in
-    let inside : t ≡ before ++ (value_bytes v.0 ++ (behind ++ (close_byte d ∷ rest))) =
+    let last : x.0.1 ≡ after ++ (close_byte d ∷ rest) = space_split x.0.1 ∙ ap (λ (u : Text). after ++ u) end in
+    let inside : t ≡ before ++ (value_bytes v.0 ++ (after ++ (close_byte d ∷ rest))) =
     space_split t ∙ ap (λ (u : Text). before ++ u) (v.3 ∙ ap (λ (u : Text). u ++ x.0.1) v.2 ∙ ap (λ (u : Text). value_bytes v.0 ++ u) last) in
-    (PreambleTree tree, good, ap (λ (u : Text). typed_bytes y ++ (open_byte d ∷ u)) inside ∙ opening_shape y d before _ ∙ sym (four_regroup (opening_bytes o) (value_bytes v.0) behind (close_byte d) rest), is_no_comment _)
+    (PreambleTree tree, good, ap (λ (u : Text). typed_bytes y ++ (open_byte d ∷ u)) inside ∙ opening_shape y d before _ ∙ sym (four_regroup (opening_bytes o) (value_bytes v.0) after (close_byte d) rest), is_no_comment _)
 
 -- a front that is not empty stops a run where the whole does
 pub stops_front : (test : ℕ → Bool) (u r : Text) → 0 < length u → does_not_begin_with test (u ++ r) ≡ true → does_not_begin_with test u ≡ true
@@ -116,22 +116,22 @@ entry_ok limit y d t rest ok named is =
     let before = take_while is_space t in
     let gap = take_while is_space x.0.1 in
     let o = opening y d before in
-    let e : Entry = record { opening = o; key = x.0.0; space_behind_key = gap; rows = rs.0; last_comma = rs.1 } in
-    let last : x.0.1 ≡ behind_key_bytes e ++ rest = space_split x.0.1 ∙ ap (λ (u : Text). gap ++ u) rs.4 ∙ sym (four_regroup gap (flat_map row_bytes rs.0) (last_comma_bytes rs.1) (close_byte d) rest) in
-    let long : 0 < length (behind_key_bytes e) = omega (arith, length-append (gap ++ flat_map row_bytes rs.0 ++ last_comma_bytes rs.1) (close_byte d ∷ [])) in
+    let e : Entry = record { opening = o; key = x.0.0; space_after_key = gap; rows = rs.0; last_comma = rs.1 } in
+    let last : x.0.1 ≡ after_key_bytes e ++ rest = space_split x.0.1 ∙ ap (λ (u : Text). gap ++ u) rs.4 ∙ sym (four_regroup gap (flat_map row_bytes rs.0) (last_comma_bytes rs.1) (close_byte d) rest) in
+    let long : 0 < length (after_key_bytes e) = omega (arith, length-append (gap ++ flat_map row_bytes rs.0 ++ last_comma_bytes rs.1) (close_byte d ∷ [])) in
     let good : IsEntry limit e = record {
       opening = is_opening y d before ok (run_passes is_space t);
       type_name = named;
       key = k.pass;
       key_len = k.len;
       key_ends = stops_front (goes_on_key d) _ rest long (subst (λ (u : Text). does_not_begin_with (goes_on_key d) u ≡ true) last k.ends);
-      space_behind_key = run_passes is_space x.0.1;
+      space_after_key = run_passes is_space x.0.1;
       empty_key = λ none. no_space x.0.1 (subst Stands (k.split ∙ ap (λ (u : Text). u ++ x.0.1) none) (run_stops is_space t));
       rows = rs.2;
       last_comma = rs.3;
     } in
-    let inside : t ≡ before ++ (x.0.0 ++ (behind_key_bytes e ++ rest)) = space_split t ∙ ap (λ (u : Text). before ++ u) (k.split ∙ ap (λ (u : Text). x.0.0 ++ u) last) in
-    (EntryTree e, good, ap (λ (u : Text). typed_bytes y ++ (open_byte d ∷ u)) inside ∙ opening_shape y d before _ ∙ sym (append_assoc (opening_bytes o ++ x.0.0) (behind_key_bytes e) rest ∙ append_assoc (opening_bytes o) x.0.0 _), is_no_comment _)
+    let inside : t ≡ before ++ (x.0.0 ++ (after_key_bytes e ++ rest)) = space_split t ∙ ap (λ (u : Text). before ++ u) (k.split ∙ ap (λ (u : Text). x.0.0 ++ u) last) in
+    (EntryTree e, good, ap (λ (u : Text). typed_bytes y ++ (open_byte d ∷ u)) inside ∙ opening_shape y d before _ ∙ sym (append_assoc (opening_bytes o ++ x.0.0) (after_key_bytes e) rest ∙ append_assoc (opening_bytes o) x.0.0 _), is_no_comment _)
 
 pub open_is : (b : ℕ) (t : Text) → opens_body (b ∷ t) ≡ true → open_byte (delimiter_of b) ≡ b
 open_is b t is =
@@ -167,27 +167,27 @@ command_ok limit (b ∷ t) rest here is =
     let signs = and_parts _ _ parts.0 in
     let at : b ≡ 64 = eqb-true b 64 signs.0 in
     let named = after_run is_space t in
-    let behind = after_run is_type_byte named in
+    let after = after_run is_type_byte named in
     let head : Head = record { space_before_type = take_while is_space t; type_name = take_while is_type_byte named } in
     let good : IsHead head = record {
       space_before_type = run_passes is_space t;
       type_name = type_name_from head.type_name signs.1 (run_passes is_type_byte named);
     } in
-    let start : b ∷ t ≡ head_bytes head ++ behind =
+    let start : b ∷ t ≡ head_bytes head ++ after =
     ap (λ (c : ℕ). c ∷ t) at ∙ ap (λ (u : Text). 64 ∷ u) (space_split t ∙ ap (λ (u : Text). head.space_before_type ++ u) (sym (run_split is_type_byte named)))
-    ∙ sym (append_assoc (64 ∷ head.space_before_type) head.type_name behind) in
+    ∙ sym (append_assoc (64 ∷ head.space_before_type) head.type_name after) in
     elim (chosen (same head.type_name (codes "comment")) _ _ _ is) [
       | inl comment ↦
-          let same_rest = ok_same behind rest _ refl comment.1 in (
+          let same_rest = ok_same after rest _ refl comment.1 in (
             CommentTree head,
             record { head = good; type_name = comment.0 },
             start ∙ ap (λ (u : Text). head_bytes head ++ u) same_rest,
             λ e. subst (λ (u : Text). does_not_begin_with is_type_byte u ≡ true) same_rest (run_stops is_type_byte named),
           )
       | inr other ↦
-          let y : Typed = record { head = head; space_before_delimiter = take_while is_space behind } in
-          let ok : IsTyped y = record { head = good; space_before_delimiter = run_passes is_space behind } in
-          let shape : b ∷ t ≡ typed_bytes y ++ after_run is_space behind =
-          start ∙ ap (λ (u : Text). head_bytes head ++ u) (space_split behind) ∙ sym (append_assoc (head_bytes head) y.space_before_delimiter _) in
+          let y : Typed = record { head = head; space_before_delimiter = take_while is_space after } in
+          let ok : IsTyped y = record { head = good; space_before_delimiter = run_passes is_space after } in
+          let shape : b ∷ t ≡ typed_bytes y ++ after_run is_space after =
+          start ∙ ap (λ (u : Text). head_bytes head ++ u) (space_split after) ∙ sym (append_assoc (head_bytes head) y.space_before_delimiter _) in
           subst (λ (u : Text). IsTreeOf limit u rest) (sym shape) (body_ok limit y _ rest ok (or-second other.0 parts.1) other.0 other.1)
     ]

@@ -86,9 +86,9 @@ pub stops_at : (limit : ℕ) (some : 0 < limit) (t : Text) (h : Halt) → read_a
 stops_at limit some t h is =
     let file = file_stop limit t h is in
     let p = inside limit file.type_name file.delimiter in
-    let stopped : plain p file.behind ≡ Err h = ap (λ (m : Result Text Halt). m >>= ready) file.stopped in
-    let at : LocalAt (plain p) file.behind (Err h) = subst (LocalAt (plain p) file.behind) stopped (local_inside limit file.type_name file.delimiter file.no_comment file.behind) in
-    let m = mend_inside limit some file.type_name file.delimiter file.no_comment file.behind h stopped in
+    let stopped : plain p file.after ≡ Err h = ap (λ (m : Result Text Halt). m >>= ready) file.stopped in
+    let at : LocalAt (plain p) file.after (Err h) = subst (LocalAt (plain p) file.after) stopped (local_inside limit file.type_name file.delimiter file.no_comment file.after) in
+    let m = mend_inside limit some file.type_name file.delimiter file.no_comment file.after h stopped in
     let w = m.works [] tt in
     let one = bind_ok (p (m.front ++ (m.end ++ []))) ready (w.0, []) w.1 in
     let rest : one.0 ≡ [] = ap (λ (y : Unit {0} × Text). y.1) (ok_same {A = Unit {0} × Text} (tt, one.0) (w.0, []) _ refl one.2) in

@@ -7,9 +7,9 @@ use Rattle.std.specs.List.{take_while, AllPass}
 use Rattle.bib_spec.specs.Bytes.{name_limit}
 use Rattle.bib_spec.specs.Text.{Text, is_space, is_type_byte, same, after_run, does_not_begin_with}
 use Rattle.bib_spec.specs.Tree as tree
-use Rattle.bib_spec.specs.Tree.{Tree, CommentTree, DefinitionTree, PreambleTree, EntryTree, Head, Opening, Delimiter, Brace, Paren, row_bytes, value_bytes, head_bytes, opening_bytes, open_byte, close_byte, last_comma_bytes, behind_key_bytes, tree_bytes, goes_on_key, is_no_keyword, IsHead, IsOpening, IsTree}
+use Rattle.bib_spec.specs.Tree.{Tree, CommentTree, DefinitionTree, PreambleTree, EntryTree, Head, Opening, Delimiter, Brace, Paren, row_bytes, value_bytes, head_bytes, opening_bytes, open_byte, close_byte, last_comma_bytes, after_key_bytes, tree_bytes, goes_on_key, is_no_keyword, IsHead, IsOpening, IsTree}
 use Rattle.bib_scan.specs.View.{Field, fields_of, view_of}
-use Rattle.bib_scan.specs.FieldsLeft.{fields_left, all_fields_left, read_head, kind_named, first_row, read_opening, view_behind, read_view}
+use Rattle.bib_scan.specs.FieldsLeft.{fields_left, all_fields_left, read_head, kind_named, first_row, read_opening, view_after, read_view}
 use Rattle.bib_scan.specs.declared.view.Kind.{Kind}
 use Rattle.bib_scan.specs.declared.view.Kind.TheVariants as kind
 use Rattle.bib_scan.proofs.RunLaws.{run_front, run_rest}
@@ -41,23 +41,23 @@ pub record OpenedWith (t : Text) (o : Opening) (u : Text) : Type 0 where
 
 pub opened_with : (t : Text) (o : Opening) (u : Text) → IsOpening o → Stands u → t ≡ opening_bytes o ++ u → OpenedWith t o u
 opened_with t o u is stands whole =
-    let inside : Text = open_byte o.delimiter ∷ (o.space_behind ++ u) in
-    let behind : Text = o.space_before_delimiter ++ inside in
-    let shape : t ≡ head_bytes o.head ++ behind = whole ∙ opening_shape o u ∙ sym (head_shape o.head behind) in
-    let head : read_head t ≡ (o.head.type_name, behind) = ap read_head shape ∙ head_again o.head behind is.head (type_ends o.space_before_delimiter o.delimiter (o.space_behind ++ u) is.space_before_delimiter) in
-    let skipped : after_run is_space behind ≡ inside = skip_space o.space_before_delimiter inside is.space_before_delimiter (not_from_false _ (open_no_space o.delimiter)) in
+    let inside : Text = open_byte o.delimiter ∷ (o.space_after ++ u) in
+    let after : Text = o.space_before_delimiter ++ inside in
+    let shape : t ≡ head_bytes o.head ++ after = whole ∙ opening_shape o u ∙ sym (head_shape o.head after) in
+    let head : read_head t ≡ (o.head.type_name, after) = ap read_head shape ∙ head_again o.head after is.head (type_ends o.space_before_delimiter o.delimiter (o.space_after ++ u) is.space_before_delimiter) in
+    let skipped : after_run is_space after ≡ inside = skip_space o.space_before_delimiter inside is.space_before_delimiter (not_from_false _ (open_no_space o.delimiter)) in
     record {
       type_name = ap (λ (h : Text × Text). h.0) head;
-      opening = ap (λ (h : Text × Text). read_opening (after_run is_space h.1)) head ∙ ap read_opening skipped ∙ opening_again o.delimiter o.space_behind u is.space_behind stands;
+      opening = ap (λ (h : Text × Text). read_opening (after_run is_space h.1)) head ∙ ap read_opening skipped ∙ opening_again o.delimiter o.space_after u is.space_after stands;
     }
 
 -- a body that begins with this opening
-opened_again : (body trail : Text) (o : Opening) (u : Text) (k : Kind) → IsOpening o → Stands u → kind_named o.head.type_name ≡ k → body ≡ opening_bytes o ++ u → read_view body trail ≡ view_behind body trail o.head.type_name k (o.delimiter, u)
+opened_again : (body trail : Text) (o : Opening) (u : Text) (k : Kind) → IsOpening o → Stands u → kind_named o.head.type_name ≡ k → body ≡ opening_bytes o ++ u → read_view body trail ≡ view_after body trail o.head.type_name k (o.delimiter, u)
 opened_again body trail o u k is stands named whole =
     let at = opened_with body o u is stands whole in
-    ap (λ (q : Delimiter × Text). view_behind body trail (read_head body).0 (kind_named (read_head body).0) q) at.opening
-    ∙ ap (λ (n : Text). view_behind body trail n (kind_named n) (o.delimiter, u)) at.type_name
-    ∙ ap (λ (j : Kind). view_behind body trail o.head.type_name j (o.delimiter, u)) named
+    ap (λ (q : Delimiter × Text). view_after body trail (read_head body).0 (kind_named (read_head body).0) q) at.opening
+    ∙ ap (λ (n : Text). view_after body trail n (kind_named n) (o.delimiter, u)) at.type_name
+    ∙ ap (λ (j : Kind). view_after body trail o.head.type_name j (o.delimiter, u)) named
 
 -- ---- kinds
 
@@ -84,8 +84,8 @@ unfolding fields_left
 comment_view h trail is =
     let body : Text = head_bytes h in
     let head : read_head body ≡ (h.type_name, []) = ap read_head (sym (append-nil body)) ∙ head_again h [] is.head refl in
-    ap (λ (x : Text × Text). view_behind body trail x.0 (kind_named x.0) (read_opening (after_run is_space x.1))) head
-    ∙ ap (λ (k : Kind). view_behind body trail h.type_name k (Brace, [])) (comment_named h.type_name is.type_name)
+    ap (λ (x : Text × Text). view_after body trail x.0 (kind_named x.0) (read_opening (after_run is_space x.1))) head
+    ∙ ap (λ (k : Kind). view_after body trail h.type_name k (Brace, [])) (comment_named h.type_name is.type_name)
 
 definition_view : (d : tree.Definition) (trail : Text) → IsTree name_limit (DefinitionTree d) → read_view (tree_bytes (DefinitionTree d)) trail ≡ view_of (record { tree = DefinitionTree d; trail = trail })
 definition_view d trail is =
@@ -101,24 +101,24 @@ preamble_view : (p : tree.Preamble) (trail : Text) → IsTree name_limit (Preamb
 preamble_view p trail is =
     let body : Text = tree_bytes (PreambleTree p) in
     let c = close_byte p.opening.delimiter in
-    let u : Text = value_bytes p.value ++ (p.space_behind ++ c ∷ []) in
+    let u : Text = value_bytes p.value ++ (p.space_after ++ c ∷ []) in
     let whole : body ≡ opening_bytes p.opening ++ u = sym (append-nil body) ∙ preamble_shape p [] in
     let read = opened_again body trail p.opening u kind.Preamble is.opening (value_stands name_limit p.value _ is.value) (preamble_named p.opening.head.type_name is.type_name) whole in
-    let field = preamble_field_again (length body) (opening_bytes p.opening) p.value p.space_behind c [] is.value is.space_behind (closes p.opening.delimiter).ends (ap (length {A = ℕ}) whole) in
+    let field = preamble_field_again (length body) (opening_bytes p.opening) p.value p.space_after c [] is.value is.space_after (closes p.opening.delimiter).ends (ap (length {A = ℕ}) whole) in
     read ∙ ap (λ (fs : List Field). record (view_of (record { tree = PreambleTree p; trail = trail })) { fields = fs }) field
 
--- the fields of an entry are read behind its key
-pub entry_fields : (e : tree.Entry) → IsTree name_limit (EntryTree e) → all_fields_left kind.Entry (length (tree_bytes (EntryTree e))) (after_run is_space (behind_key_bytes e)) ≡ fields_of (EntryTree e)
+-- the fields of an entry are read after its key
+pub entry_fields : (e : tree.Entry) → IsTree name_limit (EntryTree e) → all_fields_left kind.Entry (length (tree_bytes (EntryTree e))) (after_run is_space (after_key_bytes e)) ≡ fields_of (EntryTree e)
 entry_fields e is =
     let c = close_byte e.opening.delimiter in
     let front : Text = opening_bytes e.opening in
     let inside : Text = rows_inside c e.rows e.last_comma [] in
     let at = entry_in name_limit e [] is in
-    let behind : behind_key_bytes e ≡ behind_key_bytes e ++ [] = sym (append-nil (behind_key_bytes e)) in
-    let before : Text = front ++ e.key ++ e.space_behind_key in
+    let after : after_key_bytes e ≡ after_key_bytes e ++ [] = sym (append-nil (after_key_bytes e)) in
+    let before : Text = front ++ e.key ++ e.space_after_key in
     let whole : tree_bytes (EntryTree e) ≡ before ++ inside =
-    append_assoc front e.key (behind_key_bytes e) ∙ ap (λ (v : Text). front ++ (e.key ++ v)) (behind ∙ at.shape) ∙ sym (append_assoc (front ++ e.key) e.space_behind_key inside ∙ append_assoc front e.key _) in
-    ap (λ (u : Text). all_fields_left kind.Entry (length (tree_bytes (EntryTree e))) (after_run is_space u)) behind
+    append_assoc front e.key (after_key_bytes e) ∙ ap (λ (v : Text). front ++ (e.key ++ v)) (after ∙ at.shape) ∙ sym (append_assoc (front ++ e.key) e.space_after_key inside ∙ append_assoc front e.key _) in
+    ap (λ (u : Text). all_fields_left kind.Entry (length (tree_bytes (EntryTree e))) (after_run is_space u)) after
     ∙ ap (all_fields_left kind.Entry (length (tree_bytes (EntryTree e)))) at.rows
     ∙ rows_fields_again e.rows (length inside) _ c before e.last_comma [] is.rows is.last_comma (closes e.opening.delimiter) at.room (ap (length {A = ℕ}) whole)
 
@@ -127,14 +127,14 @@ entry_view e trail is =
     let body : Text = tree_bytes (EntryTree e) in
     let d = e.opening.delimiter in
     let front : Text = opening_bytes e.opening in
-    let behind : Text = behind_key_bytes e in
-    let u : Text = e.key ++ behind in
-    let stands : Stands u = subst (λ (v : Text). Stands (e.key ++ v)) (append-nil behind) (entry_in name_limit e [] is).stands in
-    let whole : body ≡ front ++ u = append_assoc front e.key behind in
+    let after : Text = after_key_bytes e in
+    let u : Text = e.key ++ after in
+    let stands : Stands u = subst (λ (v : Text). Stands (e.key ++ v)) (append-nil after) (entry_in name_limit e [] is).stands in
+    let whole : body ≡ front ++ u = append_assoc front e.key after in
     let read = opened_again body trail e.opening u kind.Entry is.opening stands (entry_named e.opening.head.type_name is.type_name) whole in
-    let key : take_while (goes_on_key d) u ≡ e.key = run_front (goes_on_key d) e.key behind is.key is.key_ends in
+    let key : take_while (goes_on_key d) u ≡ e.key = run_front (goes_on_key d) e.key after is.key is.key_ends in
     let key_at : length body - length u ≡ length front = omega (arith, ap (length {A = ℕ}) whole, length-append front u) in
-    let fields = ap (λ (v : Text). all_fields_left kind.Entry (length body) (after_run is_space v)) (run_rest (goes_on_key d) e.key behind is.key is.key_ends) ∙ entry_fields e is in
+    let fields = ap (λ (v : Text). all_fields_left kind.Entry (length body) (after_run is_space v)) (run_rest (goes_on_key d) e.key after is.key is.key_ends) ∙ entry_fields e is in
     read ∙ (λ i. record {
       kind = kind.Entry;
       body = body;
@@ -154,15 +154,15 @@ view_again (EntryTree e) trail is = entry_view e trail is
 -- ---- what the code finds
 
 -- the head, kind and opening of a body lead to the view of its item
-pub view_found : (body trail : Text) (head : Text × Text) (k : Kind) (opened : Delimiter × Text) (t : Tree) → head ≡ read_head body → k ≡ kind_named head.0 → opened ≡ read_opening (after_run is_space head.1) → IsTree name_limit t → tree_bytes t ≡ body → view_behind body trail head.0 k opened ≡ view_of (record { tree = t; trail = trail })
+pub view_found : (body trail : Text) (head : Text × Text) (k : Kind) (opened : Delimiter × Text) (t : Tree) → head ≡ read_head body → k ≡ kind_named head.0 → opened ≡ read_opening (after_run is_space head.1) → IsTree name_limit t → tree_bytes t ≡ body → view_after body trail head.0 k opened ≡ view_of (record { tree = t; trail = trail })
 view_found body trail head k opened t head_is k_is opened_is is whole =
-    ap (λ (j : Kind). view_behind body trail head.0 j opened) k_is
-    ∙ ap (λ (q : Delimiter × Text). view_behind body trail head.0 (kind_named head.0) q) opened_is
-    ∙ ap (λ (x : Text × Text). view_behind body trail x.0 (kind_named x.0) (read_opening (after_run is_space x.1))) head_is
+    ap (λ (j : Kind). view_after body trail head.0 j opened) k_is
+    ∙ ap (λ (q : Delimiter × Text). view_after body trail head.0 (kind_named head.0) q) opened_is
+    ∙ ap (λ (x : Text × Text). view_after body trail x.0 (kind_named x.0) (read_opening (after_run is_space x.1))) head_is
     ∙ ap (λ (b : Text). read_view b trail) (sym whole) ∙ view_again t trail is
 
 -- an item that is no entry has no key
-pub plain_view : (body trail type_name : Text) (k : Kind) (opened : Delimiter × Text) → (k ≡ kind.Entry → ⊥) → view_behind body trail type_name k opened ≡ record { kind = k; body = body; trail = trail; type_name = type_name; key = []; key_at = 0; fields = all_fields_left k (length body) (first_row k opened.1) }
+pub plain_view : (body trail type_name : Text) (k : Kind) (opened : Delimiter × Text) → (k ≡ kind.Entry → ⊥) → view_after body trail type_name k opened ≡ record { kind = k; body = body; trail = trail; type_name = type_name; key = []; key_at = 0; fields = all_fields_left k (length body) (first_row k opened.1) }
 plain_view body trail type_name kind.Entry opened other = absurd (other refl)
 plain_view body trail type_name kind.Macro opened other = refl
 plain_view body trail type_name kind.Preamble opened other = refl

@@ -112,8 +112,8 @@ file_wrong t h is =
     let same_limit : 255 ≤ 255 = omega arith in
     let longer : 255 ≤ 256 = omega arith in
     let some_more : 0 < 256 = omega arith in
-    let stopped : plain p file.behind ≡ Err h = ap (λ (m : Result Text Halt). m >>= ready) file.stopped in
-    let m : TellsAt (plain p) (λ d. Unit {0}) file.behind h = tell_inside name_limit some file.type_name file.delimiter file.no_comment file.behind h stopped in
+    let stopped : plain p file.after ≡ Err h = ap (λ (m : Result Text Halt). m >>= ready) file.stopped in
+    let m : TellsAt (plain p) (λ d. Unit {0}) file.after h = tell_inside name_limit some file.type_name file.delimiter file.no_comment file.after h stopped in
     let w = widen_inside name_limit file.type_name file.delimiter file.no_comment in
     let split : t ≡ (file.before ++ m.front) ++ h.rest = file.split ∙ ap (λ (u : Text). file.before ++ u) m.split ∙ sym (append_assoc file.before m.front h.rest) in
     record {
@@ -123,9 +123,9 @@ file_wrong t h is =
       passed = λ d ok. past_at name_limit t h file 255 same_limit some m.front d (m.passed d ok);
       blocked = λ d ok. stopped_stuck name_limit t h file 255 same_limit some m.front d (m.blocked d ok);
       digit = λ asks. digit file m.front (m.digit asks);
-      long = λ c v rest is_long. past_at name_limit t h file 256 longer some_more m.front c (w.long file.behind m.front h c v stopped is_long m.split rest);
+      long = λ c v rest is_long. past_at name_limit t h file 256 longer some_more m.front c (w.long file.after m.front h c v stopped is_long m.split rest);
       short = λ c v rest is_short.
-          let read : read_all_commands 256 t ≡ Err h = ap (read_all_commands 256) file.split ∙ file.stops 256 longer file.behind h (fault_of _ _ (w.same file.behind h stopped is_short)) in
+          let read : read_all_commands 256 t ≡ Err h = ap (read_all_commands 256) file.split ∙ file.stops 256 longer file.after h (fault_of _ _ (w.same file.after h stopped is_short)) in
           stuck_at 256 some_more t (file.before ++ m.front) h c v read split rest;
     }
   where

@@ -154,6 +154,6 @@ trail_is b places n end s db i layout lt is ends reads found =
     let start : s.end ≡ at.start + length body = ap (λ (x : Span). x.end) (span_is b places n s at is) in
     let stop = ends ∙ end_is b places n at in
     let len : length trail ≡ end - s.end = omega arith in
-    let behind : drop s.end b ≡ trail ++ at.rest =
+    let after : drop s.end b ≡ trail ++ at.rest =
     ap (λ (m : ℕ). drop m b) start ∙ sym (drop-drop (length body) at.start b) ∙ ap (drop (length body)) (at.split ∙ append_assoc body trail at.rest) ∙ drop_at body (trail ++ at.rest) _ refl in
-    ap (take (end - s.end)) behind ∙ take_at trail at.rest _ len ∙ ap (λ (x : Item). x.trail) (item_is b places n at db i reads found)
+    ap (take (end - s.end)) after ∙ take_at trail at.rest _ len ∙ ap (λ (x : Item). x.trail) (item_is b places n at db i reads found)

@@ -25,7 +25,7 @@ module _ (limit m : ℕ) (longer : limit ≤ m) where
   longer_part (Macro t) is = longer_name t is
 
   longer_link : (l : Link) → IsLink limit l → IsLink m l
-  longer_link l is = record { space_before_hash = is.space_before_hash; space_behind_hash = is.space_behind_hash; part = longer_part l.part is.part }
+  longer_link l is = record { space_before_hash = is.space_before_hash; space_after_hash = is.space_after_hash; part = longer_part l.part is.part }
 
   longer_value : (v : Value) → IsValue limit v → IsValue m v
   longer_value v is = record { first = longer_part v.first is.first; links = longer_all (IsLink limit) (IsLink m) longer_link v.links is.links }
@@ -36,7 +36,7 @@ module _ (limit m : ℕ) (longer : limit ≤ m) where
     space_before_equals = is.space_before_equals;
     space_before_value = is.space_before_value;
     value = longer_value a.value is.value;
-    space_behind = is.space_behind;
+    space_after = is.space_after;
   }
 
   longer_row : (r : Row) → IsRow limit r → IsRow m r
@@ -45,14 +45,14 @@ module _ (limit m : ℕ) (longer : limit ≤ m) where
   pub longer_tree : (tree : Tree) → IsTree limit tree → IsTree m tree
   longer_tree (CommentTree h) is = is
   longer_tree (DefinitionTree d) is = record { opening = is.opening; type_name = is.type_name; assignment = longer_assignment d.assignment is.assignment }
-  longer_tree (PreambleTree p) is = record { opening = is.opening; type_name = is.type_name; value = longer_value p.value is.value; space_behind = is.space_behind }
+  longer_tree (PreambleTree p) is = record { opening = is.opening; type_name = is.type_name; value = longer_value p.value is.value; space_after = is.space_after }
   longer_tree (EntryTree e) is = record {
     opening = is.opening;
     type_name = is.type_name;
     key = is.key;
     key_len = omega (arith, is.key_len, longer);
     key_ends = is.key_ends;
-    space_behind_key = is.space_behind_key;
+    space_after_key = is.space_after_key;
     empty_key = is.empty_key;
     rows = longer_all (IsRow limit) (IsRow m) longer_row e.rows is.rows;
     last_comma = is.last_comma;

@@ -62,9 +62,9 @@ resumes_value limit t a r is u s split after =
     let ok : IsSpace space = run_passes is_space one.0.1 in
     let whole : t ≡ (value_bytes v.0 ++ space) ++ r = v.3 ∙ ap (λ (x : Text). x ++ one.0.1) v.2 ∙ ap (λ (x : Text). value_bytes v.0 ++ x) (space_split one.0.1 ∙ ap (λ (x : Text). space ++ x) rest) ∙ sym (append_assoc (value_bytes v.0) space r) in
     let u_is : u ≡ value_bytes v.0 ++ space = append_cancel_right u (value_bytes v.0 ++ space) r (sym split ∙ whole) in
-    let behind = after_value space s ok after in
+    let stands = after_value space s ok after in
     ap (value_gap limit) (ap (λ (x : Text). x ++ s) u_is ∙ append_assoc (value_bytes v.0) space s)
-    ∙ ap (λ (m : Read Text). m >>= λ y. skip y.1) (value_again limit v.0 (space ++ s) v.1 behind.part behind.no_hash)
+    ∙ ap (λ (m : Read Text). m >>= λ y. skip y.1) (value_again limit v.0 (space ++ s) v.1 stands.part stands.no_hash)
     ∙ ap (λ (x : Text). Ok (tt, x)) (skip_space space s ok (after_row_stands s after))
 
 pub mend_definition : (limit : ℕ) (some : 0 < limit) (c : ℕ) → Close c → Mends (plain (read_definition limit c)) Always Always

@@ -13,12 +13,12 @@ use Rattle.bib_spec.specs.Bytes.{comma, name_limit}
 use Rattle.bib_spec.specs.Text.{Text, is_space, is_type_byte, same, after_run, does_not_begin_with}
 use Rattle.bib_spec.specs.Records.{crossref}
 use Rattle.bib_spec.specs.Tree as tree
-use Rattle.bib_spec.specs.Tree.{Row, Tree, CommentTree, DefinitionTree, PreambleTree, EntryTree, Opening, Delimiter, close_byte, head_bytes, opening_bytes, behind_key_bytes, last_comma_bytes, row_bytes, tree_bytes, goes_on_key, IsRow, IsLastComma, IsOpening, IsTree}
+use Rattle.bib_spec.specs.Tree.{Row, Tree, CommentTree, DefinitionTree, PreambleTree, EntryTree, Opening, Delimiter, close_byte, head_bytes, opening_bytes, after_key_bytes, last_comma_bytes, row_bytes, tree_bytes, goes_on_key, IsRow, IsLastComma, IsOpening, IsTree}
 use Rattle.bib_spec.specs.Reading.{Item, Reading, item_bytes, IsItem, Reads}
-use Rattle.bib_scan.specs.View.{Field, field_behind, fields_behind, view_of}
+use Rattle.bib_scan.specs.View.{Field, field_after, fields_after, view_of}
 use Rattle.bib_scan.specs.FieldsLeft.{read_row_field, first_field, all_fields_left, read_head, kind_named, read_opening}
 use Rattle.bib_scan.specs.Note.{is_crossref, crossref_field, note_of}
-use Rattle.bib_scan.specs.NotesLeft.{left_of_crossref, crossref_left, place_left, entry_head, head_behind, read_entry_head, note_from, read_note, note_at}
+use Rattle.bib_scan.specs.NotesLeft.{left_of_crossref, crossref_left, place_left, entry_head, head_after, read_entry_head, note_from, read_note, note_at}
 use Rattle.bib_scan.specs.Layout.{places_of}
 use Rattle.bib_scan.specs.declared.note.Note.{Note}
 use Rattle.bib_scan.specs.declared.view.Kind.{Kind}
@@ -40,20 +40,20 @@ lefts c [] tail x = 0
 lefts c (r ∷ rs) tail x = if same r.assignment.name crossref then length (rows_inside c (r ∷ rs) tail x) else lefts c rs tail x
 
 abbrev field_here : Text → Row → Field
-field_here before r = field_behind (length before) (before ++ comma ∷ r.space_before_name) r.assignment
+field_here before r = field_after (length before) (before ++ comma ∷ r.space_before_name) r.assignment
 
 -- the first field of that name, or another
-found_here : (before : Text) (r : Row) (rs : List Row) → same r.assignment.name crossref ≡ true → find is_crossref (fields_behind before (r ∷ rs)) ≡ Some (field_here before r)
-found_here before r rs is = cond-true (same r.assignment.name crossref) (Some (field_here before r)) (find is_crossref (fields_behind (before ++ row_bytes r) rs)) is
+found_here : (before : Text) (r : Row) (rs : List Row) → same r.assignment.name crossref ≡ true → find is_crossref (fields_after before (r ∷ rs)) ≡ Some (field_here before r)
+found_here before r rs is = cond-true (same r.assignment.name crossref) (Some (field_here before r)) (find is_crossref (fields_after (before ++ row_bytes r) rs)) is
 
-found_later : (before : Text) (r : Row) (rs : List Row) → same r.assignment.name crossref ≡ false → find is_crossref (fields_behind before (r ∷ rs)) ≡ find is_crossref (fields_behind (before ++ row_bytes r) rs)
-found_later before r rs is = cond-false (same r.assignment.name crossref) (Some (field_here before r)) (find is_crossref (fields_behind (before ++ row_bytes r) rs)) is
+found_later : (before : Text) (r : Row) (rs : List Row) → same r.assignment.name crossref ≡ false → find is_crossref (fields_after before (r ∷ rs)) ≡ find is_crossref (fields_after (before ++ row_bytes r) rs)
+found_later before r rs is = cond-false (same r.assignment.name crossref) (Some (field_here before r)) (find is_crossref (fields_after (before ++ row_bytes r) rs)) is
 
 next_rows : (total c : ℕ) (before : Text) (r : Row) (rs : List Row) (tail : Option Text) (x : Text) → total ≡ length (before ++ rows_inside c (r ∷ rs) tail x) → total ≡ length ((before ++ row_bytes r) ++ rows_inside c rs tail x)
 next_rows total c before r rs tail x whole =
     whole ∙ ap (λ (u : Text). length (before ++ u)) (append_assoc (row_bytes r) (flat_map row_bytes rs) _) ∙ ap (length {A = ℕ}) (sym (append_assoc before (row_bytes r) (rows_inside c rs tail x)))
 
-rows_left : (total c : ℕ) (before : Text) (rs : List Row) (tail : Option Text) (x : Text) → total ≡ length (before ++ rows_inside c rs tail x) → left_of_crossref total (fields_behind before rs) ≡ lefts c rs tail x
+rows_left : (total c : ℕ) (before : Text) (rs : List Row) (tail : Option Text) (x : Text) → total ≡ length (before ++ rows_inside c rs tail x) → left_of_crossref total (fields_after before rs) ≡ lefts c rs tail x
 rows_left total c before [] tail x whole = refl
 rows_left total c before (r ∷ rs) tail x whole =
     let other = lefts c rs tail x in
@@ -64,7 +64,7 @@ rows_left total c before (r ∷ rs) tail x whole =
       | inr is ↦ ap left (found_later before r rs is) ∙ rows_left total c (before ++ row_bytes r) rs tail x (next_rows total c before r rs tail x whole) ∙ sym (cond-false (same r.assignment.name crossref) here other is)
     ]
 
-rows_place : (total c : ℕ) (before : Text) (rs : List Row) (tail : Option Text) (x : Text) → total ≡ length (before ++ rows_inside c rs tail x) → place_left total (lefts c rs tail x) ≡ option_map_or (λ f. f.start) (find is_crossref (fields_behind before rs)) 0
+rows_place : (total c : ℕ) (before : Text) (rs : List Row) (tail : Option Text) (x : Text) → total ≡ length (before ++ rows_inside c rs tail x) → place_left total (lefts c rs tail x) ≡ option_map_or (λ f. f.start) (find is_crossref (fields_after before rs)) 0
 rows_place total c before [] tail x whole = refl
 rows_place total c before (r ∷ rs) tail x whole =
     let other = lefts c rs tail x in
@@ -85,15 +85,15 @@ crossref_left_of rs c tail x all space close room =
     let total = length (rows_inside c rs tail x) in
     ap (left_of_crossref total) (rows_fields_again rs total total c [] tail x all space close room refl) ∙ rows_left total c [] rs tail x refl
 
--- the field begins behind the text before the rows, and is read there
-found_after : (before : Text) (rs : List Row) (f : Field) → find is_crossref (fields_behind before rs) ≡ Some f → length before ≤ f.start
+-- the field begins after the text before the rows, and is read there
+found_after : (before : Text) (rs : List Row) (f : Field) → find is_crossref (fields_after before rs) ≡ Some f → length before ≤ f.start
 found_after before [] f is = absurd (none-some f is)
 found_after before (r ∷ rs) f is = elim (cases_Bool (same r.assignment.name crossref)) [
   | inl here ↦ let same_field = same_Some (field_here before r) f (sym (found_here before r rs here) ∙ is) in omega (arith, ap (λ (g : Field). g.start) same_field)
   | inr other ↦ omega (arith, found_after (before ++ row_bytes r) rs f (sym (found_later before r rs other) ∙ is), length-append before (row_bytes r))
 ]
 
-found_again : (total c : ℕ) (before body : Text) (rs : List Row) (tail : Option Text) (f : Field) → All (IsRow name_limit) rs → Close c → body ≡ before ++ rows_inside c rs tail [] → total ≡ length body → find is_crossref (fields_behind before rs) ≡ Some f →
+found_again : (total c : ℕ) (before body : Text) (rs : List Row) (tail : Option Text) (f : Field) → All (IsRow name_limit) rs → Close c → body ≡ before ++ rows_inside c rs tail [] → total ≡ length body → find is_crossref (fields_after before rs) ≡ Some f →
     (rest : Text) × (first_field kind.Entry total (drop f.start body) ≡ Some (f, rest))
 found_again total c before body [] tail f all close whole len is = absurd (none-some f is)
 found_again total c before body (r ∷ rs) tail f all close whole len is = elim (cases_Bool (same r.assignment.name crossref)) [
@@ -111,12 +111,12 @@ found_again total c before body (r ∷ rs) tail f all close whole len is = elim 
 -- ---- heads
 
 -- an item with this opening, of this kind
-opened_head : (t : Text) (o : Opening) (u : Text) (k : Kind) → IsOpening o → Stands u → kind_named o.head.type_name ≡ k → t ≡ opening_bytes o ++ u → read_entry_head t ≡ head_behind k (o.delimiter, u)
+opened_head : (t : Text) (o : Opening) (u : Text) (k : Kind) → IsOpening o → Stands u → kind_named o.head.type_name ≡ k → t ≡ opening_bytes o ++ u → read_entry_head t ≡ head_after k (o.delimiter, u)
 opened_head t o u k is stands named whole =
     let at = opened_with t o u is stands whole in
-    ap (head_behind (kind_named (read_head t).0)) at.opening
-    ∙ ap (λ (n : Text). head_behind (kind_named n) (o.delimiter, u)) at.type_name
-    ∙ ap (λ (j : Kind). head_behind j (o.delimiter, u)) named
+    ap (head_after (kind_named (read_head t).0)) at.opening
+    ∙ ap (λ (n : Text). head_after (kind_named n) (o.delimiter, u)) at.type_name
+    ∙ ap (λ (j : Kind). head_after j (o.delimiter, u)) named
 
 -- ---- trees
 
@@ -128,8 +128,8 @@ comment_note : (h : tree.Head) (x : Text) → IsTree name_limit (CommentTree h) 
 comment_note h x is ends =
     let head : read_head (head_bytes h ++ x) ≡ (h.type_name, x) = head_again h x is.head ends in
     plain_note (head_bytes h ++ x) _
-    (ap (λ (y : Text × Text). head_behind (kind_named y.0) (read_opening (after_run is_space y.1))) head
-    ∙ ap (λ (k : Kind). head_behind k (read_opening (after_run is_space x))) (comment_named h.type_name is.type_name))
+    (ap (λ (y : Text × Text). head_after (kind_named y.0) (read_opening (after_run is_space y.1))) head
+    ∙ ap (λ (k : Kind). head_after k (read_opening (after_run is_space x))) (comment_named h.type_name is.type_name))
     refl
 
 definition_note : (d : tree.Definition) (x : Text) → IsTree name_limit (DefinitionTree d) → read_note (tree_bytes (DefinitionTree d) ++ x) ≡ note_of (DefinitionTree d)
@@ -147,16 +147,16 @@ entry_note e x is =
     let d = e.opening.delimiter in
     let front : Text = opening_bytes e.opening in
     let at = entry_in name_limit e x is in
-    let behind : Text = behind_key_bytes e ++ x in
-    let u : Text = e.key ++ behind in
+    let after : Text = after_key_bytes e ++ x in
+    let u : Text = e.key ++ after in
     let t : Text = tree_bytes (EntryTree e) ++ x in
     let whole : t ≡ front ++ u = entry_shape e x in
     let head : read_entry_head t ≡ Some (entry_head (d, u)) = opened_head t e.opening u kind.Entry is.opening at.stands (entry_named e.opening.head.type_name is.type_name) whole in
-    let key_len : prefix_len (goes_on_key d) u ≡ length e.key = run_len (goes_on_key d) e.key behind is.key at.key_ends in
-    let rows : after_run is_space (after_run (goes_on_key d) u) ≡ rows_inside (close_byte d) e.rows e.last_comma x = ap (after_run is_space) (run_rest (goes_on_key d) e.key behind is.key at.key_ends) ∙ at.rows in
+    let key_len : prefix_len (goes_on_key d) u ≡ length e.key = run_len (goes_on_key d) e.key after is.key at.key_ends in
+    let rows : after_run is_space (after_run (goes_on_key d) u) ≡ rows_inside (close_byte d) e.rows e.last_comma x = ap (after_run is_space) (run_rest (goes_on_key d) e.key after is.key at.key_ends) ∙ at.rows in
     let inside : Text = rows_inside (close_byte d) e.rows e.last_comma x in
-    let before : Text = front ++ e.key ++ e.space_behind_key in
-    let all : t ≡ before ++ inside = whole ∙ ap (λ (v : Text). front ++ (e.key ++ v)) at.shape ∙ sym (append_assoc (front ++ e.key) e.space_behind_key inside ∙ append_assoc front e.key _) in
+    let before : Text = front ++ e.key ++ e.space_after_key in
+    let all : t ≡ before ++ inside = whole ∙ ap (λ (v : Text). front ++ (e.key ++ v)) at.shape ∙ sym (append_assoc (front ++ e.key) e.space_after_key inside ∙ append_assoc front e.key _) in
     let crossref_at : place_left (length t) (crossref_left (after_run is_space (after_run (goes_on_key d) u))) ≡ (note_of (EntryTree e)).crossref_at =
     ap (λ (v : Text). place_left (length t) (crossref_left v)) rows ∙ ap (place_left (length t)) (crossref_left_of e.rows (close_byte d) e.last_comma x is.rows is.last_comma (closes d) at.room)
     ∙ rows_place (length t) (close_byte d) before e.rows e.last_comma x (ap (length {A = ℕ}) all) in
@@ -203,15 +203,15 @@ noted_view body trail key rows (DefinitionTree d) n is whole noted some key_is r
 noted_view body trail key rows (PreambleTree p) n is whole noted some key_is rows_are = absurd (omega (arith, some, ap (λ (m : Note). m.key_at) noted))
 noted_view body trail key rows (EntryTree e) n is whole noted some key_is rows_are =
     let front : Text = opening_bytes e.opening in
-    let behind : Text = behind_key_bytes e in
-    let shape : body ≡ front ++ (e.key ++ behind) = sym whole ∙ append_assoc front e.key behind in
-    let stands : Stands (e.key ++ behind) = subst (λ (v : Text). Stands (e.key ++ v)) (append-nil behind) (entry_in name_limit e [] is).stands in
+    let after : Text = after_key_bytes e in
+    let shape : body ≡ front ++ (e.key ++ after) = sym whole ∙ append_assoc front e.key after in
+    let stands : Stands (e.key ++ after) = subst (λ (v : Text). Stands (e.key ++ v)) (append-nil after) (entry_in name_limit e [] is).stands in
     let named = (opened_with body e.opening _ is.opening stands shape).type_name in
     let key_at : n.key_at ≡ length front = ap (λ (m : Note). m.key_at) noted in
     let key_len : n.key_len ≡ length e.key = ap (λ (m : Note). m.key_len) noted in
-    let from_key : drop n.key_at body ≡ e.key ++ behind = ap (drop n.key_at) shape ∙ drop_at front _ _ (sym key_at) in
-    let key_same : key ≡ e.key = key_is ∙ ap (take n.key_len) from_key ∙ take_at e.key behind _ (sym key_len) in
-    let rows_same : rows ≡ after_run is_space behind = rows_are ∙ ap (λ (u : Text). after_run is_space (drop n.key_len u)) from_key ∙ ap (after_run is_space) (drop_at e.key behind _ (sym key_len)) in
+    let from_key : drop n.key_at body ≡ e.key ++ after = ap (drop n.key_at) shape ∙ drop_at front _ _ (sym key_at) in
+    let key_same : key ≡ e.key = key_is ∙ ap (take n.key_len) from_key ∙ take_at e.key after _ (sym key_len) in
+    let rows_same : rows ≡ after_run is_space after = rows_are ∙ ap (λ (u : Text). after_run is_space (drop n.key_len u)) from_key ∙ ap (after_run is_space) (drop_at e.key after _ (sym key_len)) in
     let fields = ap (λ (b : Text). all_fields_left kind.Entry (length b) rows) (sym whole) ∙ ap (all_fields_left kind.Entry (length (tree_bytes (EntryTree e)))) rows_same ∙ entry_fields e is in
     λ i. record {
       kind = kind.Entry;
@@ -249,17 +249,17 @@ noted_crossref body (EntryTree e) n is whole noted = go (crossref_field (EntryTr
     go : (o : Option Field) → crossref_field (EntryTree e) ≡ o → NotedCrossref body (EntryTree e) n
     go None none = plain_crossref body (EntryTree e) n none (at ∙ ap (λ (o : Option Field). option_map_or (λ (f : Field). f.start) o 0) none)
     go (Some f) some =
-        let front : Text = opening_bytes e.opening ++ e.key ++ e.space_behind_key in
+        let front : Text = opening_bytes e.opening ++ e.key ++ e.space_after_key in
         let c = close_byte e.opening.delimiter in
         let inside : Text = rows_inside c e.rows e.last_comma [] in
         let start : n.crossref_at ≡ f.start = at ∙ ap (λ (o : Option Field). option_map_or (λ (g : Field). g.start) o 0) some in
         let split : body ≡ front ++ inside =
-        sym whole ∙ append_assoc (opening_bytes e.opening) e.key (behind_key_bytes e) ∙ ap (λ (v : Text). opening_bytes e.opening ++ (e.key ++ v)) (sym (append-nil (behind_key_bytes e)) ∙ (entry_in name_limit e [] is).shape)
-        ∙ sym (append_assoc (opening_bytes e.opening ++ e.key) e.space_behind_key inside ∙ append_assoc (opening_bytes e.opening) e.key _) in
+        sym whole ∙ append_assoc (opening_bytes e.opening) e.key (after_key_bytes e) ∙ ap (λ (v : Text). opening_bytes e.opening ++ (e.key ++ v)) (sym (append-nil (after_key_bytes e)) ∙ (entry_in name_limit e [] is).shape)
+        ∙ sym (append_assoc (opening_bytes e.opening ++ e.key) e.space_after_key inside ∙ append_assoc (opening_bytes e.opening) e.key _) in
         let here = found_again (length body) c front body e.rows e.last_comma f is.rows (closes e.opening.delimiter) split refl some in
         let read : first_field kind.Entry (length body) (drop n.crossref_at body) ≡ Some (f, here.0) = ap (λ (m : ℕ). first_field kind.Entry (length body) (drop m body)) start ∙ here.1 in
         record {
-          none = λ zero_at. absurd (omega (arith, zero_at, start, found_after front e.rows f some, length-append (opening_bytes e.opening ++ e.key) e.space_behind_key, length-append (opening_bytes e.opening) e.key));
+          none = λ zero_at. absurd (omega (arith, zero_at, start, found_after front e.rows f some, length-append (opening_bytes e.opening ++ e.key) e.space_after_key, length-append (opening_bytes e.opening) e.key));
           some = λ more. (f, here.0, some, read, omega (arith, some_left (length body) (drop n.crossref_at body) (f, here.0) read, length-drop n.crossref_at body));
         }
 

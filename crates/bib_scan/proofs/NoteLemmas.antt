@@ -14,7 +14,7 @@ use Rattle.bib_scan.specs.LeftToRight.{Assigned, read_comma, past_byte, read_ass
 use Rattle.bib_scan.specs.View.{Field}
 use Rattle.bib_scan.specs.FieldsLeft.{field_in, first_field, all_fields_left, read_head, kind_named, read_opening}
 use Rattle.bib_scan.specs.Note.{is_crossref}
-use Rattle.bib_scan.specs.NotesLeft.{left_of_crossref, crossref_left, head_behind, read_entry_head, note_from, read_note, note_at}
+use Rattle.bib_scan.specs.NotesLeft.{left_of_crossref, crossref_left, head_after, read_entry_head, note_from, read_note, note_at}
 use Rattle.bib_scan.specs.declared.layout.Span.{Span}
 use Rattle.bib_scan.specs.declared.note.EntryHead.{EntryHead}
 use Rattle.bib_scan.specs.declared.note.Note.{Note}
@@ -124,7 +124,7 @@ rest_of_opening : (t : Text) → length (read_opening t).1 ≤ length t
 rest_of_opening [] = omega arith
 rest_of_opening (b ∷ t) = omega (arith, run_within is_space t)
 
-head_within : (k : Kind) (opened : Delimiter × Text) (n : ℕ) → length opened.1 ≤ n → IfSome (head_behind k opened) (λ h. h.key_left ≤ n)
+head_within : (k : Kind) (opened : Delimiter × Text) (n : ℕ) → length opened.1 ≤ n → IfSome (head_after k opened) (λ h. h.key_left ≤ n)
 head_within kind.Entry opened n le = le
 head_within kind.Macro opened n le = tt
 head_within kind.Preamble opened n le = tt
@@ -155,13 +155,13 @@ noted_more file rest after next spans notes s n o on some read next_is start hea
     let here : begins_command rest ≡ true = elim on.next [ inl none ↦ absurd (omega (arith, ap (length {A = ℕ}) none)) | inr it ↦ it ] in
     let tree = command_ok name_limit rest after here read in
     let trail : Text = take (next_command after) after in
-    let behind : after ≡ trail ++ next = sym (take-append-drop (next_command after) after) ∙ ap (λ (u : Text). trail ++ u) (sym next_is) in
+    let parted : after ≡ trail ++ next = sym (take-append-drop (next_command after) after) ∙ ap (λ (u : Text). trail ++ u) (sym next_is) in
     let at : length on.front ≡ s.start = omega (arith, start, ap (length {A = ℕ}) on.split, length-append on.front rest) in
     let begins : rest ≡ drop s.start file = sym (ap (drop s.start) on.split ∙ drop_at on.front rest s.start at) in
     let noted : n ≡ note_at file s = is ∙ ap (note_from (length rest)) head ∙ ap read_note begins in
     record {
       front = on.front ++ (tree_bytes tree.0 ++ trail);
-      split = on.split ∙ ap (λ (u : Text). on.front ++ u) (tree.2 ∙ ap (λ (u : Text). tree_bytes tree.0 ++ u) behind ∙ sym (append_assoc (tree_bytes tree.0) trail next)) ∙ sym (append_assoc on.front (tree_bytes tree.0 ++ trail) next);
+      split = on.split ∙ ap (λ (u : Text). on.front ++ u) (tree.2 ∙ ap (λ (u : Text). tree_bytes tree.0 ++ u) parted ∙ sym (append_assoc (tree_bytes tree.0) trail next)) ∙ sym (append_assoc on.front (tree_bytes tree.0 ++ trail) next);
       next = subst Next (sym next_is) (next_found after).next;
       notes_are = ap (λ (ns : List Note). ns ++ n ∷ []) on.notes_are ∙ ap (λ (m : Note). map (note_at file) spans ++ m ∷ []) noted ∙ sym (map-append (note_at file) spans (s ∷ []));
     }

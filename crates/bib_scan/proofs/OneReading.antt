@@ -7,7 +7,7 @@ use Rattle.std.specs.Prelude.{codes}
 use Rattle.std.specs.List.{AllPass, flat_map, All}
 use Rattle.bib_spec.specs.Bytes.{name_limit}
 use Rattle.bib_spec.specs.Text.{Text, is_space, is_type_byte, same, does_not_begin_with}
-use Rattle.bib_spec.specs.Tree.{Entry, Definition, Preamble, Head, Opening, Delimiter, Brace, Paren, Tree, CommentTree, DefinitionTree, PreambleTree, EntryTree, value_bytes, row_bytes, last_comma_bytes, open_byte, close_byte, behind_key_bytes, tree_bytes, goes_on_key, is_no_keyword, IsHead, IsOpening, IsDefinition, IsPreamble, IsEntry, IsTree}
+use Rattle.bib_spec.specs.Tree.{Entry, Definition, Preamble, Head, Opening, Delimiter, Brace, Paren, Tree, CommentTree, DefinitionTree, PreambleTree, EntryTree, value_bytes, row_bytes, last_comma_bytes, open_byte, close_byte, after_key_bytes, tree_bytes, goes_on_key, is_no_keyword, IsHead, IsOpening, IsDefinition, IsPreamble, IsEntry, IsTree}
 use Rattle.bib_spec.specs.Reading.{Item, Reading, item_bytes, bytes_of, IsItem, ReadsWithin}
 use Rattle.bib_scan.specs.LeftToRight.{next_command}
 use Rattle.bib_scan.proofs.PartLaws.{type_name_parts}
@@ -30,16 +30,16 @@ head_of (EntryTree e) = e.opening.head
 
 -- the bytes after the type name, where the opening continues to u
 abbrev opened_text : Opening → Text → Text
-opened_text o u = o.space_before_delimiter ++ (open_byte o.delimiter ∷ (o.space_behind ++ u))
+opened_text o u = o.space_before_delimiter ++ (open_byte o.delimiter ∷ (o.space_after ++ u))
 
 abbrev definition_inside : Definition → Text → Text
 definition_inside d x = assignment_inside d.assignment (close_byte d.opening.delimiter ∷ x)
 
 abbrev preamble_inside : Preamble → Text → Text
-preamble_inside p x = value_bytes p.value ++ (p.space_behind ++ close_byte p.opening.delimiter ∷ x)
+preamble_inside p x = value_bytes p.value ++ (p.space_after ++ close_byte p.opening.delimiter ∷ x)
 
 abbrev entry_inside : Entry → Text → Text
-entry_inside e x = e.key ++ (behind_key_bytes e ++ x)
+entry_inside e x = e.key ++ (after_key_bytes e ++ x)
 
 abbrev after_of : Tree → Text → Text
 after_of (CommentTree h) x = x
@@ -58,7 +58,7 @@ pub record Headed (t : Tree) (x : Text) : Type 0 where
   pub ends : does_not_begin_with is_type_byte (after_of t x) ≡ true
 
 opened_head : (o : Opening) (u : Text) → IsOpening o → does_not_begin_with is_type_byte (opened_text o u) ≡ true
-opened_head o u is = type_ends o.space_before_delimiter o.delimiter (o.space_behind ++ u) is.space_before_delimiter
+opened_head o u is = type_ends o.space_before_delimiter o.delimiter (o.space_after ++ u) is.space_before_delimiter
 
 headed : (limit : ℕ) (t : Tree) (x : Text) → IsTree limit t → EndsName t x → Headed t x
 headed limit (CommentTree h) x is ends = record { head = is.head; ends = ends refl }
@@ -68,7 +68,7 @@ headed limit (EntryTree e) x is ends = record { head = is.opening.head; ends = o
 
 pub record SameHead (t u : Tree) (x y : Text) : Type 0 where
   pub head : head_of t ≡ head_of u
-  pub behind : after_of t x ≡ after_of u y
+  pub after : after_of t x ≡ after_of u y
 
 head_unique : (t u : Tree) (x y : Text) → Headed t x → Headed u y → tree_bytes t ++ x ≡ tree_bytes u ++ y → SameHead t u x y
 head_unique t u x y ht hu e =
@@ -77,7 +77,7 @@ head_unique t u x y ht hu e =
     let whole = tail_same 64 64 _ _ (sym (tree_shape t x) ∙ e ∙ tree_shape u y) in
     let one = run_unique is_space (head_of t).space_before_type (head_of u).space_before_type ((head_of t).type_name ++ after_of t x) ((head_of u).type_name ++ after_of u y) ht.head.space_before_type hu.head.space_before_type (name_stands name_limit (head_of t).type_name (after_of t x) ht_named.0) (name_stands name_limit (head_of u).type_name (after_of u y) hu_named.0) whole in
     let two = run_unique is_type_byte (head_of t).type_name (head_of u).type_name (after_of t x) (after_of u y) ht_named.1 hu_named.1 ht.ends hu.ends one.1 in
-    record { head = λ i. record { space_before_type = one.0 i; type_name = two.0 i }; behind = two.1 }
+    record { head = λ i. record { space_before_type = one.0 i; type_name = two.0 i }; after = two.1 }
 
 -- ---- openings
 
@@ -90,13 +90,13 @@ open_unique Paren Paren t u e = (refl, cc)
 pub record SameOpened (o q : Opening) (t u : Text) : Type 0 where
   pub space_before_delimiter : o.space_before_delimiter ≡ q.space_before_delimiter
   pub delimiter : o.delimiter ≡ q.delimiter
-  pub behind : o.space_behind ++ t ≡ q.space_behind ++ u
+  pub after : o.space_after ++ t ≡ q.space_after ++ u
 
 opened_unique : (o q : Opening) (t u : Text) → IsOpening o → IsOpening q → opened_text o t ≡ opened_text q u → SameOpened o q t u
 opened_unique o q t u io iq e =
-    let one = run_unique is_space o.space_before_delimiter q.space_before_delimiter (open_byte o.delimiter ∷ (o.space_behind ++ t)) (open_byte q.delimiter ∷ (q.space_behind ++ u)) io.space_before_delimiter iq.space_before_delimiter (not_from_false _ (open_no_space o.delimiter)) (not_from_false _ (open_no_space q.delimiter)) e in
-    let two = open_unique o.delimiter q.delimiter (o.space_behind ++ t) (q.space_behind ++ u) one.1 in
-    record { space_before_delimiter = one.0; delimiter = two.0; behind = two.1 }
+    let one = run_unique is_space o.space_before_delimiter q.space_before_delimiter (open_byte o.delimiter ∷ (o.space_after ++ t)) (open_byte q.delimiter ∷ (q.space_after ++ u)) io.space_before_delimiter iq.space_before_delimiter (not_from_false _ (open_no_space o.delimiter)) (not_from_false _ (open_no_space q.delimiter)) e in
+    let two = open_unique o.delimiter q.delimiter (o.space_after ++ t) (q.space_after ++ u) one.1 in
+    record { space_before_delimiter = one.0; delimiter = two.0; after = two.1 }
 
 -- ---- trees of one kind
 
@@ -105,10 +105,10 @@ after_close d x = record { first = close_byte d; others = x; ends = (closes d).e
 
 pub definition_unique : (limit : ℕ) (d e : Definition) (x y : Text) → IsDefinition limit d → IsDefinition limit e → SameHead (DefinitionTree d) (DefinitionTree e) x y → (d ≡ e) × (x ≡ y)
 definition_unique limit d e x y id ie h =
-    let o = opened_unique d.opening e.opening (definition_inside d x) (definition_inside e y) id.opening ie.opening h.behind in
-    let r = row_unique limit (definition_row d) (definition_row e) (close_byte d.opening.delimiter ∷ x) (close_byte e.opening.delimiter ∷ y) (is_definition_row limit d id) (is_definition_row limit e ie) (after_close d.opening.delimiter x) (after_close e.opening.delimiter y) o.behind in (
+    let o = opened_unique d.opening e.opening (definition_inside d x) (definition_inside e y) id.opening ie.opening h.after in
+    let r = row_unique limit (definition_row d) (definition_row e) (close_byte d.opening.delimiter ∷ x) (close_byte e.opening.delimiter ∷ y) (is_definition_row limit d id) (is_definition_row limit e ie) (after_close d.opening.delimiter x) (after_close e.opening.delimiter y) o.after in (
       (λ i. record {
-        opening = record { head = h.head i; space_before_delimiter = o.space_before_delimiter i; delimiter = o.delimiter i; space_behind = (r.0 i).space_before_name };
+        opening = record { head = h.head i; space_before_delimiter = o.space_before_delimiter i; delimiter = o.delimiter i; space_after = (r.0 i).space_before_name };
         assignment = (r.0 i).assignment;
       }),
       tail_same _ _ x y r.1,
@@ -116,54 +116,54 @@ definition_unique limit d e x y id ie h =
 
 pub preamble_unique : (limit : ℕ) (p q : Preamble) (x y : Text) → IsPreamble limit p → IsPreamble limit q → SameHead (PreambleTree p) (PreambleTree q) x y → (p ≡ q) × (x ≡ y)
 preamble_unique limit p q x y ip iq h =
-    let o = opened_unique p.opening q.opening (preamble_inside p x) (preamble_inside q y) ip.opening iq.opening h.behind in
+    let o = opened_unique p.opening q.opening (preamble_inside p x) (preamble_inside q y) ip.opening iq.opening h.after in
     let px : Text = close_byte p.opening.delimiter ∷ x in
     let qy : Text = close_byte q.opening.delimiter ∷ y in
-    let one = run_unique is_space p.opening.space_behind q.opening.space_behind (preamble_inside p x) (preamble_inside q y) ip.opening.space_behind iq.opening.space_behind (value_stands limit p.value (p.space_behind ++ px) ip.value) (value_stands limit q.value (q.space_behind ++ qy) iq.value) o.behind in
-    let two = value_unique limit p.value q.value (p.space_behind ++ px) (q.space_behind ++ qy) ip.value iq.value (after_value p.space_behind px ip.space_behind (after_close p.opening.delimiter x)) (after_value q.space_behind qy iq.space_behind (after_close q.opening.delimiter y)) one.1 in
-    let three = run_unique is_space p.space_behind q.space_behind px qy ip.space_behind iq.space_behind (after_row_stands px (after_close p.opening.delimiter x)) (after_row_stands qy (after_close q.opening.delimiter y)) two.1 in (
+    let one = run_unique is_space p.opening.space_after q.opening.space_after (preamble_inside p x) (preamble_inside q y) ip.opening.space_after iq.opening.space_after (value_stands limit p.value (p.space_after ++ px) ip.value) (value_stands limit q.value (q.space_after ++ qy) iq.value) o.after in
+    let two = value_unique limit p.value q.value (p.space_after ++ px) (q.space_after ++ qy) ip.value iq.value (after_value p.space_after px ip.space_after (after_close p.opening.delimiter x)) (after_value q.space_after qy iq.space_after (after_close q.opening.delimiter y)) one.1 in
+    let three = run_unique is_space p.space_after q.space_after px qy ip.space_after iq.space_after (after_row_stands px (after_close p.opening.delimiter x)) (after_row_stands qy (after_close q.opening.delimiter y)) two.1 in (
       (λ i. record {
-        opening = record { head = h.head i; space_before_delimiter = o.space_before_delimiter i; delimiter = o.delimiter i; space_behind = one.0 i };
+        opening = record { head = h.head i; space_before_delimiter = o.space_before_delimiter i; delimiter = o.delimiter i; space_after = one.0 i };
         value = two.0 i;
-        space_behind = three.0 i;
+        space_after = three.0 i;
       }),
       tail_same _ _ x y three.1,
     )
 
 -- an entry's bytes after its opening, with the facts that fix them
-key_shape : (e : Entry) (x : Text) → behind_key_bytes e ++ x ≡ e.space_behind_key ++ rows_inside (close_byte e.opening.delimiter) e.rows e.last_comma x
+key_shape : (e : Entry) (x : Text) → after_key_bytes e ++ x ≡ e.space_after_key ++ rows_inside (close_byte e.opening.delimiter) e.rows e.last_comma x
 key_shape e x =
     let c = close_byte e.opening.delimiter in
-    append_assoc (e.space_behind_key ++ flat_map row_bytes e.rows ++ last_comma_bytes e.last_comma) (c ∷ []) x ∙ append_assoc (e.space_behind_key ++ flat_map row_bytes e.rows) (last_comma_bytes e.last_comma) (c ∷ x) ∙ append_assoc e.space_behind_key (flat_map row_bytes e.rows) (last_comma_bytes e.last_comma ++ c ∷ x)
+    append_assoc (e.space_after_key ++ flat_map row_bytes e.rows ++ last_comma_bytes e.last_comma) (c ∷ []) x ∙ append_assoc (e.space_after_key ++ flat_map row_bytes e.rows) (last_comma_bytes e.last_comma) (c ∷ x) ∙ append_assoc e.space_after_key (flat_map row_bytes e.rows) (last_comma_bytes e.last_comma ++ c ∷ x)
 
 inside_stands : (e : Entry) (x : Text) → Stands (rows_inside (close_byte e.opening.delimiter) e.rows e.last_comma x)
 inside_stands e x = after_row_stands _ (after_rows (close_byte e.opening.delimiter) e.rows e.last_comma x (closes e.opening.delimiter))
 
 entry_stands : (limit : ℕ) (e : Entry) (x : Text) → IsEntry limit e → Stands (entry_inside e x)
 entry_stands limit e x is =
-    key_stands e.opening.delimiter e.key (behind_key_bytes e ++ x) is.key (λ none. subst Stands (sym (key_shape e x ∙ ap (λ (u : Text). u ++ rows_inside (close_byte e.opening.delimiter) e.rows e.last_comma x) (is.empty_key none))) (inside_stands e x))
+    key_stands e.opening.delimiter e.key (after_key_bytes e ++ x) is.key (λ none. subst Stands (sym (key_shape e x ∙ ap (λ (u : Text). u ++ rows_inside (close_byte e.opening.delimiter) e.rows e.last_comma x) (is.empty_key none))) (inside_stands e x))
 
-key_stop : (limit : ℕ) (e : Entry) (x : Text) → IsEntry limit e → does_not_begin_with (goes_on_key e.opening.delimiter) (behind_key_bytes e ++ x) ≡ true
+key_stop : (limit : ℕ) (e : Entry) (x : Text) → IsEntry limit e → does_not_begin_with (goes_on_key e.opening.delimiter) (after_key_bytes e ++ x) ≡ true
 key_stop limit e x is =
-    let long : 0 < length (behind_key_bytes e) = omega (arith, length-append (e.space_behind_key ++ flat_map row_bytes e.rows ++ last_comma_bytes e.last_comma) (close_byte e.opening.delimiter ∷ [])) in
-    stops_more (goes_on_key e.opening.delimiter) (behind_key_bytes e) x long is.key_ends
+    let long : 0 < length (after_key_bytes e) = omega (arith, length-append (e.space_after_key ++ flat_map row_bytes e.rows ++ last_comma_bytes e.last_comma) (close_byte e.opening.delimiter ∷ [])) in
+    stops_more (goes_on_key e.opening.delimiter) (after_key_bytes e) x long is.key_ends
 
 pub entry_unique : (limit : ℕ) (e f : Entry) (x y : Text) → IsEntry limit e → IsEntry limit f → SameHead (EntryTree e) (EntryTree f) x y → (e ≡ f) × (x ≡ y)
 entry_unique limit e f x y ie jf h =
-    let o = opened_unique e.opening f.opening (entry_inside e x) (entry_inside f y) ie.opening jf.opening h.behind in
+    let o = opened_unique e.opening f.opening (entry_inside e x) (entry_inside f y) ie.opening jf.opening h.after in
     let d = e.opening.delimiter in
     let back = sym o.delimiter in
-    let one = run_unique is_space e.opening.space_behind f.opening.space_behind (entry_inside e x) (entry_inside f y) ie.opening.space_behind jf.opening.space_behind (entry_stands limit e x ie) (entry_stands limit f y jf) o.behind in
-    let two = run_unique (goes_on_key d) e.key f.key (behind_key_bytes e ++ x) (behind_key_bytes f ++ y) ie.key (subst (λ (g : Delimiter). AllPass (goes_on_key g) f.key) back jf.key) (key_stop limit e x ie) (subst (λ (g : Delimiter). does_not_begin_with (goes_on_key g) (behind_key_bytes f ++ y) ≡ true) back (key_stop limit f y jf)) one.1 in
+    let one = run_unique is_space e.opening.space_after f.opening.space_after (entry_inside e x) (entry_inside f y) ie.opening.space_after jf.opening.space_after (entry_stands limit e x ie) (entry_stands limit f y jf) o.after in
+    let two = run_unique (goes_on_key d) e.key f.key (after_key_bytes e ++ x) (after_key_bytes f ++ y) ie.key (subst (λ (g : Delimiter). AllPass (goes_on_key g) f.key) back jf.key) (key_stop limit e x ie) (subst (λ (g : Delimiter). does_not_begin_with (goes_on_key g) (after_key_bytes f ++ y) ≡ true) back (key_stop limit f y jf)) one.1 in
     let c = close_byte d in
     let inside_e : Text = rows_inside c e.rows e.last_comma x in
     let inside_f : Text = rows_inside (close_byte f.opening.delimiter) f.rows f.last_comma y in
-    let three = run_unique is_space e.space_behind_key f.space_behind_key inside_e inside_f ie.space_behind_key jf.space_behind_key (inside_stands e x) (inside_stands f y) (sym (key_shape e x) ∙ two.1 ∙ key_shape f y) in
+    let three = run_unique is_space e.space_after_key f.space_after_key inside_e inside_f ie.space_after_key jf.space_after_key (inside_stands e x) (inside_stands f y) (sym (key_shape e x) ∙ two.1 ∙ key_shape f y) in
     let four = rows_unique limit c e.rows f.rows e.last_comma f.last_comma x y (closes d) ie.rows jf.rows ie.last_comma jf.last_comma (three.1 ∙ ap (λ (g : Delimiter). rows_inside (close_byte g) f.rows f.last_comma y) back) in (
       (λ i. record {
-        opening = record { head = h.head i; space_before_delimiter = o.space_before_delimiter i; delimiter = o.delimiter i; space_behind = one.0 i };
+        opening = record { head = h.head i; space_before_delimiter = o.space_before_delimiter i; delimiter = o.delimiter i; space_after = one.0 i };
         key = two.0 i;
-        space_behind_key = three.0 i;
+        space_after_key = three.0 i;
         rows = four.0 i;
         last_comma = four.1 i;
       }),
@@ -183,7 +183,7 @@ entry_no t is =
     (first.0, first.1, last.1)
 
 same_kind : (limit : ℕ) (t u : Tree) (x y : Text) → IsTree limit t → IsTree limit u → SameHead t u x y → (t ≡ u) × (x ≡ y)
-same_kind limit (CommentTree f) (CommentTree g) x y it iu h = ((λ i. CommentTree (h.head i)), h.behind)
+same_kind limit (CommentTree f) (CommentTree g) x y it iu h = ((λ i. CommentTree (h.head i)), h.after)
 same_kind limit (CommentTree g) (DefinitionTree e) x y it iu h = absurd (clash _ e.opening.head.type_name (codes "comment") (ap (λ (w : Head). w.type_name) h.head) it.type_name (string_no_comment e.opening.head.type_name iu.type_name))
 same_kind limit (CommentTree g) (PreambleTree e) x y it iu h = absurd (clash _ e.opening.head.type_name (codes "comment") (ap (λ (w : Head). w.type_name) h.head) it.type_name (preamble_no_comment e.opening.head.type_name iu.type_name))
 same_kind limit (CommentTree g) (EntryTree e) x y it iu h = absurd (clash _ e.opening.head.type_name (codes "comment") (ap (λ (w : Head). w.type_name) h.head) it.type_name (entry_no e.opening.head.type_name iu.type_name).0)

@@ -64,7 +64,7 @@ no_links : (links : List Link) → list_any joins (flat_map link_bytes links) �
 no_links [] none = refl
 no_links (l ∷ ls) none =
     let front = l.space_before_hash in
-    let rest = l.space_behind_hash in
+    let rest = l.space_after_hash in
     let one = (or_parts (list_any joins (link_bytes l)) (list_any joins (flat_map link_bytes ls)) (sym (list_any-append joins (link_bytes l) (flat_map link_bytes ls)) ∙ none)).0 in
     let two = (or_parts (list_any joins (front ++ hash ∷ rest)) (list_any joins (part_bytes l.part)) (sym (list_any-append joins (front ++ hash ∷ rest) (part_bytes l.part)) ∙ one)).0 in
     let three = (or_parts (list_any joins front) (list_any joins (hash ∷ rest)) (sym (list_any-append joins front (hash ∷ rest)) ∙ two)).1 in

@@ -25,9 +25,9 @@ use Rattle.bib_scan.proofs.NoteLaws.{note_again, same_note}
 use Rattle.bib_scan.proofs.ReadingLaws.{reading_again}
 use Rattle.bib_scan.proofs.RunLaws.{bind_ok, ok_same}
 
--- an element behind others
-behind_others : {X : Type 0} (xs ys : List X) (x : X) → slice_get (xs ++ x ∷ ys) (length xs) ≡ Some x
-behind_others xs ys x = slice_get-get_or (xs ++ x ∷ ys) (length xs) x (omega (arith, length-append xs (x ∷ ys))) ∙ ap Some (get_or-append_seam xs x ys x)
+-- an element after others
+after_others : {X : Type 0} (xs ys : List X) (x : X) → slice_get (xs ++ x ∷ ys) (length xs) ≡ Some x
+after_others xs ys x = slice_get-get_or (xs ++ x ∷ ys) (length xs) x (omega (arith, length-append xs (x ∷ ys))) ∙ ap Some (get_or-append_seam xs x ys x)
 
 -- nothing is left
 pub all_here : (file rest : Text) (spans : List Span) → CommandsOn name_limit file rest spans → length rest ≡ 0 → AreAllOf file (length spans)
@@ -54,7 +54,7 @@ module _ (file rest after : Text) (spans : List Span) (notes : List Note) (on : 
       let noted_so : n ≡ read_note rest = is ∙ ap (note_from (length rest)) head in
       noted_so ∙ ap read_note here.2 ∙ note_again here.0 after here.1 here.3 ∙ same_note here.0 u here.1 good (sym body_here ∙ sym body_is ∙ sym same)
 
-  -- behind it
+  -- after it
   module _ (next : Text) (s : Span) (shorter : length after < length rest) (next_is : next ≡ drop (next_command after) after) (s_is : s ≡ span (length file - length rest) (length file - length after)) where
     more : CommandsOn name_limit file next (spans ++ s ∷ [])
     more = subst (λ (x : Span). CommandsOn name_limit file next (spans ++ x ∷ [])) (sym s_is) (commands_more name_limit file rest after next spans on read shorter next_is)
@@ -66,7 +66,7 @@ module _ (file rest after : Text) (spans : List Span) (notes : List Note) (on : 
         let whole = sym more.read.2 ∙ (reading_again name_limit file db reads).0 in
         let later = bind_ok (read_commands name_limit (length file) more.read.0 next) _ all whole in
         let parts : all ≡ (spans ++ s ∷ []) ++ later.0 = sym (same_ok _ _ later.2) in
-        let listed : slice_get all n ≡ Some s = ap (λ (l : List Span). slice_get l n) (parts ∙ append_assoc spans (s ∷ []) later.0) ∙ behind_others spans later.0 s in
+        let listed : slice_get all n ≡ Some s = ap (λ (l : List Span). slice_get l n) (parts ∙ append_assoc spans (s ∷ []) later.0) ∙ after_others spans later.0 s in
         let within = slice_get_within all n s listed in
         let low : n < length db.items = omega (arith, within, length-places db) in
         let i : Item = get_or db.items n any_item in

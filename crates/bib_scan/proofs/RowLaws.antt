@@ -46,7 +46,7 @@ closing_ok c t rest is = go (past_byte c t) refl is
 -- ---- the bytes of rows, with others after them
 
 abbrev pub assignment_inside : Assignment → Text → Text
-assignment_inside a u = a.name ++ (a.space_before_equals ++ (61 ∷ (a.space_before_value ++ (value_bytes a.value ++ (a.space_behind ++ u)))))
+assignment_inside a u = a.name ++ (a.space_before_equals ++ (61 ∷ (a.space_before_value ++ (value_bytes a.value ++ (a.space_after ++ u)))))
 
 -- the bytes of a row without its comma
 abbrev pub row_inside : Row → Text → Text
@@ -54,9 +54,9 @@ row_inside r u = r.space_before_name ++ assignment_inside r.assignment u
 
 pub assignment_shape : (a : Assignment) (u : Text) → assignment_bytes a ++ u ≡ assignment_inside a u
 assignment_shape a u =
-    append_assoc (a.name ++ a.space_before_equals ++ 61 ∷ a.space_before_value ++ value_bytes a.value) a.space_behind u
-    ∙ append_assoc (a.name ++ a.space_before_equals ++ 61 ∷ a.space_before_value) (value_bytes a.value) (a.space_behind ++ u)
-    ∙ append_assoc (a.name ++ a.space_before_equals) (61 ∷ a.space_before_value) (value_bytes a.value ++ (a.space_behind ++ u))
+    append_assoc (a.name ++ a.space_before_equals ++ 61 ∷ a.space_before_value ++ value_bytes a.value) a.space_after u
+    ∙ append_assoc (a.name ++ a.space_before_equals ++ 61 ∷ a.space_before_value) (value_bytes a.value) (a.space_after ++ u)
+    ∙ append_assoc (a.name ++ a.space_before_equals) (61 ∷ a.space_before_value) (value_bytes a.value ++ (a.space_after ++ u))
     ∙ append_assoc a.name a.space_before_equals _
 
 pub row_shape : (r : Row) (u : Text) → row_bytes r ++ u ≡ 44 ∷ row_inside r u
@@ -86,20 +86,20 @@ row_ok limit t rest is =
       space_before_equals = take_while is_space named.0.1;
       space_before_value = take_while is_space sign.0;
       value = v.0;
-      space_behind = take_while is_space valued.0.1;
+      space_after = take_while is_space valued.0.1;
     } in
     let good : IsAssignment limit a = record {
       name = n.name;
       space_before_equals = run_passes is_space named.0.1;
       space_before_value = run_passes is_space sign.0;
       value = v.1;
-      space_behind = run_passes is_space valued.0.1;
+      space_after = run_passes is_space valued.0.1;
     } in
     let r : Row = record { space_before_name = take_while is_space t; assignment = a } in
     let ok : IsRow limit r = record { space_before_name = run_passes is_space t; assignment = good } in
-    let last : valued.0.1 ≡ a.space_behind ++ rest = space_split valued.0.1 ∙ ap (λ (u : Text). a.space_behind ++ u) end in
-    let value_part : after_run is_space sign.0 ≡ value_bytes v.0 ++ (a.space_behind ++ rest) = v.3 ∙ ap (λ (u : Text). u ++ valued.0.1) v.2 ∙ ap (λ (u : Text). value_bytes v.0 ++ u) last in
-    let sign_part : after_run is_space named.0.1 ≡ 61 ∷ (a.space_before_value ++ (value_bytes v.0 ++ (a.space_behind ++ rest))) = e ∙ ap (λ (u : Text). 61 ∷ u) (space_split sign.0 ∙ ap (λ (u : Text). a.space_before_value ++ u) value_part) in
+    let last : valued.0.1 ≡ a.space_after ++ rest = space_split valued.0.1 ∙ ap (λ (u : Text). a.space_after ++ u) end in
+    let value_part : after_run is_space sign.0 ≡ value_bytes v.0 ++ (a.space_after ++ rest) = v.3 ∙ ap (λ (u : Text). u ++ valued.0.1) v.2 ∙ ap (λ (u : Text). value_bytes v.0 ++ u) last in
+    let sign_part : after_run is_space named.0.1 ≡ 61 ∷ (a.space_before_value ++ (value_bytes v.0 ++ (a.space_after ++ rest))) = e ∙ ap (λ (u : Text). 61 ∷ u) (space_split sign.0 ∙ ap (λ (u : Text). a.space_before_value ++ u) value_part) in
     let name_part : after_run is_space t ≡ assignment_inside a rest = n.split ∙ ap (λ (u : Text). a.name ++ u) (space_split named.0.1 ∙ ap (λ (u : Text). a.space_before_equals ++ u) sign_part) in
     (r, ok, subst Stands end (run_stops is_space valued.0.1), space_split t ∙ ap (λ (u : Text). r.space_before_name ++ u) name_part)
 

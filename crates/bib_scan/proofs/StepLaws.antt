@@ -5,7 +5,7 @@ use Rattle.bib_spec.specs.Bytes.{name_limit}
 use Rattle.bib_spec.specs.Text.{Text, is_space, after_run}
 use Rattle.bib_scan.specs.LeftToRight.{Halt, read_assignment, read_row, read_comma}
 use Rattle.bib_scan.specs.View.{Field}
-use Rattle.bib_scan.specs.FieldsLeft.{first_field, first_and_others, kind_behind, fields_left, all_fields_left}
+use Rattle.bib_scan.specs.FieldsLeft.{first_field, first_and_others, kind_after, fields_left, all_fields_left}
 use Rattle.bib_scan.specs.declared.view.Kind.{Kind}
 use Rattle.bib_scan.specs.declared.view.Kind.TheVariants as kind
 use Rattle.bib_scan.proofs.RunLaws.{bind_ok, ok_same}
@@ -57,19 +57,19 @@ field_last kind.Entry total [] is = refl
 field_last kind.Macro total [] is = refl
 field_last kind.Preamble total [] is = refl
 field_last kind.Comment total [] is = refl
-field_last k total (b ∷ t) is = ap (λ (o : Option (Field × Text)). first_and_others o (fields_left (length t) (kind_behind k) total)) is
+field_last k total (b ∷ t) is = ap (λ (o : Option (Field × Text)). first_and_others o (fields_left (length t) (kind_after k) total)) is
 
-turns_after : (k : Kind) (n total : ℕ) (t : Text) → length t ≤ n → fields_left n (kind_behind k) total t ≡ all_fields_left (kind_behind k) total t
+turns_after : (k : Kind) (n total : ℕ) (t : Text) → length t ≤ n → fields_left n (kind_after k) total t ≡ all_fields_left (kind_after k) total t
 turns_after kind.Entry n total t le = rows_turns n (length t) total t le (omega arith)
 turns_after kind.Macro n total t le = none_left n total t ∙ sym (none_left (length t) total t)
 turns_after kind.Preamble n total t le = none_left n total t ∙ sym (none_left (length t) total t)
 turns_after kind.Comment n total t le = none_left n total t ∙ sym (none_left (length t) total t)
 
-pub field_step : (k : Kind) (total : ℕ) (t : Text) (x : Field × Text) → first_field k total t ≡ Some x → length x.1 < length t → all_fields_left k total t ≡ x.0 ∷ all_fields_left (kind_behind k) total x.1
+pub field_step : (k : Kind) (total : ℕ) (t : Text) (x : Field × Text) → first_field k total t ≡ Some x → length x.1 < length t → all_fields_left k total t ≡ x.0 ∷ all_fields_left (kind_after k) total x.1
 unfolding fields_left
 field_step k total [] x is short = absurd (omega arith)
 field_step k total (b ∷ t) x is short =
-    ap (λ (o : Option (Field × Text)). first_and_others o (fields_left (length t) (kind_behind k) total)) is
+    ap (λ (o : Option (Field × Text)). first_and_others o (fields_left (length t) (kind_after k) total)) is
     ∙ ap (λ (fs : List Field). x.0 ∷ fs) (turns_after k (length t) total x.1 (omega arith))
 
 -- ---- how many there are
@@ -81,4 +81,4 @@ others_few (Some x) f n few = omega (arith, few x.1)
 pub fields_few : (n : ℕ) (k : Kind) (total : ℕ) (t : Text) → length (fields_left n k total t) ≤ n
 unfolding fields_left
 fields_few zero k total t = omega arith
-fields_few (suc n) k total t = others_few (first_field k total t) (fields_left n (kind_behind k) total) n (fields_few n (kind_behind k) total)
+fields_few (suc n) k total t = others_few (first_field k total t) (fields_left n (kind_after k) total) n (fields_few n (kind_after k) total)

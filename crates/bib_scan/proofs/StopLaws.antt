@@ -31,12 +31,12 @@ inside limit type_name d s = read_body limit type_name (open_byte d ∷ s)
 
 pub record CommandStop (limit : ℕ) (t : Text) (h : Halt) : Type 0 where
   pub before : Text
-  pub behind : Text
-  pub split : t ≡ before ++ behind
+  pub after : Text
+  pub split : t ≡ before ++ after
   pub type_name : Text
   pub delimiter : Delimiter
   pub no_comment : same type_name (codes "comment") ≡ false
-  pub stopped : inside limit type_name delimiter behind ≡ Err h
+  pub stopped : inside limit type_name delimiter after ≡ Err h
   pub again : (m : ℕ) (s : Text) (r : Result Text Halt) → inside m type_name delimiter s ≡ r → Again m (before ++ s) r
 
 opened_stop : (limit : ℕ) (y : Typed) (t s : Text) (h : Halt) → IsTyped y → t ≡ typed_bytes y ++ s → opens_body s ≡ true → same y.head.type_name (codes "comment") ≡ false → read_body limit y.head.type_name s ≡ Err h → CommandStop limit t h
@@ -51,7 +51,7 @@ opened_stop limit y t (b ∷ u) h ok shape open_it no_comment is =
     let whole : (r : Text) → typed_bytes y ++ r ≡ 64 ∷ (y.head.space_before_type ++ (y.head.type_name ++ (y.space_before_delimiter ++ r))) = λ r. append_assoc (head_bytes y.head) y.space_before_delimiter r ∙ head_shape y.head (y.space_before_delimiter ++ r) in
     record {
       before = before;
-      behind = u;
+      after = u;
       split = shape ∙ ap (λ (n : ℕ). typed_bytes y ++ (n ∷ u)) (sym same_open) ∙ sym (regroup u);
       type_name = y.head.type_name;
       delimiter = d;
@@ -68,35 +68,35 @@ command_stop limit (b ∷ t) h here is =
     let signs = and_parts _ _ parts.0 in
     let at : b ≡ 64 = eqb-true b 64 signs.0 in
     let named = after_run is_space t in
-    let behind = after_run is_type_byte named in
+    let after = after_run is_type_byte named in
     let head : Head = record { space_before_type = take_while is_space t; type_name = take_while is_type_byte named } in
     let good : IsHead head = record {
       space_before_type = run_passes is_space t;
       type_name = type_name_from head.type_name signs.1 (run_passes is_type_byte named);
     } in
-    let start : b ∷ t ≡ head_bytes head ++ behind =
+    let start : b ∷ t ≡ head_bytes head ++ after =
     ap (λ (c : ℕ). c ∷ t) at ∙ ap (λ (u : Text). 64 ∷ u) (space_split t ∙ ap (λ (u : Text). head.space_before_type ++ u) (sym (run_split is_type_byte named)))
-    ∙ sym (append_assoc (64 ∷ head.space_before_type) head.type_name behind) in
+    ∙ sym (append_assoc (64 ∷ head.space_before_type) head.type_name after) in
     elim (chosen (same head.type_name (codes "comment")) _ _ _ is) [
-      | inl comment ↦ absurd (not_ok behind h _ comment.1 refl)
+      | inl comment ↦ absurd (not_ok after h _ comment.1 refl)
       | inr other ↦
-          let y : Typed = record { head = head; space_before_delimiter = take_while is_space behind } in
-          let ok : IsTyped y = record { head = good; space_before_delimiter = run_passes is_space behind } in
-          let shape : b ∷ t ≡ typed_bytes y ++ after_run is_space behind =
-          start ∙ ap (λ (u : Text). head_bytes head ++ u) (space_split behind) ∙ sym (append_assoc (head_bytes head) y.space_before_delimiter _) in
-          opened_stop limit y (b ∷ t) (after_run is_space behind) h ok shape (or-second other.0 parts.1) other.0 other.1
+          let y : Typed = record { head = head; space_before_delimiter = take_while is_space after } in
+          let ok : IsTyped y = record { head = good; space_before_delimiter = run_passes is_space after } in
+          let shape : b ∷ t ≡ typed_bytes y ++ after_run is_space after =
+          start ∙ ap (λ (u : Text). head_bytes head ++ u) (space_split after) ∙ sym (append_assoc (head_bytes head) y.space_before_delimiter _) in
+          opened_stop limit y (b ∷ t) (after_run is_space after) h ok shape (or-second other.0 parts.1) other.0 other.1
     ]
 
 -- ---- the items before it
 
 pub record ItemsStop (limit : ℕ) (t : Text) (h : Halt) : Type 0 where
   pub before : Text
-  pub behind : Text
-  pub split : t ≡ before ++ behind
+  pub after : Text
+  pub split : t ≡ before ++ after
   pub type_name : Text
   pub delimiter : Delimiter
   pub no_comment : same type_name (codes "comment") ≡ false
-  pub stopped : inside limit type_name delimiter behind ≡ Err h
+  pub stopped : inside limit type_name delimiter after ≡ Err h
   pub begins : (s : Text) → begins_command (before ++ s) ≡ true
   pub stops : (m : ℕ) → limit ≤ m → (s : Text) (k : Halt) → inside m type_name delimiter s ≡ Err k → (total n : ℕ) → length (before ++ s) < n → read_commands m total n (before ++ s) ≡ Err k
   pub reads : (m : ℕ) → limit ≤ m → (s : Text) → inside m type_name delimiter s ≡ Ok [] → (items : List Item) × All (IsItem m) items × (before ++ s ≡ flat_map item_bytes items)
@@ -117,7 +117,7 @@ reads_now m u again =
 stop_here : (limit : ℕ) (t : Text) (h : Halt) → CommandStop limit t h → ItemsStop limit t h
 stop_here limit t h at = record {
   before = at.before;
-  behind = at.behind;
+  after = at.after;
   split = at.split;
   type_name = at.type_name;
   delimiter = at.delimiter;
@@ -155,8 +155,8 @@ stop_later limit t rest next h tree next_is later =
     let ends : (s : Text) → EndsName tree.0 (trail ++ (later.before ++ s)) = λ s. ends_more tree.0 trail (later.before ++ s) ends_trail (inr (later.begins s)) in
     record {
       before = before;
-      behind = later.behind;
-      split = tree.2 ∙ ap (λ (s : Text). tree_bytes tree.0 ++ s) (sym (take-append-drop (next_command rest) rest) ∙ ap (λ (s : Text). trail ++ s) (sym next_is ∙ later.split)) ∙ sym (item_whole (later.before ++ later.behind)) ∙ sym (whole later.behind);
+      after = later.after;
+      split = tree.2 ∙ ap (λ (s : Text). tree_bytes tree.0 ++ s) (sym (take-append-drop (next_command rest) rest) ∙ ap (λ (s : Text). trail ++ s) (sym next_is ∙ later.split)) ∙ sym (item_whole (later.before ++ later.after)) ∙ sym (whole later.after);
       type_name = later.type_name;
       delimiter = later.delimiter;
       no_comment = later.no_comment;
@@ -201,12 +201,12 @@ items_stop limit total (suc n) (b ∷ t) h room next is =
 
 pub record FileStop (limit : ℕ) (t : Text) (h : Halt) : Type 0 where
   pub before : Text
-  pub behind : Text
-  pub split : t ≡ before ++ behind
+  pub after : Text
+  pub split : t ≡ before ++ after
   pub type_name : Text
   pub delimiter : Delimiter
   pub no_comment : same type_name (codes "comment") ≡ false
-  pub stopped : inside limit type_name delimiter behind ≡ Err h
+  pub stopped : inside limit type_name delimiter after ≡ Err h
   pub stops : (m : ℕ) → limit ≤ m → (s : Text) (k : Halt) → inside m type_name delimiter s ≡ Err k → read_all_commands m (before ++ s) ≡ Err k
   pub reads : (m : ℕ) → limit ≤ m → (s : Text) → inside m type_name delimiter s ≡ Ok [] → HasReadingWithin m (before ++ s)
 
@@ -220,8 +220,8 @@ file_stop limit t h is =
     let whole : (r : Text) → (front ++ at.before) ++ r ≡ front ++ (at.before ++ r) = λ r. append_assoc front at.before r in
     record {
       before = front ++ at.before;
-      behind = at.behind;
-      split = sym (take-append-drop k t) ∙ ap (λ (s : Text). front ++ s) at.split ∙ sym (whole at.behind);
+      after = at.after;
+      split = sym (take-append-drop k t) ∙ ap (λ (s : Text). front ++ s) at.split ∙ sym (whole at.after);
       type_name = at.type_name;
       delimiter = at.delimiter;
       no_comment = at.no_comment;

@@ -9,7 +9,7 @@ use Rattle.bib_spec.specs.Fault.{ExpectedCommaOrClose}
 use Rattle.bib_spec.specs.Text.{Text, is_space, after_run}
 use Rattle.bib_spec.specs.Tree.{Part, Link, Value, part_bytes, link_bytes, value_bytes, IsSpace, IsPart, IsLink, IsValue}
 use Rattle.bib_scan.specs.LeftToRight.{expected, read_part, past_hash, go_on, ◌>>=◌}
-use Rattle.bib_scan.specs.ValueParts.{link_part, parts_of, part_kind, span_behind, spans_behind, spans_of, IsPartsOf}
+use Rattle.bib_scan.specs.ValueParts.{link_part, parts_of, part_kind, span_after, spans_after, spans_of, IsPartsOf}
 use Rattle.bib_scan.specs.PartsLeft.{read_link, unless_end, part_span, read_parts, read_all_parts}
 use Rattle.bib_scan.specs.declared.parts.PartSpan.{PartSpan}
 use Rattle.bib_scan.proofs.RunLaws.{bind_ok, ok_same, not_ok, run_passes}
@@ -37,14 +37,14 @@ link_ok t u is = link_found t u (past_hash (after_run is_space t)) refl is
 -- the text is a part and links, after the text before
 abbrev pub ArePartsAt : ℕ → Text → Text → List PartSpan → Type 0
 ArePartsAt limit before t spans =
-    (p : Part) × (ls : List Link) × IsPart limit p × All (IsLink limit) ls × (t ≡ part_bytes p ++ flat_map link_bytes ls) × (spans ≡ span_behind before p ∷ spans_behind (before ++ part_bytes p) ls)
+    (p : Part) × (ls : List Link) × IsPart limit p × All (IsLink limit) ls × (t ≡ part_bytes p ++ flat_map link_bytes ls) × (spans ≡ span_after before p ∷ spans_after (before ++ part_bytes p) ls)
 
 abbrev pub AreLinksAt : ℕ → Text → Text → List PartSpan → Type 0
-AreLinksAt limit before t spans = (ls : List Link) × All (IsLink limit) ls × (t ≡ flat_map link_bytes ls) × (spans ≡ spans_behind before ls)
+AreLinksAt limit before t spans = (ls : List Link) × All (IsLink limit) ls × (t ≡ flat_map link_bytes ls) × (spans ≡ spans_after before ls)
 
-before_link : (before : Text) (l : Link) → before ++ link_bytes l ≡ (before ++ l.space_before_hash ++ 35 ∷ l.space_behind_hash) ++ part_bytes l.part
+before_link : (before : Text) (l : Link) → before ++ link_bytes l ≡ (before ++ l.space_before_hash ++ 35 ∷ l.space_after_hash) ++ part_bytes l.part
 before_link before l =
-    sym (append_assoc before (l.space_before_hash ++ 35 ∷ l.space_behind_hash) (part_bytes l.part)) ∙ ap (λ (t : Text). t ++ part_bytes l.part) (sym (append_assoc before l.space_before_hash (35 ∷ l.space_behind_hash)))
+    sym (append_assoc before (l.space_before_hash ++ 35 ∷ l.space_after_hash) (part_bytes l.part)) ∙ ap (λ (t : Text). t ++ part_bytes l.part) (sym (append_assoc before l.space_before_hash (35 ∷ l.space_after_hash)))
 
 rest_ok : (limit total n : ℕ) (before t : Text) (spans : List PartSpan) → ((b u : Text) (s : List PartSpan) → read_parts limit total n u ≡ Ok s → total ≡ length (b ++ u) → ArePartsAt limit b u s) → unless_end (read_link t >>= read_parts limit total n) t ≡ Ok spans → total ≡ length (before ++ t) → AreLinksAt limit before t spans
 rest_ok limit total n before [] spans later is whole = ([], All-nil (IsLink limit), refl, ok_same spans [] _ is refl)
@@ -56,11 +56,11 @@ rest_ok limit total n before (c ∷ r) spans later is whole =
     let front : Text = before ++ link.0 ++ 35 ∷ link.1 in
     let grouped : before ++ t ≡ front ++ u = ap (λ (w : Text). before ++ w) link.4 ∙ sym (append_assoc (before ++ link.0) (35 ∷ link.1) u ∙ append_assoc before link.0 (35 ∷ link.1 ++ u)) in
     let found = later front u spans to.2 (whole ∙ ap (length {A = ℕ}) grouped) in
-    let l : Link = record { space_before_hash = link.0; space_behind_hash = link.1; part = found.0 } in
-    let ok : IsLink limit l = record { space_before_hash = link.2; space_behind_hash = link.3; part = found.2 } in
+    let l : Link = record { space_before_hash = link.0; space_after_hash = link.1; part = found.0 } in
+    let ok : IsLink limit l = record { space_before_hash = link.2; space_after_hash = link.3; part = found.2 } in
     let split : t ≡ flat_map link_bytes (l ∷ found.1) =
     link.4 ∙ ap (λ (w : Text). link.0 ++ (35 ∷ link.1 ++ w)) found.4 ∙ sym (append_assoc (link.0 ++ 35 ∷ link.1) (part_bytes found.0) (flat_map link_bytes found.1) ∙ append_assoc link.0 (35 ∷ link.1) _) in
-    let same : spans ≡ spans_behind before (l ∷ found.1) = found.5 ∙ ap (λ (w : Text). span_behind front found.0 ∷ spans_behind w found.1) (sym (before_link before l)) in
+    let same : spans ≡ spans_after before (l ∷ found.1) = found.5 ∙ ap (λ (w : Text). span_after front found.0 ∷ spans_after w found.1) (sym (before_link before l)) in
     (l ∷ found.1, All-cons (IsLink limit) l found.1 ok found.3, split, same)
 
 parts_ok : (limit total n : ℕ) (before t : Text) (spans : List PartSpan) → read_parts limit total n t ≡ Ok spans → total ≡ length (before ++ t) → ArePartsAt limit before t spans
@@ -77,10 +77,10 @@ parts_ok limit total (suc n) before t spans is whole =
     let split_len = ap (length {A = ℕ}) ok.0 in
     let start : total - length t ≡ length before = omega (arith, whole, lens) in
     let end : total - length rest ≡ length before + length (part_bytes p) = omega (arith, whole, lens, parts_len, split_len) in
-    let whole_behind : total ≡ length ((before ++ part_bytes p) ++ rest) = whole ∙ ap (λ (w : Text). length (before ++ w)) ok.0 ∙ ap (length {A = ℕ}) (sym (append_assoc before (part_bytes p) rest)) in
-    let links = rest_ok limit total n (before ++ part_bytes p) rest later.0 (λ b u s e w. parts_ok limit total n b u s e w) later.1 whole_behind in
-    let span : part_span p (total - length t) (total - length rest) ≡ span_behind before p = λ i. record { kind = part_kind p; start = start i; end = end i } in
-    let same : spans ≡ span_behind before p ∷ spans_behind (before ++ part_bytes p) links.0 =
+    let whole_after : total ≡ length ((before ++ part_bytes p) ++ rest) = whole ∙ ap (λ (w : Text). length (before ++ w)) ok.0 ∙ ap (length {A = ℕ}) (sym (append_assoc before (part_bytes p) rest)) in
+    let links = rest_ok limit total n (before ++ part_bytes p) rest later.0 (λ b u s e w. parts_ok limit total n b u s e w) later.1 whole_after in
+    let span : part_span p (total - length t) (total - length rest) ≡ span_after before p = λ i. record { kind = part_kind p; start = start i; end = end i } in
+    let same : spans ≡ span_after before p ∷ spans_after (before ++ part_bytes p) links.0 =
     ok_same spans (part_span p (total - length t) (total - length rest) ∷ later.0) (Ok spans) refl (sym later.2) ∙ (λ i. span i ∷ links.3 i) in
     (p, links.0, ok.1, links.1, ok.0 ∙ ap (λ (w : Text). part_bytes p ++ w) links.2, same)
 
@@ -93,12 +93,12 @@ value_found t spans is =
 
 -- ---- the count of parts
 
-length-spans_behind : (before : Text) (ls : List Link) → length (spans_behind before ls) ≡ length ls
-length-spans_behind before [] = refl
-length-spans_behind before (l ∷ ls) = omega (arith, length-spans_behind (before ++ link_bytes l) ls)
+length-spans_after : (before : Text) (ls : List Link) → length (spans_after before ls) ≡ length ls
+length-spans_after before [] = refl
+length-spans_after before (l ∷ ls) = omega (arith, length-spans_after (before ++ link_bytes l) ls)
 
 pub length-spans_of : (v : Value) → length (spans_of v) ≡ length (parts_of v)
-length-spans_of v = omega (arith, length-spans_behind (part_bytes v.first) v.links, length-map v.links link_part)
+length-spans_of v = omega (arith, length-spans_after (part_bytes v.first) v.links, length-map v.links link_part)
 
 -- ---- one of the parts
 
@@ -107,19 +107,19 @@ pub record PartAt (t : Text) (parts : List Part) (n : ℕ) (span : PartSpan) : T
   pub part : Part
   pub found : slice_get parts n ≡ Some part
   pub before : Text
-  pub behind : Text
-  pub split : t ≡ before ++ (part_bytes part ++ behind)
-  pub is : span ≡ span_behind before part
+  pub after : Text
+  pub split : t ≡ before ++ (part_bytes part ++ after)
+  pub is : span ≡ span_after before part
 
-links_at : (before : Text) (ls : List Link) (n : ℕ) (d : PartSpan) → n < length (spans_behind before ls) → PartAt (before ++ flat_map link_bytes ls) (map link_part ls) n (get_or (spans_behind before ls) n d)
+links_at : (before : Text) (ls : List Link) (n : ℕ) (d : PartSpan) → n < length (spans_after before ls) → PartAt (before ++ flat_map link_bytes ls) (map link_part ls) n (get_or (spans_after before ls) n d)
 links_at before [] n d low = absurd (omega arith)
 links_at before (l ∷ ls) zero d low =
-    let front : Text = before ++ l.space_before_hash ++ 35 ∷ l.space_behind_hash in
+    let front : Text = before ++ l.space_before_hash ++ 35 ∷ l.space_after_hash in
     record {
       part = l.part;
       found = refl;
       before = front;
-      behind = flat_map link_bytes ls;
+      after = flat_map link_bytes ls;
       split = sym (append_assoc before (link_bytes l) (flat_map link_bytes ls)) ∙ ap (λ (w : Text). w ++ flat_map link_bytes ls) (before_link before l) ∙ append_assoc front (part_bytes l.part) (flat_map link_bytes ls);
       is = refl;
     }
@@ -129,16 +129,16 @@ links_at before (l ∷ ls) (suc n) d low =
       part = later.part;
       found = later.found;
       before = later.before;
-      behind = later.behind;
+      after = later.after;
       split = sym (append_assoc before (link_bytes l) (flat_map link_bytes ls)) ∙ later.split;
       is = later.is;
     }
 
 part_at : (v : Value) (n : ℕ) (d : PartSpan) → n < length (spans_of v) → PartAt (value_bytes v) (parts_of v) n (get_or (spans_of v) n d)
-part_at v zero d low = record { part = v.first; found = refl; before = []; behind = flat_map link_bytes v.links; split = refl; is = refl }
+part_at v zero d low = record { part = v.first; found = refl; before = []; after = flat_map link_bytes v.links; split = refl; is = refl }
 part_at v (suc n) d low =
     let later = links_at (part_bytes v.first) v.links n d (omega arith) in
-    record { part = later.part; found = later.found; before = later.before; behind = later.behind; split = later.split; is = later.is }
+    record { part = later.part; found = later.found; before = later.before; after = later.after; split = later.split; is = later.is }
 
 -- the same of a span that the code keeps
 pub kept_part : (t : Text) (spans : List PartSpan) (n : ℕ) (s : PartSpan) (v : Value) → spans ≡ spans_of v → value_bytes v ≡ t → n < length spans → s ≡ get_or spans n s → PartAt t (parts_of v) n s
@@ -151,15 +151,15 @@ pub part_low : (t : Text) (parts : List Part) (n : ℕ) (s : PartSpan) → PartA
 part_low t parts n s at =
     let start = ap (λ (x : PartSpan). x.start) at.is in
     let end = ap (λ (x : PartSpan). x.end) at.is in
-    (omega (arith, start, end), omega (arith, end, ap (length {A = ℕ}) at.split, length-append at.before (part_bytes at.part ++ at.behind), length-append (part_bytes at.part) at.behind))
+    (omega (arith, start, end), omega (arith, end, ap (length {A = ℕ}) at.split, length-append at.before (part_bytes at.part ++ at.after), length-append (part_bytes at.part) at.after))
 
 pub part_text : (t : Text) (parts : List Part) (n : ℕ) (s : PartSpan) (at : PartAt t parts n s) → take (s.end - s.start) (drop s.start t) ≡ part_bytes at.part
 part_text t parts n s at =
     let start = ap (λ (x : PartSpan). x.start) at.is in
     let end = ap (λ (x : PartSpan). x.end) at.is in
-    let dropped : drop s.start t ≡ part_bytes at.part ++ at.behind = ap (drop s.start) at.split ∙ drop_at at.before _ s.start (sym start) in
+    let dropped : drop s.start t ≡ part_bytes at.part ++ at.after = ap (drop s.start) at.split ∙ drop_at at.before _ s.start (sym start) in
     let len : length (part_bytes at.part) ≡ s.end - s.start = omega (arith, start, end) in
-    ap (take (s.end - s.start)) dropped ∙ take_at (part_bytes at.part) at.behind _ len
+    ap (take (s.end - s.start)) dropped ∙ take_at (part_bytes at.part) at.after _ len
 
 after_nothing : AfterPart []
 after_nothing = record { name = refl; digit = refl }

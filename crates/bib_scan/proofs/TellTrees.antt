@@ -92,13 +92,13 @@ row_takes limit t a r is =
     let rest : one.0 ≡ r = ap (λ (y : Unit {0} × Text). y.1) (ok_same {A = Unit {0} × Text} (tt, one.0) (a, r) _ refl one.2) in
     let w = row_ok limit t one.0 one.1 in
     let x = w.0.assignment in
-    let last : Text = x.space_behind ++ one.0 in
+    let last : Text = x.space_after ++ one.0 in
     let l1 = length-append w.0.space_before_name (assignment_inside x one.0) in
     let l2 = length-append x.name (x.space_before_equals ++ (61 ∷ (x.space_before_value ++ (value_bytes x.value ++ last)))) in
     let l3 = length-append x.space_before_equals (61 ∷ (x.space_before_value ++ (value_bytes x.value ++ last))) in
     let l4 = length-append x.space_before_value (value_bytes x.value ++ last) in
     let l5 = length-append (value_bytes x.value) last in
-    let l6 = length-append x.space_behind one.0 in
+    let l6 = length-append x.space_after one.0 in
     omega (arith, ap (length {A = ℕ}) w.3, ap (length {A = ℕ}) rest)
 
 rows_blocks : (limit c d : ℕ) → Stopped (rows_read limit 0 c) [] d
@@ -208,18 +208,18 @@ tell_key_rows limit some d G t h is = go (read_run limit (goes_on_key d) t) refl
     c : ℕ
     c = close_byte d
 
-    behind : (k r : Text) → LocalAt (read_run limit (goes_on_key d)) t (Ok (k, r)) → does_not_begin_with (goes_on_key d) r ≡ true → space_rows limit c r ≡ Err h → (m : TellsAt (space_rows limit c) (λ d. Unit {0}) r h) → (m.front ≡ []) ⊎ (m.front ≡ [] → ⊥) → TellsAt (key_rows limit d) G t h
-    behind k [] l ends e m either = told_end (key_rows limit d) G t h (err_is {A = Unit {0} × Text} (stop Unended []) h _ (no_rows limit c) e)
-    behind k (b ∷ v) l ends e m (inl none) =
+    after : (k r : Text) → LocalAt (read_run limit (goes_on_key d)) t (Ok (k, r)) → does_not_begin_with (goes_on_key d) r ≡ true → space_rows limit c r ≡ Err h → (m : TellsAt (space_rows limit c) (λ d. Unit {0}) r h) → (m.front ≡ []) ⊎ (m.front ≡ [] → ⊥) → TellsAt (key_rows limit d) G t h
+    after k [] l ends e m either = told_end (key_rows limit d) G t h (err_is {A = Unit {0} × Text} (stop Unended []) h _ (no_rows limit c) e)
+    after k (b ∷ v) l ends e m (inl none) =
         let short = key_moves limit d b v h (not-true _ ends) e in
         absurd (omega (arith, ap (length {A = ℕ}) m.split, length-append m.front h.rest, ap (length {A = ℕ}) none))
-    behind k (b ∷ v) l ends e m (inr some_front) = tell_later (read_run limit (goes_on_key d)) (λ k u. space_rows limit c u) G (λ d. Unit {0}) t k (b ∷ v) h l m some_front
+    after k (b ∷ v) l ends e m (inr some_front) = tell_later (read_run limit (goes_on_key d)) (λ k u. space_rows limit c u) G (λ d. Unit {0}) t k (b ∷ v) h l m some_front
 
     go : (x : Read Text) → read_run limit (goes_on_key d) t ≡ x → (x >>= λ k. space_rows limit c k.1) ≡ Err h → TellsAt (key_rows limit d) G t h
     go (Ok x) read e =
         let l : LocalAt (read_run limit (goes_on_key d)) t (Ok x) = subst (LocalAt (read_run limit (goes_on_key d)) t) read (local_limited limit (goes_on_key d) t) in
         let m = tell_space_rows limit some c (close_untried d) x.1 h e in
-        behind x.0 x.1 l (limited_ok limit (goes_on_key d) t x read).ends e m (some_or_none m.front)
+        after x.0 x.1 l (limited_ok limit (goes_on_key d) t x read).ends e m (some_or_none m.front)
     go (Err k) read e = tell_limited limit (goes_on_key d) (key_rows limit d) G t h (read ∙ ap (λ (j : Halt). Err j) (err_is {A = Unit {0} × Text} k h (Err k) refl e))
 
 pub tell_entry : (limit : ℕ) (some : 0 < limit) (d : Delimiter) → Tells (plain (read_entry limit d)) (λ d. Unit {0})

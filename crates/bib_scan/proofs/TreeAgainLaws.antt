@@ -11,7 +11,7 @@ use Rattle.std.specs.List.{take_while, AllPass, flat_map}
 use Rattle.bib_spec.specs.Bytes.{name_limit}
 use Rattle.bib_spec.specs.Text.{Text, is_space, is_name_byte, is_type_byte, same, does_not_begin_with, after_run}
 use Rattle.bib_spec.specs.Clean.{begins_command, opens_body}
-use Rattle.bib_spec.specs.Tree.{Row, Entry, Definition, Preamble, Head, Opening, Delimiter, Brace, Paren, Tree, CommentTree, DefinitionTree, PreambleTree, EntryTree, value_bytes, assignment_bytes, row_bytes, last_comma_bytes, open_byte, close_byte, head_bytes, opening_bytes, behind_key_bytes, definition_bytes, preamble_bytes, entry_bytes, tree_bytes, goes_on_key, is_no_keyword, IsSpace, IsRow, IsOpening, IsDefinition, IsPreamble, IsEntry, IsTree}
+use Rattle.bib_spec.specs.Tree.{Row, Entry, Definition, Preamble, Head, Opening, Delimiter, Brace, Paren, Tree, CommentTree, DefinitionTree, PreambleTree, EntryTree, value_bytes, assignment_bytes, row_bytes, last_comma_bytes, open_byte, close_byte, head_bytes, opening_bytes, after_key_bytes, definition_bytes, preamble_bytes, entry_bytes, tree_bytes, goes_on_key, is_no_keyword, IsSpace, IsRow, IsOpening, IsDefinition, IsPreamble, IsEntry, IsTree}
 use Rattle.bib_scan.specs.LeftToRight.{Read, Halt, read_value, read_row, read_close, read_all_rows, read_entry, read_definition, read_preamble, delimiter_of, read_body, read_command, read_run, ◌>>=◌}
 use Rattle.bib_scan.proofs.RunLaws.{run_front, run_rest, limited_again}
 use Rattle.bib_scan.proofs.ValueLaws.{Stands, skip_space}
@@ -35,10 +35,10 @@ closing_again c x = rw (closed_here c x) refl
 -- ---- the three commands with delimiters, given what follows the opening one
 
 abbrev pub definition_row : Definition → Row
-definition_row d = record { space_before_name = d.opening.space_behind; assignment = d.assignment }
+definition_row d = record { space_before_name = d.opening.space_after; assignment = d.assignment }
 
 pub is_definition_row : (limit : ℕ) (d : Definition) → IsDefinition limit d → IsRow limit (definition_row d)
-is_definition_row limit d is = record { space_before_name = is.opening.space_behind; assignment = is.assignment }
+is_definition_row limit d is = record { space_before_name = is.opening.space_after; assignment = is.assignment }
 
 definition_again : (limit : ℕ) (d : Definition) (x : Text) → IsDefinition limit d → read_definition limit (close_byte d.opening.delimiter) (row_inside (definition_row d) (close_byte d.opening.delimiter ∷ x)) ≡ Ok x
 definition_again limit d x is =
@@ -46,14 +46,14 @@ definition_again limit d x is =
     let read : read_row limit (row_inside (definition_row d) (c ∷ x)) ≡ Ok (c ∷ x) = row_again limit (definition_row d) c x (is_definition_row limit d is) (closes d.opening.delimiter).ends in
     ap (λ (m : Result Text Halt). m >>= read_close c) read ∙ closing_again c x
 
-preamble_again : (limit : ℕ) (p : Preamble) (x : Text) → IsPreamble limit p → read_preamble limit (close_byte p.opening.delimiter) (p.opening.space_behind ++ (value_bytes p.value ++ (p.space_behind ++ close_byte p.opening.delimiter ∷ x))) ≡ Ok x
+preamble_again : (limit : ℕ) (p : Preamble) (x : Text) → IsPreamble limit p → read_preamble limit (close_byte p.opening.delimiter) (p.opening.space_after ++ (value_bytes p.value ++ (p.space_after ++ close_byte p.opening.delimiter ∷ x))) ≡ Ok x
 preamble_again limit p x is =
     let c = close_byte p.opening.delimiter in
     let ends = (closes p.opening.delimiter).ends in
-    let last : Text = p.space_behind ++ c ∷ x in
-    let e1 : after_run is_space (p.opening.space_behind ++ (value_bytes p.value ++ last)) ≡ value_bytes p.value ++ last = skip_space p.opening.space_behind (value_bytes p.value ++ last) is.opening.space_behind (value_stands limit p.value last is.value) in
-    let e2 : read_value limit (value_bytes p.value ++ last) ≡ Ok (value_bytes p.value, last) = value_again limit p.value last is.value (after_space p.space_behind c x is.space_behind ends.breaks) (no_link p.space_behind c x is.space_behind ends) in
-    let e3 : after_run is_space last ≡ c ∷ x = skip_space p.space_behind (c ∷ x) is.space_behind (not_from_false _ ends.no_space) in
+    let last : Text = p.space_after ++ c ∷ x in
+    let e1 : after_run is_space (p.opening.space_after ++ (value_bytes p.value ++ last)) ≡ value_bytes p.value ++ last = skip_space p.opening.space_after (value_bytes p.value ++ last) is.opening.space_after (value_stands limit p.value last is.value) in
+    let e2 : read_value limit (value_bytes p.value ++ last) ≡ Ok (value_bytes p.value, last) = value_again limit p.value last is.value (after_space p.space_after c x is.space_after ends.breaks) (no_link p.space_after c x is.space_after ends) in
+    let e3 : after_run is_space last ≡ c ∷ x = skip_space p.space_after (c ∷ x) is.space_after (not_from_false _ ends.no_space) in
     ap (λ (u : Text). read_value limit u >>= λ v. read_close c (after_run is_space v.1)) e1
     ∙ ap (λ (m : Read Text). m >>= λ v. read_close c (after_run is_space v.1)) e2 ∙ ap (read_close c) e3 ∙ closing_again c x
 
@@ -76,11 +76,11 @@ key_stands d (b ∷ key) r all rest = not_from_false _ (key_no_space d b (All-he
 
 -- how an entry stands in its bytes, with this text after them
 pub record EntryIn (e : Entry) (x : Text) : Type 0 where
-  pub stands : Stands (e.key ++ (behind_key_bytes e ++ x))
-  pub key_ends : does_not_begin_with (goes_on_key e.opening.delimiter) (behind_key_bytes e ++ x) ≡ true
-  pub rows : after_run is_space (behind_key_bytes e ++ x) ≡ rows_inside (close_byte e.opening.delimiter) e.rows e.last_comma x
+  pub stands : Stands (e.key ++ (after_key_bytes e ++ x))
+  pub key_ends : does_not_begin_with (goes_on_key e.opening.delimiter) (after_key_bytes e ++ x) ≡ true
+  pub rows : after_run is_space (after_key_bytes e ++ x) ≡ rows_inside (close_byte e.opening.delimiter) e.rows e.last_comma x
   pub room : length e.rows ≤ length (rows_inside (close_byte e.opening.delimiter) e.rows e.last_comma x)
-  pub shape : behind_key_bytes e ++ x ≡ e.space_behind_key ++ rows_inside (close_byte e.opening.delimiter) e.rows e.last_comma x
+  pub shape : after_key_bytes e ++ x ≡ e.space_after_key ++ rows_inside (close_byte e.opening.delimiter) e.rows e.last_comma x
 
 pub entry_in : (limit : ℕ) (e : Entry) (x : Text) → IsEntry limit e → EntryIn e x
 entry_in limit e x is =
@@ -89,27 +89,27 @@ entry_in limit e x is =
     let inside : Text = rows_inside c e.rows e.last_comma x in
     let begin = rows_begin c e.rows e.last_comma x (closes d) in
     let inside_stands : Stands inside = subst Stands (sym begin.3) (not_from_false _ begin.2.no_space) in
-    let shape : behind_key_bytes e ++ x ≡ e.space_behind_key ++ inside =
-    append_assoc (e.space_behind_key ++ flat_map row_bytes e.rows ++ last_comma_bytes e.last_comma) (c ∷ []) x ∙ append_assoc (e.space_behind_key ++ flat_map row_bytes e.rows) (last_comma_bytes e.last_comma) (c ∷ x) ∙ append_assoc e.space_behind_key (flat_map row_bytes e.rows) (last_comma_bytes e.last_comma ++ c ∷ x) in
-    let long : 0 < length (behind_key_bytes e) = omega (arith, length-append (e.space_behind_key ++ flat_map row_bytes e.rows ++ last_comma_bytes e.last_comma) (c ∷ [])) in
+    let shape : after_key_bytes e ++ x ≡ e.space_after_key ++ inside =
+    append_assoc (e.space_after_key ++ flat_map row_bytes e.rows ++ last_comma_bytes e.last_comma) (c ∷ []) x ∙ append_assoc (e.space_after_key ++ flat_map row_bytes e.rows) (last_comma_bytes e.last_comma) (c ∷ x) ∙ append_assoc e.space_after_key (flat_map row_bytes e.rows) (last_comma_bytes e.last_comma ++ c ∷ x) in
+    let long : 0 < length (after_key_bytes e) = omega (arith, length-append (e.space_after_key ++ flat_map row_bytes e.rows ++ last_comma_bytes e.last_comma) (c ∷ [])) in
     record {
-      stands = key_stands d e.key (behind_key_bytes e ++ x) is.key (λ none. subst Stands (sym (shape ∙ ap (λ (u : Text). u ++ inside) (is.empty_key none))) inside_stands);
-      key_ends = stops_more (goes_on_key d) (behind_key_bytes e) x long is.key_ends;
-      rows = ap (after_run is_space) shape ∙ skip_space e.space_behind_key inside is.space_behind_key inside_stands;
+      stands = key_stands d e.key (after_key_bytes e ++ x) is.key (λ none. subst Stands (sym (shape ∙ ap (λ (u : Text). u ++ inside) (is.empty_key none))) inside_stands);
+      key_ends = stops_more (goes_on_key d) (after_key_bytes e) x long is.key_ends;
+      rows = ap (after_run is_space) shape ∙ skip_space e.space_after_key inside is.space_after_key inside_stands;
       room = omega (arith, rows_len e.rows, length-append (flat_map row_bytes e.rows) (last_comma_bytes e.last_comma ++ c ∷ x));
       shape = shape;
     }
 
-entry_again : (limit : ℕ) (e : Entry) (x : Text) → IsEntry limit e → read_entry limit e.opening.delimiter (e.opening.space_behind ++ (e.key ++ (behind_key_bytes e ++ x))) ≡ Ok x
+entry_again : (limit : ℕ) (e : Entry) (x : Text) → IsEntry limit e → read_entry limit e.opening.delimiter (e.opening.space_after ++ (e.key ++ (after_key_bytes e ++ x))) ≡ Ok x
 unfolding read_entry
 entry_again limit e x is =
     let d = e.opening.delimiter in
     let c = close_byte d in
     let inside : Text = rows_inside c e.rows e.last_comma x in
     let at = entry_in limit e x is in
-    let behind : Text = behind_key_bytes e ++ x in
-    let e1 : after_run is_space (e.opening.space_behind ++ (e.key ++ behind)) ≡ e.key ++ behind = skip_space e.opening.space_behind (e.key ++ behind) is.opening.space_behind at.stands in
-    let e2 : read_run limit (goes_on_key d) (e.key ++ behind) ≡ Ok (e.key, behind) = limited_again limit (goes_on_key d) e.key behind is.key is.key_len at.key_ends in
+    let after : Text = after_key_bytes e ++ x in
+    let e1 : after_run is_space (e.opening.space_after ++ (e.key ++ after)) ≡ e.key ++ after = skip_space e.opening.space_after (e.key ++ after) is.opening.space_after at.stands in
+    let e2 : read_run limit (goes_on_key d) (e.key ++ after) ≡ Ok (e.key, after) = limited_again limit (goes_on_key d) e.key after is.key is.key_len at.key_ends in
     let room : length e.rows < length inside + 1 = omega (arith, at.room) in
     ap (λ (u : Text). read_run limit (goes_on_key d) u >>= λ key. read_all_rows limit c (after_run is_space key.1)) e1
     ∙ ap (λ (m : Read Text). m >>= λ key. read_all_rows limit c (after_run is_space key.1)) e2
@@ -153,12 +153,12 @@ unfolding begins_command read_command
 opened_again limit o t u r is opened =
     let named_well = type_name_parts o.head.type_name is.head.type_name in
     let open_text : Text = open_byte o.delimiter ∷ u in
-    let behind : Text = o.space_before_delimiter ++ open_text in
-    let named : Text = o.head.type_name ++ behind in
-    let e1 : after_run is_space (o.head.space_before_type ++ named) ≡ named = skip_space o.head.space_before_type named is.head.space_before_type (name_stands name_limit o.head.type_name behind named_well.0) in
-    let e2 : take_while is_type_byte named ≡ o.head.type_name = run_front is_type_byte o.head.type_name behind named_well.1 (type_ends o.space_before_delimiter o.delimiter u is.space_before_delimiter) in
-    let e3 : after_run is_type_byte named ≡ behind = run_rest is_type_byte o.head.type_name behind named_well.1 (type_ends o.space_before_delimiter o.delimiter u is.space_before_delimiter) in
-    let e4 : after_run is_space behind ≡ open_text = skip_space o.space_before_delimiter open_text is.space_before_delimiter (not_from_false _ (open_no_space o.delimiter)) in
+    let after : Text = o.space_before_delimiter ++ open_text in
+    let named : Text = o.head.type_name ++ after in
+    let e1 : after_run is_space (o.head.space_before_type ++ named) ≡ named = skip_space o.head.space_before_type named is.head.space_before_type (name_stands name_limit o.head.type_name after named_well.0) in
+    let e2 : take_while is_type_byte named ≡ o.head.type_name = run_front is_type_byte o.head.type_name after named_well.1 (type_ends o.space_before_delimiter o.delimiter u is.space_before_delimiter) in
+    let e3 : after_run is_type_byte named ≡ after = run_rest is_type_byte o.head.type_name after named_well.1 (type_ends o.space_before_delimiter o.delimiter u is.space_before_delimiter) in
+    let e4 : after_run is_space after ≡ open_text = skip_space o.space_before_delimiter open_text is.space_before_delimiter (not_from_false _ (open_no_space o.delimiter)) in
     record {
       begins = ap begins_command opened.whole ∙ rw (e1, e2, e3, e4, named_well.0, opened.no_comment) (open_opens o.delimiter u);
       command = ap (read_command limit) opened.whole ∙ rw (e1, e2, e3, e4, opened.no_comment) opened.read;
@@ -185,9 +185,9 @@ preamble_no_string t is = same_one t (codes "preamble") (codes "string") is (λ 
 pub head_shape : (h : Head) (u : Text) → head_bytes h ++ u ≡ 64 ∷ (h.space_before_type ++ (h.type_name ++ u))
 head_shape h u = append_assoc (64 ∷ h.space_before_type) h.type_name u
 
-pub opening_shape : (o : Opening) (u : Text) → opening_bytes o ++ u ≡ 64 ∷ (o.head.space_before_type ++ (o.head.type_name ++ (o.space_before_delimiter ++ (open_byte o.delimiter ∷ (o.space_behind ++ u)))))
+pub opening_shape : (o : Opening) (u : Text) → opening_bytes o ++ u ≡ 64 ∷ (o.head.space_before_type ++ (o.head.type_name ++ (o.space_before_delimiter ++ (open_byte o.delimiter ∷ (o.space_after ++ u)))))
 opening_shape o u =
-    append_assoc (head_bytes o.head ++ o.space_before_delimiter) (open_byte o.delimiter ∷ o.space_behind) u
+    append_assoc (head_bytes o.head ++ o.space_before_delimiter) (open_byte o.delimiter ∷ o.space_after) u
     ∙ append_assoc (head_bytes o.head) o.space_before_delimiter _ ∙ head_shape o.head _
 
 pub definition_shape : (d : Definition) (x : Text) → definition_bytes d ++ x ≡ opening_bytes d.opening ++ assignment_inside d.assignment (close_byte d.opening.delimiter ∷ x)
@@ -196,11 +196,11 @@ definition_shape d x =
     ∙ append_assoc (opening_bytes d.opening) (assignment_bytes d.assignment) _
     ∙ ap (λ (u : Text). opening_bytes d.opening ++ u) (assignment_shape d.assignment (close_byte d.opening.delimiter ∷ x))
 
-pub preamble_shape : (p : Preamble) (x : Text) → preamble_bytes p ++ x ≡ opening_bytes p.opening ++ (value_bytes p.value ++ (p.space_behind ++ close_byte p.opening.delimiter ∷ x))
-preamble_shape p x = append_assoc (opening_bytes p.opening ++ value_bytes p.value ++ p.space_behind) (close_byte p.opening.delimiter ∷ []) x ∙ append_assoc (opening_bytes p.opening ++ value_bytes p.value) p.space_behind _ ∙ append_assoc (opening_bytes p.opening) (value_bytes p.value) _
+pub preamble_shape : (p : Preamble) (x : Text) → preamble_bytes p ++ x ≡ opening_bytes p.opening ++ (value_bytes p.value ++ (p.space_after ++ close_byte p.opening.delimiter ∷ x))
+preamble_shape p x = append_assoc (opening_bytes p.opening ++ value_bytes p.value ++ p.space_after) (close_byte p.opening.delimiter ∷ []) x ∙ append_assoc (opening_bytes p.opening ++ value_bytes p.value) p.space_after _ ∙ append_assoc (opening_bytes p.opening) (value_bytes p.value) _
 
-pub entry_shape : (e : Entry) (x : Text) → entry_bytes e ++ x ≡ opening_bytes e.opening ++ (e.key ++ (behind_key_bytes e ++ x))
-entry_shape e x = append_assoc (opening_bytes e.opening ++ e.key) (behind_key_bytes e) x ∙ append_assoc (opening_bytes e.opening) e.key _
+pub entry_shape : (e : Entry) (x : Text) → entry_bytes e ++ x ≡ opening_bytes e.opening ++ (e.key ++ (after_key_bytes e ++ x))
+entry_shape e x = append_assoc (opening_bytes e.opening ++ e.key) (after_key_bytes e) x ∙ append_assoc (opening_bytes e.opening) e.key _
 
 pub string_body : (limit : ℕ) (t u : Text) (r : Result Text Halt) (d : Delimiter) → same t (codes "string") ≡ true → read_definition limit (close_byte d) u ≡ r → read_body limit t (open_byte d ∷ u) ≡ r
 unfolding read_body

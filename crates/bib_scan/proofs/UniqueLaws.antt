@@ -32,16 +32,16 @@ pub record AfterValue (r : Text) : Type 0 where
   pub part : AfterPart r
   pub no_hash : past_hash (after_run is_space r) ≡ None
 
-link_shape : (l : Link) (u : Text) → link_bytes l ++ u ≡ l.space_before_hash ++ (35 ∷ (l.space_behind_hash ++ (part_bytes l.part ++ u)))
-link_shape l u = append_assoc (l.space_before_hash ++ 35 ∷ l.space_behind_hash) (part_bytes l.part) u ∙ append_assoc l.space_before_hash (35 ∷ l.space_behind_hash) (part_bytes l.part ++ u)
+link_shape : (l : Link) (u : Text) → link_bytes l ++ u ≡ l.space_before_hash ++ (35 ∷ (l.space_after_hash ++ (part_bytes l.part ++ u)))
+link_shape l u = append_assoc (l.space_before_hash ++ 35 ∷ l.space_after_hash) (part_bytes l.part) u ∙ append_assoc l.space_before_hash (35 ∷ l.space_after_hash) (part_bytes l.part ++ u)
 
-links_shape : (l : Link) (ls : List Link) (r : Text) → flat_map link_bytes (l ∷ ls) ++ r ≡ l.space_before_hash ++ (35 ∷ (l.space_behind_hash ++ (part_bytes l.part ++ (flat_map link_bytes ls ++ r))))
+links_shape : (l : Link) (ls : List Link) (r : Text) → flat_map link_bytes (l ∷ ls) ++ r ≡ l.space_before_hash ++ (35 ∷ (l.space_after_hash ++ (part_bytes l.part ++ (flat_map link_bytes ls ++ r))))
 links_shape l ls r = append_assoc (link_bytes l) (flat_map link_bytes ls) r ∙ link_shape l (flat_map link_bytes ls ++ r)
 
 -- where a link stands, a value continues
 no_end : (limit : ℕ) (l : Link) (ls : List Link) (r s : Text) → IsLink limit l → AfterValue r → r ≡ flat_map link_bytes (l ∷ ls) ++ s → ⊥
 no_end limit l ls r s ok after e =
-    let u : Text = l.space_behind_hash ++ (part_bytes l.part ++ (flat_map link_bytes ls ++ s)) in
+    let u : Text = l.space_after_hash ++ (part_bytes l.part ++ (flat_map link_bytes ls ++ s)) in
     let found : past_hash (after_run is_space r) ≡ Some (after_run is_space u) = ap (λ (t : Text). past_hash (after_run is_space t)) (e ∙ links_shape l ls s) ∙ ap past_hash (skip_space l.space_before_hash (35 ∷ u) ok.space_before_hash (hash_stands u)) in
     none-some (after_run is_space u) (sym after.no_hash ∙ found)
 
@@ -54,13 +54,13 @@ links_unique limit (l ∷ ls) (m ∷ ms) r s al am ar as' e =
     let om = All-head (IsLink limit) m ms am in
     let lr : Text = flat_map link_bytes ls ++ r in
     let ms' : Text = flat_map link_bytes ms ++ s in
-    let lu : Text = l.space_behind_hash ++ (part_bytes l.part ++ lr) in
-    let mu : Text = m.space_behind_hash ++ (part_bytes m.part ++ ms') in
+    let lu : Text = l.space_after_hash ++ (part_bytes l.part ++ lr) in
+    let mu : Text = m.space_after_hash ++ (part_bytes m.part ++ ms') in
     let one = run_unique is_space l.space_before_hash m.space_before_hash (35 ∷ lu) (35 ∷ mu) ol.space_before_hash om.space_before_hash (hash_stands lu) (hash_stands mu) (sym (links_shape l ls r) ∙ e ∙ links_shape m ms s) in
-    let two = run_unique is_space l.space_behind_hash m.space_behind_hash (part_bytes l.part ++ lr) (part_bytes m.part ++ ms') ol.space_behind_hash om.space_behind_hash (part_stands limit l.part lr ol.part) (part_stands limit m.part ms' om.part) (tail_same 35 35 lu mu one.1) in
+    let two = run_unique is_space l.space_after_hash m.space_after_hash (part_bytes l.part ++ lr) (part_bytes m.part ++ ms') ol.space_after_hash om.space_after_hash (part_stands limit l.part lr ol.part) (part_stands limit m.part ms' om.part) (tail_same 35 35 lu mu one.1) in
     let three = part_unique limit l.part m.part lr ms' ol.part om.part (links_after limit ls r (All-tail (IsLink limit) l ls al) ar.part) (links_after limit ms s (All-tail (IsLink limit) m ms am) as'.part) two.1 in
     let later = links_unique limit ls ms r s (All-tail (IsLink limit) l ls al) (All-tail (IsLink limit) m ms am) ar as' three.1 in
-    let first : l ≡ m = λ i. record { space_before_hash = one.0 i; space_behind_hash = two.0 i; part = three.0 i } in
+    let first : l ≡ m = λ i. record { space_before_hash = one.0 i; space_after_hash = two.0 i; part = three.0 i } in
     ((λ i. first i ∷ later.0 i), later.1)
 
 pub value_unique : (limit : ℕ) (v w : Value) (r s : Text) → IsValue limit v → IsValue limit w → AfterValue r → AfterValue s → value_bytes v ++ r ≡ value_bytes w ++ s → (v ≡ w) × (r ≡ s)
@@ -86,8 +86,8 @@ after_value b r space a = subst (λ (u : Text). AfterValue (b ++ u)) (sym a.is) 
 
 pub row_unique : (limit : ℕ) (r q : Row) (x y : Text) → IsRow limit r → IsRow limit q → AfterRow x → AfterRow y → row_inside r x ≡ row_inside q y → (r ≡ q) × (x ≡ y)
 row_unique limit r q x y ir iq ax ay e =
-    let r6 : Text = r.assignment.space_behind ++ x in
-    let q6 : Text = q.assignment.space_behind ++ y in
+    let r6 : Text = r.assignment.space_after ++ x in
+    let q6 : Text = q.assignment.space_after ++ y in
     let r5 : Text = r.assignment.space_before_value ++ (value_bytes r.assignment.value ++ r6) in
     let q5 : Text = q.assignment.space_before_value ++ (value_bytes q.assignment.value ++ q6) in
     let r3 : Text = r.assignment.space_before_equals ++ (61 ∷ r5) in
@@ -98,9 +98,9 @@ row_unique limit r q x y ir iq ax ay e =
     let e2 = run_unique is_name_byte r.assignment.name q.assignment.name r3 q3 nr.bytes nq.bytes (after_space r.assignment.space_before_equals 61 r5 ir.assignment.space_before_equals equals_breaks).name (after_space q.assignment.space_before_equals 61 q5 iq.assignment.space_before_equals equals_breaks).name e1.1 in
     let e3 = run_unique is_space r.assignment.space_before_equals q.assignment.space_before_equals (61 ∷ r5) (61 ∷ q5) ir.assignment.space_before_equals iq.assignment.space_before_equals (equals_stands r5) (equals_stands q5) e2.1 in
     let e4 = run_unique is_space r.assignment.space_before_value q.assignment.space_before_value (value_bytes r.assignment.value ++ r6) (value_bytes q.assignment.value ++ q6) ir.assignment.space_before_value iq.assignment.space_before_value (value_stands limit r.assignment.value r6 ir.assignment.value) (value_stands limit q.assignment.value q6 iq.assignment.value) (tail_same 61 61 r5 q5 e3.1) in
-    let e5 = value_unique limit r.assignment.value q.assignment.value r6 q6 ir.assignment.value iq.assignment.value (after_value r.assignment.space_behind x ir.assignment.space_behind ax) (after_value q.assignment.space_behind y iq.assignment.space_behind ay) e4.1 in
-    let e6 = run_unique is_space r.assignment.space_behind q.assignment.space_behind x y ir.assignment.space_behind iq.assignment.space_behind (after_row_stands x ax) (after_row_stands y ay) e5.1 in
-    ((λ i. record { space_before_name = e1.0 i; assignment = record { name = e2.0 i; space_before_equals = e3.0 i; space_before_value = e4.0 i; value = e5.0 i; space_behind = e6.0 i } }), e6.1)
+    let e5 = value_unique limit r.assignment.value q.assignment.value r6 q6 ir.assignment.value iq.assignment.value (after_value r.assignment.space_after x ir.assignment.space_after ax) (after_value q.assignment.space_after y iq.assignment.space_after ay) e4.1 in
+    let e6 = run_unique is_space r.assignment.space_after q.assignment.space_after x y ir.assignment.space_after iq.assignment.space_after (after_row_stands x ax) (after_row_stands y ay) e5.1 in
+    ((λ i. record { space_before_name = e1.0 i; assignment = record { name = e2.0 i; space_before_equals = e3.0 i; space_before_value = e4.0 i; value = e5.0 i; space_after = e6.0 i } }), e6.1)
 
 -- ---- rows
 

@@ -44,8 +44,8 @@ links_cons : (limit : ℕ) (t u rest : Text) (p : Part × Text) → past_hash (a
 links_cons limit t u rest p o_is read later =
     let hash = joined_ok _ u o_is in
     let first = part_ok limit u p read in
-    let l : Link = record { space_before_hash = take_while is_space t; space_behind_hash = hash.0; part = p.0 } in
-    let ok : IsLink limit l = record { space_before_hash = run_passes is_space t; space_behind_hash = hash.1; part = first.1 } in
+    let l : Link = record { space_before_hash = take_while is_space t; space_after_hash = hash.0; part = p.0 } in
+    let ok : IsLink limit l = record { space_before_hash = run_passes is_space t; space_after_hash = hash.1; part = first.1 } in
     let split : t ≡ l.space_before_hash ++ (35 ∷ hash.0 ++ (part_bytes p.0 ++ (flat_map link_bytes later.0 ++ rest))) = space_split t ∙ ap (λ (v : Text). l.space_before_hash ++ v) (hash.2 ∙ ap (λ (v : Text). 35 ∷ hash.0 ++ v) (first.0 ∙ ap (λ (v : Text). part_bytes p.0 ++ v) later.2)) in
     (l ∷ later.0, All-cons (IsLink limit) l later.0 ok later.1, split ∙ sym (simp append_assoc))
 

@@ -10,7 +10,7 @@ use Rattle.bib_spec.specs.Text.{Text, is_space, after_run}
 use Rattle.bib_spec.specs.Tree.{Digits, Link, Value, part_bytes, link_bytes, value_bytes, IsSpace, IsLink, IsValue}
 use Rattle.bib_spec.specs.Reading.{IsValueWithin, IsViable, FailsAt}
 use Rattle.bib_spec.specs.Fault.{IsFaultAt, ReadingFault, Unended, ExpectedCommaOrClose}
-use Rattle.bib_scan.specs.LeftToRight.{Read, Halt, stop, expected, read_value_rest, read_value, nothing_behind, read_whole_value, ◌>>=◌}
+use Rattle.bib_scan.specs.LeftToRight.{Read, Halt, stop, expected, read_value_rest, read_value, nothing_after, read_whole_value, ◌>>=◌}
 use Rattle.bib_scan.proofs.RunLaws.{bind_ok, ok_same, not_ok, run_passes}
 use Rattle.bib_scan.proofs.ValueLaws.{space_split, value_ok}
 use Rattle.bib_scan.proofs.AgainLaws.{EndsRow, comma_ends, value_again}
@@ -36,23 +36,23 @@ gap_of t m = m >>= valued t >>= λ v. skip v.1
 gap_err : (limit : ℕ) (t : Text) (h : Halt) → value_gap limit t ≡ Err h → read_whole_value limit t ≡ Err h
 gap_err limit t h is = go (read_value_rest limit t) is
   where
-    go : (m : Result Text Halt) → gap_of t m ≡ Err h → (m >>= nothing_behind) ≡ Err h
+    go : (m : Result Text Halt) → gap_of t m ≡ Err h → (m >>= nothing_after) ≡ Err h
     go (Ok rest) e = absurd (not_ok (tt, after_run is_space rest) h _ e refl)
     go (Err k) e = ap (λ (j : Halt). Err j) (err_is {A = Unit {0} × Text} k h (Err k) refl e)
 
 -- where the value and white space end before s
 pub data EndsBefore (s : Text) (m : Result Text Halt) : Type 0 where
   ended : s ≡ [] → m ≡ Ok [] → EndsBefore s m
-  behind : m ≡ Err (expected ExpectedCommaOrClose s) → EndsBefore s m
+  at_close : m ≡ Err (expected ExpectedCommaOrClose s) → EndsBefore s m
 
 gap_ok : (limit : ℕ) (t s : Text) → value_gap limit t ≡ Ok (tt, s) → EndsBefore s (read_whole_value limit t)
 gap_ok limit t s is = go (read_value_rest limit t) is
   where
-    last : (rest : Text) → after_run is_space rest ≡ s → EndsBefore s (nothing_behind rest)
+    last : (rest : Text) → after_run is_space rest ≡ s → EndsBefore s (nothing_after rest)
     last [] e = ended (sym e) refl
-    last (b ∷ rest) e = behind (ap (λ (u : Text). Err (expected ExpectedCommaOrClose u)) e)
+    last (b ∷ rest) e = at_close (ap (λ (u : Text). Err (expected ExpectedCommaOrClose u)) e)
 
-    go : (m : Result Text Halt) → gap_of t m ≡ Ok (tt, s) → EndsBefore s (m >>= nothing_behind)
+    go : (m : Result Text Halt) → gap_of t m ≡ Ok (tt, s) → EndsBefore s (m >>= nothing_after)
     go (Ok rest) e = last rest (ap (λ (y : Unit {0} × Text). y.1) (ok_same {A = Unit {0} × Text} (tt, after_run is_space rest) (tt, s) _ refl e))
     go (Err k) e = absurd (not_ok (tt, s) k _ refl e)
 
@@ -67,24 +67,24 @@ refused_by limit t h is = go (read_value_rest limit t) refl is
     gap : (m : Result Text Halt) → read_value_rest limit t ≡ m → value_gap limit t ≡ gap_of t m
     gap m e = ap (gap_of t) e
 
-    last : (rest : Text) → read_value_rest limit t ≡ Ok rest → nothing_behind rest ≡ Err h → Refused limit t h
+    last : (rest : Text) → read_value_rest limit t ≡ Ok rest → nothing_after rest ≡ Err h → Refused limit t h
     last [] e wrong = absurd (not_ok [] h _ wrong refl)
     last (b ∷ rest) e wrong = followed (after_run is_space (b ∷ rest)) (gap (Ok (b ∷ rest)) e) (err_is {A = Text} _ h _ refl wrong)
 
-    go : (m : Result Text Halt) → read_value_rest limit t ≡ m → (m >>= nothing_behind) ≡ Err h → Refused limit t h
+    go : (m : Result Text Halt) → read_value_rest limit t ≡ m → (m >>= nothing_after) ≡ Err h → Refused limit t h
     go (Ok rest) e wrong = last rest e wrong
     go (Err k) e wrong = stopped (gap (Err k) e ∙ ap (λ (j : Halt). Err j) (err_is {A = Text} k h (Err k) refl wrong))
 
 -- ---- sound and complete
 
-none_beyond : (rest x : Text) → nothing_behind rest ≡ Ok x → rest ≡ []
+none_beyond : (rest x : Text) → nothing_after rest ≡ Ok x → rest ≡ []
 none_beyond [] x is = refl
 none_beyond (b ∷ rest) x is = absurd (not_ok x _ _ refl is)
 
 -- what is read as one value is one
 pub whole_value : (limit : ℕ) (t x : Text) → read_whole_value limit t ≡ Ok x → IsValueWithin limit t
 whole_value limit t x is =
-    let one = bind_ok (read_value_rest limit t) nothing_behind x is in
+    let one = bind_ok (read_value_rest limit t) nothing_after x is in
     let rest : one.0 ≡ [] = none_beyond one.0 x one.2 in
     let v = value_ok limit t (take (length t - length one.0) t, one.0) (ap (λ (m : Result Text Halt). m >>= valued t) one.1) in
     (v.0, v.1, sym (v.3 ∙ ap (λ (u : Text). u ++ one.0) v.2 ∙ ap (λ (u : Text). value_bytes v.0 ++ u) rest ∙ append-nil (value_bytes v.0)))
@@ -95,7 +95,7 @@ whole_value_again limit t (v, is, bytes) =
     let read = value_again limit v [] is (record { name = refl; digit = refl }) refl in
     let one = bind_ok (read_value_rest limit (value_bytes v ++ [])) _ (value_bytes v, []) read in
     let rest : one.0 ≡ [] = ap (λ (y : Text × Text). y.1) (ok_same {A = Text × Text} (take (length (value_bytes v ++ []) - length one.0) (value_bytes v ++ []), one.0) (value_bytes v, []) _ refl one.2) in
-    ap (read_whole_value limit) (sym bytes ∙ sym (append-nil (value_bytes v))) ∙ ap (λ (m : Result Text Halt). m >>= nothing_behind) (one.1 ∙ ap (λ (u : Text). Ok u) rest)
+    ap (read_whole_value limit) (sym bytes ∙ sym (append-nil (value_bytes v))) ∙ ap (λ (m : Result Text Halt). m >>= nothing_after) (one.1 ∙ ap (λ (u : Text). Ok u) rest)
 
 no_value_fault : (limit : ℕ) (t : Text) (h : Halt) → IsValueWithin limit t → read_whole_value limit t ≡ Err h → ⊥
 no_value_fault limit t h value is = not_ok [] h _ is (whole_value_again limit t value)
@@ -105,8 +105,8 @@ no_value_fault limit t h value is = not_ok [] h _ is (whole_value_again limit t 
 -- a value and white space continue with `#1`
 linked : (limit : ℕ) (v : Value) (s : Text) → IsValue limit v → IsSpace s → IsValueWithin limit ((value_bytes v ++ s) ++ (35 ∷ 49 ∷ []))
 linked limit v s is space =
-    let l : Link = record { space_before_hash = s; space_behind_hash = []; part = Digits (49 ∷ []) } in
-    let good : IsLink limit l = record { space_before_hash = space; space_behind_hash = All-nil (λ (x : ℕ). is_space x ≡ true); part = one_part limit } in
+    let l : Link = record { space_before_hash = s; space_after_hash = []; part = Digits (49 ∷ []) } in
+    let good : IsLink limit l = record { space_before_hash = space; space_after_hash = All-nil (λ (x : ℕ). is_space x ≡ true); part = one_part limit } in
     let w : Value = record { first = v.first; links = v.links ++ l ∷ [] } in
     let links : All (IsLink limit) (v.links ++ l ∷ []) = All-push (IsLink limit) v.links l is.links good in
     let last : flat_map link_bytes (l ∷ []) ≡ s ++ (35 ∷ 49 ∷ []) = append-nil (link_bytes l) ∙ append_assoc s (35 ∷ []) (49 ∷ []) in
@@ -175,7 +175,7 @@ value_stops limit some t h (followed s is e) =
   where
     last : (u : Text) (c : ℕ) (v r : Text) → s ≡ c ∷ v → EndsBefore (c ∷ r) (read_whole_value limit u) → read_whole_value limit u ≡ Err (stop h.fault (c ∷ r))
     last u c v r shape (ended none done) = cc
-    last u c v r shape (behind read) = read ∙ ap (λ (f : ReadingFault). Err (stop f (c ∷ r))) (ap (λ (w : Text). (expected ExpectedCommaOrClose w).fault) (sym shape) ∙ ap (λ (k : Halt). k.fault) e)
+    last u c v r shape (at_close read) = read ∙ ap (λ (f : ReadingFault). Err (stop f (c ∷ r))) (ap (λ (w : Text). (expected ExpectedCommaOrClose w).fault) (sym shape) ∙ ap (λ (k : Halt). k.fault) e)
 
 module _ (limit : ℕ) (some : 0 < limit) where
   pub stops_by : (t : Text) (h : Halt) → read_whole_value limit t ≡ Err h → StopsAt (IsValueWithin limit) (read_whole_value limit) t h
@@ -201,7 +201,7 @@ module _ (limit : ℕ) (some : 0 < limit) where
 
       whole : EndsBefore [] (read_whole_value limit t) → IsViable (IsValueWithin limit) t
       whole (ended none done) = ([], subst (IsValueWithin limit) (sym (append-nil t)) (whole_value limit t [] done))
-      whole (behind read) = viable_value t (stop Unended []) read refl
+      whole (at_close read) = viable_value t (stop Unended []) read refl
 
       go : (m : Read (Unit {0})) → value_gap limit t ≡ m → rest_of m ≡ [] → IsViable (IsValueWithin limit) t
       go (Ok x) is none = whole (gap_ok limit t [] (is ∙ ap (λ (r : Text). Ok (tt, r)) none))
@@ -215,7 +215,7 @@ module _ (limit : ℕ) (some : 0 < limit) where
     where
       go : EndsBefore (c ∷ v) (read_whole_value limit t) → ⊥
       go (ended none done) = cc
-      go (behind read) = stuck_value t u (stop ExpectedCommaOrClose (c ∷ v)) c v read split refl viable
+      go (at_close read) = stuck_value t u (stop ExpectedCommaOrClose (c ∷ v)) c v read split refl viable
 
 -- ---- what is wrong
 

@@ -38,11 +38,11 @@ first_field kind.Preamble total t = result_ok (read_preamble_field total t)
 first_field kind.Comment total t = None
 
 -- what kind of item may have the fields that follow the first: only an entry has more than one
-abbrev pub kind_behind : Kind → Kind
-kind_behind kind.Entry = kind.Entry
-kind_behind kind.Macro = kind.Comment
-kind_behind kind.Preamble = kind.Comment
-kind_behind kind.Comment = kind.Comment
+abbrev pub kind_after : Kind → Kind
+kind_after kind.Entry = kind.Entry
+kind_after kind.Macro = kind.Comment
+kind_after kind.Preamble = kind.Comment
+kind_after kind.Comment = kind.Comment
 
 -- the first field and those that stand in the text after it
 abbrev pub first_and_others : Option (Field × Text) → (Text → List Field) → List Field
@@ -52,7 +52,7 @@ first_and_others (Some x) others = x.0 ∷ others x.1
 -- the fields from here on, of which there are at most so many
 unfoldable pub fields_left : ℕ → Kind → ℕ → Text → List Field
 fields_left zero k total t = []
-fields_left (suc n) k total t = first_and_others (first_field k total t) (fields_left n (kind_behind k) total)
+fields_left (suc n) k total t = first_and_others (first_field k total t) (fields_left n (kind_after k) total)
 
 -- as many as there may be
 abbrev pub all_fields_left : Kind → ℕ → Text → List Field
@@ -78,7 +78,7 @@ abbrev pub read_opening : Text → Delimiter × Text
 read_opening [] = (Brace, [])
 read_opening (b ∷ t) = (delimiter_of b, after_run is_space t)
 
--- where the fields of an item of this kind begin, from behind its key or, where it has none, behind its opening
+-- where the fields of an item of this kind begin, from after its key or, where it has none, after its opening
 abbrev pub first_row : Kind → Text → Text
 first_row kind.Entry t = after_run is_space t
 first_row kind.Macro t = t
@@ -86,9 +86,9 @@ first_row kind.Preamble t = t
 first_row kind.Comment t = t
 
 -- the view of an item of this kind and type, from its delimiter and the text after its opening
-abbrev pub view_behind : Text → Text → Text → Kind → Delimiter × Text → View
-view_behind body trail type_name kind.Entry opened =
-    let behind = after_run is_space (after_run (goes_on_key opened.0) opened.1) in
+abbrev pub view_after : Text → Text → Text → Kind → Delimiter × Text → View
+view_after body trail type_name kind.Entry opened =
+    let after = after_run is_space (after_run (goes_on_key opened.0) opened.1) in
     record {
       kind = kind.Entry;
       body = body;
@@ -96,9 +96,9 @@ view_behind body trail type_name kind.Entry opened =
       type_name = type_name;
       key = take_while (goes_on_key opened.0) opened.1;
       key_at = length body - length opened.1;
-      fields = all_fields_left kind.Entry (length body) behind;
+      fields = all_fields_left kind.Entry (length body) after;
     }
-view_behind body trail type_name k opened = record {
+view_after body trail type_name k opened = record {
   kind = k;
   body = body;
   trail = trail;
@@ -112,4 +112,4 @@ view_behind body trail type_name k opened = record {
 abbrev pub read_view : Text → Text → View
 read_view body trail =
     let head = read_head body in
-    view_behind body trail head.0 (kind_named head.0) (read_opening (after_run is_space head.1))
+    view_after body trail head.0 (kind_named head.0) (read_opening (after_run is_space head.1))

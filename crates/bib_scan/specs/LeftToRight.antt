@@ -188,9 +188,9 @@ read_command limit [] = Err (stop Unended [])
 read_command limit (b ∷ t) =
     let named = after_run is_space t in
     let type_name = take_while is_type_byte named in
-    let behind = after_run is_type_byte named in
-    if same type_name (codes "comment") then Ok behind
-    else read_body limit type_name (after_run is_space behind)
+    let after = after_run is_type_byte named in
+    if same type_name (codes "comment") then Ok after
+    else read_body limit type_name (after_run is_space after)
 
 -- how many bytes stand before the next command
 unfoldable pub next_command : Text → ℕ
@@ -215,10 +215,10 @@ abbrev pub read_all_commands : ℕ → Text → Result (List Span) Halt
 read_all_commands limit t = read_commands limit (length t) (length t + 1) (drop (next_command t) t)
 
 -- the end of a text that is one value: white space after a value still waits for a `#`
-abbrev pub nothing_behind : Text → Result Text Halt
-nothing_behind [] = Ok []
-nothing_behind (b ∷ t) = Err (expected ExpectedCommaOrClose (after_run is_space (b ∷ t)))
+abbrev pub nothing_after : Text → Result Text Halt
+nothing_after [] = Ok []
+nothing_after (b ∷ t) = Err (expected ExpectedCommaOrClose (after_run is_space (b ∷ t)))
 
 -- a text that is one value
 abbrev pub read_whole_value : ℕ → Text → Result Text Halt
-read_whole_value limit t = read_value_rest limit t >>= nothing_behind
+read_whole_value limit t = read_value_rest limit t >>= nothing_after

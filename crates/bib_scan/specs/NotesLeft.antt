@@ -30,17 +30,17 @@ entry_head opened = record {
   crossref_left = crossref_left (after_run is_space (after_run (goes_on_key opened.0) opened.1));
 }
 
-abbrev pub head_behind : Kind → Delimiter × Text → Option EntryHead
-head_behind kind.Entry opened = Some (entry_head opened)
-head_behind kind.Macro opened = None
-head_behind kind.Preamble opened = None
-head_behind kind.Comment opened = None
+abbrev pub head_after : Kind → Delimiter × Text → Option EntryHead
+head_after kind.Entry opened = Some (entry_head opened)
+head_after kind.Macro opened = None
+head_after kind.Preamble opened = None
+head_after kind.Comment opened = None
 
 -- what the item at the front of t says, where it is an entry
 abbrev pub read_entry_head : Text → Option EntryHead
 read_entry_head t =
     let head = read_head t in
-    head_behind (kind_named head.0) (read_opening (after_run is_space head.1))
+    head_after (kind_named head.0) (read_opening (after_run is_space head.1))
 
 -- the place from which on so many bytes are left, and 0 for none
 abbrev pub place_left : ℕ → ℕ → ℕ

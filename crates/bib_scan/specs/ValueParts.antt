@@ -33,22 +33,22 @@ kind_begun b =
     else kind.Macro
 
 -- where a part lies that stands after this text
-abbrev pub span_behind : Text → tree.Part → PartSpan
-span_behind before p = record {
+abbrev pub span_after : Text → tree.Part → PartSpan
+span_after before p = record {
   kind = part_kind p;
   start = length before;
   end = length before + length (part_bytes p);
 }
 
 -- where the parts of links lie that stand after this text
-abbrev pub spans_behind : Text → List Link → List PartSpan
-spans_behind before [] = []
-spans_behind before (l ∷ ls) =
-    span_behind (before ++ l.space_before_hash ++ hash ∷ l.space_behind_hash) l.part ∷ spans_behind (before ++ link_bytes l) ls
+abbrev pub spans_after : Text → List Link → List PartSpan
+spans_after before [] = []
+spans_after before (l ∷ ls) =
+    span_after (before ++ l.space_before_hash ++ hash ∷ l.space_after_hash) l.part ∷ spans_after (before ++ link_bytes l) ls
 
 -- where the parts of a value lie
 abbrev pub spans_of : Value → List PartSpan
-spans_of v = span_behind [] v.first ∷ spans_behind (part_bytes v.first) v.links
+spans_of v = span_after [] v.first ∷ spans_after (part_bytes v.first) v.links
 
 -- the parts of this text lie there: it is one value
 abbrev pub IsPartsOf : Text → List PartSpan → Type 0

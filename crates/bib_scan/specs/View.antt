@@ -18,8 +18,8 @@ pub record Field : Type 0 where
   pub value_at : ℕ
 
 -- the field of an assignment with this text before it, in a row that begins at start
-abbrev pub field_behind : ℕ → Text → tree.Assignment → Field
-field_behind start before a = record {
+abbrev pub field_after : ℕ → Text → tree.Assignment → Field
+field_after start before a = record {
   name = a.name;
   value = value_bytes a.value;
   start = start;
@@ -28,21 +28,21 @@ field_behind start before a = record {
 }
 
 -- the fields of rows with this text before them: each stands after the rows before it
-abbrev pub fields_behind : Text → List Row → List Field
-fields_behind before [] = []
-fields_behind before (r ∷ rows) =
-    field_behind (length before) (before ++ comma ∷ r.space_before_name) r.assignment ∷ fields_behind (before ++ row_bytes r) rows
+abbrev pub fields_after : Text → List Row → List Field
+fields_after before [] = []
+fields_after before (r ∷ rows) =
+    field_after (length before) (before ++ comma ∷ r.space_before_name) r.assignment ∷ fields_after (before ++ row_bytes r) rows
 
 -- The fields of an entry are its rows. A macro definition has one, its name and value, and a preamble one with an
 -- empty name; they have no row, so each begins at its name, or its value. (btxdoc 2.1, 3)
 abbrev pub fields_of : Tree → List Field
 fields_of (CommentTree h) = []
 fields_of (DefinitionTree d) =
-    field_behind (length (opening_bytes d.opening)) (opening_bytes d.opening) d.assignment ∷ []
+    field_after (length (opening_bytes d.opening)) (opening_bytes d.opening) d.assignment ∷ []
 fields_of (PreambleTree p) =
     let place = length (opening_bytes p.opening) in
     record { name = []; value = value_bytes p.value; start = place; name_at = place; value_at = place } ∷ []
-fields_of (EntryTree e) = fields_behind (opening_bytes e.opening ++ e.key ++ e.space_behind_key) e.rows
+fields_of (EntryTree e) = fields_after (opening_bytes e.opening ++ e.key ++ e.space_after_key) e.rows
 
 abbrev pub kind_of : Tree → Kind
 kind_of (CommentTree h) = kind.Comment

@@ -8,7 +8,7 @@ ghost use Rattle.bib_spec.specs.Text.{is_space, after_run, same};
 ghost use Rattle.bib_spec.specs.Tree.{goes_on_key, close_byte};
 ghost use Rattle.bib_scan.specs.LeftToRight.{read_run, past_byte, read_comma, read_close, read_all_rows, read_entry, read_definition, read_preamble, read_body, read_command};
 ghost use Rattle.bib_scan.specs.FieldsLeft.{kind_named, read_opening};
-ghost use Rattle.bib_scan.specs.NotesLeft.{crossref_left, entry_head, head_behind, read_entry_head};
+ghost use Rattle.bib_scan.specs.NotesLeft.{crossref_left, entry_head, head_after, read_entry_head};
 ghost use Rattle.bib_scan.specs.Code.{Gives};
 ghost use Rattle.bib_scan.specs.DelimiterView.{delimiter_view};
 
@@ -17,7 +17,7 @@ use crate::fault::{Fault, Stop};
 use crate::note::EntryHead;
 use crate::opening::Delimiter;
 use crate::row::{past_row, split_assignment};
-use crate::spans::{behind, past_space, split_type_name};
+use crate::spans::{past_space, split_type_name, text_from};
 use crate::text::{NAME_LIMIT, same_folded};
 use crate::value::split_value;
 
@@ -82,7 +82,7 @@ fn split_key(delimiter: Delimiter, text: &[u8]) -> Result<(&[u8], &[u8]), Stop<'
     if len > NAME_LIMIT {
         return Err(Stop {
             fault: Fault::KeyTooLong,
-            rest: behind(text, NAME_LIMIT),
+            rest: text_from(text, NAME_LIMIT),
         });
     }
     Ok(text.split_at(len))
@@ -107,11 +107,11 @@ fn past_rows(delimiter: Delimiter, text: &[u8]) -> Result<(&[u8], usize), Stop<'
         if let Some(end) = past_byte(close, named) {
             return Ok((end, crossref_left));
         }
-        let (assigned, behind) = split_assignment(named)?;
+        let (assigned, later) = split_assignment(named)?;
         if crossref_left == 0 && same_folded(assigned.name, b"crossref") {
             crossref_left = rest.len();
         }
-        rest = behind;
+        rest = later;
     }
 }
 
@@ -125,8 +125,8 @@ fn past_entry(delimiter: Delimiter, text: &[u8]) -> Result<(&[u8], EntryHead), S
     ensures within { IfOk result (λ x. x.1.crossref_left ≤ length text.now) }
 {
     let inside = past_space(text);
-    let (key, behind_key) = split_key(delimiter, inside)?;
-    let (rest, crossref_left) = past_rows(delimiter, past_space(behind_key))?;
+    let (key, after_key) = split_key(delimiter, inside)?;
+    let (rest, crossref_left) = past_rows(delimiter, past_space(after_key))?;
     let head = EntryHead {
         key_left: inside.len(),
         key_len: key.len(),
@@ -161,7 +161,7 @@ fn past_body<'a>(
 ) -> Result<(&'a [u8], Option<EntryHead>), Stop<'a>>
     ensures read { Gives (λ x. x.0.now) result (read_body name_limit type_name.now text.now) }
     ensures shorter { IfOk result (λ x. length x.0.now < length text.now) }
-    ensures head { same type_name.now (codes "comment") ≡ false → IfOk result (λ x. x.1 ≡ head_behind (kind_named type_name.now) (read_opening text.now)) }
+    ensures head { same type_name.now (codes "comment") ≡ false → IfOk result (λ x. x.1 ≡ head_after (kind_named type_name.now) (read_opening text.now)) }
     ensures key { IfOk result (λ x. IfSome x.1 (λ h. h.key_len ≤ name_limit)) }
     ensures within { IfOk result (λ x. IfSome x.1 (λ h. h.crossref_left ≤ length text.now)) }
 {

@@ -80,7 +80,7 @@ impl<'a> Iterator for Fields<'a> {
     fn next(&mut self) -> Option<FieldView<'a>> {
         let (field, rest) = split_field(self.kind, self.body_len, self.rest)?;
         self.rest = rest;
-        self.kind = self.kind.behind_field();
+        self.kind = self.kind.after_field();
         Some(field)
     }
 }

@@ -4,7 +4,7 @@ ghost use Rattle.std.specs.Prelude.{◌≡◌};
 
 use crate::note::Note;
 use crate::seq::Seq;
-use crate::spans::behind;
+use crate::spans::text_from;
 use crate::view::ItemView;
 use std::marker::Model;
 
@@ -19,16 +19,16 @@ impl Span {
     ghost use Rattle.std.specs.Prelude.{◌≡◌, ◌≤◌, ◌<◌, ◌-◌, ◌^◌};
     ghost use Rattle.bib_scan.specs.LeftToRight.{span};
 
-    /// The span of a body in a text of so many bytes, told by the bytes that are left from its first one on and behind it.
-    pub fn of_left(total: usize, from: usize, behind: usize) -> Self
+    /// The span of a body in a text of so many bytes, told by the bytes that are left from its first one on and after it.
+    pub fn of_left(total: usize, from: usize, after: usize) -> Self
         requires short { total < 2 ^ 32 }
         requires from { from ≤ total }
-        requires behind { behind ≤ total }
-        ensures { result ≡ span (total - from) (total - behind) }
+        requires after { after ≤ total }
+        ensures { result ≡ span (total - from) (total - after) }
     {
         Span {
             start: (total - from) as u32,
-            end: (total - behind) as u32,
+            end: (total - after) as u32,
         }
     }
 }
@@ -92,7 +92,7 @@ impl Layout {
         ensures { (db : Reading) (i : Item) → Reads bytes.now db → slice_get db.items n ≡ Some i → result.now ≡ tree_bytes i.tree }
     {
         let body = self.items[n];
-        behind(bytes, body.start as usize)
+        text_from(bytes, body.start as usize)
             .split_at((body.end - body.start) as usize)
             .0
     }
@@ -126,7 +126,7 @@ impl Layout {
         let body = self.items[n];
         let end = self.trail_end(bytes, n);
         let start = body.end as usize;
-        behind(bytes, start).split_at(end - start).0
+        text_from(bytes, start).split_at(end - start).0
     }
 
     /// What was noted of each item, in their order. The memory of the places is given back.

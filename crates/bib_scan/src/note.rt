@@ -5,7 +5,7 @@ ghost use Rattle.bib_spec.specs.Bytes.{name_limit};
 ghost use Rattle.bib_scan.specs.NotesLeft.{place_left, note_from};
 
 use crate::fields::{FieldView, split_row};
-use crate::spans::behind;
+use crate::spans::text_from;
 
 /// What an entry says, told by the bytes that are left in the text: those from its key on, and those from the comma of the
 /// first row on that is named `crossref`, or 0 where there is none. And how many bytes its key has.
@@ -62,7 +62,7 @@ impl Note {
         if at == 0 || at > body.len() {
             return None;
         }
-        match split_row(body.len(), behind(body, at)) {
+        match split_row(body.len(), text_from(body, at)) {
             Ok((field, _)) => Some(field),
             Err(_) => None,
         }

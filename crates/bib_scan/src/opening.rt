@@ -8,7 +8,7 @@ ghost use Rattle.bib_spec.specs.Tree.{close_byte};
 ghost use Rattle.bib_scan.specs.DelimiterView.{delimiter_view};
 
 use crate::class::is_type_byte;
-use crate::spans::{behind, past_space, split_type_name};
+use crate::spans::{past_space, split_type_name, text_from};
 use crate::text::{are_type_name, same_folded};
 use memchr::memchr;
 
@@ -74,9 +74,9 @@ pub(crate) fn next_command(text: &[u8]) -> usize
     ensures within { result ≤ length text.now }
 {
     let mut at = 0;
-    while let Some(found) = memchr(b'@', behind(text, at)) {
+    while let Some(found) = memchr(b'@', text_from(text, at)) {
         let place = at + found;
-        if begins_command(behind(text, place)) {
+        if begins_command(text_from(text, place)) {
             return place;
         }
         at = place + 1;

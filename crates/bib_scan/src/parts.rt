@@ -10,7 +10,7 @@ ghost use Rattle.bib_scan.specs.ValueParts.{part_kind, kind_begun, parts_of, IsP
 ghost use Rattle.bib_scan.specs.PartsLeft.{part_span, read_link, read_all_parts};
 
 use crate::fault::{Fault, ReadFault, Refusal, Stop};
-use crate::spans::{behind, past_space};
+use crate::spans::{past_space, text_from};
 use crate::value::{Part, past_hash, split_part};
 use memchr::memchr;
 use std::alloc::Global;
@@ -114,7 +114,11 @@ impl Parts {
         ensures { (v : Value) → IsValue name_limit v → value_bytes v ≡ bytes.now → slice_get (parts_of v) n ≡ Some (part_view result) }
     {
         let span = self.spans[n];
-        span.kind.part_in(behind(bytes, span.start).split_at(span.end - span.start).0)
+        span.kind.part_in(
+            text_from(bytes, span.start)
+                .split_at(span.end - span.start)
+                .0,
+        )
     }
 }
 

@@ -7,7 +7,7 @@ use crate::fault::ReadFault;
 use crate::layout::{Layout, Span};
 use crate::note::Note;
 use crate::opening::next_command;
-use crate::spans::behind;
+use crate::spans::text_from;
 use std::alloc::{AllocError, Global};
 use std::marker::Model;
 
@@ -71,7 +71,7 @@ impl<'a> Reader<'a> {
         let front_len = next_command(bytes);
         Ok(Reader {
             bytes,
-            rest: behind(bytes, front_len),
+            rest: text_from(bytes, front_len),
             front_len,
             spans: Vec::new(alloc),
             notes: Vec::new(alloc),
@@ -108,7 +108,7 @@ impl<'a> Reader<'a> {
             Ok(()) => {}
             Err(_) => return Err(ReadFault { kind: 10, place: 0 }),
         }
-        self.rest = behind(after, next_command(after));
+        self.rest = text_from(after, next_command(after));
         Ok(Some(ItemRead {
             body,
             note,

@@ -9,7 +9,7 @@ use crate::class::{is_name_byte, is_space, is_type_byte};
 
 /// The text after its first n bytes.
 #[inline(always)]
-pub(crate) fn behind(text: &[u8], n: usize) -> &[u8]
+pub(crate) fn text_from(text: &[u8], n: usize) -> &[u8]
     requires { n ≤ length text.now }
     ensures { result.now ≡ drop n text.now }
 {
@@ -31,7 +31,7 @@ pub(crate) fn past_space(text: &[u8]) -> &[u8]
     ensures rest { result.now ≡ drop (prefix_len is_space text.now) text.now }
     ensures within { length result.now ≤ length text.now }
 {
-    behind(text, space_len(text))
+    text_from(text, space_len(text))
 }
 
 /// How many name bytes the text begins with.

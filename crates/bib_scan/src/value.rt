@@ -12,7 +12,7 @@ use crate::braces::{Marked, next_brace};
 use crate::class::is_name_byte;
 use crate::fault::{Fault, Stop};
 use crate::near::first_of_three;
-use crate::spans::{behind, digits_len, name_len, past_space};
+use crate::spans::{digits_len, name_len, past_space, text_from};
 use crate::text::NAME_LIMIT;
 
 /// A part of a value, with its content.
@@ -37,7 +37,7 @@ fn split_braced(text: &[u8]) -> Result<(&[u8], &[u8]), Stop<'_>>
         if text[place] == b'{' {
             depth += 1;
         } else if depth == 0 {
-            return Ok((text.split_at(place).0, behind(text, place + 1)));
+            return Ok((text.split_at(place).0, text_from(text, place + 1)));
         } else {
             depth -= 1;
         }
@@ -46,7 +46,7 @@ fn split_braced(text: &[u8]) -> Result<(&[u8], &[u8]), Stop<'_>>
     }
     Err(Stop {
         fault: Fault::Unended,
-        rest: behind(text, text.len()),
+        rest: text_from(text, text.len()),
     })
 }
 
@@ -57,7 +57,7 @@ fn split_quoted(text: &[u8]) -> Result<(&[u8], &[u8]), Stop<'_>>
 {
     let mut depth = 0usize;
     let mut at = 0;
-    while let Some(found) = first_of_three(b'{', b'}', b'"', behind(text, at)) {
+    while let Some(found) = first_of_three(b'{', b'}', b'"', text_from(text, at)) {
         let place = at + found;
         match text[place] {
             b'{' => depth += 1,
@@ -65,14 +65,14 @@ fn split_quoted(text: &[u8]) -> Result<(&[u8], &[u8]), Stop<'_>>
                 if depth == 0 {
                     return Err(Stop {
                         fault: Fault::UnbalancedBrace,
-                        rest: behind(text, place),
+                        rest: text_from(text, place),
                     });
                 }
                 depth -= 1;
             }
             _ => {
                 if depth == 0 {
-                    return Ok((text.split_at(place).0, behind(text, place + 1)));
+                    return Ok((text.split_at(place).0, text_from(text, place + 1)));
                 }
             }
         }
@@ -80,7 +80,7 @@ fn split_quoted(text: &[u8]) -> Result<(&[u8], &[u8]), Stop<'_>>
     }
     Err(Stop {
         fault: Fault::Unended,
-        rest: behind(text, text.len()),
+        rest: text_from(text, text.len()),
     })
 }
 
@@ -94,7 +94,7 @@ fn split_name_run(text: &[u8]) -> Result<(&[u8], &[u8]), Stop<'_>>
     if len > NAME_LIMIT {
         return Err(Stop {
             fault: Fault::KeyTooLong,
-            rest: behind(text, NAME_LIMIT),
+            rest: text_from(text, NAME_LIMIT),
         });
     }
     Ok(text.split_at(len))
@@ -183,8 +183,8 @@ pub(crate) fn split_value(text: &[u8]) -> Result<(&[u8], &[u8]), Stop<'_>>
 {
     let (_, mut rest) = split_part(text)?;
     while let Some(next) = past_hash(rest) {
-        let (_, behind) = split_part(next)?;
-        rest = behind;
+        let (_, later) = split_part(next)?;
+        rest = later;
     }
     Ok((text.split_at(text.len() - rest.len()).0, rest))
 }

@@ -10,7 +10,7 @@ use crate::body::key_len;
 use crate::fields::Fields;
 use crate::note::Note;
 use crate::opening::Delimiter;
-use crate::spans::{behind, past_space, split_type_name};
+use crate::spans::{past_space, split_type_name, text_from};
 use crate::text::same_folded;
 use std::marker::Model;
 
@@ -24,7 +24,7 @@ pub enum Kind {
 }
 
 impl Kind {
-    ghost use Rattle.bib_scan.specs.FieldsLeft.{kind_named, kind_behind};
+    ghost use Rattle.bib_scan.specs.FieldsLeft.{kind_named, kind_after};
 
     /// The kind of item that has this type.
     fn named(type_name: &[u8]) -> Self
@@ -42,8 +42,8 @@ impl Kind {
     }
 
     /// Which kind of item has the fields after the first: only an entry has more than one.
-    pub(crate) fn behind_field(self) -> Self
-        ensures { result ≡ kind_behind self }
+    pub(crate) fn after_field(self) -> Self
+        ensures { result ≡ kind_after self }
     {
         match self {
             Kind::Entry => Kind::Entry,
@@ -60,7 +60,7 @@ pub struct ItemView<'a> {
     trail: &'a [u8],
     key: &'a [u8],
     key_at: usize,
-    // behind the key, or behind the opening of what has none
+    // after the key, or after the opening of what has none
     inside: &'a [u8],
 }
 
@@ -95,18 +95,18 @@ impl<'a> ItemView<'a> {
         ensures slices { (result.body ≡ body.now) × (result.trail ≡ trail.now) }
         ensures item { (tree : Tree) → IsTree name_limit tree → tree_bytes tree ≡ body.now → result ≡ view_of (record { tree = tree; trail = trail.now }) }
     {
-        let (type_name, behind_type) = split_head(body);
-        let (delimiter, inside) = split_opening(past_space(behind_type));
+        let (type_name, after_type) = split_head(body);
+        let (delimiter, inside) = split_opening(past_space(after_type));
         match Kind::named(type_name) {
             Kind::Entry => {
-                let (key, behind_key) = inside.split_at(key_len(delimiter, inside));
+                let (key, after_key) = inside.split_at(key_len(delimiter, inside));
                 ItemView {
                     kind: Kind::Entry,
                     body,
                     trail,
                     key,
                     key_at: body.len() - inside.len(),
-                    inside: behind_key,
+                    inside: after_key,
                 }
             }
             kind => ItemView {
@@ -129,14 +129,14 @@ impl<'a> ItemView<'a> {
         if key_at == 0 || key_at + key_len > body.len() {
             return ItemView::of(body, trail);
         }
-        let (key, behind_key) = behind(body, key_at).split_at(key_len);
+        let (key, after_key) = text_from(body, key_at).split_at(key_len);
         ItemView {
             kind: Kind::Entry,
             body,
             trail,
             key,
             key_at,
-            inside: behind_key,
+            inside: after_key,
         }
     }
 
@@ -222,7 +222,7 @@ fn split_opening(text: &[u8]) -> (Delimiter, &[u8])
     }
 }
 
-/// Where the fields of an item of this kind begin, from behind its key or, where it has none, behind its opening.
+/// Where the fields of an item of this kind begin, from after its key or, where it has none, after its opening.
 fn first_row(kind: Kind, inside: &[u8]) -> &[u8]
     ensures rows { result.now ≡ first_row kind inside.now }
     ensures within { length result.now ≤ length inside.now }

@@ -33,8 +33,8 @@ parted_before byte (c ∷ t) b rest e =
           here.1 ∙ ap (λ (u : Text). [] ∷ parted byte u) same ∙ ap (λ n. take n (c ∷ t) ∷ parted byte rest) (sym here.0)
       | inr is ↦
           let there = later byte c t is in
-          let behind : drop (len_before byte t) t ≡ b ∷ rest = ap (λ n. drop n (c ∷ t)) (sym there.0) ∙ e in
-          there.1 ∙ ap (onto_first c) (parted_before byte t b rest behind) ∙ ap (λ n. take n (c ∷ t) ∷ parted byte rest) (sym there.0)
+          let after : drop (len_before byte t) t ≡ b ∷ rest = ap (λ n. drop n (c ∷ t)) (sym there.0) ∙ e in
+          there.1 ∙ ap (onto_first c) (parted_before byte t b rest after) ∙ ap (λ n. take n (c ∷ t) ∷ parted byte rest) (sym there.0)
     ]
 
 -- a text in which the byte does not stand
@@ -45,8 +45,8 @@ parted_last byte (c ∷ t) e =
       | inl is ↦ let here = at_once byte c t is in let whole : c ∷ t ≡ [] = ap (λ n. drop n (c ∷ t)) (sym here.0) ∙ e in cc
       | inr is ↦
           let there = later byte c t is in
-          let behind : drop (len_before byte t) t ≡ [] = ap (λ n. drop n (c ∷ t)) (sym there.0) ∙ e in
-          there.1 ∙ ap (onto_first c) (parted_last byte t behind) ∙ ap (λ n. take n (c ∷ t) ∷ []) (sym there.0)
+          let after : drop (len_before byte t) t ≡ [] = ap (λ n. drop n (c ∷ t)) (sym there.0) ∙ e in
+          there.1 ∙ ap (onto_first c) (parted_last byte t after) ∙ ap (λ n. take n (c ∷ t) ∷ []) (sym there.0)
     ]
 
 split_front : (t : Text) → 0 < length t → t ≡ get_or t 0 0 ∷ drop 1 t
@@ -54,17 +54,17 @@ split_front [] h = absurd (omega (arith, h))
 split_front (b ∷ t) h = refl
 
 -- what a text in which the byte stands is parted into: what is before it, and what parts the rest
-pub parted_more : (byte : ℕ) (t word behind : Text) → word ≡ take (len_before byte t) t → behind ≡ drop (len_before byte t) t → 1 ≤ length behind
-    → parted byte t ≡ word ∷ parted byte (take (length behind - 1) (drop 1 behind))
-parted_more byte t word behind front back some =
-    let all : take (length behind - 1) (drop 1 behind) ≡ drop 1 behind = take_all (length behind - 1) (drop 1 behind) (omega (arith, length-drop 1 behind)) in
-    let found : parted byte t ≡ take (len_before byte t) t ∷ parted byte (drop 1 behind) =
-    parted_before byte t (get_or behind 0 0) (drop 1 behind) (sym back ∙ split_front behind (omega arith)) in
-    found ∙ ap (λ (u : Text). u ∷ parted byte (drop 1 behind)) (sym front) ∙ ap (λ (u : Text). word ∷ parted byte u) (sym all)
+pub parted_more : (byte : ℕ) (t word after : Text) → word ≡ take (len_before byte t) t → after ≡ drop (len_before byte t) t → 1 ≤ length after
+    → parted byte t ≡ word ∷ parted byte (take (length after - 1) (drop 1 after))
+parted_more byte t word after front back some =
+    let all : take (length after - 1) (drop 1 after) ≡ drop 1 after = take_all (length after - 1) (drop 1 after) (omega (arith, length-drop 1 after)) in
+    let found : parted byte t ≡ take (len_before byte t) t ∷ parted byte (drop 1 after) =
+    parted_before byte t (get_or after 0 0) (drop 1 after) (sym back ∙ split_front after (omega arith)) in
+    found ∙ ap (λ (u : Text). u ∷ parted byte (drop 1 after)) (sym front) ∙ ap (λ (u : Text). word ∷ parted byte u) (sym all)
 
-pub parted_end : (byte : ℕ) (t word behind : Text) → word ≡ take (len_before byte t) t → behind ≡ drop (len_before byte t) t → length behind < 1 → parted byte t ≡ word ∷ []
+pub parted_end : (byte : ℕ) (t word after : Text) → word ≡ take (len_before byte t) t → after ≡ drop (len_before byte t) t → length after < 1 → parted byte t ≡ word ∷ []
 parted_end byte t word [] front back none = parted_last byte t (sym back) ∙ ap (λ (u : Text). u ∷ []) (sym front)
-parted_end byte t word (b ∷ behind) front back none = absurd (omega (arith, none))
+parted_end byte t word (b ∷ after) front back none = absurd (omega (arith, none))
 
 -- the words found so far, and those of the rest
 pub words_more : (words words' : List (Bor Text)) (word : Bor Text) (texts rest all : List Text)
@@ -121,8 +121,8 @@ line_more t line next found =
     ap as_lines found ∙ ap (λ (ts : List Text). as_lines (line ∷ ts)) some.2 ∙ ap (λ (ts : List Text). without_return line ∷ as_lines ts) (sym some.2)
 
 -- a line that does not end
-pub line_last : (t line behind : Text) → parted line_feed t ≡ line ∷ [] → 1 ≤ length line → length behind < 1
-    → as_lines (parted line_feed t) ≡ line ∷ as_lines (parted line_feed behind)
-line_last t [] behind found some none = absurd (omega (arith, some))
+pub line_last : (t line after : Text) → parted line_feed t ≡ line ∷ [] → 1 ≤ length line → length after < 1
+    → as_lines (parted line_feed t) ≡ line ∷ as_lines (parted line_feed after)
+line_last t [] after found some none = absurd (omega (arith, some))
 line_last t (b ∷ line) [] found some none = ap as_lines found
-line_last t (b ∷ line) (c ∷ behind) found some none = absurd (omega (arith, none))
+line_last t (b ∷ line) (c ∷ after) found some none = absurd (omega (arith, none))

@@ -31,9 +31,9 @@ pub(crate) fn words_of(alloc: Global, line: &[u8]) -> Result<Seq<&[u8]>, AllocEr
     let mut words = Vec::new(alloc);
     let mut rest = line;
     'part: loop {
-        let (word, behind) = rest.split_at(word_len(rest));
+        let (word, after) = rest.split_at(word_len(rest));
         words.push(word)?;
-        match behind {
+        match after {
             [_tab, next @ ..] => rest = next,
             [] => return Ok(Seq::from_vec(words)),
         }
@@ -56,9 +56,9 @@ pub(crate) fn split_line(text: &[u8]) -> (&[u8], &[u8])
     ensures lines { lines_of text.now ≡ result.0.now ∷ lines_of result.1.now }
     ensures shorter { length result.1.now < length text.now }
 {
-    let (line, behind) = text.split_at(line_len(text));
-    match behind {
+    let (line, after) = text.split_at(line_len(text));
+    match after {
         [_end, next @ ..] => (without_return(line), next),
-        [] => (line, behind),
+        [] => (line, after),
     }
 }

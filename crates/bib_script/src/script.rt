@@ -75,7 +75,7 @@ pub fn read_script(alloc: Global, script: &[u8]) -> Result<Script, AllocError>
     let mut rest = script;
     let mut number: usize = 0;
     'line: while !rest.is_empty() {
-        let (line, behind) = split_line(rest);
+        let (line, after) = split_line(rest);
         number += 1;
         if !line.is_empty() {
             match request_on(alloc, line)? {
@@ -83,7 +83,7 @@ pub fn read_script(alloc: Global, script: &[u8]) -> Result<Script, AllocError>
                 None => return Ok(said(requests, lines, Some(number))),
             }
         }
-        rest = behind;
+        rest = after;
     }
     Ok(said(requests, lines, None))
 }

@@ -43,18 +43,18 @@ chunks-fit chunks = record { ascending = ascend_chunks 0 chunks; standing = stan
 lead_chunks : (front : Text) (chunks : List Chunk) → applied_from (length front) (pieces_from (length front) chunks) (front ++ old_of chunks) ≡ new_of chunks
 lead_chunks front [] = drop_at front [] (length front) refl
 lead_chunks front (Kept text ∷ chunks) =
-    let behind : ℕ = length front + length text in
-    let long : length (front ++ text) ≡ behind = length-append front text in
-    applied_from-begin (length front) behind (pieces_from behind chunks) (front ++ (text ++ old_of chunks)) (omega arith) (begin_at behind chunks)
-    ∙ ap (λ t. t ++ applied_from behind (pieces_from behind chunks) (front ++ (text ++ old_of chunks))) (between-front front text (old_of chunks))
-    ∙ ap (λ t. text ++ applied_from behind (pieces_from behind chunks) t) (sym (append_assoc front text (old_of chunks)))
+    let after : ℕ = length front + length text in
+    let long : length (front ++ text) ≡ after = length-append front text in
+    applied_from-begin (length front) after (pieces_from after chunks) (front ++ (text ++ old_of chunks)) (omega arith) (begin_at after chunks)
+    ∙ ap (λ t. t ++ applied_from after (pieces_from after chunks) (front ++ (text ++ old_of chunks))) (between-front front text (old_of chunks))
+    ∙ ap (λ t. text ++ applied_from after (pieces_from after chunks) t) (sym (append_assoc front text (old_of chunks)))
     ∙ ap (λ l. text ++ l) (subst (λ (n : ℕ). applied_from n (pieces_from n chunks) ((front ++ text) ++ old_of chunks) ≡ new_of chunks) long (lead_chunks (front ++ text) chunks))
 lead_chunks front (Replaced old new ∷ chunks) =
-    let behind : ℕ = length front + length old in
-    let long : length (front ++ old) ≡ behind = length-append front old in
+    let after : ℕ = length front + length old in
+    let long : length (front ++ old) ≡ after = length-append front old in
     let none : length front - length front ≡ 0 = omega arith in
-    ap (λ n. take n (drop (length front) (front ++ (old ++ old_of chunks))) ++ new ++ applied_from behind (pieces_from behind chunks) (front ++ (old ++ old_of chunks))) none
-    ∙ ap (λ t. new ++ applied_from behind (pieces_from behind chunks) t) (sym (append_assoc front old (old_of chunks)))
+    ap (λ n. take n (drop (length front) (front ++ (old ++ old_of chunks))) ++ new ++ applied_from after (pieces_from after chunks) (front ++ (old ++ old_of chunks))) none
+    ∙ ap (λ t. new ++ applied_from after (pieces_from after chunks) t) (sym (append_assoc front old (old_of chunks)))
     ∙ ap (λ l. new ++ l) (subst (λ (n : ℕ). applied_from n (pieces_from n chunks) ((front ++ old) ++ old_of chunks) ≡ new_of chunks) long (lead_chunks (front ++ old) chunks))
 
 pub chunks-lead : chunks_lead

@@ -84,10 +84,10 @@ applied_from-append at mid [] later text h a e b =
 applied_from-append at mid (p ∷ earlier) later text h a e b =
     let below : at ≤ p.place = a.0 in
     let ends : end_of p ≤ mid = e.0 in
-    let behind : Text = applied_from (end_of p) earlier (take mid text) in
+    let after : Text = applied_from (end_of p) earlier (take mid text) in
     ap (λ l. between at p.place text ++ p.new ++ l) (applied_from-append (end_of p) mid earlier later text ends a.1 e.1 b)
-    ∙ sym (append_assoc (between at p.place text ++ p.new) behind (applied_from mid later text))
-    ∙ ap (λ l. (l ++ p.new ++ behind) ++ applied_from mid later text) (sym (between-take at p.place mid text below (omega arith)))
+    ∙ sym (append_assoc (between at p.place text ++ p.new) after (applied_from mid later text))
+    ∙ ap (λ l. (l ++ p.new ++ after) ++ applied_from mid later text) (sym (between-take at p.place mid text below (omega arith)))
 
 pub kept-between : kept_between
 kept-between earlier later text from to a e b h =

@@ -3,7 +3,7 @@ use Rattle.std.proofs.Common.{◌≡◌, ℕ, ◌+◌, ◌-◌, ◌≤◌, List,
 use Rattle.std.proofs.lemmas.List.{take_at, drop_at}
 use Rattle.std.specs.List.{AllByRecursion, between}
 use Rattle.bib_spec.specs.Text.{Text}
-use Rattle.bib_spec.specs.Pieces.{Piece, end_of, Stands, AscendFrom, applied_from, reversed_from, reversed_pieces_fit, reversed_pieces_lead_back, reversed_twice, first_moved_behind, two_entries, IsMovedAndBack}
+use Rattle.bib_spec.specs.Pieces.{Piece, end_of, Stands, AscendFrom, applied_from, reversed_from, reversed_pieces_fit, reversed_pieces_lead_back, reversed_twice, first_moved_after, two_entries, IsMovedAndBack}
 use Rattle.bib_spec.proofs.PieceLemmas.{drop_to, length-between, drop-place, stands_after}
 
 -- the new text, cut after the first piece's new bytes
@@ -78,5 +78,5 @@ reversed_from-reversed_from at new_at (p ∷ ps) a =
 pub reversed-reversed : reversed_twice
 reversed-reversed ps a = reversed_from-reversed_from 0 0 ps a
 
-pub moved-and-back : IsMovedAndBack two_entries first_moved_behind
+pub moved-and-back : IsMovedAndBack two_entries first_moved_after
 moved-and-back = record { afterwards = refl; back = refl }

@@ -142,8 +142,8 @@ abbrev pub two_entries : Text
 two_entries = codes "@misc{a}\n@misc{b}\n"
 
 -- the first is taken out, and put after the second
-abbrev pub first_moved_behind : List Piece
-first_moved_behind =
+abbrev pub first_moved_after : List Piece
+first_moved_after =
     record { place = 0; old = codes "@misc{a}"; new = [] }
     ∷ record { place = 18; old = []; new = codes "@misc{a}\n" } ∷ []
 

@@ -134,7 +134,7 @@ abbrev pub value_places : Tree → List ℕ
 value_places (CommentTree h) = []
 value_places (DefinitionTree d) = length (opening_bytes d.opening ++ bytes_before_value d.assignment) ∷ []
 value_places (PreambleTree p) = length (opening_bytes p.opening) ∷ []
-value_places (EntryTree e) = row_places (length (opening_bytes e.opening ++ (e.key ++ e.space_behind_key))) e.rows
+value_places (EntryTree e) = row_places (length (opening_bytes e.opening ++ (e.key ++ e.space_after_key))) e.rows
 
 -- the raw texts of items, each with the place of its value, if the first item begins at this place
 abbrev pub raw_texts_from : ℕ → Macros → List Item → List (ℕ × Text)

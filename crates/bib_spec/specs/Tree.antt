@@ -15,7 +15,7 @@ pub data Part : Type 0 where
 -- `#` and the part that it joins (btxdoc 2.1)
 pub record Link : Type 0 where
   pub space_before_hash : Text
-  pub space_behind_hash : Text
+  pub space_after_hash : Text
   pub part : Part
 
 -- parts joined by `#` (btxdoc 2.1)
@@ -29,7 +29,7 @@ pub record Assignment : Type 0 where
   pub space_before_equals : Text
   pub space_before_value : Text
   pub value : Value
-  pub space_behind : Text
+  pub space_after : Text
 
 -- a comma and an assignment
 pub record Row : Type 0 where
@@ -50,7 +50,7 @@ pub record Opening : Type 0 where
   pub head : Head
   pub space_before_delimiter : Text
   pub delimiter : Delimiter
-  pub space_behind : Text
+  pub space_after : Text
 
 -- `@string{name = value}` (btxdoc 2.1)
 pub record Definition : Type 0 where
@@ -61,13 +61,13 @@ pub record Definition : Type 0 where
 pub record Preamble : Type 0 where
   pub opening : Opening
   pub value : Value
-  pub space_behind : Text
+  pub space_after : Text
 
 -- `@type{key, name = value, ..}`; a last comma may stand before the close, with white space after it (btxdoc 3)
 pub record Entry : Type 0 where
   pub opening : Opening
   pub key : Text
-  pub space_behind_key : Text
+  pub space_after_key : Text
   pub rows : List Row
   pub last_comma : Option Text
 
@@ -89,7 +89,7 @@ part_bytes (Macro t) = t
 
 -- `#` and its part, with the white space before each
 abbrev pub link_bytes : Link → Text
-link_bytes l = l.space_before_hash ++ hash ∷ l.space_behind_hash ++ part_bytes l.part
+link_bytes l = l.space_before_hash ++ hash ∷ l.space_after_hash ++ part_bytes l.part
 
 -- a value, from the first byte of its first part to the last byte of its last part
 abbrev pub value_bytes : Value → Text
@@ -98,7 +98,7 @@ value_bytes v = part_bytes v.first ++ flat_map link_bytes v.links
 -- the name, the equals sign and the value, with the white space before the equals sign, before the value and after it
 abbrev pub assignment_bytes : Assignment → Text
 assignment_bytes a =
-    a.name ++ a.space_before_equals ++ equals_sign ∷ a.space_before_value ++ value_bytes a.value ++ a.space_behind
+    a.name ++ a.space_before_equals ++ equals_sign ∷ a.space_before_value ++ value_bytes a.value ++ a.space_after
 
 -- the comma, the white space before the name, and the assignment
 abbrev pub row_bytes : Row → Text
@@ -120,7 +120,7 @@ head_bytes h = at_sign ∷ h.space_before_type ++ h.type_name
 
 -- the head, white space, the delimiter and the white space after it
 abbrev pub opening_bytes : Opening → Text
-opening_bytes o = head_bytes o.head ++ o.space_before_delimiter ++ open_byte o.delimiter ∷ o.space_behind
+opening_bytes o = head_bytes o.head ++ o.space_before_delimiter ++ open_byte o.delimiter ∷ o.space_after
 
 -- a macro definition, from its at-sign to its close
 abbrev pub definition_bytes : Definition → Text
@@ -128,21 +128,21 @@ definition_bytes d = opening_bytes d.opening ++ assignment_bytes d.assignment ++
 
 -- a preamble, from its at-sign to its close
 abbrev pub preamble_bytes : Preamble → Text
-preamble_bytes p = opening_bytes p.opening ++ value_bytes p.value ++ p.space_behind ++ close_byte p.opening.delimiter ∷ []
+preamble_bytes p = opening_bytes p.opening ++ value_bytes p.value ++ p.space_after ++ close_byte p.opening.delimiter ∷ []
 
 -- the last comma with the white space after it, if there is one
 abbrev pub last_comma_bytes : Option Text → Text
 last_comma_bytes None = []
-last_comma_bytes (Some space_behind) = comma ∷ space_behind
+last_comma_bytes (Some space_after) = comma ∷ space_after
 
 -- the bytes of an entry after its key
-abbrev pub behind_key_bytes : Entry → Text
-behind_key_bytes e =
-    e.space_behind_key ++ flat_map row_bytes e.rows ++ last_comma_bytes e.last_comma ++ close_byte e.opening.delimiter ∷ []
+abbrev pub after_key_bytes : Entry → Text
+after_key_bytes e =
+    e.space_after_key ++ flat_map row_bytes e.rows ++ last_comma_bytes e.last_comma ++ close_byte e.opening.delimiter ∷ []
 
 -- an entry, from its at-sign to its close
 abbrev pub entry_bytes : Entry → Text
-entry_bytes e = opening_bytes e.opening ++ e.key ++ behind_key_bytes e
+entry_bytes e = opening_bytes e.opening ++ e.key ++ after_key_bytes e
 
 -- the bytes of an item's body
 abbrev pub tree_bytes : Tree → Text
@@ -175,7 +175,7 @@ IsPart limit (Macro t) = IsTrue (is_name_within limit t)
 -- only white space stands around the `#`, and what follows is a part
 pub record IsLink (limit : ℕ) (l : Link) : Type 0 where
   pub space_before_hash : IsSpace l.space_before_hash
-  pub space_behind_hash : IsSpace l.space_behind_hash
+  pub space_after_hash : IsSpace l.space_after_hash
   pub part : IsPart limit l.part
 
 -- each of its parts is one
@@ -189,7 +189,7 @@ pub record IsAssignment (limit : ℕ) (a : Assignment) : Type 0 where
   pub space_before_equals : IsSpace a.space_before_equals
   pub space_before_value : IsSpace a.space_before_value
   pub value : IsValue limit a.value
-  pub space_behind : IsSpace a.space_behind
+  pub space_after : IsSpace a.space_after
 
 -- only white space stands between the comma and the assignment
 pub record IsRow (limit : ℕ) (r : Row) : Type 0 where
@@ -205,7 +205,7 @@ pub record IsHead (h : Head) : Type 0 where
 pub record IsOpening (o : Opening) : Type 0 where
   pub head : IsHead o.head
   pub space_before_delimiter : IsSpace o.space_before_delimiter
-  pub space_behind : IsSpace o.space_behind
+  pub space_after : IsSpace o.space_after
 
 -- a macro definition: its type name is `string`
 pub record IsDefinition (limit : ℕ) (d : Definition) : Type 0 where
@@ -218,7 +218,7 @@ pub record IsPreamble (limit : ℕ) (p : Preamble) : Type 0 where
   pub opening : IsOpening p.opening
   pub type_name : IsTrue (same p.opening.head.type_name (codes "preamble"))
   pub value : IsValue limit p.value
-  pub space_behind : IsSpace p.space_behind
+  pub space_after : IsSpace p.space_after
 
 -- The byte belongs to the key. A key ends before white space and before a comma, and in an item that a brace opens before a
 -- closing brace. (dialect)
@@ -237,7 +237,7 @@ is_type t = is_type_name t && is_no_keyword t
 -- only white space follows the last comma, if there is one
 abbrev pub IsLastComma : Option Text → Type 0
 IsLastComma None = ⊤
-IsLastComma (Some space_behind) = IsSpace space_behind
+IsLastComma (Some space_after) = IsSpace space_after
 
 -- an entry: its type name is no keyword, and its key has at most so many bytes
 pub record IsEntry (limit : ℕ) (e : Entry) : Type 0 where
@@ -246,10 +246,10 @@ pub record IsEntry (limit : ℕ) (e : Entry) : Type 0 where
   pub key : AllPass (goes_on_key e.opening.delimiter) e.key
   pub key_len : length e.key ≤ limit
   -- the key is as long as it can be: in an item that a parenthesis opens, a `)` directly after the key would belong to it
-  pub key_ends : IsTrue (does_not_begin_with (goes_on_key e.opening.delimiter) (behind_key_bytes e))
-  pub space_behind_key : IsSpace e.space_behind_key
+  pub key_ends : IsTrue (does_not_begin_with (goes_on_key e.opening.delimiter) (after_key_bytes e))
+  pub space_after_key : IsSpace e.space_after_key
   -- white space beside an empty key stands before it
-  pub empty_key : e.key ≡ [] → e.space_behind_key ≡ []
+  pub empty_key : e.key ≡ [] → e.space_after_key ≡ []
   pub rows : All (IsRow limit) e.rows
   pub last_comma : IsLastComma e.last_comma
 

@@ -1,13 +1,13 @@
 //! Laws of pieces, and of texts in chunks.
 
-ghost use Rattle.bib_spec.specs.Pieces.{reversed_pieces_fit, reversed_pieces_lead_back, reversed_twice, chunks_fit, chunks_lead, pieces_are_chunks, kept_between, IsMovedAndBack, two_entries, first_moved_behind};
+ghost use Rattle.bib_spec.specs.Pieces.{reversed_pieces_fit, reversed_pieces_lead_back, reversed_twice, chunks_fit, chunks_lead, pieces_are_chunks, kept_between, IsMovedAndBack, two_entries, first_moved_after};
 
 /// The reversed pieces fit the new text and lead back to the old; an example shows them byte for byte.
 pub fn reversed_pieces_are_the_way_back()
     ensures fit { reversed_pieces_fit }
     ensures back { reversed_pieces_lead_back }
     ensures twice { reversed_twice }
-    ensures example { IsMovedAndBack two_entries first_moved_behind }
+    ensures example { IsMovedAndBack two_entries first_moved_after }
 {}
 
 /// The pieces of a text in chunks fit it, and lead to the text that the chunks are afterwards.

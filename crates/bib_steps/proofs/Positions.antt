@@ -9,9 +9,9 @@ use Rattle.bib_spec.specs.Pieces.{Piece, end_of, applied, reversed_from, reverse
 use Rattle.history_spec.specs.Composing.{IsComposable, IsComposableAt, composed, composed_at, composed_after, old_end, new_end, BeginsAfter, EndBefore, StandApart, LiesBetween, AreEnds, ends_of, Replacement, replaced}
 use Rattle.history_spec.proofs.Ordered.{ascend_earlier}
 use Rattle.history_spec.proofs.Covered.{standing_rest}
-use Rattle.history_spec.proofs.Around.{ascend_behind, fit_part, reversed_append, composed-in_turn}
-use Rattle.history_spec.proofs.Near.{length-ends, new_end_last, old_end_at, begins_behind, ends_inside, ends_front, ends_rest, old_end_by, composed_near, composable_near}
-use Rattle.bib_steps.specs.Amending.{end_at, BeginBehind, IsNear}
+use Rattle.history_spec.proofs.Around.{ascend_past, fit_part, reversed_append, composed-in_turn}
+use Rattle.history_spec.proofs.Near.{length-ends, new_end_last, old_end_at, begins_after, ends_inside, ends_front, ends_rest, old_end_by, composed_near, composable_near}
+use Rattle.bib_steps.specs.Amending.{end_at, BeginAfter, IsNear}
 
 -- ---- ends by position
 
@@ -35,11 +35,11 @@ front_ends (p ∷ ps) part (suc n) b = b (omega arith)
 pub front_ends_before : (ps : List Piece) (ends : List ℕ) (part : List Piece) (n : ℕ) → AreEnds ps ends → n ≤ length ps → (0 < n → BeginsAfter (end_at ends n) part) → EndBefore (take n ps) part
 front_ends_before ps ends part n e h b = front_ends ps part n (λ s. subst (λ (k : ℕ). BeginsAfter k part) (end_at_new ps ends n e.each h) (b s))
 
-pub behind_at : (ps : List Piece) (ends : List ℕ) (k place : ℕ) (q : Piece) → AreEnds ps ends → k < length ps → q ≡ get_or ps k q → place + length q.new < get_or ends k 0 → BeginBehind ps k place
-behind_at ps ends k place q e h is b = begins_behind ps k place q h is (omega (arith, b, ap (λ es. get_or es k 0) e.each))
+pub after_at : (ps : List Piece) (ends : List ℕ) (k place : ℕ) (q : Piece) → AreEnds ps ends → k < length ps → q ≡ get_or ps k q → place + length q.new < get_or ends k 0 → BeginAfter ps k place
+after_at ps ends k place q e h is b = begins_after ps k place q h is (omega (arith, b, ap (λ es. get_or es k 0) e.each))
 
-pub none_behind : (ps : List Piece) (place : ℕ) → BeginBehind ps (length ps) place
-none_behind ps place = subst (λ (qs : List Piece). BeginsAfter place (reversed_from (old_end 0 (take (length ps) ps)) (new_end 0 0 (take (length ps) ps)) qs)) (sym (drop_all (length ps) ps (omega arith))) tt
+pub none_after : (ps : List Piece) (place : ℕ) → BeginAfter ps (length ps) place
+none_after ps place = subst (λ (qs : List Piece). BeginsAfter place (reversed_from (old_end 0 (take (length ps) ps)) (new_end 0 0 (take (length ps) ps)) qs)) (sym (drop_all (length ps) ps (omega arith))) tt
 
 -- ---- the list in three
 
@@ -113,7 +113,7 @@ later_part ps part others c = (
   record {
     first_fit = c.1.first_fit;
     second_fit = record {
-      ascending = ascend_earlier 0 (old_end 0 part) others (omega arith) (ascend_behind 0 part others c.1.second_fit.ascending);
+      ascending = ascend_earlier 0 (old_end 0 part) others (omega arith) (ascend_past 0 part others c.1.second_fit.ascending);
       standing = standing_rest (applied ps c.0) part others c.1.second_fit.standing;
     };
     short = c.1.short;

@@ -50,8 +50,8 @@ end_at ends zero = 0
 end_at ends (suc n) = slice_index_or ends n 0
 
 -- the pieces from this position on begin after this place of the text that all of them make
-abbrev pub BeginBehind : List Piece → ℕ → ℕ → Type 0
-BeginBehind ps position place =
+abbrev pub BeginAfter : List Piece → ℕ → ℕ → Type 0
+BeginAfter ps position place =
     BeginsAfter place (reversed_from (old_end 0 (take position ps)) (new_end 0 0 (take position ps)) (drop position ps))
 
 -- the pieces before `from` end before the part of an edit begins, and those from `to` on begin after it ends
@@ -59,4 +59,4 @@ pub record IsNear (ps part : List Piece) (from to : ℕ) : Type 0 where
   pub ordered : from ≤ to
   pub inside : to ≤ length ps
   pub front : EndBefore (take from ps) part
-  pub back : BeginBehind ps to (old_end 0 part)
+  pub back : BeginAfter ps to (old_end 0 part)

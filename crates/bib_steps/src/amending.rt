@@ -81,9 +81,9 @@ pub fn amend(
     let (part, others) = edit.split_at(widest_gap(edit));
     if !part.is_empty() {
         let before = near(pieces, ends, part);
-        let behind = near(pieces, ends, others);
-        if before.to <= behind.from && ends_before(ends, before, part, others) {
-            let last = replacement(alloc, pieces, ends, behind, others)?;
+        let after = near(pieces, ends, others);
+        if before.to <= after.from && ends_before(ends, before, part, others) {
+            let last = replacement(alloc, pieces, ends, after, others)?;
             let first = replacement(alloc, pieces, ends, before, part)?;
             return Ok(Amendment {
                 last,

@@ -4,7 +4,7 @@ ghost use Rattle.std.specs.Prelude.{◌≡◌, ◌<◌, ◌≤◌, length, take,
 ghost use Rattle.bib_spec.specs.Bytes.{file_limit};
 ghost use Rattle.bib_spec.specs.Pieces.{EndBy};
 ghost use Rattle.history_spec.specs.Composing.{AreEnds, BeginsAfter, EndBefore, old_end};
-ghost use Rattle.bib_steps.specs.Amending.{BeginBehind, IsNear, end_at};
+ghost use Rattle.bib_steps.specs.Amending.{BeginAfter, IsNear, end_at};
 
 use crate::spans::{begin_of, count_before, end_before, end_of};
 use bib_data::Piece;
@@ -17,11 +17,11 @@ pub(crate) struct Span {
 }
 
 /// Whether the pieces from this position on begin after a place of the text that all of them make.
-fn is_behind(pieces: &[Piece], ends: &[u64], position: usize, place: u64) -> bool
+fn is_after(pieces: &[Piece], ends: &[u64], position: usize, place: u64) -> bool
     requires ends { AreEnds pieces.now ends.now }
     requires within { position ≤ length pieces.now }
     requires place { place ≤ file_limit }
-    ensures behind { result ≡ true → BeginBehind pieces.now position place }
+    ensures after { result ≡ true → BeginAfter pieces.now position place }
     ensures more { result ≡ false → position < length pieces.now }
 {
     if position == pieces.len() {
@@ -41,7 +41,7 @@ pub(crate) fn near(pieces: &[Piece], ends: &[u64], part: &[Piece]) -> Span
     let end = end_of(part);
     let from = count_before(ends, begin_of(part));
     let mut to = from;
-    'on: while !is_behind(pieces, ends, to, end) {
+    'on: while !is_after(pieces, ends, to, end) {
         to += 1;
     }
     Span { from, to }

@@ -8,11 +8,11 @@ use Rattle.bib_spec.specs.Text.{Text}
 use Rattle.bib_spec.specs.Pieces.{Piece, end_of, Stands, IsAscending, Fit, applied, reversed_from, EndBy}
 use Rattle.bib_store.specs.Reversing.{new_bytes_limit}
 use Rattle.history_spec.proofs.Shifts.{none-moved}
-use Rattle.history_spec.specs.Shifting.{all_moved_back, FitBehind}
+use Rattle.history_spec.specs.Shifting.{all_moved_back, FitAfter}
 use Rattle.history_spec.specs.Composing.{IsComposable, IsComposableAt, in_order, Group, groups, group_old, group_new, composed_from, composed_at}
 use Rattle.history_spec.proofs.Grouped.{AreGroups}
 use Rattle.history_spec.proofs.Near.{are_groups_at, ends_inside}
-use Rattle.bib_store.proofs.Growing.{IsFirstGroup, ends_behind}
+use Rattle.bib_store.proofs.Growing.{IsFirstGroup, ends_after}
 
 -- ---- the conditions of the way back
 
@@ -59,9 +59,9 @@ composing_start from mid first second c = record {
 -- what the first group of those left says
 pub record NextGroup (end middle_end place : ℕ) (covered : Text) (backs ons : List Piece) : Type 0 where
   pub some : 0 < length backs + length ons
-  pub backs_fit : FitBehind place backs covered
-  pub ons_fit : FitBehind place ons covered
-  pub behind : middle_end ≤ place
+  pub backs_fit : FitAfter place backs covered
+  pub ons_fit : FitAfter place ons covered
+  pub after : middle_end ≤ place
   pub room : end + (place - middle_end) + length (group_old (record { place = place; covered = covered; backs = backs; ons = ons })) ≤ file_limit
 
 -- the groups left, with the first of them named
@@ -75,7 +75,7 @@ next_group all backs ons pieces end middle_end place covered i j w e =
     let rest : List Group = groups (in_order (drop i backs) (drop j ons)) in
     let left : AreGroups w.middle middle_end (g ∷ rest) = named_left w.middle middle_end g rest (groups (in_order backs ons)) e w.left in
     let short : EndBy file_limit (composed_from end middle_end (g ∷ rest)) = subst (λ (hs : List Group). EndBy file_limit (composed_from end middle_end hs)) e w.pieces_short in
-    record { some = left.1.some; backs_fit = left.1.backs.fit; ons_fit = left.1.ons.fit; behind = left.0; room = short.0 }
+    record { some = left.1.some; backs_fit = left.1.backs.fit; ons_fit = left.1.ons.fit; after = left.0; room = short.0 }
 
 pub composing_more : (all backs ons pieces : List Piece) (end middle_end place : ℕ) (covered : Text) (i j : ℕ) → IsComposing all backs ons pieces end middle_end
     → IsFirstGroup backs ons place covered i j → (old new : Text)
@@ -94,8 +94,8 @@ composing_more all backs ons pieces end middle_end place covered i j w e old new
       middle = w.middle;
       left = left.2;
       short = w.short;
-      backs_short = ends_behind file_limit i backs w.backs_short;
-      ons_short = ends_behind file_limit j ons w.ons_short;
+      backs_short = ends_after file_limit i backs w.backs_short;
+      ons_short = ends_after file_limit j ons w.ons_short;
       pieces_short = subst (λ (n : ℕ). EndBy file_limit (composed_from (end + (place - middle_end) + n) (place + length covered) rest)) long short.1;
       so_far = append_assoc pieces (record { place = end + (place - middle_end); old = old; new = new } ∷ []) later
           ∙ ap₂ (λ o n. pieces ++ (record { place = end + (place - middle_end); old = o; new = n } ∷ composed_from (end + (place - middle_end) + length o) (place + length covered) rest)) is_old is_new
@@ -123,10 +123,10 @@ composing_same all backs more_backs ons more_ons pieces more_pieces end more_end
 
 -- ---- where the texts are at hand
 
-whole_fit : (ps : List Piece) (text : Text) → FitBehind 0 ps text → Fit ps text
+whole_fit : (ps : List Piece) (text : Text) → FitAfter 0 ps text → Fit ps text
 whole_fit ps text f = subst (λ (qs : List Piece). Fit qs text) (none-moved ps) f.fit
 
-pub composable : (first second : List Piece) (text middle : Text) → FitBehind 0 first text → middle ≡ applied (all_moved_back 0 first) text → FitBehind 0 second middle → length text ≤ file_limit
+pub composable : (first second : List Piece) (text middle : Text) → FitAfter 0 first text → middle ≡ applied (all_moved_back 0 first) text → FitAfter 0 second middle → length text ≤ file_limit
     → length middle ≤ file_limit → IsComposable first second
 composable first second text middle f e s h k =
     let is : middle ≡ applied first text = e ∙ ap (λ ps. applied ps text) (none-moved first) in (

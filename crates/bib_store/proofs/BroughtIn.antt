@@ -94,8 +94,8 @@ module _ (c : Change) (old now : List Item) (count lead : ℕ) (p : ArePut c old
   from_put : drop from now ≡ new ++ drop from old
   from_put = ap (drop from) put ∙ drop_at (take from old) (new ++ drop from old) from long_before
 
-  behind_put : drop (from + count) now ≡ drop from old
-  behind_put = sym (drop-drop count from now) ∙ ap (drop count) from_put ∙ drop_at new (drop from old) count long_new
+  after_put : drop (from + count) now ≡ drop from old
+  after_put = sym (drop-drop count from now) ∙ ap (drop count) from_put ∙ drop_at new (drop from old) count long_new
 
   pub again_put : between from (from + lead) now ≡ take lead new
   again_put =
@@ -112,7 +112,7 @@ module _ (c : Change) (old now : List Item) (count lead : ℕ) (p : ArePut c old
   pub stay_put : between (from + count) (from + count + lead) now ≡ stay
   stay_put =
       let size : from + count + lead - (from + count) ≡ lead = omega arith in
-      ap₂ (λ (n : ℕ) (l : List Item). take n l) size behind_put
+      ap₂ (λ (n : ℕ) (l : List Item). take n l) size after_put
 
   -- those that go, where they stand after others
   pub gone_at : (items : List Item) (at end : ℕ) → drop at items ≡ drop from old → end ≡ at + (to - from) → between (at + lead) end items ≡ gone
@@ -122,7 +122,7 @@ module _ (c : Change) (old now : List Item) (count lead : ℕ) (p : ArePut c old
       ap₂ (λ (n : ℕ) (l : List Item). take n l) size (sym (drop-drop lead at items) ∙ ap (drop lead) same ∙ drop-drop lead from old)
 
   pub gone_put : between (from + count + lead) (to + count) now ≡ gone
-  gone_put = let a = order in gone_at now (from + count) (to + count) behind_put (omega (arith, a))
+  gone_put = let a = order in gone_at now (from + count) (to + count) after_put (omega (arith, a))
 
   -- those of the lead have the bodies of those that stay
   same_bodies : IsLead c.window count lead now → bodies_in stay ≡ bodies_in (take lead new)

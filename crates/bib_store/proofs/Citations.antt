@@ -46,8 +46,8 @@ left_out listed n = not (is_among listed n)
 abbrev other_than : ℕ → ℕ → Bool
 other_than n m = not (m == n)
 
-among_behind : (listed : List ℕ) (x n : ℕ) → is_among (listed ++ x ∷ []) n ≡ (is_among listed n || ((x == n) || false))
-among_behind listed x n = list_any-append (λ m. m == n) listed (x ∷ [])
+among_after : (listed : List ℕ) (x n : ℕ) → is_among (listed ++ x ∷ []) n ≡ (is_among listed n || ((x == n) || false))
+among_after listed x n = list_any-append (λ m. m == n) listed (x ∷ [])
 
 left_out_other : (listed : List ℕ) (x n : ℕ) → is_among listed x ≡ true → left_out listed n ≡ (other_than x n && left_out listed n)
 left_out_other listed x n h = at (n == x) refl
@@ -56,8 +56,8 @@ left_out_other listed x n h = at (n == x) refl
     at true e = ap not (ap (is_among listed) (eqb-true n x e) ∙ h)
     at false e = refl
 
-left_out_behind : (listed : List ℕ) (x n : ℕ) → left_out (listed ++ x ∷ []) n ≡ (other_than x n && left_out listed n)
-left_out_behind listed x n = ap not (among_behind listed x n ∙ ap (λ b. is_among listed n || (b || false)) (eqb_comm x n)) ∙ at (is_among listed n) (n == x)
+left_out_after : (listed : List ℕ) (x n : ℕ) → left_out (listed ++ x ∷ []) n ≡ (other_than x n && left_out listed n)
+left_out_after listed x n = ap not (among_after listed x n ∙ ap (λ b. is_among listed n || (b || false)) (eqb_comm x n)) ∙ at (is_among listed n) (n == x)
   where
     at : (p b : Bool) → not (p || (b || false)) ≡ (not b && not p)
     at true true = refl
@@ -100,7 +100,7 @@ listing_new numbers listed marks i x h lt is within unmarked = record {
       append_assoc listed (x ∷ []) (filter (left_out (listed ++ x ∷ [])) rest)
       ∙ ap (λ l. listed ++ l) (sym passed ∙ ap (λ l. filter (left_out listed) (once l)) (sym (next numbers i x lt is)))
       ∙ h.so_far;
-  marked = λ n below. at n (omega (arith, below, length-set {A = Bool})) ∙ sym (among_behind listed x n);
+  marked = λ n below. at n (omega (arith, below, length-set {A = Bool})) ∙ sym (among_after listed x n);
 }
   where
     absent : is_among listed x ≡ false
@@ -112,7 +112,7 @@ listing_new numbers listed marks i x h lt is within unmarked = record {
     passed : filter (left_out listed) (x ∷ filter (other_than x) rest) ≡ x ∷ filter (left_out (listed ++ x ∷ [])) rest
     passed =
         ap (λ b. cond (not b) (x ∷ filter (left_out listed) (filter (other_than x) rest)) (filter (left_out listed) (filter (other_than x) rest))) absent
-        ∙ ap (λ l. x ∷ l) (filter_twice (left_out listed) (other_than x) (left_out (listed ++ x ∷ [])) (left_out_behind listed x) rest)
+        ∙ ap (λ l. x ∷ l) (filter_twice (left_out listed) (other_than x) (left_out (listed ++ x ∷ [])) (left_out_after listed x) rest)
 
     or_true : (b : Bool) → true ≡ (b || true)
     or_true true = refl
@@ -154,49 +154,49 @@ places keys = map (λ p. p.0) keys
 abbrev pub unknown_of : List EntryTexts → List Text → List ℕ
 unknown_of entries keys = map (λ p. p.0) (filter (λ p. is_none (entry_named entries p.1)) (enumerate_from 0 keys))
 
-enumerate_behind : (from : ℕ) (keys : List Text) (key : Text) → enumerate_from from (keys ++ key ∷ []) ≡ enumerate_from from keys ++ (from + length keys, key) ∷ []
-enumerate_behind from [] key = let e : from ≡ from + 0 = omega arith in ap (λ n. (n, key) ∷ []) e
-enumerate_behind from (first ∷ keys) key =
+enumerate_after : (from : ℕ) (keys : List Text) (key : Text) → enumerate_from from (keys ++ key ∷ []) ≡ enumerate_from from keys ++ (from + length keys, key) ∷ []
+enumerate_after from [] key = let e : from ≡ from + 0 = omega arith in ap (λ n. (n, key) ∷ []) e
+enumerate_after from (first ∷ keys) key =
     let e : from + 1 + length keys ≡ from + suc (length keys) = omega arith in
-    ap (λ l. (from, first) ∷ l) (enumerate_behind (from + 1) keys key ∙ ap (λ n. enumerate_from (from + 1) keys ++ (n, key) ∷ []) e)
+    ap (λ l. (from, first) ∷ l) (enumerate_after (from + 1) keys key ∙ ap (λ n. enumerate_from (from + 1) keys ++ (n, key) ∷ []) e)
 
-map_behind : (xs ys : List (ℕ × Text)) → places (xs ++ ys) ≡ places xs ++ places ys
-map_behind [] ys = refl
-map_behind (x ∷ xs) ys = ap (λ l. x.0 ∷ l) (map_behind xs ys)
+map_after : (xs ys : List (ℕ × Text)) → places (xs ++ ys) ≡ places xs ++ places ys
+map_after [] ys = refl
+map_after (x ∷ xs) ys = ap (λ l. x.0 ∷ l) (map_after xs ys)
 
 -- the look-ups of the keys before i
 pub record AreFound (entries : List EntryTexts) (keys : List Text) (numbers unknown : List ℕ) (i : ℕ) : Type 0 where
   pub numbers_are : numbers ≡ filter_map (entry_named entries) (take i keys)
   pub unknown_are : unknown ≡ unknown_of entries (take i keys)
 
-found_behind : (entries : List EntryTexts) (keys : List Text) (i : ℕ) (key : Text) → i < length keys → key ≡ get_or keys i key →
+found_after : (entries : List EntryTexts) (keys : List Text) (i : ℕ) (key : Text) → i < length keys → key ≡ get_or keys i key →
     filter_map (entry_named entries) (take (i + 1) keys) ≡ filter_map (entry_named entries) (take i keys) ++ cons_option (entry_named entries key) []
-found_behind entries keys i key lt is =
+found_after entries keys i key lt is =
     ap (filter_map (entry_named entries)) (take_more keys i key lt ∙ ap (λ k. take i keys ++ k ∷ []) (sym is))
     ∙ filter_map-append (entry_named entries) (take i keys) (key ∷ [])
 
-unknown_behind : (entries : List EntryTexts) (keys : List Text) (i : ℕ) (key : Text) → i < length keys → key ≡ get_or keys i key →
+unknown_after : (entries : List EntryTexts) (keys : List Text) (i : ℕ) (key : Text) → i < length keys → key ≡ get_or keys i key →
     unknown_of entries (take (i + 1) keys) ≡ unknown_of entries (take i keys) ++ places (cond (is_none (entry_named entries key)) ((i, key) ∷ []) [])
-unknown_behind entries keys i key lt is =
+unknown_after entries keys i key lt is =
     let test : ℕ × Text → Bool = λ p. is_none (entry_named entries p.1) in
     let place : 0 + length (take i keys) ≡ i = omega (arith, length-take-le i keys (omega (arith, lt))) in
     ap (unknown_of entries) (take_more keys i key lt ∙ ap (λ k. take i keys ++ k ∷ []) (sym is))
-    ∙ ap (λ (l : List (ℕ × Text)). places (filter test l)) (enumerate_behind 0 (take i keys) key ∙ ap (λ n. enumerate_from 0 (take i keys) ++ (n, key) ∷ []) place)
+    ∙ ap (λ (l : List (ℕ × Text)). places (filter test l)) (enumerate_after 0 (take i keys) key ∙ ap (λ n. enumerate_from 0 (take i keys) ++ (n, key) ∷ []) place)
     ∙ ap places (filter-append test (enumerate_from 0 (take i keys)) ((i, key) ∷ []))
-    ∙ map_behind (filter test (enumerate_from 0 (take i keys))) (cond (is_none (entry_named entries key)) ((i, key) ∷ []) [])
+    ∙ map_after (filter test (enumerate_from 0 (take i keys))) (cond (is_none (entry_named entries key)) ((i, key) ∷ []) [])
 
 pub found_more : (entries : List EntryTexts) (keys : List Text) (numbers unknown : List ℕ) (i : ℕ) (key : Text) (n : ℕ) → AreFound entries keys numbers unknown i → i < length keys → key ≡ get_or keys i key → entry_named entries key ≡ Some n
     → AreFound entries keys (numbers ++ n ∷ []) unknown (i + 1)
 found_more entries keys numbers unknown i key n h lt is named = record {
-  numbers_are = ap (λ l. l ++ n ∷ []) h.numbers_are ∙ sym (found_behind entries keys i key lt is ∙ ap (λ o. filter_map (entry_named entries) (take i keys) ++ cons_option o []) named);
-  unknown_are = h.unknown_are ∙ sym (unknown_behind entries keys i key lt is ∙ ap (λ o. unknown_of entries (take i keys) ++ places (cond (is_none o) ((i, key) ∷ []) [])) named ∙ append-nil (unknown_of entries (take i keys)));
+  numbers_are = ap (λ l. l ++ n ∷ []) h.numbers_are ∙ sym (found_after entries keys i key lt is ∙ ap (λ o. filter_map (entry_named entries) (take i keys) ++ cons_option o []) named);
+  unknown_are = h.unknown_are ∙ sym (unknown_after entries keys i key lt is ∙ ap (λ o. unknown_of entries (take i keys) ++ places (cond (is_none o) ((i, key) ∷ []) [])) named ∙ append-nil (unknown_of entries (take i keys)));
 }
 
 pub unknown_more : (entries : List EntryTexts) (keys : List Text) (numbers unknown : List ℕ) (i : ℕ) (key : Text) → AreFound entries keys numbers unknown i → i < length keys → key ≡ get_or keys i key → entry_named entries key ≡ None
     → AreFound entries keys numbers (unknown ++ i ∷ []) (i + 1)
 unknown_more entries keys numbers unknown i key h lt is named = record {
-  numbers_are = h.numbers_are ∙ sym (found_behind entries keys i key lt is ∙ ap (λ o. filter_map (entry_named entries) (take i keys) ++ cons_option o []) named ∙ append-nil (filter_map (entry_named entries) (take i keys)));
-  unknown_are = ap (λ l. l ++ i ∷ []) h.unknown_are ∙ sym (unknown_behind entries keys i key lt is ∙ ap (λ o. unknown_of entries (take i keys) ++ places (cond (is_none o) ((i, key) ∷ []) [])) named);
+  numbers_are = h.numbers_are ∙ sym (found_after entries keys i key lt is ∙ ap (λ o. filter_map (entry_named entries) (take i keys) ++ cons_option o []) named ∙ append-nil (filter_map (entry_named entries) (take i keys)));
+  unknown_are = ap (λ l. l ++ i ∷ []) h.unknown_are ∙ sym (unknown_after entries keys i key lt is ∙ ap (λ o. unknown_of entries (take i keys) ++ places (cond (is_none o) ((i, key) ∷ []) [])) named);
 }
 
 pub found_none : (entries : List EntryTexts) (keys : List Text) → AreFound entries keys [] [] 0

@@ -12,7 +12,7 @@ use Rattle.bib_spec.specs.Tree.{Tree, Row, Entry, EntryTree, IsRow, IsTree, valu
 use Rattle.bib_spec.specs.Reading.{Item}
 use Rattle.bib_spec.specs.Texts.{Macros, raw_text, field_text}
 use Rattle.bib_spec.specs.Records.{crossref, crossref_text, entry_in}
-use Rattle.bib_scan.specs.View.{View, Field, field_behind, fields_behind, fields_of, view_of}
+use Rattle.bib_scan.specs.View.{View, Field, field_after, fields_after, fields_of, view_of}
 use Rattle.bib_scan.specs.Note.{is_crossref, crossref_field}
 use Rattle.bib_value.specs.Raw.{OfValue}
 use Rattle.bib_store.specs.Meaning.{is_entry_tree}
@@ -36,9 +36,9 @@ row_is_first m row rows e =
 -- ---- where its word does not stand
 
 -- a row's name among the bytes around it
-row_shape : (front space name before equals value behind rows rest : Text) → front ++ ((space ++ (name ++ before ++ equals ++ value ++ behind) ++ rows) ++ rest)
-    ≡ (front ++ space) ++ (name ++ (before ++ (equals ++ (value ++ (behind ++ (rows ++ rest))))))
-row_shape front space name before equals value behind rows rest = simp append_assoc
+row_shape : (front space name before equals value after rows rest : Text) → front ++ ((space ++ (name ++ before ++ equals ++ value ++ after) ++ rows) ++ rest)
+    ≡ (front ++ space) ++ (name ++ (before ++ (equals ++ (value ++ (after ++ (rows ++ rest))))))
+row_shape front space name before equals value after rows rest = simp append_assoc
 
 next_shape : (front row rows rest : Text) → front ++ ((row ++ rows) ++ rest) ≡ (front ++ row) ++ (rows ++ rest)
 next_shape front row rows rest = simp append_assoc
@@ -53,7 +53,7 @@ rows_lack m text front rest (row ∷ rows) is lacks =
     let others = flat_map row_bytes rows in
     let sp = comma ∷ row.space_before_name in
     let eq = equals_sign ∷ a.space_before_value in
-    row_is_other m row rows (lacks (front ++ sp) a.name _ (is ∙ row_shape front sp a.name a.space_before_equals eq (value_bytes a.value) a.space_behind others rest))
+    row_is_other m row rows (lacks (front ++ sp) a.name _ (is ∙ row_shape front sp a.name a.space_before_equals eq (value_bytes a.value) a.space_after others rest))
     ∙ rows_lack m text (front ++ row_bytes row) rest rows (is ∙ next_shape front (row_bytes row) others rest) lacks
 
 pub entry_lacks : (m : Macros) (v : View) → LacksWord v.body crossref → (i : Item) → IsTree name_limit i.tree → is_entry_tree i.tree ≡ true → v ≡ view_of i
@@ -64,32 +64,32 @@ entry_lacks m v lacks i is entry seen = there i.tree (entry_tree i.tree entry) (
     there t (e, e_is) body =
         let rows = flat_map row_bytes e.rows in
         let end = last_comma_bytes e.last_comma ++ (close_byte e.opening.delimiter ∷ []) in
-        let shape = entry_shape (opening_bytes e.opening) e.key e.space_behind_key rows (last_comma_bytes e.last_comma) (close_byte e.opening.delimiter ∷ []) in
+        let shape = entry_shape (opening_bytes e.opening) e.key e.space_after_key rows (last_comma_bytes e.last_comma) (close_byte e.opening.delimiter ∷ []) in
         ap (λ (x : Tree). map crossref_text (entry_in m x)) e_is
-        ∙ ap (λ (o : Option Text). o ∷ []) (rows_lack m v.body (opening_bytes e.opening ++ (e.key ++ e.space_behind_key)) end e.rows (body ∙ ap tree_bytes e_is ∙ shape) lacks)
+        ∙ ap (λ (o : Option Text). o ∷ []) (rows_lack m v.body (opening_bytes e.opening ++ (e.key ++ e.space_after_key)) end e.rows (body ∙ ap tree_bytes e_is ∙ shape) lacks)
 
 -- ---- the first field of its name
 
 -- there is none
-none_in : (m : Macros) (before : Text) (rows : List Row) → find is_crossref (fields_behind before rows) ≡ None → None ≡ crossref_in m rows
+none_in : (m : Macros) (before : Text) (rows : List Row) → find is_crossref (fields_after before rows) ≡ None → None ≡ crossref_in m rows
 none_in m before [] none = refl
 none_in m before (row ∷ rows) none = ⊎_elim
-    (λ is. absurd (none-some (field_behind (length before) (before ++ comma ∷ row.space_before_name) row.assignment) (sym none ∙ cond-true (same row.assignment.name crossref) _ _ is)))
-    (λ other. none_in m (before ++ row_bytes row) rows (sym (cond-false (same row.assignment.name crossref) (Some (field_behind (length before) (before ++ comma ∷ row.space_before_name) row.assignment)) _ other) ∙ none) ∙ sym (row_is_other m row rows other))
+    (λ is. absurd (none-some (field_after (length before) (before ++ comma ∷ row.space_before_name) row.assignment) (sym none ∙ cond-true (same row.assignment.name crossref) _ _ is)))
+    (λ other. none_in m (before ++ row_bytes row) rows (sym (cond-false (same row.assignment.name crossref) (Some (field_after (length before) (before ++ comma ∷ row.space_before_name) row.assignment)) _ other) ∙ none) ∙ sym (row_is_other m row rows other))
     (cases_Bool (same row.assignment.name crossref))
 
 -- it is this one, whose value says the text
-found_in : (m : Macros) (f : Field) (text : Text) → OfValue f.value (λ v. text ≡ field_text (raw_text m v)) → (before : Text) (rows : List Row) → All (IsRow name_limit) rows → find is_crossref (fields_behind before rows) ≡ Some f → Some text ≡ crossref_in m rows
+found_in : (m : Macros) (f : Field) (text : Text) → OfValue f.value (λ v. text ≡ field_text (raw_text m v)) → (before : Text) (rows : List Row) → All (IsRow name_limit) rows → find is_crossref (fields_after before rows) ≡ Some f → Some text ≡ crossref_in m rows
 found_in m f text says before [] are is = absurd (none-some f is)
 found_in m f text says before (row ∷ rows) are is =
-    let here : Field = field_behind (length before) (before ++ comma ∷ row.space_before_name) row.assignment in
+    let here : Field = field_after (length before) (before ++ comma ∷ row.space_before_name) row.assignment in
     ⊎_elim
     (λ named.
     let good = All-head (IsRow name_limit) row rows are in
-    let value : value_bytes row.assignment.value ≡ f.value = ap (λ (g : Field). g.value) (same_Some here f (sym (cond-true (same row.assignment.name crossref) (Some here) (find is_crossref (fields_behind (before ++ row_bytes row) rows)) named) ∙ is)) in
+    let value : value_bytes row.assignment.value ≡ f.value = ap (λ (g : Field). g.value) (same_Some here f (sym (cond-true (same row.assignment.name crossref) (Some here) (find is_crossref (fields_after (before ++ row_bytes row) rows)) named) ∙ is)) in
     ap Some (says row.assignment.value good.assignment.value value) ∙ sym (row_is_first m row rows named))
     (λ other.
-    found_in m f text says (before ++ row_bytes row) rows (All-tail (IsRow name_limit) row rows are) (sym (cond-false (same row.assignment.name crossref) (Some here) (find is_crossref (fields_behind (before ++ row_bytes row) rows)) other) ∙ is)
+    found_in m f text says (before ++ row_bytes row) rows (All-tail (IsRow name_limit) row rows are) (sym (cond-false (same row.assignment.name crossref) (Some here) (find is_crossref (fields_after (before ++ row_bytes row) rows)) other) ∙ is)
     ∙ sym (row_is_other m row rows other))
     (cases_Bool (same row.assignment.name crossref))
 
@@ -114,7 +114,7 @@ pub record IsAhead (m : Macros) (rows : List Row) (left : List Field) : Type 0 w
   pub before : Text
   pub rows_left : List Row
   pub are_rows : All (IsRow name_limit) rows_left
-  pub fields : left ≡ fields_behind before rows_left
+  pub fields : left ≡ fields_after before rows_left
   pub crossref_text : crossref_in m rows ≡ crossref_in m rows_left
 
 pub record AreAhead (all : List Field) (m : Macros) (left : List Field) : Type 0 where
@@ -126,11 +126,11 @@ ahead_start all m = record {
 }
 
 is_more : (m : Macros) (rows : List Row) (field : Field) (left : List Field) → same field.name crossref ≡ false
-    → (before : Text) (rows_left : List Row) → All (IsRow name_limit) rows_left → field ∷ left ≡ fields_behind before rows_left → crossref_in m rows ≡ crossref_in m rows_left
+    → (before : Text) (rows_left : List Row) → All (IsRow name_limit) rows_left → field ∷ left ≡ fields_after before rows_left → crossref_in m rows ≡ crossref_in m rows_left
     → IsAhead m rows left
 is_more m rows field left other before [] are fields cross = absurd (nil_cons field left (sym fields))
 is_more m rows field left other before (row ∷ others) are fields cross =
-    let same_parts = cons_parts field (field_behind (length before) (before ++ comma ∷ row.space_before_name) row.assignment) left (fields_behind (before ++ row_bytes row) others) fields in
+    let same_parts = cons_parts field (field_after (length before) (before ++ comma ∷ row.space_before_name) row.assignment) left (fields_after (before ++ row_bytes row) others) fields in
     let name : field.name ≡ row.assignment.name = ap (λ (f : Field). f.name) same_parts.0 in
     record {
       before = before ++ row_bytes row;
@@ -148,11 +148,11 @@ ahead_more all m field left now other is to = record {
 }
 
 is_found : (m : Macros) (rows : List Row) (field : Field) (left : List Field) (text : Text) → same field.name crossref ≡ true → OfValue field.value (λ v. text ≡ field_text (raw_text m v))
-    → (before : Text) (rows_left : List Row) → All (IsRow name_limit) rows_left → field ∷ left ≡ fields_behind before rows_left → crossref_in m rows ≡ crossref_in m rows_left
+    → (before : Text) (rows_left : List Row) → All (IsRow name_limit) rows_left → field ∷ left ≡ fields_after before rows_left → crossref_in m rows ≡ crossref_in m rows_left
     → Some text ≡ crossref_in m rows
 is_found m rows field left text is says before [] are fields cross = absurd (nil_cons field left (sym fields))
 is_found m rows field left text is says before (row ∷ others) are fields cross =
-    let same_parts = cons_parts field (field_behind (length before) (before ++ comma ∷ row.space_before_name) row.assignment) left (fields_behind (before ++ row_bytes row) others) fields in
+    let same_parts = cons_parts field (field_after (length before) (before ++ comma ∷ row.space_before_name) row.assignment) left (fields_after (before ++ row_bytes row) others) fields in
     let name : field.name ≡ row.assignment.name = ap (λ (f : Field). f.name) same_parts.0 in
     let value : value_bytes row.assignment.value ≡ field.value = ap (λ (f : Field). f.value) (sym same_parts.0) in
     let good = All-head (IsRow name_limit) row others are in
@@ -165,10 +165,10 @@ ahead_found all m field left now text is says at to before rows are fields =
     let r = to.rest before rows are fields in
     is_found m rows field left text is says r.before r.rows_left r.are_rows (sym at ∙ r.fields) r.crossref_text
 
-is_none : (m : Macros) (rows : List Row) (before : Text) (rows_left : List Row) → [] ≡ fields_behind before rows_left → crossref_in m rows ≡ crossref_in m rows_left → None ≡ crossref_in m rows
+is_none : (m : Macros) (rows : List Row) (before : Text) (rows_left : List Row) → [] ≡ fields_after before rows_left → crossref_in m rows ≡ crossref_in m rows_left → None ≡ crossref_in m rows
 is_none m rows before [] fields cross = sym cross
 is_none m rows before (row ∷ others) fields cross =
-    absurd (nil_cons (field_behind (length before) (before ++ comma ∷ row.space_before_name) row.assignment) (fields_behind (before ++ row_bytes row) others) fields)
+    absurd (nil_cons (field_after (length before) (before ++ comma ∷ row.space_before_name) row.assignment) (fields_after (before ++ row_bytes row) others) fields)
 
 pub ahead_none : (all : List Field) (m : Macros) (left : List Field) → left ≡ [] → AreAhead all m left → OfRows all (λ before rows. None ≡ crossref_in m rows)
 ahead_none all m left end to before rows are fields =

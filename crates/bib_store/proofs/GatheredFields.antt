@@ -48,8 +48,8 @@ any_folded (field ∷ fields) name =
     ∙ ap (λ c. same field.0 name || c) (any_folded fields name)
 
 -- one more field takes its name
-taken_behind : (fields : List RecordField) (taken text name : Text) → is_taken (fields ++ (folded taken, text) ∷ []) name ≡ (same name crossref || (list_any (λ other. same other.0 name) fields || (same name taken || false)))
-taken_behind fields taken text name =
+taken_after : (fields : List RecordField) (taken text name : Text) → is_taken (fields ++ (folded taken, text) ∷ []) name ≡ (same name crossref || (list_any (λ other. same other.0 name) fields || (same name taken || false)))
+taken_after fields taken text name =
     ap (λ c. same name crossref || c) (list_any-append (λ other. same other.0 name) fields ((folded taken, text) ∷ []))
     ∙ ap (λ c. same name crossref || (list_any (λ other. same other.0 name) fields || (c || false))) (same-folded_left taken name ∙ same_comm taken name)
 
@@ -66,7 +66,7 @@ pub taken_more : (old new : List (Text × Unit {0})) (unit : Unit {0}) (fields :
 taken_more old new unit fields taken text h w name =
     ap is_some (w (folded name))
     ∙ joined (bytes_eq (folded name) (folded taken)) (same name crossref) (list_any (λ other. same other.0 name) fields) (value_at old (folded name)) unit (h name)
-    ∙ sym (taken_behind fields taken text name)
+    ∙ sym (taken_after fields taken text name)
 
 pub taken_none : (old new : List (Text × Unit {0})) (unit : Unit {0}) → ((name : Text) → value_at old name ≡ None) → IsWith old crossref unit new → AreTaken new []
 taken_none old new unit none w name =
@@ -118,9 +118,9 @@ free_other fields field other taken = at (same other.name field.name) refl
     at false e = refl
 
 -- free after a field is free, and of another name
-free_behind : (fields : List RecordField) (field other : Field) → free (fields ++ record_field field ∷ []) other ≡ (other_name field other && free fields other)
-free_behind fields field other =
-    ap not (taken_behind fields field.name (field_text field.raw) other.name)
+free_after : (fields : List RecordField) (field other : Field) → free (fields ++ record_field field ∷ []) other ≡ (other_name field other && free fields other)
+free_after fields field other =
+    ap not (taken_after fields field.name (field_text field.raw) other.name)
     ∙ at (same other.name crossref) (list_any (λ o. same o.0 other.name) fields) (same other.name field.name)
   where
     at : (p q b : Bool) → not (p || (q || (b || false))) ≡ (not b && not (p || q))
@@ -146,7 +146,7 @@ gathered_is fields (x ∷ xs) = at (is_taken fields x.name) refl (λ own. gather
     at false e later =
         later (fields ++ record_field x ∷ [])
         ∙ append_assoc fields (record_field x ∷ []) (map record_field (filter (free (fields ++ record_field x ∷ [])) (effective xs)))
-        ∙ ap (λ l. fields ++ record_field x ∷ map record_field l) (sym (filter_twice (free fields) (other_name x) (free (fields ++ record_field x ∷ [])) (free_behind fields x) (effective xs)))
+        ∙ ap (λ l. fields ++ record_field x ∷ map record_field l) (sym (filter_twice (free fields) (other_name x) (free (fields ++ record_field x ∷ [])) (free_after fields x) (effective xs)))
 
 -- gathered fields are those that there were, and the own fields of the entry that they lack
 pub gathered_missing : (fields : List RecordField) (xs : List Field) → with_fields fields xs ≡ fields ++ missing fields (map record_field (filter (λ field. not (has_name crossref field)) (effective xs)))

@@ -147,14 +147,14 @@ growing_to_on backs ons place covered i j p w h e t k =
 
 -- ---- a piece of many
 
-pub ends_behind : (limit i : ℕ) (ps : List Piece) → EndBy limit ps → EndBy limit (drop i ps)
-ends_behind limit zero ps b = b
-ends_behind limit (suc i) [] b = tt
-ends_behind limit (suc i) (q ∷ ps) b = ends_behind limit i ps b.1
+pub ends_after : (limit i : ℕ) (ps : List Piece) → EndBy limit ps → EndBy limit (drop i ps)
+ends_after limit zero ps b = b
+ends_after limit (suc i) [] b = tt
+ends_after limit (suc i) (q ∷ ps) b = ends_after limit i ps b.1
 
 pub end_at : (limit : ℕ) (ps : List Piece) (i : ℕ) (p : Piece) → EndBy limit ps → i < length ps → p ≡ get_or ps i p → end_of p ≤ limit
 end_at limit ps i p b h e =
-    let left : EndBy limit (p ∷ drop (i + 1) ps) = subst (λ (qs : List Piece). EndBy limit qs) (drop-next ps i p h e) (ends_behind limit i ps b) in
+    let left : EndBy limit (p ∷ drop (i + 1) ps) = subst (λ (qs : List Piece). EndBy limit qs) (drop-next ps i p h e) (ends_after limit i ps b) in
     left.0
 
 -- a piece on is left where no piece back is the first of what is left

@@ -14,9 +14,9 @@ use Rattle.bib_store.specs.Following.{AreItemsOf, DefineNothingBetween}
 use Rattle.bib_store.specs.declared.redefining.Former.{Former}
 use Rattle.bib_store.specs.Redefining.{with_former}
 use Rattle.bib_store.specs.Runs.{IsRunChange, AreBroughtIn, AreFollowed, StayFollowed, FollowBroughtIn, ComesBack, LeadWithin}
-use Rattle.history_spec.specs.Shifting.{all_moved_back, FitBehind}
+use Rattle.history_spec.specs.Shifting.{all_moved_back, FitAfter}
 use Rattle.bib_store.specs.Stored.{file_of}
-use Rattle.bib_store.specs.Windows.{IsWindow, front_before, front_within, bytes_before, bytes_within, bytes_behind}
+use Rattle.bib_store.specs.Windows.{IsWindow, front_before, front_within, bytes_before, bytes_within, bytes_after}
 use Rattle.bib_store.proofs.BroughtIn as brought_in
 use Rattle.bib_store.proofs.BroughtIn.{long_new, long_before, long_gone, long_now, before_put, come_put, gone_at, gone_put}
 use Rattle.bib_store.proofs.KeptItems.{bytes-stored}
@@ -113,11 +113,11 @@ module _ (front : Text) (old put led_items : List Item) (t put_t led_t : Tables)
   pub long_put : length put ≡ length old + count
   long_put = long_now c old put count lead brought.put brought.leads inner reads
 
-  put_behind : drop from put ≡ new ++ drop from old
-  put_behind = ap (drop from) come ∙ drop_at (take from old) (new ++ drop from old) from (long_before c old put count lead brought.put brought.leads inner reads)
+  put_after : drop from put ≡ new ++ drop from old
+  put_after = ap (drop from) come ∙ drop_at (take from old) (new ++ drop from old) from (long_before c old put count lead brought.put brought.leads inner reads)
 
   led_parts : led_items ≡ (led.first ++ new) ++ drop from old
-  led_parts = led.stay ∙ ap (λ l. led.first ++ l) put_behind ∙ sym (append_assoc led.first new (drop from old))
+  led_parts = led.stay ∙ ap (λ l. led.first ++ l) put_after ∙ sym (append_assoc led.first new (drop from old))
 
   pub long_led : length led_items ≡ length led.first + length new + (length old - from)
   long_led =
@@ -128,11 +128,11 @@ module _ (front : Text) (old put led_items : List Item) (t put_t led_t : Tables)
   pub old_place : length led_items - (length old - from) ≡ length led.first + length new
   old_place = let a = long_led in let o = order in let h = r.to in omega (arith, a, o, h, within)
 
-  old_behind : (at : ℕ) → at ≡ length led.first + length new → drop at led_items ≡ drop from old
-  old_behind at is = ap (drop at) led_parts ∙ drop_at (led.first ++ new) (drop from old) at (length-append led.first new ∙ sym is)
+  old_after : (at : ℕ) → at ≡ length led.first + length new → drop at led_items ≡ drop from old
+  old_after at is = ap (drop at) led_parts ∙ drop_at (led.first ++ new) (drop from old) at (length-append led.first new ∙ sym is)
 
   led_gone : (at end : ℕ) → at ≡ length led.first + length new → end ≡ at + (to - from) → between (at + lead) end led_items ≡ gone
-  led_gone at end is ends = gone_at c old put count lead brought.put brought.leads inner reads led_items at end (old_behind at is) ends
+  led_gone at end is ends = gone_at c old put count lead brought.put brought.leads inner reads led_items at end (old_after at is) ends
 
   -- they are the same
   pub old_others : (at end : ℕ) → at ≡ length led.first + length new → end ≡ at + (to - from) → DefineNothingBetween (at + lead) end led_items
@@ -149,11 +149,11 @@ module _ (front : Text) (old put led_items : List Item) (t put_t led_t : Tables)
       let sum : from + (to - from) ≡ to = let o = order in omega (arith, o) in
       let long_prefix : length prefix ≡ n = length-take-le n old within in
       let h = r.to in
-      let behind : drop to old ≡ drop to prefix ++ drop n old
+      let dropped : drop to old ≡ drop to prefix ++ drop n old
       = ap (drop to) (sym (take-append-drop n old)) ∙ drop-append-le to prefix (drop n old) (omega (arith, h, long_prefix)) in
       ap₂ ◌++◌
       (ap (take at) led_parts ∙ take_at (led.first ++ new) (drop from old) at (length-append led.first new ∙ sym is))
-      (ap (λ m. drop m led_items) ends ∙ sym (drop-drop (to - from) at led_items) ∙ ap (drop (to - from)) (old_behind at is) ∙ drop-drop (to - from) from old ∙ ap (λ m. drop m old) sum ∙ behind)
+      (ap (λ m. drop m led_items) ends ∙ sym (drop-drop (to - from) at led_items) ∙ ap (drop (to - from)) (old_after at is) ∙ drop-drop (to - from) from old ∙ ap (λ m. drop m old) sum ∙ dropped)
       ∙ simp append_assoc
 
   -- ---- the tables
@@ -226,7 +226,7 @@ module _ (front : Text) (old put led_items : List Item) (t put_t led_t : Tables)
   run_bytes = bytes_within c.window front old
 
   abbrev rest_bytes : Text
-  rest_bytes = bytes_behind c.window prefix
+  rest_bytes = bytes_after c.window prefix
 
   prefix_parts : file_of front prefix ≡ first_bytes ++ (run_bytes ++ rest_bytes)
   prefix_parts =
@@ -241,8 +241,8 @@ module _ (front : Text) (old put led_items : List Item) (t put_t led_t : Tables)
   first_fit : Fit ps first_bytes
   first_fit = subst (λ (l : List Item). Fit ps (file_of front l)) put_before led.fit
 
-  run_fit : FitBehind (length first_bytes) run run_bytes
-  run_fit = subst (λ (x : Text). FitBehind (length x) run run_bytes) before_is r.lie.fit
+  run_fit : FitAfter (length first_bytes) run run_bytes
+  run_fit = subst (λ (x : Text). FitAfter (length x) run run_bytes) before_is r.lie.fit
 
   text_is : flat_map kept_bytes new ≡ applied (all_moved_back (length first_bytes) run) run_bytes
   text_is =

@@ -58,10 +58,10 @@ module _ {X : Type 0} (test : Tree → Bool) (say : Macros → Tree → List X)
       (cases_Bool (test item.tree))
 
   -- after an item of the kind, the others are one further
-  behind_such : (m : Macros) (from : ℕ) (item : Item) (items : List Item) → test item.tree ≡ true →
+  after_such : (m : Macros) (from : ℕ) (item : Item) (items : List Item) → test item.tree ≡ true →
       ((k : ℕ) → k < length (gathered say (macros_after m item.tree) items) → StandsAt test say (macros_after m item.tree) (from + 1) items k) →
       (n : ℕ) → n < length (gathered say m (item ∷ items)) → StandsAt test say m from (item ∷ items) n
-  behind_such m from item items t rest zero h = record {
+  after_such m from item items t rest zero h = record {
     place = zero;
     item = item;
     stands = refl;
@@ -72,7 +72,7 @@ module _ {X : Type 0} (test : Tree → Bool) (say : Macros → Tree → List X)
     says = (speaks m item.tree t).1;
     told = ap (λ (l : List X). slice_get l zero) (told-such m item items t);
   }
-  behind_such m from item items t rest (suc n) h =
+  after_such m from item items t rest (suc n) h =
       let low : suc n < suc (length (gathered say (macros_after m item.tree) items)) = subst (λ (k : ℕ). suc n < k) (ap length (told-such m item items t)) h in
       let r = rest n (le_of_suc-le-suc low) in
       let further : from + 1 + r.place ≡ from + suc r.place = omega arith in
@@ -88,10 +88,10 @@ module _ {X : Type 0} (test : Tree → Bool) (say : Macros → Tree → List X)
         told = ap (λ (l : List X). slice_get l (suc n)) (told-such m item items t) ∙ r.told;
       }
 
-  behind_other : (m : Macros) (from : ℕ) (item : Item) (items : List Item) → test item.tree ≡ false →
+  after_other : (m : Macros) (from : ℕ) (item : Item) (items : List Item) → test item.tree ≡ false →
       ((k : ℕ) → k < length (gathered say (macros_after m item.tree) items) → StandsAt test say (macros_after m item.tree) (from + 1) items k) →
       (n : ℕ) → n < length (gathered say m (item ∷ items)) → StandsAt test say m from (item ∷ items) n
-  behind_other m from item items t rest n h =
+  after_other m from item items t rest n h =
       let r = rest n (subst (λ (k : ℕ). n < k) (ap length (told-other m item items t)) h) in
       let further : from + 1 + r.place ≡ from + suc r.place = omega arith in
       record {
@@ -110,6 +110,6 @@ module _ {X : Type 0} (test : Tree → Bool) (say : Macros → Tree → List X)
   pub stands_at : (m : Macros) (from : ℕ) (items : List Item) (n : ℕ) → n < length (gathered say m items) → StandsAt test say m from items n
   stands_at m from [] n h = absurd (not-suc-le-zero h)
   stands_at m from (item ∷ items) n h = ⊎_elim
-      (λ t. behind_such m from item items t (stands_at (macros_after m item.tree) (from + 1) items) n h)
-      (λ t. behind_other m from item items t (stands_at (macros_after m item.tree) (from + 1) items) n h)
+      (λ t. after_such m from item items t (stands_at (macros_after m item.tree) (from + 1) items) n h)
+      (λ t. after_other m from item items t (stands_at (macros_after m item.tree) (from + 1) items) n h)
       (cases_Bool (test item.tree))

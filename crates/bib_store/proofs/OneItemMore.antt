@@ -10,7 +10,7 @@ use Rattle.std.proofs.lemmas.List.Elements.{filter-append}
 use Rattle.std.proofs.lemmas.List.{map-append}
 use Rattle.bib_spec.specs.Text.{Text}
 use Rattle.bib_spec.specs.Bytes.{comma, equals_sign}
-use Rattle.bib_spec.specs.Tree.{Tree, CommentTree, DefinitionTree, PreambleTree, EntryTree, Row, tree_bytes, row_bytes, value_bytes, assignment_bytes, opening_bytes, entry_bytes, behind_key_bytes, last_comma_bytes, close_byte}
+use Rattle.bib_spec.specs.Tree.{Tree, CommentTree, DefinitionTree, PreambleTree, EntryTree, Row, tree_bytes, row_bytes, value_bytes, assignment_bytes, opening_bytes, entry_bytes, after_key_bytes, last_comma_bytes, close_byte}
 use Rattle.bib_spec.specs.Reading.{Item, item_bytes}
 use Rattle.bib_spec.specs.Texts.{Macros, raw_limit, macros_after, macros_at, gathered, raw_texts_from, raw_texts_in, value_places, row_places, bytes_before_value}
 use Rattle.bib_definitions.proofs.MacrosAfter.{gathered-append}
@@ -98,14 +98,14 @@ first_within end (place ∷ places) (text ∷ texts) n within e = ⊎_elim
     (λ t. first_within end places texts n within.1 (sym (ap (option_map (λ (p : ℕ × Text). p.0)) (cond-false (nat_lt raw_limit (length text)) (Some (place, text)) (find long (zip places texts)) t)) ∙ e))
     (cases_Bool (nat_lt raw_limit (length text)))
 
-before_value : (sp name sbe sbv v behind : Text) (c e : ℕ) → length (c ∷ sp ++ (name ++ (sbe ++ e ∷ sbv))) ≤ length (c ∷ sp ++ (name ++ sbe ++ e ∷ sbv ++ v ++ behind))
-before_value sp name sbe sbv v behind c e = omega (
+before_value : (sp name sbe sbv v after : Text) (c e : ℕ) → length (c ∷ sp ++ (name ++ (sbe ++ e ∷ sbv))) ≤ length (c ∷ sp ++ (name ++ sbe ++ e ∷ sbv ++ v ++ after))
+before_value sp name sbe sbv v after c e = omega (
   arith,
   length-append (c ∷ sp) (name ++ (sbe ++ e ∷ sbv)),
   length-append name (sbe ++ e ∷ sbv),
   length-append sbe (e ∷ sbv),
-  length-append (c ∷ sp) (name ++ sbe ++ e ∷ sbv ++ v ++ behind),
-  length-append (name ++ sbe ++ e ∷ sbv ++ v) behind,
+  length-append (c ∷ sp) (name ++ sbe ++ e ∷ sbv ++ v ++ after),
+  length-append (name ++ sbe ++ e ∷ sbv ++ v) after,
   length-append (name ++ sbe ++ e ∷ sbv) v,
   length-append (name ++ sbe) (e ∷ sbv),
   length-append name sbe,
@@ -115,7 +115,7 @@ rows_within : (end at : ℕ) (rows : List Row) → at + length (flat_map row_byt
 rows_within end at [] h = tt
 rows_within end at (row ∷ rows) h =
     let a = row.assignment in
-    let before = before_value row.space_before_name a.name a.space_before_equals a.space_before_value (value_bytes a.value) a.space_behind comma equals_sign in
+    let before = before_value row.space_before_name a.name a.space_before_equals a.space_before_value (value_bytes a.value) a.space_after comma equals_sign in
     let all = length-append (row_bytes row) (flat_map row_bytes rows) in
     (omega (arith, h, before, all), rows_within end (at + length (row_bytes row)) rows (omega (arith, h, all)))
 
@@ -133,7 +133,7 @@ places_within (DefinitionTree d) =
         length-append a.space_before_equals rest,
         length-append (start ++ assignment_bytes a) close,
         length-append start (assignment_bytes a),
-        length-append (a.name ++ a.space_before_equals ++ rest ++ value_bytes a.value) a.space_behind,
+        length-append (a.name ++ a.space_before_equals ++ rest ++ value_bytes a.value) a.space_after,
         length-append (a.name ++ a.space_before_equals ++ rest) (value_bytes a.value),
         length-append (a.name ++ a.space_before_equals) rest,
         length-append a.name a.space_before_equals,
@@ -145,8 +145,8 @@ places_within (PreambleTree p) =
     let close = close_byte p.opening.delimiter ∷ [] in (
       omega (
         arith,
-        length-append (start ++ value_bytes p.value ++ p.space_behind) close,
-        length-append (start ++ value_bytes p.value) p.space_behind,
+        length-append (start ++ value_bytes p.value ++ p.space_after) close,
+        length-append (start ++ value_bytes p.value) p.space_after,
         length-append start (value_bytes p.value),
       ),
       tt,
@@ -156,15 +156,15 @@ places_within (EntryTree e) =
     let rows = flat_map row_bytes e.rows in
     let last = last_comma_bytes e.last_comma in
     let close = close_byte e.opening.delimiter ∷ [] in
-    rows_within (length (entry_bytes e)) (length (start ++ (e.key ++ e.space_behind_key))) e.rows (omega (
+    rows_within (length (entry_bytes e)) (length (start ++ (e.key ++ e.space_after_key))) e.rows (omega (
       arith,
-      length-append start (e.key ++ e.space_behind_key),
-      length-append e.key e.space_behind_key,
-      length-append (start ++ e.key) (behind_key_bytes e),
+      length-append start (e.key ++ e.space_after_key),
+      length-append e.key e.space_after_key,
+      length-append (start ++ e.key) (after_key_bytes e),
       length-append start e.key,
-      length-append (e.space_behind_key ++ rows ++ last) close,
-      length-append (e.space_behind_key ++ rows) last,
-      length-append e.space_behind_key rows,
+      length-append (e.space_after_key ++ rows ++ last) close,
+      length-append (e.space_after_key ++ rows) last,
+      length-append e.space_after_key rows,
     ))
 
 -- the value of a text that is too long begins in the item

@@ -7,7 +7,7 @@ use Rattle.bib_spec.specs.Bytes.{file_limit}
 use Rattle.bib_spec.specs.Text.{Text}
 use Rattle.bib_spec.specs.Pieces.{Piece, end_of, Stands, AscendFrom, BeginFrom, applied_from, applied, reversed_from, reversed}
 use Rattle.bib_store.specs.Reversing.{new_bytes_limit}
-use Rattle.history_spec.specs.Shifting.{moved_back, all_moved_back, FitBehind}
+use Rattle.history_spec.specs.Shifting.{moved_back, all_moved_back, FitAfter}
 
 -- what is left begins with the piece at i
 pub drop-next : (ps : List Piece) (i : ℕ) (p : Piece) → i < length ps → p ≡ get_or ps i p → drop i ps ≡ p ∷ drop (i + 1) ps
@@ -41,11 +41,11 @@ pub next_at : (at end : ℕ) (ps : List Piece) (bytes : Text) (i : ℕ) (p : Pie
     → NextFits at end p (drop (i + 1) ps) bytes
 next_at at end ps bytes i p f h e = next_fits at end p (drop (i + 1) ps) bytes (subst (λ (qs : List Piece). FitFrom at end qs bytes) (drop-next ps i p h e) f)
 
-pub fit_from_start : (at : ℕ) (ps : List Piece) (bytes : Text) → FitBehind at ps bytes → FitFrom at 0 ps bytes
+pub fit_from_start : (at : ℕ) (ps : List Piece) (bytes : Text) → FitAfter at ps bytes → FitFrom at 0 ps bytes
 fit_from_start at ps bytes f = record { begin = f.begin; ascending = f.fit.ascending; standing = f.fit.standing }
 
-pub fit_behind : (at : ℕ) (ps : List Piece) (bytes : Text) → FitFrom at 0 ps bytes → FitBehind at ps bytes
-fit_behind at ps bytes f = record { begin = f.begin; fit = record { ascending = f.ascending; standing = f.standing } }
+pub fit_after : (at : ℕ) (ps : List Piece) (bytes : Text) → FitFrom at 0 ps bytes → FitAfter at ps bytes
+fit_after at ps bytes f = record { begin = f.begin; fit = record { ascending = f.ascending; standing = f.standing } }
 
 -- what is written, and what the pieces from i on make of the rest, is the new text
 pub record IsApplied (at : ℕ) (ps : List Piece) (bytes out : Text) (end i : ℕ) : Type 0 where
@@ -53,7 +53,7 @@ pub record IsApplied (at : ℕ) (ps : List Piece) (bytes out : Text) (end i : �
   pub inside : end ≤ length bytes
   pub so_far : out ++ applied_from end (all_moved_back at (drop i ps)) bytes ≡ applied (all_moved_back at ps) bytes
 
-pub applied_start : (at : ℕ) (ps : List Piece) (bytes : Text) → FitBehind at ps bytes → IsApplied at ps bytes [] 0 0
+pub applied_start : (at : ℕ) (ps : List Piece) (bytes : Text) → FitAfter at ps bytes → IsApplied at ps bytes [] 0 0
 applied_start at ps bytes f = record { fit = fit_from_start at ps bytes f; inside = omega arith; so_far = refl }
 
 pub applied_more : (at : ℕ) (ps : List Piece) (bytes out : Text) (end i : ℕ) (p : Piece) → IsApplied at ps bytes out end i → i < length ps → p ≡ get_or ps i p
@@ -74,12 +74,12 @@ applied_all at ps bytes out end i w h = sym (ap (λ qs. out ++ applied_from end 
 
 -- all fit exactly where those from i on fit after this place
 pub record IsFitting (at : ℕ) (ps : List Piece) (bytes : Text) (end i : ℕ) : Type 0 where
-  pub whole : FitFrom at end (drop i ps) bytes → FitBehind at ps bytes
-  pub rest : FitBehind at ps bytes → FitFrom at end (drop i ps) bytes
+  pub whole : FitFrom at end (drop i ps) bytes → FitAfter at ps bytes
+  pub rest : FitAfter at ps bytes → FitFrom at end (drop i ps) bytes
   pub inside : end ≤ length bytes
 
 pub fitting_start : (at : ℕ) (ps : List Piece) (bytes : Text) → IsFitting at ps bytes 0 0
-fitting_start at ps bytes = record { whole = fit_behind at ps bytes; rest = fit_from_start at ps bytes; inside = omega arith }
+fitting_start at ps bytes = record { whole = fit_after at ps bytes; rest = fit_from_start at ps bytes; inside = omega arith }
 
 pub fitting_more : (at : ℕ) (ps : List Piece) (bytes : Text) (end i : ℕ) (p : Piece) → IsFitting at ps bytes end i → i < length ps → p ≡ get_or ps i p
     → at ≤ p.place → end ≤ p.place - at → Stands bytes (moved_back at p) → IsFitting at ps bytes (p.place - at + length p.old) (i + 1)
@@ -89,7 +89,7 @@ fitting_more at ps bytes end i p w h e begins below s = record {
   inside = s.inside;
 }
 
-pub fitting_all : (at : ℕ) (ps : List Piece) (bytes : Text) (end i : ℕ) → IsFitting at ps bytes end i → length ps ≤ i → FitBehind at ps bytes
+pub fitting_all : (at : ℕ) (ps : List Piece) (bytes : Text) (end i : ℕ) → IsFitting at ps bytes end i → length ps ≤ i → FitAfter at ps bytes
 fitting_all at ps bytes end i w h = w.whole (subst (λ (qs : List Piece). FitFrom at end qs bytes) (sym (drop_all i ps h)) (record { begin = tt; ascending = tt; standing = tt }))
 
 -- the largest u64
@@ -136,7 +136,7 @@ reversed_more from new_from ps back end new_end i p w h e bound =
     let capped : end ≡ min w.exact_end cap = w.capped in
     let total : sum_by (λ p. length p.new) (p ∷ drop (i + 1) ps) ≡ length p.new + sum_by (λ p. length p.new) (drop (i + 1) ps) = sum_by-cons (λ p. length p.new) p (drop (i + 1) ps) in
     let same : end ≡ w.exact_end = omega arith in
-    let behind : List Piece = reversed_from (end_of p) (new_end + (p.place - w.exact_end) + length p.new) (drop (i + 1) ps) in
+    let after : List Piece = reversed_from (end_of p) (new_end + (p.place - w.exact_end) + length p.new) (drop (i + 1) ps) in
     let turned : Piece = record { place = new_end + (p.place - w.exact_end); old = p.new; new = p.old } in
     record {
       exact_end = end_of p;
@@ -145,7 +145,7 @@ reversed_more from new_from ps back end new_end i p w h e bound =
       small = omega arith;
       so_far =
           ap (λ n. (back ++ record { place = new_end + (p.place - n); old = p.new; new = p.old } ∷ []) ++ reversed_from (end_of p) (new_end + (p.place - n) + length p.new) (drop (i + 1) ps)) same
-          ∙ append_assoc back (turned ∷ []) behind
+          ∙ append_assoc back (turned ∷ []) after
           ∙ sym (ap (λ qs. back ++ reversed_from w.exact_end new_end qs) next)
           ∙ w.so_far;
     }

@@ -36,20 +36,20 @@ first_kept false p q ps qs e h = h
 
 module _ (test : Tree → Bool) where
   -- an item in the place of another of its kind changes no number
-  pub numbers_same : (k : ℕ) (before behind : List Item) (x y : Item) → test x.tree ≡ test y.tree → numbers test k (before ++ x ∷ behind) ≡ numbers test k (before ++ y ∷ behind)
-  numbers_same k [] behind x y e =
-      let rest : List (ℕ × Item) = numbered test (k + 1) behind in
+  pub numbers_same : (k : ℕ) (before after : List Item) (x y : Item) → test x.tree ≡ test y.tree → numbers test k (before ++ x ∷ after) ≡ numbers test k (before ++ y ∷ after)
+  numbers_same k [] after x y e =
+      let rest : List (ℕ × Item) = numbered test (k + 1) after in
       ap (λ (b : Bool). first_of (cond b ((k, x) ∷ rest) rest)) e ∙ first_kept (test y.tree) (k, x) (k, y) rest rest refl refl
-  numbers_same k (z ∷ before) behind x y e =
-      first_kept (test z.tree) (k, z) (k, z) (numbered test (k + 1) (before ++ x ∷ behind)) (numbered test (k + 1) (before ++ y ∷ behind)) refl (numbers_same (k + 1) before behind x y e)
+  numbers_same k (z ∷ before) after x y e =
+      first_kept (test z.tree) (k, z) (k, z) (numbered test (k + 1) (before ++ x ∷ after)) (numbered test (k + 1) (before ++ y ∷ after)) refl (numbers_same (k + 1) before after x y e)
 
 -- ---- macros
 
-pub macros_same : (m : Macros) (before behind : List Item) (x y : Item) → ((m : Macros) → macros_after m x.tree ≡ macros_after m y.tree) → (k : ℕ) → macros_at m (before ++ x ∷ behind) k ≡ macros_at m (before ++ y ∷ behind) k
-macros_same m [] behind x y same zero = refl
-macros_same m [] behind x y same (suc k) = ap (λ (n : Macros). macros_at n behind k) (same m)
-macros_same m (z ∷ before) behind x y same zero = refl
-macros_same m (z ∷ before) behind x y same (suc k) = macros_same (macros_after m z.tree) before behind x y same k
+pub macros_same : (m : Macros) (before after : List Item) (x y : Item) → ((m : Macros) → macros_after m x.tree ≡ macros_after m y.tree) → (k : ℕ) → macros_at m (before ++ x ∷ after) k ≡ macros_at m (before ++ y ∷ after) k
+macros_same m [] after x y same zero = refl
+macros_same m [] after x y same (suc k) = ap (λ (n : Macros). macros_at n after k) (same m)
+macros_same m (z ∷ before) after x y same zero = refl
+macros_same m (z ∷ before) after x y same (suc k) = macros_same (macros_after m z.tree) before after x y same k
 
 -- ---- texts that are too long
 
@@ -91,24 +91,24 @@ fit_elsewhere at there m (item ∷ items) e =
     fit_joined there m item items parts.0 (fit_elsewhere (at + length (item_bytes item)) (there + length (item_bytes item)) (macros_after m item.tree) items parts.1)
 
 -- one item in the place of another after which macros stand for the same: the others are no longer than before
-pub still_fits : (before behind : List Item) (x y : Item) → ((m : Macros) → macros_after m x.tree ≡ macros_after m y.tree) → (at there : ℕ) → first_too_long (raw_texts_from at months (before ++ x ∷ behind)) ≡ None
-    → first_too_long (placed_texts (macros_at months before (length before)) y.tree) ≡ None → first_too_long (raw_texts_from there months (before ++ y ∷ behind)) ≡ None
-still_fits before behind x y after_same at there fits fit =
+pub still_fits : (before after : List Item) (x y : Item) → ((m : Macros) → macros_after m x.tree ≡ macros_after m y.tree) → (at there : ℕ) → first_too_long (raw_texts_from at months (before ++ x ∷ after)) ≡ None
+    → first_too_long (placed_texts (macros_at months before (length before)) y.tree) ≡ None → first_too_long (raw_texts_from there months (before ++ y ∷ after)) ≡ None
+still_fits before after x y after_same at there fits fit =
     let here : Macros = macros_at months before (length before) in
     let start : ℕ = at + length (flat_map item_bytes before) in
     let new_start : ℕ = there + length (flat_map item_bytes before) in
-    let parts = none_both (first_too_long (raw_texts_from at months before)) (first_too_long (raw_texts_from start here (x ∷ behind)))
-    (sym (first-append (raw_texts_from at months before) (raw_texts_from start here (x ∷ behind))) ∙ sym (ap first_too_long (raw_texts-append at months before (x ∷ behind))) ∙ fits) in
-    let later = (fit_parts start here x behind parts.1).1 in
-    let elsewhere = fit_elsewhere (start + length (item_bytes x)) (new_start + length (item_bytes y)) (macros_after here x.tree) behind later in
-    let behind_fits = subst (λ (m : Macros). first_too_long (raw_texts_from (new_start + length (item_bytes y)) m behind) ≡ None) (after_same here) elsewhere in
-    ap first_too_long (raw_texts-append there months before (y ∷ behind))
-    ∙ first-append (raw_texts_from there months before) (raw_texts_from new_start here (y ∷ behind))
-    ∙ ap₂ option_or (fit_elsewhere at there months before parts.0) (fit_joined new_start here y behind fit behind_fits)
+    let parts = none_both (first_too_long (raw_texts_from at months before)) (first_too_long (raw_texts_from start here (x ∷ after)))
+    (sym (first-append (raw_texts_from at months before) (raw_texts_from start here (x ∷ after))) ∙ sym (ap first_too_long (raw_texts-append at months before (x ∷ after))) ∙ fits) in
+    let later = (fit_parts start here x after parts.1).1 in
+    let elsewhere = fit_elsewhere (start + length (item_bytes x)) (new_start + length (item_bytes y)) (macros_after here x.tree) after later in
+    let after_fits = subst (λ (m : Macros). first_too_long (raw_texts_from (new_start + length (item_bytes y)) m after) ≡ None) (after_same here) elsewhere in
+    ap first_too_long (raw_texts-append there months before (y ∷ after))
+    ∙ first-append (raw_texts_from there months before) (raw_texts_from new_start here (y ∷ after))
+    ∙ ap₂ option_or (fit_elsewhere at there months before parts.0) (fit_joined new_start here y after fit after_fits)
 
 -- ---- an entry in the place of another
 
-module _ (before behind : List Item) (x y : Item) (e f : Entry) (x_is : x.tree ≡ EntryTree e) (y_is : y.tree ≡ EntryTree f) where
+module _ (before after : List Item) (x y : Item) (e f : Entry) (x_is : x.tree ≡ EntryTree e) (y_is : y.tree ≡ EntryTree f) where
   abbrev here : Macros
   here = macros_at months before (length before)
 
@@ -116,43 +116,43 @@ module _ (before behind : List Item) (x y : Item) (e f : Entry) (x_is : x.tree �
   first = gathered entry_in months before
 
   abbrev others : List EntryTexts
-  others = gathered entry_in here behind
+  others = gathered entry_in here after
 
   after_same : (m : Macros) → macros_after m x.tree ≡ macros_after m y.tree
   after_same m = ap (macros_after m) x_is ∙ sym (ap (macros_after m) y_is)
 
-  told : (i : Item) (g : Entry) → i.tree ≡ EntryTree g → gathered entry_in months (before ++ i ∷ behind) ≡ first ++ texts_of here g ∷ others
-  told i g is = gathered-append entry_in months before (i ∷ behind) ∙ ap (λ (t : Tree). first ++ (entry_in here t ++ gathered entry_in (macros_after here t) behind)) is
+  told : (i : Item) (g : Entry) → i.tree ≡ EntryTree g → gathered entry_in months (before ++ i ∷ after) ≡ first ++ texts_of here g ∷ others
+  told i g is = gathered-append entry_in months before (i ∷ after) ∙ ap (λ (t : Tree). first ++ (entry_in here t ++ gathered entry_in (macros_after here t) after)) is
 
-  keys_told : (i : Item) (g : Entry) → i.tree ≡ EntryTree g → keys_of (gathered entry_in months (before ++ i ∷ behind)) ≡ keys_of first ++ g.key ∷ keys_of others
+  keys_told : (i : Item) (g : Entry) → i.tree ≡ EntryTree g → keys_of (gathered entry_in months (before ++ i ∷ after)) ≡ keys_of first ++ g.key ∷ keys_of others
   keys_told i g is = ap keys_of (told i g is) ∙ map-append (λ (entry : EntryTexts). entry.key) first (texts_of here g ∷ others)
 
-  crossrefs_told : (i : Item) (g : Entry) → i.tree ≡ EntryTree g → map crossref_text (gathered entry_in months (before ++ i ∷ behind)) ≡ map crossref_text first ++ crossref_text (texts_of here g) ∷ map crossref_text others
+  crossrefs_told : (i : Item) (g : Entry) → i.tree ≡ EntryTree g → map crossref_text (gathered entry_in months (before ++ i ∷ after)) ≡ map crossref_text first ++ crossref_text (texts_of here g) ∷ map crossref_text others
   crossrefs_told i g is = ap (map crossref_text) (told i g is) ∙ map-append crossref_text first (texts_of here g ∷ others)
 
-  defined_told : (i : Item) (g : Entry) → i.tree ≡ EntryTree g → definitions_in (before ++ i ∷ behind) ≡ definitions_in before ++ gathered defined_by here behind
-  defined_told i g is = gathered-append defined_by months before (i ∷ behind) ∙ ap (λ (t : Tree). definitions_in before ++ (defined_by here t ++ gathered defined_by (macros_after here t) behind)) is
+  defined_told : (i : Item) (g : Entry) → i.tree ≡ EntryTree g → definitions_in (before ++ i ∷ after) ≡ definitions_in before ++ gathered defined_by here after
+  defined_told i g is = gathered-append defined_by months before (i ∷ after) ∙ ap (λ (t : Tree). definitions_in before ++ (defined_by here t ++ gathered defined_by (macros_after here t) after)) is
 
   -- the key and what the crossref says are the same
-  pub placed_tables : (t : Tables) (bounds : Bounds) → e.key ≡ f.key → crossref_text (texts_of here e) ≡ crossref_text (texts_of here f) → AreTablesOf (before ++ x ∷ behind) t
-      → ((items : List Item) → AreBounded t.bounds items → AreBounded bounds items) → IsBounded bounds y.tree → AreTablesOf (before ++ y ∷ behind) (with_bounds bounds t)
+  pub placed_tables : (t : Tables) (bounds : Bounds) → e.key ≡ f.key → crossref_text (texts_of here e) ≡ crossref_text (texts_of here f) → AreTablesOf (before ++ x ∷ after) t
+      → ((items : List Item) → AreBounded t.bounds items → AreBounded bounds items) → IsBounded bounds y.tree → AreTablesOf (before ++ y ∷ after) (with_bounds bounds t)
   placed_tables t bounds key says are admits one =
       let kind : is_entry_tree x.tree ≡ is_entry_tree y.tree = ap is_entry_tree x_is ∙ sym (ap is_entry_tree y_is) in
       let third : is_definition_tree x.tree ≡ is_definition_tree y.tree = ap is_definition_tree x_is ∙ sym (ap is_definition_tree y_is) in
       let other : is_preamble_tree x.tree ≡ is_preamble_tree y.tree = ap is_preamble_tree x_is ∙ sym (ap is_preamble_tree y_is) in
-      let same_keys : keys_of (gathered entry_in months (before ++ x ∷ behind)) ≡ keys_of (gathered entry_in months (before ++ y ∷ behind))
+      let same_keys : keys_of (gathered entry_in months (before ++ x ∷ after)) ≡ keys_of (gathered entry_in months (before ++ y ∷ after))
       = keys_told x e x_is ∙ ap (λ (k : Text). keys_of first ++ k ∷ keys_of others) key ∙ sym (keys_told y f y_is) in
-      let same_crossrefs : map crossref_text (gathered entry_in months (before ++ x ∷ behind)) ≡ map crossref_text (gathered entry_in months (before ++ y ∷ behind))
+      let same_crossrefs : map crossref_text (gathered entry_in months (before ++ x ∷ after)) ≡ map crossref_text (gathered entry_in months (before ++ y ∷ after))
       = crossrefs_told x e x_is ∙ ap (λ (o : Option Text). map crossref_text first ++ o ∷ map crossref_text others) says ∙ sym (crossrefs_told y f y_is) in
       record {
-        entries = are.entries ∙ numbers_same is_entry_tree 0 before behind x y kind;
-        preambles = are.preambles ∙ numbers_same is_preamble_tree 0 before behind x y other;
+        entries = are.entries ∙ numbers_same is_entry_tree 0 before after x y kind;
+        preambles = are.preambles ∙ numbers_same is_preamble_tree 0 before after x y other;
         definitions = record {
-          numbers = are.definitions.numbers ∙ numbers_same is_definition_tree 0 before behind x y third;
+          numbers = are.definitions.numbers ∙ numbers_same is_definition_tree 0 before after x y third;
           all = subst (AreAllOf t.definitions.names) (defined_told x e x_is ∙ sym (defined_told y f y_is)) are.definitions.all;
-          texts = λ k. are.definitions.texts k ∙ macros_same months before behind x y after_same k;
+          texts = λ k. are.definitions.texts k ∙ macros_same months before after x y after_same k;
         };
-        bounds = bounded_with bounds before behind y (admits (before ++ behind) (bounded_without t.bounds before behind x are.bounds)) one;
-        named = subst (λ (ks : List Text). IsTableOf ks (map crossref_text (gathered entry_in months (before ++ y ∷ behind))) t.named) same_keys
-            (subst (λ (cs : List (Option Text)). IsTableOf (keys_of (gathered entry_in months (before ++ x ∷ behind))) cs t.named) same_crossrefs are.named);
+        bounds = bounded_with bounds before after y (admits (before ++ after) (bounded_without t.bounds before after x are.bounds)) one;
+        named = subst (λ (ks : List Text). IsTableOf ks (map crossref_text (gathered entry_in months (before ++ y ∷ after))) t.named) same_keys
+            (subst (λ (cs : List (Option Text)). IsTableOf (keys_of (gathered entry_in months (before ++ x ∷ after))) cs t.named) same_crossrefs are.named);
       }

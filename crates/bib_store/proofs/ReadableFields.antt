@@ -9,7 +9,7 @@ use Rattle.bib_spec.specs.Text.{Text}
 use Rattle.bib_spec.specs.Tree.{Row, Value, Entry, Tree, row_bytes, IsRow, IsEntry, IsTree, opening_bytes}
 use Rattle.bib_spec.specs.Reading.{Item, Reading, Reads}
 use Rattle.bib_spec.specs.Texts.{Macros, months, macros_at, raw_text, raw_texts_in, raw_limit, too_long_at}
-use Rattle.bib_scan.specs.View.{fields_behind, fields_of}
+use Rattle.bib_scan.specs.View.{fields_after, fields_of}
 use Rattle.bib_scan.proofs.TakenApart.{one_value}
 use Rattle.bib_value.proofs.Entries.{name_short}
 use Rattle.bib_spec.specs.Records.{RecordField, entries_of, own_fields, field_of, fields_at, missing}
@@ -22,12 +22,12 @@ use Rattle.bib_store.proofs.EntryItems.{IsEntryAt}
 use Rattle.bib_store.proofs.ShortTexts.{IsShort, texts_short}
 
 -- each field is that of its row
-pub zip_rows : (before : Text) (rows : List Row) → AllByRecursion (IsRow name_limit) rows → AllZip IsFieldOf (fields_behind before rows) rows
+pub zip_rows : (before : Text) (rows : List Row) → AllByRecursion (IsRow name_limit) rows → AllZip IsFieldOf (fields_after before rows) rows
 zip_rows before [] h = tt
 zip_rows before (row ∷ rows) h = (record { name = refl; is = h.0.assignment.value; value = refl }, zip_rows (before ++ row_bytes row) rows h.1)
 
 pub readable_rows : (macros : Macros) (before : Text) (rows : List Row) → AllByRecursion (IsRow name_limit) rows → AllByRecursion IsShort (map (raw_text macros) (map (λ row. row.assignment.value) rows))
-    → AllByRecursion (IsReadable macros) (fields_behind before rows)
+    → AllByRecursion (IsReadable macros) (fields_after before rows)
 readable_rows macros before [] h short = tt
 readable_rows macros before (row ∷ rows) h short = (
   record {
@@ -49,7 +49,7 @@ rows_of file db n item reads it =
     recursion_from_All (IsRow name_limit) it.entry.rows entry.rows
 
 abbrev before_rows : Entry → Text
-before_rows e = opening_bytes e.opening ++ e.key ++ e.space_behind_key
+before_rows e = opening_bytes e.opening ++ e.key ++ e.space_after_key
 
 -- the fields of an entry are those of its rows
 pub fields_zip : (file : Text) (db : Reading) (n : ℕ) (item : Item) → Reads file db → (it : IsEntryAt db n item) → AllZip IsFieldOf (fields_of item.tree) it.entry.rows

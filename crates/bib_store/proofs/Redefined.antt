@@ -9,7 +9,7 @@ use Rattle.bib_spec.specs.Tree.{Tree, Definition, CommentTree, DefinitionTree, P
 use Rattle.bib_spec.specs.Reading.{Item, IsItem}
 use Rattle.bib_spec.specs.Texts.{Macros, months, macros_after, macros_at, gathered, raw_text, raw_texts_from, raw_limit}
 use Rattle.bib_spec.specs.Records.{EntryTexts, entry_in, keys_of, crossref_text}
-use Rattle.bib_scan.specs.View.{Field, View, field_behind, view_of}
+use Rattle.bib_scan.specs.View.{Field, View, field_after, view_of}
 use Rattle.bib_scan.specs.declared.view.Kind.TheVariants as kind
 use Rattle.bib_value.specs.Raw.{OfValue}
 use Rattle.bib_entries.specs.EntryTable.{IsTableOf}
@@ -170,9 +170,9 @@ module _ (n : ℕ) (old new : View) (field : Field) (rest : List Field) (t now :
     after_settled = all_settled t.bounds after r.settled (bounded_after t.bounds before after (bounded_without t.bounds before after x are.bounds))
 
     -- what the field says of the new one
-    same_field : (d : Definition) → y.tree ≡ DefinitionTree d → field ≡ field_behind (length (opening_bytes d.opening)) (opening_bytes d.opening) d.assignment
+    same_field : (d : Definition) → y.tree ≡ DefinitionTree d → field ≡ field_after (length (opening_bytes d.opening)) (opening_bytes d.opening) d.assignment
     same_field d is =
-        (cons_parts field (field_behind (length (opening_bytes d.opening)) (opening_bytes d.opening) d.assignment) rest []
+        (cons_parts field (field_after (length (opening_bytes d.opening)) (opening_bytes d.opening) d.assignment) rest []
         (sym r.first ∙ ap (λ (v : View). v.fields) (y_seen ∙ ap (λ (tree : Tree). view_of (item_with tree [])) is))).0
 
     new_settled : IsSettled y.tree

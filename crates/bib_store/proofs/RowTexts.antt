@@ -10,7 +10,7 @@ use Rattle.bib_spec.specs.Tree.{Row, IsRow, value_bytes, row_bytes}
 use Rattle.bib_spec.specs.Texts.{Macros, raw_text, raw_limit, field_text, row_start, bytes_before_value}
 use Rattle.bib_spec.specs.Records as records
 use Rattle.bib_spec.specs.Records.{field_of, has_name, crossref}
-use Rattle.bib_scan.specs.View.{Field, field_behind, fields_behind}
+use Rattle.bib_scan.specs.View.{Field, field_after, fields_after}
 use Rattle.bib_value.specs.Raw.{OfValue}
 use Rattle.bib_store.specs.ItemTexts.{first_too_long, row_texts, said_by, crossref_in, OfRows}
 
@@ -53,7 +53,7 @@ crossref_more m row rows None =
     ∙ sym (ap (λ o. option_or o (crossref_in m rows)) (cond-false test (Some says) None e)))
     (cases_Bool test)
 
-value_place : (before : Text) (row : Row) → (field_behind (length before) (before ++ comma ∷ row.space_before_name) row.assignment).value_at ≡ length before + length (row_start row)
+value_place : (before : Text) (row : Row) → (field_after (length before) (before ++ comma ∷ row.space_before_name) row.assignment).value_at ≡ length before + length (row_start row)
 value_place before row =
     let sp = comma ∷ row.space_before_name in
     let a = row.assignment in
@@ -76,7 +76,7 @@ pub record IsRest (m : Macros) (rows : List Row) (at : ℕ) (found : Option Text
   pub before : Text
   pub rows_left : List Row
   pub are_rows : All (IsRow name_limit) rows_left
-  pub fields : left ≡ fields_behind before rows_left
+  pub fields : left ≡ fields_after before rows_left
   pub crossref_text : crossref_in m rows ≡ option_or found (crossref_in m rows_left)
   pub too_long : first_too_long (row_texts at m rows) ≡ first_too_long (row_texts (length before) m rows_left)
 
@@ -91,13 +91,13 @@ rows_start all m = record {
 rest_more : (m : Macros) (rows : List Row) (at : ℕ) (found new : Option Text) (field : Field) (left : List Field)
     → OfValue field.value (λ v. new ≡ option_or found (said_by m field.name v))
     → OfValue field.value (λ v. length (raw_text m v) ≤ raw_limit)
-    → (before : Text) (rows_left : List Row) → All (IsRow name_limit) rows_left → field ∷ left ≡ fields_behind before rows_left
+    → (before : Text) (rows_left : List Row) → All (IsRow name_limit) rows_left → field ∷ left ≡ fields_after before rows_left
     → crossref_in m rows ≡ option_or found (crossref_in m rows_left)
     → first_too_long (row_texts at m rows) ≡ first_too_long (row_texts (length before) m rows_left)
     → IsRest m rows at new left
 rest_more m rows at found new field left said fits before [] are fields cross long = absurd (nil_cons field left (sym fields))
 rest_more m rows at found new field left said fits before (row ∷ others) are fields cross long =
-    let same_parts = cons_parts field (field_behind (length before) (before ++ comma ∷ row.space_before_name) row.assignment) left (fields_behind (before ++ row_bytes row) others) fields in
+    let same_parts = cons_parts field (field_after (length before) (before ++ comma ∷ row.space_before_name) row.assignment) left (fields_after (before ++ row_bytes row) others) fields in
     let is = All-head (IsRow name_limit) row others are in
     let value : value_bytes row.assignment.value ≡ field.value = ap (λ (f : Field). f.value) (sym same_parts.0) in
     let name : field.name ≡ row.assignment.name = ap (λ (f : Field). f.name) same_parts.0 in
@@ -127,11 +127,11 @@ rows_more all m found new field left now said fits is to = record {
 
 rest_over : (m : Macros) (at : ℕ) (field : Field) (left : List Field)
     → OfValue field.value (λ v. raw_limit < length (raw_text m v))
-    → (before : Text) (rows_left : List Row) → All (IsRow name_limit) rows_left → field ∷ left ≡ fields_behind before rows_left
+    → (before : Text) (rows_left : List Row) → All (IsRow name_limit) rows_left → field ∷ left ≡ fields_after before rows_left
     → first_too_long (row_texts (length before) m rows_left) ≡ Some field.value_at
 rest_over m at field left over before [] are fields = absurd (nil_cons field left (sym fields))
 rest_over m at field left over before (row ∷ others) are fields =
-    let same_parts = cons_parts field (field_behind (length before) (before ++ comma ∷ row.space_before_name) row.assignment) left (fields_behind (before ++ row_bytes row) others) fields in
+    let same_parts = cons_parts field (field_after (length before) (before ++ comma ∷ row.space_before_name) row.assignment) left (fields_after (before ++ row_bytes row) others) fields in
     let is = All-head (IsRow name_limit) row others are in
     first_over (length before + length (row_start row)) (raw_text m row.assignment.value) (row_texts (length before + length (row_bytes row)) m others)
     (over row.assignment.value is.assignment.value (ap (λ (f : Field). f.value) (sym same_parts.0)))
@@ -146,14 +146,14 @@ rows_over all m found field left now over is to before rows are fields =
     r.too_long ∙ rest_over m (length before) field left over r.before r.rows_left r.are_rows (sym is ∙ r.fields)
 
 rest_all : (m : Macros) (rows : List Row) (at : ℕ) (found : Option Text)
-    → (before : Text) (rows_left : List Row) → [] ≡ fields_behind before rows_left
+    → (before : Text) (rows_left : List Row) → [] ≡ fields_after before rows_left
     → crossref_in m rows ≡ option_or found (crossref_in m rows_left)
     → first_too_long (row_texts at m rows) ≡ first_too_long (row_texts (length before) m rows_left)
     → (found ≡ crossref_in m rows) × (first_too_long (row_texts at m rows) ≡ None)
 rest_all m rows at None before [] fields cross long = (sym cross, long)
 rest_all m rows at (Some t) before [] fields cross long = (sym cross, long)
 rest_all m rows at found before (row ∷ others) fields cross long =
-    absurd (nil_cons (field_behind (length before) (before ++ comma ∷ row.space_before_name) row.assignment) (fields_behind (before ++ row_bytes row) others) fields)
+    absurd (nil_cons (field_after (length before) (before ++ comma ∷ row.space_before_name) row.assignment) (fields_after (before ++ row_bytes row) others) fields)
 
 pub rows_all : (all : List Field) (m : Macros) (found : Option Text) (left : List Field) → left ≡ [] → RowsTo all m found left
     → OfRows all (λ before rows. (found ≡ crossref_in m rows) × (first_too_long (row_texts (length before) m rows) ≡ None))

@@ -5,8 +5,8 @@ use Rattle.std.specs.List.{AllByRecursion}
 use Rattle.bib_spec.specs.Text.{Text}
 use Rattle.bib_spec.specs.Pieces.{Piece, end_of, Stands, AscendFrom, Fit, EndBy, BeginFrom, applied_from, applied}
 use Rattle.bib_spec.proofs.PieceLemmas.{drop-place, stands_before, applied_from-append}
-use Rattle.history_spec.specs.Shifting.{all_moved_back, FitBehind}
-use Rattle.history_spec.proofs.Shifts.{fit-behind, applied-from_behind}
+use Rattle.history_spec.specs.Shifting.{all_moved_back, FitAfter}
+use Rattle.history_spec.proofs.Shifts.{fit-after, applied-from_after}
 
 -- where a piece stands in a text, it stands in a longer one
 stands_longer : (text more : Text) (p : Piece) → Stands text p → Stands (text ++ more) p
@@ -30,21 +30,21 @@ ascend_both at mid [] (q ∷ qs) h a e b c = (omega (arith, h, b.0), c.1)
 ascend_both at mid (p ∷ ps) qs h a e b c = (a.0, ascend_both (end_of p) mid ps qs e.0 a.1 e.1 b c)
 
 -- what fits the text before, and what lies in the bytes after it, fit both
-pub both_fit : (before bytes behind : Text) (ps qs : List Piece) → Fit ps before → FitBehind (length before) qs bytes → Fit (ps ++ qs) (before ++ (bytes ++ behind))
-both_fit before bytes behind ps qs f g =
-    let later = fit-behind before bytes behind (length before) qs refl g in
+pub both_fit : (before bytes after : Text) (ps qs : List Piece) → Fit ps before → FitAfter (length before) qs bytes → Fit (ps ++ qs) (before ++ (bytes ++ after))
+both_fit before bytes after ps qs f g =
+    let later = fit-after before bytes after (length before) qs refl g in
     record {
       ascending = ascend_both 0 (length before) ps qs (omega arith) f.ascending (end_within before ps f.standing) g.begin later.ascending;
-      standing = all_stand before (bytes ++ behind) ps qs f.standing later.standing;
+      standing = all_stand before (bytes ++ after) ps qs f.standing later.standing;
     }
 
 -- each makes of its part what it makes of it alone
-pub both_applied : (before bytes behind : Text) (ps qs : List Piece) → Fit ps before → FitBehind (length before) qs bytes
-    → applied (ps ++ qs) (before ++ (bytes ++ behind)) ≡ applied ps before ++ (applied (all_moved_back (length before) qs) bytes ++ behind)
-both_applied before bytes behind ps qs f g =
+pub both_applied : (before bytes after : Text) (ps qs : List Piece) → Fit ps before → FitAfter (length before) qs bytes
+    → applied (ps ++ qs) (before ++ (bytes ++ after)) ≡ applied ps before ++ (applied (all_moved_back (length before) qs) bytes ++ after)
+both_applied before bytes after ps qs f g =
     let same : length before + 0 ≡ length before = omega arith in
-    applied_from-append 0 (length before) ps qs (before ++ (bytes ++ behind)) (omega arith) f.ascending (end_within before ps f.standing) g.begin
+    applied_from-append 0 (length before) ps qs (before ++ (bytes ++ after)) (omega arith) f.ascending (end_within before ps f.standing) g.begin
     ∙ ap₂ (λ (x y : Text). applied ps x ++ y)
-    (take_at before (bytes ++ behind) (length before) refl)
-    (ap (λ n. applied_from n qs (before ++ (bytes ++ behind))) (sym same)
-    ∙ applied-from_behind before bytes behind (length before) 0 qs refl (omega arith) g.begin g.fit.ascending g.fit.standing)
+    (take_at before (bytes ++ after) (length before) refl)
+    (ap (λ n. applied_from n qs (before ++ (bytes ++ after))) (sym same)
+    ∙ applied-from_after before bytes after (length before) 0 qs refl (omega arith) g.begin g.fit.ascending g.fit.standing)

@@ -22,7 +22,7 @@ entry_says m v text says i is entry seen = there i.tree (entry_tree i.tree entry
     there : (t : Tree) → (e : Entry) × (t ≡ EntryTree e) → IsTree name_limit t → v.fields ≡ fields_of t → map crossref_text (entry_in m t) ≡ text ∷ []
     there t (e, e_is) is_tree fields =
         ap (λ (x : Tree). map crossref_text (entry_in m x)) e_is
-        ∙ ap (λ (o : Option Text). o ∷ []) (sym (says (opening_bytes e.opening ++ e.key ++ e.space_behind_key) e.rows (subst (IsTree name_limit) e_is is_tree).rows (fields ∙ ap fields_of e_is)))
+        ∙ ap (λ (o : Option Text). o ∷ []) (sym (says (opening_bytes e.opening ++ e.key ++ e.space_after_key) e.rows (subst (IsTree name_limit) e_is is_tree).rows (fields ∙ ap fields_of e_is)))
 
 entry_texts : (m : Macros) (v : View) (o : Option ℕ) → OfRows v.fields (λ before rows. first_too_long (row_texts (length before) m rows) ≡ o) → (i : reading.Item) → IsTree name_limit i.tree → is_entry_tree i.tree ≡ true → v ≡ view_of i
     → first_too_long (placed_texts m i.tree) ≡ o
@@ -31,8 +31,8 @@ entry_texts m v o says i is entry seen = there i.tree (entry_tree i.tree entry) 
     there : (t : Tree) → (e : Entry) × (t ≡ EntryTree e) → IsTree name_limit t → v.fields ≡ fields_of t → first_too_long (placed_texts m t) ≡ o
     there t (e, e_is) is_tree fields =
         ap (λ (x : Tree). first_too_long (placed_texts m x)) e_is
-        ∙ ap (λ (k : ℕ). first_too_long (row_texts k m e.rows)) (ap (λ (t : Text). length t) (sym (append_assoc (opening_bytes e.opening) e.key e.space_behind_key)))
-        ∙ says (opening_bytes e.opening ++ e.key ++ e.space_behind_key) e.rows (subst (IsTree name_limit) e_is is_tree).rows (fields ∙ ap fields_of e_is)
+        ∙ ap (λ (k : ℕ). first_too_long (row_texts k m e.rows)) (ap (λ (t : Text). length t) (sym (append_assoc (opening_bytes e.opening) e.key e.space_after_key)))
+        ∙ says (opening_bytes e.opening ++ e.key ++ e.space_after_key) e.rows (subst (IsTree name_limit) e_is is_tree).rows (fields ∙ ap fields_of e_is)
 
 pub entry_fits : (m : Macros) (v : View) → OfRows v.fields (λ before rows. first_too_long (row_texts (length before) m rows) ≡ None) → (i : reading.Item) → IsTree name_limit i.tree → is_entry_tree i.tree ≡ true → v ≡ view_of i
     → first_too_long (placed_texts m i.tree) ≡ None

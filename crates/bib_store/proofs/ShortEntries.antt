@@ -9,7 +9,7 @@ use Rattle.std.proofs.lemmas.Option.{none-some}
 use Rattle.std.proofs.lemmas.List.Elements.{All-head, All-tail}
 use Rattle.bib_spec.specs.Bytes.{name_limit, comma, equals_sign, hash, close_brace, quote}
 use Rattle.bib_spec.specs.Text.{Text, folded}
-use Rattle.bib_spec.specs.Tree.{Tree, Part, Braced, Quoted, Digits, Macro, Link, Value, Row, Entry, CommentTree, DefinitionTree, PreambleTree, EntryTree, IsPart, IsLink, IsValue, IsRow, IsTree, part_bytes, link_bytes, value_bytes, row_bytes, assignment_bytes, opening_bytes, behind_key_bytes, last_comma_bytes, close_byte, definition_bytes, preamble_bytes, entry_bytes, tree_bytes}
+use Rattle.bib_spec.specs.Tree.{Tree, Part, Braced, Quoted, Digits, Macro, Link, Value, Row, Entry, CommentTree, DefinitionTree, PreambleTree, EntryTree, IsPart, IsLink, IsValue, IsRow, IsTree, part_bytes, link_bytes, value_bytes, row_bytes, assignment_bytes, opening_bytes, after_key_bytes, last_comma_bytes, close_byte, definition_bytes, preamble_bytes, entry_bytes, tree_bytes}
 use Rattle.bib_spec.specs.Reading.{Item, item_bytes}
 use Rattle.bib_spec.specs.Texts.{Macros, updated, macros_after, macros_at, part_text, raw_text, raw_texts_from, raw_limit, row_start, bytes_before_value}
 use Rattle.bib_scan.specs.View.{View, view_of}
@@ -47,7 +47,7 @@ module _ (m : Macros) (k : ℕ) (within : AreAtMost k m) (some : 0 < k) where
       let texts = length-append (part_text m l.part) (flat_map (part_text m) (map (λ (x : Link). x.part) ls)) in
       let bytes = length-append (link_bytes l) (flat_map link_bytes ls) in
       let long : length (part_bytes l.part) ≤ length (link_bytes l) =
-      omega (arith, length-append l.space_before_hash (hash ∷ l.space_behind_hash ++ part_bytes l.part), length-append l.space_behind_hash (part_bytes l.part), length-append (l.space_before_hash ++ hash ∷ l.space_behind_hash) (part_bytes l.part)) in
+      omega (arith, length-append l.space_before_hash (hash ∷ l.space_after_hash ++ part_bytes l.part), length-append l.space_after_hash (part_bytes l.part), length-append (l.space_before_hash ++ hash ∷ l.space_after_hash) (part_bytes l.part)) in
       let more = mul-le-mul_right k long in
       let sum = add-mul (length (link_bytes l)) (length (flat_map link_bytes ls)) k in
       let all : length (flat_map link_bytes (l ∷ ls)) * k ≡ (length (link_bytes l) + length (flat_map link_bytes ls)) * k = ap (λ (n : ℕ). n * k) bytes in
@@ -72,7 +72,7 @@ module _ (m : Macros) (k : ℕ) (within : AreAtMost k m) (some : 0 < k) where
       let value = value_within a.value (All-head (IsRow name_limit) row rows are).assignment.value in
       let all = length-append (row_bytes row) (flat_map row_bytes rows) in
       let inside : length (value_bytes a.value) ≤ length (row_bytes row) =
-      omega (arith, length-append (comma ∷ row.space_before_name) (assignment_bytes a), length-append (front ++ value_bytes a.value) a.space_behind, length-append front (value_bytes a.value)) in
+      omega (arith, length-append (comma ∷ row.space_before_name) (assignment_bytes a), length-append (front ++ value_bytes a.value) a.space_after, length-append front (value_bytes a.value)) in
       let fits : length (value_bytes a.value) ≤ n = omega (arith, inside, all, low) in
       let most = mul-le-mul_right k fits in
       first_fits (at + length (row_start row)) (raw_text m a.value) (row_texts (at + length (row_bytes row)) m rows) (omega (arith, value, most, few))
@@ -85,15 +85,15 @@ module _ (m : Macros) (k : ℕ) (within : AreAtMost k m) (some : 0 < k) where
       let close = close_byte e.opening.delimiter ∷ [] in
       omega (
         arith,
-        length-append (opening_bytes e.opening ++ e.key) (behind_key_bytes e),
-        length-append (e.space_behind_key ++ rows ++ last) close,
-        length-append (e.space_behind_key ++ rows) last,
-        length-append e.space_behind_key rows,
+        length-append (opening_bytes e.opening ++ e.key) (after_key_bytes e),
+        length-append (e.space_after_key ++ rows ++ last) close,
+        length-append (e.space_after_key ++ rows) last,
+        length-append e.space_after_key rows,
       )
 
   pub entry_short : (e : Entry) → IsTree name_limit (EntryTree e) → length (entry_bytes e) * k ≤ raw_limit → first_too_long (placed_texts m (EntryTree e)) ≡ None
   entry_short e is few =
-      rows_short (length (entry_bytes e)) few (length (opening_bytes e.opening ++ (e.key ++ e.space_behind_key))) e.rows is.rows (rows_inside e)
+      rows_short (length (entry_bytes e)) few (length (opening_bytes e.opening ++ (e.key ++ e.space_after_key))) e.rows is.rows (rows_inside e)
 
   pub entry_is_short : (v : View) → length v.body * k ≤ raw_limit → (i : Item) → IsTree name_limit i.tree → is_entry_tree i.tree ≡ true → v ≡ view_of i → first_too_long (placed_texts m i.tree) ≡ None
   entry_is_short v few i is entry seen = there i.tree (entry_tree i.tree entry) is (ap (λ (w : View). w.body) seen)
@@ -120,7 +120,7 @@ tree_short m k within some (PreambleTree p) is few =
     let start = opening_bytes p.opening in
     let close = close_byte p.opening.delimiter ∷ [] in
     let inside : length (value_bytes p.value) ≤ length (preamble_bytes p)
-    = omega (arith, length-append (start ++ value_bytes p.value ++ p.space_behind) close, length-append (start ++ value_bytes p.value) p.space_behind, length-append start (value_bytes p.value)) in
+    = omega (arith, length-append (start ++ value_bytes p.value ++ p.space_after) close, length-append (start ++ value_bytes p.value) p.space_after, length-append start (value_bytes p.value)) in
     let value = value_within m k within some p.value is.value in
     let most = mul-le-mul_right k inside in
     first_fits (length start) (raw_text m p.value) [] (omega (arith, value, most, few))
@@ -131,7 +131,7 @@ tree_short m k within some (DefinitionTree d) is few =
     let close = close_byte d.opening.delimiter ∷ [] in
     let own = updated m a.name None in
     let inside : length (value_bytes a.value) ≤ length (definition_bytes d)
-    = omega (arith, length-append (start ++ assignment_bytes a) close, length-append start (assignment_bytes a), length-append (front ++ value_bytes a.value) a.space_behind, length-append front (value_bytes a.value)) in
+    = omega (arith, length-append (start ++ assignment_bytes a) close, length-append start (assignment_bytes a), length-append (front ++ value_bytes a.value) a.space_after, length-append front (value_bytes a.value)) in
     let value = value_within own k (own_within m k a.name within) some a.value is.assignment.value in
     let most = mul-le-mul_right k inside in
     first_fits (length (start ++ bytes_before_value a)) (raw_text own a.value) [] (omega (arith, value, most, few))

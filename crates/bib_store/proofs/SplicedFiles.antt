@@ -19,7 +19,7 @@ use Rattle.bib_store.specs.declared.tables.Tables.{Tables}
 use Rattle.bib_items.specs.Items.{stored, all_stored, kept_bytes}
 use Rattle.bib_store.specs.Beside.{HasItems, AreTables}
 use Rattle.bib_store.specs.Stored.{file_of, IsKept}
-use Rattle.bib_store.specs.Windows.{IsWindow, IsChange, Serve, front_before, front_after, bytes_before, bytes_behind, exchanged, joined, OfJoined}
+use Rattle.bib_store.specs.Windows.{IsWindow, IsChange, Serve, front_before, front_after, bytes_before, bytes_after, exchanged, joined, OfJoined}
 use Rattle.bib_store.proofs.KeptItems.{bytes-stored, file-stored}
 
 -- its items are kept where the others were
@@ -38,13 +38,13 @@ front_joined false old new x y z e f =
     sym (append_assoc old x (y ++ z)) ∙ ap (λ l. (old ++ x) ++ ((l ++ y) ++ z)) (sym (f refl))
 
 pub bytes-joined : (w : Window) (front : Text) (items : List Item) (inner : Reading) → IsWindow items w → (w.with_front ≡ false → inner.front ≡ [])
-    → file_of (front_after w.with_front front inner.front) (exchanged w inner.items items) ≡ bytes_before w front items ++ (bytes_of inner ++ bytes_behind w items)
+    → file_of (front_after w.with_front front inner.front) (exchanged w inner.items items) ≡ bytes_before w front items ++ (bytes_of inner ++ bytes_after w items)
 bytes-joined w front items inner is begins =
     ap (λ l. front_after w.with_front front inner.front ++ l)
     (flat_map-append kept_bytes (take w.from items) (all_stored inner.items ++ drop w.to items)
     ∙ ap (λ l. flat_map kept_bytes (take w.from items) ++ l)
     (flat_map-append kept_bytes (all_stored inner.items) (drop w.to items) ∙ ap (λ l. l ++ flat_map kept_bytes (drop w.to items)) (bytes-stored inner.items)))
-    ∙ front_joined w.with_front front inner.front (flat_map kept_bytes (take w.from items)) (flat_map item_bytes inner.items) (bytes_behind w items)
+    ∙ front_joined w.with_front front inner.front (flat_map kept_bytes (take w.from items)) (flat_map item_bytes inner.items) (bytes_after w items)
     (λ b. ap (λ n. flat_map kept_bytes (take n items)) (is.begins b)) begins
 
 clean_after : (b : Bool) (old new : Text) → IsClean old → IsClean new → IsClean (front_after b old new)
@@ -73,7 +73,7 @@ spliced ps front items t c inner k is reads =
     let front_is : front_after w.with_front front inner.front ≡ new.front = ap (λ f. front_after w.with_front f inner.front) k.is.front in
     let made : file_of (front_after w.with_front front inner.front) (exchanged w inner.items items) ≡ applied ps (file_of front items)
     = bytes-joined w front items inner is.window (λ b. is.begins b inner reads)
-    ∙ ap (λ l. bytes_before w front items ++ (l ++ bytes_behind w items)) reads.bytes
+    ∙ ap (λ l. bytes_before w front items ++ (l ++ bytes_after w items)) reads.bytes
     ∙ sym is.made in
     let kept : all_stored new.items ≡ exchanged w inner.items items = stored-joined w db inner items k.is.items in
     let bytes : bytes_of new ≡ applied ps (file_of front items) = sym (file-stored new) ∙ ap₂ file_of (sym front_is) kept ∙ made in

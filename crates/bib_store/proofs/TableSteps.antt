@@ -8,7 +8,7 @@ use Rattle.bib_spec.specs.Tree.{Tree, CommentTree, DefinitionTree, PreambleTree,
 use Rattle.bib_spec.specs.Reading.{Item}
 use Rattle.bib_spec.specs.Texts.{Macros, months, raw_text, raw_limit, macros_after, macros_at, gathered, bytes_before_value}
 use Rattle.bib_spec.specs.Records.{EntryTexts, entry_in, keys_of, crossref_text, texts_of}
-use Rattle.bib_scan.specs.View.{Field, View, field_behind, fields_of, view_of}
+use Rattle.bib_scan.specs.View.{Field, View, field_after, fields_of, view_of}
 use Rattle.bib_scan.specs.declared.view.Kind.{Kind}
 use Rattle.bib_scan.specs.declared.view.Kind.TheVariants as kind
 use Rattle.bib_value.specs.Raw.{OfValue}
@@ -200,7 +200,7 @@ module _ (old new : Tables) (n : ℕ) (view : View) where
 
   -- ---- a definition
 
-  definition_place : (d : Definition) → (field_behind (length (opening_bytes d.opening)) (opening_bytes d.opening) d.assignment).value_at ≡ length (opening_bytes d.opening ++ bytes_before_value d.assignment)
+  definition_place : (d : Definition) → (field_after (length (opening_bytes d.opening)) (opening_bytes d.opening) d.assignment).value_at ≡ length (opening_bytes d.opening ++ bytes_before_value d.assignment)
   definition_place d =
       let start = opening_bytes d.opening in
       let a = d.assignment in
@@ -228,7 +228,7 @@ module _ (old new : Tables) (n : ℕ) (view : View) where
   definition_step field rest first table entries preambles named short settled is_settled admits (PreambleTree p) is at seen = other_kind kind.Macro kind.Preamble (sym at) (omega arith)
   definition_step field rest first table entries preambles named short settled is_settled admits (DefinitionTree d) is at seen =
       let a = d.assignment in
-      let own = field_behind (length (opening_bytes d.opening)) (opening_bytes d.opening) a in
+      let own = field_after (length (opening_bytes d.opening)) (opening_bytes d.opening) a in
       let same = (cons_parts field own rest [] (sym first ∙ ap (λ (v : View). v.fields) seen)).0 in
       let name : field.name ≡ a.name = ap (λ (f : Field). f.name) same in
       let value : value_bytes a.value ≡ field.value = ap (λ (f : Field). f.value) (sym same) in
@@ -263,7 +263,7 @@ module _ (old new : Tables) (n : ℕ) (view : View) where
   definition_over field rest place first here over (PreambleTree p) is at seen = other_kind kind.Macro kind.Preamble (sym at) (omega arith)
   definition_over field rest place first here over (DefinitionTree d) is at seen =
       let a = d.assignment in
-      let own = field_behind (length (opening_bytes d.opening)) (opening_bytes d.opening) a in
+      let own = field_after (length (opening_bytes d.opening)) (opening_bytes d.opening) a in
       let same = (cons_parts field own rest [] (sym first ∙ ap (λ (v : View). v.fields) seen)).0 in
       let name : field.name ≡ a.name = ap (λ (f : Field). f.name) same in
       let value : value_bytes a.value ≡ field.value = ap (λ (f : Field). f.value) (sym same) in

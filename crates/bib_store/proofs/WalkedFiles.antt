@@ -39,13 +39,13 @@ low_kept (suc from) [] ys n low within = absurd (not-suc-le-zero within)
 low_kept (suc from) (x ∷ xs) ys zero low within = refl
 low_kept (suc from) (x ∷ xs) ys (suc n) low within = low_kept from xs ys n (le_of_suc-le-suc low) (le_of_suc-le-suc within)
 
-behind_first : {X : Type 0} (xs ys : List X) (j : ℕ) → slice_get (xs ++ ys) (length xs + j) ≡ slice_get ys j
-behind_first [] ys j =
+after_first : {X : Type 0} (xs ys : List X) (j : ℕ) → slice_get (xs ++ ys) (length xs + j) ≡ slice_get ys j
+after_first [] ys j =
     let e : 0 + j ≡ j = omega arith in
     ap (slice_get ys) e
-behind_first (x ∷ xs) ys j =
+after_first (x ∷ xs) ys j =
     let e : length (x ∷ xs) + j ≡ suc (length xs + j) = omega arith in
-    ap (slice_get (x ∷ (xs ++ ys))) e ∙ behind_first xs ys j
+    ap (slice_get (x ∷ (xs ++ ys))) e ∙ after_first xs ys j
 
 dropped : {X : Type 0} (to : ℕ) (xs : List X) (j : ℕ) → slice_get (drop to xs) j ≡ slice_get xs (to + j)
 dropped zero xs j =
@@ -66,7 +66,7 @@ kept_at from to all n order within = ⊎_elim
     let first : n ≡ length (take from all) + (n - from) = omega (arith, high, len) in
     let last : to + (n - from) ≡ n + (to - from) = omega (arith, high, order) in
     ap (slice_get (take from all ++ drop to all)) first
-    ∙ behind_first (take from all) (drop to all) (n - from)
+    ∙ after_first (take from all) (drop to all) (n - from)
     ∙ dropped to all (n - from)
     ∙ ap (slice_get all) (last ∙ sym (cond-false (nat_lt n from) n (n + (to - from)) e)))
     (cases_Bool (nat_lt n from))

@@ -8,7 +8,7 @@ use Rattle.bib_items.specs.declared.list.Item.{Item}
 use Rattle.bib_store.specs.declared.window.Window.{Window}
 use Rattle.bib_items.specs.Items.{kept_bytes}
 use Rattle.bib_store.specs.Stored.{file_of}
-use Rattle.bib_store.specs.Windows.{IsWindow, front_before, front_within, bytes_before, bytes_within, bytes_behind}
+use Rattle.bib_store.specs.Windows.{IsWindow, front_before, front_within, bytes_before, bytes_within, bytes_after}
 
 abbrev all_bytes : List Item → Text
 all_bytes items = flat_map kept_bytes items
@@ -35,7 +35,7 @@ around_front true front x y z e =
     ap (λ l. front ++ (l ++ (y ++ z))) (e refl) ∙ sym (append_assoc front y z) ∙ ap (λ l. l ++ ((front ++ y) ++ z)) (sym (e refl))
 around_front false front x y z e = sym (append_assoc front x (y ++ z))
 
-pub file-around : (w : Window) (front : Text) (items : List Item) → IsWindow items w → file_of front items ≡ bytes_before w front items ++ (bytes_within w front items ++ bytes_behind w items)
+pub file-around : (w : Window) (front : Text) (items : List Item) → IsWindow items w → file_of front items ≡ bytes_before w front items ++ (bytes_within w front items ++ bytes_after w items)
 file-around w front items is =
     ap (λ l. front ++ l) (items-around items w.from w.to is.ordered)
     ∙ around_front w.with_front front (all_bytes (take w.from items)) (all_bytes (between w.from w.to items)) (all_bytes (drop w.to items))

@@ -5,7 +5,7 @@ use Rattle.bib_spec.specs.Text.{Text, same}
 use Rattle.bib_spec.specs.Tree.{Tree, Row, Value, IsRow, IsTree, tree_bytes}
 use Rattle.bib_spec.specs.Texts.{Macros, updated, raw_text, raw_limit, field_text, value_places, row_places, raw_texts_in}
 use Rattle.bib_spec.specs.Records.{field_of, has_name, crossref}
-use Rattle.bib_scan.specs.View.{Field, fields_behind}
+use Rattle.bib_scan.specs.View.{Field, fields_after}
 
 -- ---- texts with their places
 
@@ -43,4 +43,4 @@ OfTree body P = (tree : Tree) → IsTree name_limit tree → tree_bytes tree ≡
 
 -- it holds of the rows that have these fields, and of the text before them
 abbrev pub OfRows : List Field → (Text → List Row → Type 0) → Type 0
-OfRows fields P = (before : Text) (rows : List Row) → All (IsRow name_limit) rows → fields ≡ fields_behind before rows → P before rows
+OfRows fields P = (before : Text) (rows : List Row) → All (IsRow name_limit) rows → fields ≡ fields_after before rows → P before rows

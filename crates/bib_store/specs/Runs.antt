@@ -16,13 +16,13 @@ use Rattle.bib_store.specs.Beside.{AreTablesOf}
 use Rattle.bib_store.specs.Following.{DefineNothingBetween}
 use Rattle.bib_store.specs.ItemTexts.{first_too_long}
 use Rattle.bib_store.specs.Redefining.{with_former}
-use Rattle.history_spec.specs.Shifting.{all_moved_back, FitBehind}
+use Rattle.history_spec.specs.Shifting.{all_moved_back, FitAfter}
 use Rattle.bib_store.specs.Stored.{file_of}
 use Rattle.bib_store.specs.Windows.{HasLead, IsChange, ArePut, bytes_before, bytes_within}
 
 -- the pieces lie in the window of the change, and make its text of what stands there
 pub record LieIn (pieces : List Piece) (front : Text) (items : List Item) (c : Change) : Type 0 where
-  pub fit : FitBehind (length (bytes_before c.window front items)) pieces (bytes_within c.window front items)
+  pub fit : FitAfter (length (bytes_before c.window front items)) pieces (bytes_within c.window front items)
   pub text : c.text ≡ applied (all_moved_back (length (bytes_before c.window front items)) pieces) (bytes_within c.window front items)
 
 -- The change that a run of pieces makes: they lie in its window, among the first n items and after the front.

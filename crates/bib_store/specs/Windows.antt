@@ -41,15 +41,15 @@ abbrev pub bytes_within : Window → Text → List Item → Text
 bytes_within w front items = file_of (front_within w.with_front front) (between w.from w.to items)
 
 -- what stands after it
-abbrev pub bytes_behind : Window → List Item → Text
-bytes_behind w items = flat_map kept_bytes (drop w.to items)
+abbrev pub bytes_after : Window → List Item → Text
+bytes_after w items = flat_map kept_bytes (drop w.to items)
 
 -- The pieces lead from the file to one in which another text stands in the window. The text is read, and begins with
 -- an item unless it begins the file.
 pub record IsChange (pieces : List Piece) (front : Text) (items : List Item) (c : Change) : Type 0 where
   pub window : IsWindow items c.window
   pub fit : Fit pieces (file_of front items)
-  pub made : applied pieces (file_of front items) ≡ bytes_before c.window front items ++ (c.text ++ bytes_behind c.window items)
+  pub made : applied pieces (file_of front items) ≡ bytes_before c.window front items ++ (c.text ++ bytes_after c.window items)
   pub len : c.file_len ≡ length (applied pieces (file_of front items))
   pub short : length (applied pieces (file_of front items)) ≤ file_limit
   pub layout : IsLayoutOf c.text c.layout

@@ -2,7 +2,7 @@
 
 ghost use Rattle.std.specs.Prelude.{◌≡◌, IfOk};
 ghost use Rattle.bib_spec.specs.Pieces.{applied};
-ghost use Rattle.history_spec.specs.Shifting.{all_moved_back, FitBehind};
+ghost use Rattle.history_spec.specs.Shifting.{all_moved_back, FitAfter};
 
 use bib_data::Piece;
 use std::alloc::{AllocError, Global};
@@ -23,7 +23,7 @@ pub fn apply(
     at: usize,
     pieces: &[Piece],
 ) -> Result<Vec<u8>, AllocError>
-    requires { FitBehind at pieces.now bytes.now }
+    requires { FitAfter at pieces.now bytes.now }
     ensures { IfOk result (λ text. text.items ≡ applied (all_moved_back at pieces.now) bytes.now) }
 {
     let mut out = Vec::with_capacity(alloc, most_len(bytes.len(), pieces))?;

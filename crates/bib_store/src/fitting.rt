@@ -2,7 +2,7 @@
 
 ghost use Rattle.std.specs.Prelude.{◌≤◌, ◌↔◌, IsTrue};
 ghost use Rattle.bib_spec.specs.Pieces.{Stands};
-ghost use Rattle.history_spec.specs.Shifting.{moved_back, FitBehind};
+ghost use Rattle.history_spec.specs.Shifting.{moved_back, FitAfter};
 
 use bib_data::Piece;
 
@@ -19,7 +19,7 @@ fn stands(piece: &Piece, at: usize, bytes: &[u8]) -> bool
 
 /// Whether the pieces ascend without overlap, and each stands in the bytes, which begin at `at`.
 pub fn fits(pieces: &[Piece], at: usize, bytes: &[u8]) -> bool
-    ensures { IsTrue result ↔ FitBehind at pieces.now bytes.now }
+    ensures { IsTrue result ↔ FitAfter at pieces.now bytes.now }
 {
     let mut end: usize = 0;
     for piece in pieces {

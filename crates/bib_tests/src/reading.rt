@@ -180,7 +180,7 @@ fn braces_nest_500_000_deep(rt: HostRuntime) -> Result<(), Fail> {
     Ok(())
 }
 
-/// Whether the first item is seen, and then the fault behind it.
+/// Whether the first item is seen, and then the fault after it.
 fn is_read_up_to_a_fault(reader: &mut Reader<'_>) -> Result<bool, ReadFault> {
     let is_first = match reader.next_item()? {
         Some(item) => item.body == b"@a{x,}".as_slice() && item.start == 15,
@@ -199,7 +199,7 @@ fn items_are_read_one_by_one_up_to_a_fault(rt: HostRuntime) -> Result<(), Fail> 
     Ok(())
 }
 
-/// An entry in whose value so many bytes stand before, between and behind braces.
+/// An entry in whose value so many bytes stand before, between and after braces.
 fn answer_to_apart(
     alloc: Global,
     apart: usize,

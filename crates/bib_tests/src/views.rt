@@ -281,11 +281,11 @@ fn plain_tests(rt: HostRuntime) {
         ("one letter more", same_folded(b"Title", b"Titles"), false),
         ("a comment's trail", is_clean_trail(true, b"{ "), true),
         (
-            "a letter behind a comment",
+            "a letter after a comment",
             is_clean_trail(true, b"s"),
             false,
         ),
-        ("a letter behind an item", is_clean_trail(false, b"s"), true),
+        ("a letter after an item", is_clean_trail(false, b"s"), true),
         ("an item in a trail", is_clean_trail(false, b" @x{"), false),
     ];
     for (name, is_so, expected) in rows {

@@ -12,7 +12,7 @@ use Rattle.bib_spec.specs.Texts.{parts_of}
 use Rattle.bib_spec.specs.Reading.{IsItem, Item, Reading, Reads}
 use Rattle.bib_store.proofs.KeptItems.{item_in}
 use Rattle.edit_spec.specs.Edits.{any_part}
-use Rattle.bib_scan.specs.View.{View, Field, view_of, fields_behind, fields_of}
+use Rattle.bib_scan.specs.View.{View, Field, view_of, fields_after, fields_of}
 use Rattle.bib_value.specs.Raw.{OfValue}
 use Rattle.bib_tokens.specs.PlacedParts.{IsMetIn, have_part}
 use Rattle.std.proofs.lemmas.List.Folds.{list_any-append}
@@ -45,7 +45,7 @@ module _ (test : Part → Bool) where
 
   -- ---- in an item
 
-  rows-met : (before : Text) (rows : List Row) (met : Bool) → All (IsRow name_limit) rows → IsMetIn test (fields_behind before rows) met → met ≡ list_any (λ (v : Value). list_any test (parts_of v)) (map (λ (row : Row). row.assignment.value) rows)
+  rows-met : (before : Text) (rows : List Row) (met : Bool) → All (IsRow name_limit) rows → IsMetIn test (fields_after before rows) met → met ≡ list_any (λ (v : Value). list_any test (parts_of v)) (map (λ (row : Row). row.assignment.value) rows)
   rows-met before [] met ok is = is
   rows-met before (row ∷ rows) met ok is =
       let this : IsRow name_limit row = All-head (IsRow name_limit) row rows ok in
@@ -55,7 +55,7 @@ module _ (test : Part → Bool) where
   tree-met (CommentTree h) met ok is = is
   tree-met (DefinitionTree d) met ok is = is.4 ∙ ap₂ ◌||◌ (is.2 d.assignment.value ok.assignment.value refl) is.3
   tree-met (PreambleTree p) met ok is = is.4 ∙ ap₂ ◌||◌ (is.2 p.value ok.value refl) is.3
-  tree-met (EntryTree e) met ok is = rows-met (opening_bytes e.opening ++ e.key ++ e.space_behind_key) e.rows met ok.rows is
+  tree-met (EntryTree e) met ok is = rows-met (opening_bytes e.opening ++ e.key ++ e.space_after_key) e.rows met ok.rows is
 
   pub item-met : (file : Text) (db : Reading) (n : ℕ) (item : Item) (view : View) (fields : List Field) (met : Bool) → Reads file db → slice_get db.items n ≡ Some item → view ≡ view_of item → fields ≡ view.fields →
       IsMetIn test fields met → met ≡ any_part test item.tree
@@ -106,8 +106,8 @@ module _ (test : Part → Bool) where
   met-within [] k n lt within is = absurd (not-suc-le-zero within)
   met-within (i ∷ items) k zero lt within is = absurd (not-suc-le-zero lt)
   met-within (i ∷ items) zero (suc n) lt within is = sym (ap (λ b. b || have_part test (take n items)) (is i refl))
-  met-within (i ∷ items) (suc k) (suc n) lt within is = behind (any_part test i.tree) (met-within items k n (le_of_suc-le-suc lt) (le_of_suc-le-suc within) is)
+  met-within (i ∷ items) (suc k) (suc n) lt within is = after (any_part test i.tree) (met-within items k n (le_of_suc-le-suc lt) (le_of_suc-le-suc within) is)
     where
-      behind : (b : Bool) {c : Bool} → true ≡ c → true ≡ (b || c)
-      behind true h = refl
-      behind false h = h
+      after : (b : Bool) {c : Bool} → true ≡ c → true ≡ (b || c)
+      after true h = refl
+      after false h = h

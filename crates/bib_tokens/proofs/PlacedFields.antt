@@ -9,7 +9,7 @@ use Rattle.bib_spec.specs.Tree.{Part, Link, Value, Assignment, Row, Tree, Commen
 use Rattle.bib_spec.specs.Texts.{parts_of, row_start, bytes_before_value}
 use Rattle.edit_spec.specs.Edits.{any_part}
 use Rattle.edit_spec.proofs.TreeChunks.{row-parts}
-use Rattle.bib_scan.specs.View.{Field, field_behind, fields_behind, fields_of}
+use Rattle.bib_scan.specs.View.{Field, field_after, fields_after, fields_of}
 use Rattle.bib_tokens.specs.PlacedParts.{links_placed, value_placed, rows_placed, tree_placed, tokens_of, token_at, ArePlacedFields, AreFieldTokens}
 use Rattle.std.proofs.lemmas.List.Folds.{list_any-append}
 use Rattle.bib_tokens.proofs.PlacedValues.{tokens-met, tokens-unmet}
@@ -18,7 +18,7 @@ value_after : (b c n x y : Text) → (((b ++ c) ++ n) ++ x) ++ y ≡ b ++ (c ++ 
 value_after b c n x y = simp append_assoc
 
 -- a value stands after the text before its row, and what the row begins with
-pub value-place : (before : Text) (row : Row) → (let f : Field = field_behind (length before) (before ++ comma ∷ row.space_before_name) row.assignment in f.value_at) ≡ length before + length (row_start row)
+pub value-place : (before : Text) (row : Row) → (let f : Field = field_after (length before) (before ++ comma ∷ row.space_before_name) row.assignment in f.value_at) ≡ length before + length (row_start row)
 value-place before row =
     ap length (value_after before (comma ∷ row.space_before_name) row.assignment.name row.assignment.space_before_equals (equals_sign ∷ row.assignment.space_before_value))
     ∙ length-append before (row_start row)
@@ -35,20 +35,20 @@ module _ (test : Part → Bool) where
 
   row_tokens : (start : ℕ) (before : Text) (row : Row) (rows : List Row) →
       tokens_of test (rows_placed (start + length before) (row ∷ rows))
-      ≡ tokens_of test (value_placed (start + (let f : Field = field_behind (length before) (before ++ comma ∷ row.space_before_name) row.assignment in f.value_at)) row.assignment.value) ++ tokens_of test (rows_placed (start + length (before ++ row_bytes row)) rows)
+      ≡ tokens_of test (value_placed (start + (let f : Field = field_after (length before) (before ++ comma ∷ row.space_before_name) row.assignment in f.value_at)) row.assignment.value) ++ tokens_of test (rows_placed (start + length (before ++ row_bytes row)) rows)
   row_tokens start before row rows =
       let place = value-place before row in
       let next = length-append before (row_bytes row) in
       tokens-append (value_placed (start + length before + length (row_start row)) row.assignment.value) (rows_placed (start + length before + length (row_bytes row)) rows)
       ∙ ap₂ (λ (m n : ℕ). tokens_of test (value_placed m row.assignment.value) ++ tokens_of test (rows_placed n rows)) (omega (arith, place)) (omega (arith, next))
 
-  rows-tokens : (start : ℕ) (before : Text) (rows : List Row) (old new : List (ℕ × Text)) → All (IsRow name_limit) rows → AreFieldTokens test start (fields_behind before rows) old new →
+  rows-tokens : (start : ℕ) (before : Text) (rows : List Row) (old new : List (ℕ × Text)) → All (IsRow name_limit) rows → AreFieldTokens test start (fields_after before rows) old new →
       new ≡ old ++ tokens_of test (rows_placed (start + length before) rows)
   rows-tokens start before [] old new ok is = is ∙ sym (append-nil old)
   rows-tokens start before (row ∷ rows) old new ok is =
       let this : IsRow name_limit row = All-head (IsRow name_limit) row rows ok in
       let its = is.1 row.assignment.value this.assignment.value refl in
-      let at : ℕ = start + (let f : Field = field_behind (length before) (before ++ comma ∷ row.space_before_name) row.assignment in f.value_at) in
+      let at : ℕ = start + (let f : Field = field_after (length before) (before ++ comma ∷ row.space_before_name) row.assignment in f.value_at) in
       rows-tokens start (before ++ row_bytes row) rows is.0 new (All-tail (IsRow name_limit) row rows ok) is.2
       ∙ ap (λ l. l ++ tokens_of test (rows_placed (start + length (before ++ row_bytes row)) rows)) its
       ∙ append_assoc old (tokens_of test (value_placed at row.assignment.value)) (tokens_of test (rows_placed (start + length (before ++ row_bytes row)) rows))
@@ -64,12 +64,12 @@ module _ (test : Part → Bool) where
   pub fields-tokens : (start : ℕ) (tree : Tree) (old new : List (ℕ × Text)) → IsTree name_limit tree → AreFieldTokens test start (fields_of tree) old new → new ≡ old ++ tokens_of test (tree_placed start tree)
   fields-tokens start (CommentTree h) old new ok is = is ∙ sym (append-nil old)
   fields-tokens start (DefinitionTree d) old new ok is =
-      one_field (start + length (opening_bytes d.opening ++ bytes_before_value d.assignment)) d.assignment.value (field_behind (length (opening_bytes d.opening)) (opening_bytes d.opening) d.assignment) start old new ok.assignment.value refl
+      one_field (start + length (opening_bytes d.opening ++ bytes_before_value d.assignment)) d.assignment.value (field_after (length (opening_bytes d.opening)) (opening_bytes d.opening) d.assignment) start old new ok.assignment.value refl
       (ap (λ k. start + k) (definition_place (opening_bytes d.opening) d.assignment.name d.assignment.space_before_equals (equals_sign ∷ d.assignment.space_before_value))) is
   fields-tokens start (PreambleTree p) old new ok is = is.2 ∙ is.1 p.value ok.value refl
   fields-tokens start (EntryTree e) old new ok is =
-      rows-tokens start (opening_bytes e.opening ++ e.key ++ e.space_behind_key) e.rows old new ok.rows is
-      ∙ ap (λ t. old ++ tokens_of test (rows_placed (start + length {A = ℕ} t) e.rows)) (append_assoc (opening_bytes e.opening) e.key e.space_behind_key)
+      rows-tokens start (opening_bytes e.opening ++ e.key ++ e.space_after_key) e.rows old new ok.rows is
+      ∙ ap (λ t. old ++ tokens_of test (rows_placed (start + length {A = ℕ} t) e.rows)) (append_assoc (opening_bytes e.opening) e.key e.space_after_key)
 
   -- ---- whether there is one
 
@@ -97,7 +97,7 @@ module _ (test : Part → Bool) where
   tree_any at (CommentTree h) = refl
   tree_any at (DefinitionTree d) = value_any (at + length (opening_bytes d.opening ++ bytes_before_value d.assignment)) d.assignment.value ∙ or_none (list_any test (parts_of d.assignment.value))
   tree_any at (PreambleTree p) = value_any (at + length (opening_bytes p.opening)) p.value ∙ or_none (list_any test (parts_of p.value))
-  tree_any at (EntryTree e) = rows_any (at + length (opening_bytes e.opening ++ (e.key ++ e.space_behind_key))) e.rows
+  tree_any at (EntryTree e) = rows_any (at + length (opening_bytes e.opening ++ (e.key ++ e.space_after_key))) e.rows
 
   positive : (n : ℕ) → nat_lt 0 (suc n) ≡ true
   positive n = ⊎_elim (λ t. t) (λ f. let p = ltb-false 0 (suc n) f in absurd (omega (arith, p))) (cases_Bool (nat_lt 0 (suc n)))
@@ -124,14 +124,14 @@ preamble_split o v b c = simp append_assoc
 entry_split : (o k s r l c : Text) → (o ++ k) ++ (((s ++ r) ++ l) ++ c) ≡ (((o ++ k) ++ s) ++ r) ++ (l ++ c)
 entry_split o k s r l c = simp append_assoc
 
-rows_within : (start : ℕ) (before : Text) (rows : List Row) → All (IsRow name_limit) rows → start + length (before ++ flat_map row_bytes rows) < 2 ^ 64 → ArePlacedFields start (fields_behind before rows)
+rows_within : (start : ℕ) (before : Text) (rows : List Row) → All (IsRow name_limit) rows → start + length (before ++ flat_map row_bytes rows) < 2 ^ 64 → ArePlacedFields start (fields_after before rows)
 rows_within start before [] ok fits = tt
 rows_within start before (row ∷ rows) ok fits =
     let this : IsRow name_limit row = All-head (IsRow name_limit) row rows ok in
     let place = value-place before row in
     let parts = ap (length {A = ℕ}) (row-parts row) in
-    let long = length-append (row_start row) (value_bytes row.assignment.value ++ row.assignment.space_behind) in
-    let longer = length-append (value_bytes row.assignment.value) row.assignment.space_behind in
+    let long = length-append (row_start row) (value_bytes row.assignment.value ++ row.assignment.space_after) in
+    let longer = length-append (value_bytes row.assignment.value) row.assignment.space_after in
     let whole = length-append before (row_bytes row ++ flat_map row_bytes rows) in
     let rest = length-append (row_bytes row) (flat_map row_bytes rows) in (
       record { value = (row.assignment.value, this.assignment.value, refl); place = omega (arith, place, parts, long, longer, whole, rest, fits) },
@@ -151,9 +151,9 @@ fields-within start (DefinitionTree d) ok fits =
         place = omega (
           arith,
           fits,
-          ap (length {A = ℕ}) (definition_split o a.name a.space_before_equals x v a.space_behind (close_byte d.opening.delimiter ∷ [])),
-          length-append (((o ++ a.name) ++ a.space_before_equals) ++ x) (v ++ (a.space_behind ++ close_byte d.opening.delimiter ∷ [])),
-          length-append v (a.space_behind ++ close_byte d.opening.delimiter ∷ []),
+          ap (length {A = ℕ}) (definition_split o a.name a.space_before_equals x v a.space_after (close_byte d.opening.delimiter ∷ [])),
+          length-append (((o ++ a.name) ++ a.space_before_equals) ++ x) (v ++ (a.space_after ++ close_byte d.opening.delimiter ∷ [])),
+          length-append v (a.space_after ++ close_byte d.opening.delimiter ∷ []),
         );
       },
       tt,
@@ -163,13 +163,13 @@ fields-within start (PreambleTree p) ok fits =
     let v : Text = value_bytes p.value in (
       record {
         value = (p.value, ok.value, refl);
-        place = omega (arith, fits, ap (length {A = ℕ}) (preamble_split o v p.space_behind (close_byte p.opening.delimiter ∷ [])), length-append o (v ++ (p.space_behind ++ close_byte p.opening.delimiter ∷ [])), length-append v (p.space_behind ++ close_byte p.opening.delimiter ∷ []));
+        place = omega (arith, fits, ap (length {A = ℕ}) (preamble_split o v p.space_after (close_byte p.opening.delimiter ∷ [])), length-append o (v ++ (p.space_after ++ close_byte p.opening.delimiter ∷ [])), length-append v (p.space_after ++ close_byte p.opening.delimiter ∷ []));
       },
       tt,
     )
 fields-within start (EntryTree e) ok fits =
-    let before : Text = opening_bytes e.opening ++ e.key ++ e.space_behind_key in
+    let before : Text = opening_bytes e.opening ++ e.key ++ e.space_after_key in
     let rows : Text = flat_map row_bytes e.rows in
     let rest : Text = last_comma_bytes e.last_comma ++ close_byte e.opening.delimiter ∷ [] in
     rows_within start before e.rows ok.rows
-    (omega (arith, fits, ap (length {A = ℕ}) (entry_split (opening_bytes e.opening) e.key e.space_behind_key rows (last_comma_bytes e.last_comma) (close_byte e.opening.delimiter ∷ [])), length-append (before ++ rows) rest))
+    (omega (arith, fits, ap (length {A = ℕ}) (entry_split (opening_bytes e.opening) e.key e.space_after_key rows (last_comma_bytes e.last_comma) (close_byte e.opening.delimiter ∷ [])), length-append (before ++ rows) rest))

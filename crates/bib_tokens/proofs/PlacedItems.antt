@@ -26,8 +26,8 @@ item-ends file db n item reads at =
     let whole : length file ≡ length (db.front ++ flat_map item_bytes db.items) = ap (length {A = ℕ}) (sym reads.bytes) in
     let parted : length (flat_map item_bytes db.items) ≡ length (flat_map item_bytes (take n db.items) ++ flat_map item_bytes (drop n db.items)) =
     ap (λ l. length (flat_map item_bytes l)) (sym (take-append-drop n db.items)) ∙ ap length (flat_map-append item_bytes (take n db.items) (drop n db.items)) in
-    let behind : length (flat_map item_bytes (drop n db.items)) ≡ length (item_bytes item ++ flat_map item_bytes (drop (n + 1) db.items)) = ap (λ l. length (flat_map item_bytes l)) rest in
-    omega (arith, whole, parted, behind, length-append db.front (flat_map item_bytes db.items), length-append (flat_map item_bytes (take n db.items)) (flat_map item_bytes (drop n db.items)), length-append (item_bytes item) (flat_map item_bytes (drop (n + 1) db.items)))
+    let after : length (flat_map item_bytes (drop n db.items)) ≡ length (item_bytes item ++ flat_map item_bytes (drop (n + 1) db.items)) = ap (λ l. length (flat_map item_bytes l)) rest in
+    omega (arith, whole, parted, after, length-append db.front (flat_map item_bytes db.items), length-append (flat_map item_bytes (take n db.items)) (flat_map item_bytes (drop n db.items)), length-append (item_bytes item) (flat_map item_bytes (drop (n + 1) db.items)))
 
 -- the fields of item n have places in the file
 pub placed-fields : (file : Text) (n at : ℕ) (view : View) (fields : List Field) → IsOpenable file → IsItemNumber file n → OfReading file (λ db. at ≤ start_of db n) →

@@ -7,7 +7,7 @@ use Rattle.std.proofs.lemmas.Option.{none-some, same_Some}
 use Rattle.bib_spec.specs.Bytes.{hash}
 use Rattle.bib_spec.specs.Text.{Text}
 use Rattle.bib_spec.specs.Tree.{Part, Link, Value, part_bytes, link_bytes, value_bytes}
-use Rattle.bib_scan.specs.ValueParts.{link_part, parts_of, spans_of, spans_behind, span_start, IsPartsOf}
+use Rattle.bib_scan.specs.ValueParts.{link_part, parts_of, spans_of, spans_after, span_start, IsPartsOf}
 use Rattle.bib_scan.specs.declared.parts.PartSpan.{PartSpan}
 use Rattle.bib_scan.proofs.TakenApart.{one_value}
 use Rattle.bib_value.specs.Raw.{OfValue}
@@ -16,15 +16,15 @@ use Rattle.bib_tokens.specs.PlacedParts.{links_placed, value_placed, token_at, t
 
 -- ---- places
 
-link_placed : (at : ℕ) (before : Text) (l : Link) → at + length before + length (l.space_before_hash ++ hash ∷ l.space_behind_hash) ≡ at + length (before ++ l.space_before_hash ++ hash ∷ l.space_behind_hash)
+link_placed : (at : ℕ) (before : Text) (l : Link) → at + length before + length (l.space_before_hash ++ hash ∷ l.space_after_hash) ≡ at + length (before ++ l.space_before_hash ++ hash ∷ l.space_after_hash)
 link_placed at before l =
-    omega (arith, length-append (before ++ l.space_before_hash) (hash ∷ l.space_behind_hash), length-append before l.space_before_hash, length-append l.space_before_hash (hash ∷ l.space_behind_hash))
+    omega (arith, length-append (before ++ l.space_before_hash) (hash ∷ l.space_after_hash), length-append before l.space_before_hash, length-append l.space_before_hash (hash ∷ l.space_after_hash))
 
-links-placed : (at : ℕ) (before : Text) (ls : List Link) (n place : ℕ) (p : Part) → slice_get (map span_start (spans_behind before ls)) n ≡ Some place → slice_get (map link_part ls) n ≡ Some p →
+links-placed : (at : ℕ) (before : Text) (ls : List Link) (n place : ℕ) (p : Part) → slice_get (map span_start (spans_after before ls)) n ≡ Some place → slice_get (map link_part ls) n ≡ Some p →
     slice_get (links_placed (at + length before) ls) n ≡ Some (at + place, p)
 links-placed at before [] n place p there is = absurd (none-some p is)
 links-placed at before (l ∷ ls) zero place p there is =
-    let start : length (before ++ l.space_before_hash ++ hash ∷ l.space_behind_hash) ≡ place = same_Some (length (before ++ l.space_before_hash ++ hash ∷ l.space_behind_hash)) place there in
+    let start : length (before ++ l.space_before_hash ++ hash ∷ l.space_after_hash) ≡ place = same_Some (length (before ++ l.space_before_hash ++ hash ∷ l.space_after_hash)) place there in
     ap₂ (λ (k : ℕ) (q : Part). Some (k, q)) (link_placed at before l ∙ ap (λ k. at + k) start) (same_Some l.part p is)
 links-placed at before (l ∷ ls) (suc n) place p there is =
     ap (λ k. slice_get (links_placed k ls) n) (omega (arith, length-append before (link_bytes l))) ∙ links-placed at (before ++ link_bytes l) ls n place p there is
@@ -40,22 +40,22 @@ value-placed at v (suc n) place p there is = links-placed at (part_bytes v.first
 -- the part stands at this place of the text
 pub record StandsIn (text : Text) (place : ℕ) (p : Part) : Type 0 where
   pub before : Text
-  pub behind : Text
-  pub split : text ≡ before ++ (part_bytes p ++ behind)
+  pub after : Text
+  pub split : text ≡ before ++ (part_bytes p ++ after)
   pub place_is : length before ≡ place
 
 link_split : (b s h p r : Text) → b ++ (((s ++ h) ++ p) ++ r) ≡ ((b ++ s) ++ h) ++ (p ++ r)
 link_split b s h p r = simp append_assoc
 
-links-stand : (before : Text) (ls : List Link) (n place : ℕ) (p : Part) → slice_get (map span_start (spans_behind before ls)) n ≡ Some place → slice_get (map link_part ls) n ≡ Some p →
+links-stand : (before : Text) (ls : List Link) (n place : ℕ) (p : Part) → slice_get (map span_start (spans_after before ls)) n ≡ Some place → slice_get (map link_part ls) n ≡ Some p →
     StandsIn (before ++ flat_map link_bytes ls) place p
 links-stand before [] n place p there is = absurd (none-some p is)
 links-stand before (l ∷ ls) zero place p there is = record {
-  before = before ++ l.space_before_hash ++ hash ∷ l.space_behind_hash;
-  behind = flat_map link_bytes ls;
-  split = link_split before l.space_before_hash (hash ∷ l.space_behind_hash) (part_bytes l.part) (flat_map link_bytes ls)
-      ∙ ap (λ (q : Part). (before ++ l.space_before_hash ++ hash ∷ l.space_behind_hash) ++ (part_bytes q ++ flat_map link_bytes ls)) (same_Some l.part p is);
-  place_is = same_Some (length (before ++ l.space_before_hash ++ hash ∷ l.space_behind_hash)) place there;
+  before = before ++ l.space_before_hash ++ hash ∷ l.space_after_hash;
+  after = flat_map link_bytes ls;
+  split = link_split before l.space_before_hash (hash ∷ l.space_after_hash) (part_bytes l.part) (flat_map link_bytes ls)
+      ∙ ap (λ (q : Part). (before ++ l.space_before_hash ++ hash ∷ l.space_after_hash) ++ (part_bytes q ++ flat_map link_bytes ls)) (same_Some l.part p is);
+  place_is = same_Some (length (before ++ l.space_before_hash ++ hash ∷ l.space_after_hash)) place there;
 }
 links-stand before (l ∷ ls) (suc n) place p there is =
     subst (λ (t : Text). StandsIn t place p) (append_assoc before (link_bytes l) (flat_map link_bytes ls)) (links-stand (before ++ link_bytes l) ls n place p there is)
@@ -63,7 +63,7 @@ links-stand before (l ∷ ls) (suc n) place p there is =
 pub value-stands : (v : Value) (n place : ℕ) (p : Part) → slice_get (map span_start (spans_of v)) n ≡ Some place → slice_get (parts_of v) n ≡ Some p → StandsIn (value_bytes v) place p
 value-stands v zero place p there is = record {
   before = [];
-  behind = flat_map link_bytes v.links;
+  after = flat_map link_bytes v.links;
   split = ap (λ (q : Part). part_bytes q ++ flat_map link_bytes v.links) (same_Some v.first p is);
   place_is = same_Some 0 place there;
 }
@@ -71,14 +71,14 @@ value-stands v (suc n) place p there is = links-stand (part_bytes v.first) v.lin
 
 pub stands-within : (text : Text) (place : ℕ) (p : Part) → StandsIn text place p → place + length (part_bytes p) ≤ length text
 stands-within text place p at =
-    let whole : length text ≡ length (at.before ++ (part_bytes p ++ at.behind)) = ap (length {A = ℕ}) at.split in
+    let whole : length text ≡ length (at.before ++ (part_bytes p ++ at.after)) = ap (length {A = ℕ}) at.split in
     let start = at.place_is in
-    omega (arith, whole, start, length-append at.before (part_bytes p ++ at.behind), length-append (part_bytes p) at.behind)
+    omega (arith, whole, start, length-append at.before (part_bytes p ++ at.after), length-append (part_bytes p) at.after)
 
 pub stands-there : (text : Text) (place : ℕ) (p : Part) → StandsIn text place p → take (length (part_bytes p)) (drop place text) ≡ part_bytes p
 stands-there text place p at =
-    ap (take (length (part_bytes p))) (ap (drop place) at.split ∙ drop_at at.before (part_bytes p ++ at.behind) place at.place_is)
-    ∙ take_at (part_bytes p) at.behind (length (part_bytes p)) refl
+    ap (take (length (part_bytes p))) (ap (drop place) at.split ∙ drop_at at.before (part_bytes p ++ at.after) place at.place_is)
+    ∙ take_at (part_bytes p) at.after (length (part_bytes p)) refl
 
 -- the spans that are kept are those of each value with these bytes
 pub spans-are : (bytes : Text) (spans : List PartSpan) → IsPartsOf bytes spans → OfValue bytes (λ v. spans ≡ spans_of v)
@@ -146,7 +146,7 @@ part-placed test at value n p part v ok same = value_has at v n p (part v ok sam
   where
     links_have : (at : ℕ) (ls : List Link) (n : ℕ) (p : Part) → slice_get (map link_part ls) n ≡ Some p → (place : ℕ) × (slice_get (links_placed at ls) n ≡ Some (place, p))
     links_have at [] n p is = absurd (none-some p is)
-    links_have at (l ∷ ls) zero p is = (at + length (l.space_before_hash ++ hash ∷ l.space_behind_hash), ap (λ (q : Part). Some (at + length (l.space_before_hash ++ hash ∷ l.space_behind_hash), q)) (same_Some l.part p is))
+    links_have at (l ∷ ls) zero p is = (at + length (l.space_before_hash ++ hash ∷ l.space_after_hash), ap (λ (q : Part). Some (at + length (l.space_before_hash ++ hash ∷ l.space_after_hash), q)) (same_Some l.part p is))
     links_have at (l ∷ ls) (suc n) p is = links_have (at + length (link_bytes l)) ls n p is
 
     value_has : (at : ℕ) (v : Value) (n : ℕ) (p : Part) → slice_get (parts_of v) n ≡ Some p → (place : ℕ) × (slice_get (value_placed at v) n ≡ Some (place, p))

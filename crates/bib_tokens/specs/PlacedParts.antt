@@ -18,7 +18,7 @@ use Rattle.bib_tokens.specs.declared.tokens.Token.{Token}
 -- the parts of links that begin at this place
 abbrev pub links_placed : ℕ → List Link → List (ℕ × Part)
 links_placed at [] = []
-links_placed at (l ∷ ls) = (at + length (l.space_before_hash ++ hash ∷ l.space_behind_hash), l.part) ∷ links_placed (at + length (link_bytes l)) ls
+links_placed at (l ∷ ls) = (at + length (l.space_before_hash ++ hash ∷ l.space_after_hash), l.part) ∷ links_placed (at + length (link_bytes l)) ls
 
 -- the parts of a value that begins at this place
 abbrev pub value_placed : ℕ → Value → List (ℕ × Part)
@@ -34,7 +34,7 @@ abbrev pub tree_placed : ℕ → Tree → List (ℕ × Part)
 tree_placed at (CommentTree h) = []
 tree_placed at (DefinitionTree d) = value_placed (at + length (opening_bytes d.opening ++ bytes_before_value d.assignment)) d.assignment.value
 tree_placed at (PreambleTree p) = value_placed (at + length (opening_bytes p.opening)) p.value
-tree_placed at (EntryTree e) = rows_placed (at + length (opening_bytes e.opening ++ (e.key ++ e.space_behind_key))) e.rows
+tree_placed at (EntryTree e) = rows_placed (at + length (opening_bytes e.opening ++ (e.key ++ e.space_after_key))) e.rows
 
 -- the parts of items, of which the first begins at this place
 abbrev pub items_placed : ℕ → List Item → List (ℕ × Part)

@@ -33,7 +33,7 @@ join-word w (x ∷ xs) = refl
 
 record MoreText (t : Text) : Type 0 where
   inside : more_text false true t ≡ first_word (words t) ++ after_word (filled (other_words (words t)))
-  behind : more_text true true t ≡ after_word (filled (words t))
+  after : more_text true true t ≡ after_word (filled (words t))
   before : (apart : Bool) → more_text apart false t ≡ join_with_byte space (filled (words t))
 
 onto : (b : ℕ) (u : Text) (ws : List Text) → u ≡ first_word ws ++ after_word (filled (other_words ws)) → (b ∷ u ≡ first_word (onto_first b ws) ++ after_word (filled (other_words (onto_first b ws)))) × (space ∷ b ∷ u ≡ after_word (filled (onto_first b ws))) × (b ∷ u ≡ join_with_byte space (filled (onto_first b ws)))
@@ -44,8 +44,8 @@ onto b u (w ∷ ws) h =
 
 more_spaced : (b : ℕ) (t : Text) → MoreText t → is_space b ≡ true → MoreText (b ∷ t)
 more_spaced b t m h = record {
-  inside = rw h m.behind;
-  behind = rw h m.behind;
+  inside = rw h m.after;
+  after = rw h m.after;
   before = λ apart. rw h (m.before true);
 }
 
@@ -54,12 +54,12 @@ more_worded b t m h =
     let o = onto b (more_text false true t) (words t) m.inside in
     record {
       inside = rw h o.0;
-      behind = rw h o.1;
+      after = rw h o.1;
       before = elim [ true ↦ rw h o.2 | false ↦ rw h o.2 ];
     }
 
 more : (t : Text) → MoreText t
-more [] = record { inside = refl; behind = refl; before = elim [ true ↦ refl | false ↦ refl ] }
+more [] = record { inside = refl; after = refl; before = elim [ true ↦ refl | false ↦ refl ] }
 more (b ∷ t) = ⊎_elim (more_spaced b t (more t)) (more_worded b t (more t)) (cases_Bool (is_space b))
 
 -- the whole, from the start

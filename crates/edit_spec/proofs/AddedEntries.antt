@@ -34,12 +34,12 @@ new_entry : (new : NewEntry) → is_new_key new.key ≡ true → is_type new.kin
 new_entry new key kind names values =
     let both = and_parts (is_type_name new.kind_name) (is_no_keyword new.kind_name) kind in
     record {
-      opening = record { head = record { space_before_type = no_space; type_name = both.0 }; space_before_delimiter = no_space; space_behind = no_space };
+      opening = record { head = record { space_before_type = no_space; type_name = both.0 }; space_before_delimiter = no_space; space_after = no_space };
       type_name = both.1;
       key = new_key-goes_on new.key key Brace;
       key_len = new_key-length new.key key;
       key_ends = new_ends (new_rows new.fields);
-      space_behind_key = no_space;
+      space_after_key = no_space;
       empty_key = λ e. refl;
       rows = new_rows-are new.fields names values;
       last_comma = tt;

@@ -37,7 +37,7 @@ module _ (names : Text → Option Text) (parts : Part → Option Part)
     links_changed (l ∷ links) are =
         let is = All-head (IsLink name_limit) l links are in
         All-cons (IsLink name_limit) (link_with parts l) (map (link_with parts) links)
-        (record { space_before_hash = is.space_before_hash; space_behind_hash = is.space_behind_hash; part = part_changed l.part is.part })
+        (record { space_before_hash = is.space_before_hash; space_after_hash = is.space_after_hash; part = part_changed l.part is.part })
         (links_changed links (All-tail (IsLink name_limit) l links are))
 
     value_changed : (v : Value) → IsValue name_limit v → IsValue name_limit (value_with parts v)
@@ -49,7 +49,7 @@ module _ (names : Text → Option Text) (parts : Part → Option Part)
       space_before_equals = is.space_before_equals;
       space_before_value = is.space_before_value;
       value = value_changed a.value is.value;
-      space_behind = is.space_behind;
+      space_after = is.space_after;
     }
 
     rows_changed : (rows : List Row) → All (IsRow name_limit) rows → All (IsRow name_limit) (map (row_with parts) rows)
@@ -74,14 +74,14 @@ module _ (names : Text → Option Text) (parts : Part → Option Part)
         space_before_equals = is.assignment.space_before_equals;
         space_before_value = is.assignment.space_before_value;
         value = value_changed d.assignment.value is.assignment.value;
-        space_behind = is.assignment.space_behind;
+        space_after = is.assignment.space_after;
       };
     }
-    tree_changed (PreambleTree p) is = record { opening = is.opening; type_name = is.type_name; value = value_changed p.value is.value; space_behind = is.space_behind }
+    tree_changed (PreambleTree p) is = record { opening = is.opening; type_name = is.type_name; value = value_changed p.value is.value; space_after = is.space_after }
     tree_changed (EntryTree e) is =
-        entry-is e e.key e.space_behind_key (map (row_with parts) e.rows) is is.key is.key_len is.empty_key
-        (are_rows e.space_behind_key (map (row_with parts) e.rows) is.space_behind_key (rows_changed e.rows is.rows))
-        (ends_changed e.opening.delimiter e.space_behind_key e.rows e.last_comma is.space_behind_key is.key_ends)
+        entry-is e e.key e.space_after_key (map (row_with parts) e.rows) is is.key is.key_len is.empty_key
+        (are_rows e.space_after_key (map (row_with parts) e.rows) is.space_after_key (rows_changed e.rows is.rows))
+        (ends_changed e.opening.delimiter e.space_after_key e.rows e.last_comma is.space_after_key is.key_ends)
 
     comment_changed : (tree : Tree) → is_comment (tree_with names parts tree) ≡ is_comment tree
     comment_changed (CommentTree h) = refl
@@ -133,9 +133,9 @@ string_type = refl
 
 new_definition : (name text : Text) → is_name name ≡ true → IsValue name_limit (in_braces text) → IsDefinition name_limit (definition_of name text)
 new_definition name text named value = record {
-  opening = record { head = record { space_before_type = no_space; type_name = string_type }; space_before_delimiter = no_space; space_behind = no_space };
+  opening = record { head = record { space_before_type = no_space; type_name = string_type }; space_before_delimiter = no_space; space_after = no_space };
   type_name = refl;
-  assignment = record { name = named; space_before_equals = one_space; space_before_value = one_space; value = value; space_behind = no_space };
+  assignment = record { name = named; space_before_equals = one_space; space_before_value = one_space; value = value; space_after = no_space };
 }
 
 pub introduce_macro-reads : (key_base : Record → Text) (file : Text) (db : Reading) (name text : Text) → Reads file db → IsAccepted key_base db (IntroduceMacro name text) →

@@ -16,14 +16,14 @@ module _ (name : Text) where
   drop_rows : (before : Text) (rows : List Row) → IsSpace before → All (IsRow name_limit) rows → AreRows (without_field name before rows)
   drop_rows before [] s are = are_rows before [] s are
   drop_rows before (row ∷ rows) s are =
-      let rest = without_field name row.assignment.space_behind rows in
+      let rest = without_field name row.assignment.space_after rows in
       let is = All-head (IsRow name_limit) row rows are in
-      let behind = All-tail (IsRow name_limit) row rows are in
-      let later = drop_rows row.assignment.space_behind rows is.assignment.space_behind behind in
+      let after = All-tail (IsRow name_limit) row rows are in
+      let later = drop_rows row.assignment.space_after rows is.assignment.space_after after in
       ⊎_elim
-      (λ e. subst AreRows (sym (cond-true (same row.assignment.name name) (before ++ row.assignment.space_behind, rows) (before, row_before rest.0 row ∷ rest.1) e))
-      (are_rows (before ++ row.assignment.space_behind) rows (All-append (λ b. is_space b ≡ true) before row.assignment.space_behind s is.assignment.space_behind) behind))
-      (λ e. subst AreRows (sym (cond-false (same row.assignment.name name) (before ++ row.assignment.space_behind, rows) (before, row_before rest.0 row ∷ rest.1) e))
+      (λ e. subst AreRows (sym (cond-true (same row.assignment.name name) (before ++ row.assignment.space_after, rows) (before, row_before rest.0 row ∷ rest.1) e))
+      (are_rows (before ++ row.assignment.space_after) rows (All-append (λ b. is_space b ≡ true) before row.assignment.space_after s is.assignment.space_after) after))
+      (λ e. subst AreRows (sym (cond-false (same row.assignment.name name) (before ++ row.assignment.space_after, rows) (before, row_before rest.0 row ∷ rest.1) e))
       (are_rows before (row_before rest.0 row ∷ rest.1) s (All-cons (IsRow name_limit) (row_before rest.0 row) rest.1 (row_before_space rest.0 row later.space is) later.rows)))
       (cases_Bool (same row.assignment.name name))
 
@@ -31,14 +31,14 @@ module _ (name : Text) where
   change e = entry_without_field name e
 
   drop_ends : (e : Entry) (rows : List Row) (space : Text) → IsSpace space →
-      (let new : Entry = record e { space_behind_key = space; rows = rows } in ends_in_key new ≡ false) → EndsKey e.opening.delimiter space rows e.last_comma
+      (let new : Entry = record e { space_after_key = space; rows = rows } in ends_in_key new ≡ false) → EndsKey e.opening.delimiter space rows e.last_comma
   drop_ends e [] space s ends = ends_without_rows e.opening.delimiter space e.last_comma s ends
   drop_ends e (row ∷ rows) space s ends = ends_at_row e.opening.delimiter space row rows e.last_comma s
 
   drop_entry : (key : Text) (e : Entry) → ends_in_key (change e) ≡ false → is_named key e.key ≡ true → IsEntry name_limit e → IsEntry name_limit (change e)
   drop_entry key e ends named is =
-      let new = without_field name e.space_behind_key e.rows in
-      let are = drop_rows e.space_behind_key e.rows is.space_behind_key is.rows in
+      let new = without_field name e.space_after_key e.rows in
+      let are = drop_rows e.space_after_key e.rows is.space_after_key is.rows in
       entry-is e e.key new.0 new.1 is is.key is.key_len (λ empty. absurd (not_empty e.key (named_not_empty key e.key named) empty))
       are (drop_ends e new.1 new.0 are.space ends)
 
@@ -66,19 +66,19 @@ module _ (name : Text) where
         let new : Item = record item { tree = of_entry change item.tree } in
         let rest = from_first (is_entry key) (with_first_tree (of_entry change)) items in
         let is = All-head (IsItem name_limit) item items are in
-        let behind = All-tail (IsItem name_limit) item items are in
+        let after = All-tail (IsItem name_limit) item items are in
         ⊎_elim
         (λ e. subst AreItems (sym (cond-true (is_entry key item.tree) (new ∷ items) (item ∷ rest) e))
         (All-cons (IsItem name_limit) new items
         (item_as item (of_entry change item.tree) is
         (drop_tree item.tree e
         (sym (ap (λ o. option_map_or (λ item. tree_ends_in_key item.tree) o false) (cond-true (is_entry key new.tree) (Some new) (find (λ item. is_entry key item.tree) items) (entry_still item.tree ∙ e)))
-        ∙ sym (ap found_ends (cond-true (is_entry key item.tree) (new ∷ items) (item ∷ rest) e)) ∙ ends) is.tree) (comment-of_entry key change item.tree)) behind))
+        ∙ sym (ap found_ends (cond-true (is_entry key item.tree) (new ∷ items) (item ∷ rest) e)) ∙ ends) is.tree) (comment-of_entry key change item.tree)) after))
         (λ e. subst AreItems (sym (cond-false (is_entry key item.tree) (new ∷ items) (item ∷ rest) e))
         (All-cons (IsItem name_limit) item rest is
         (drop_items items
         (sym (ap (λ o. option_map_or (λ item. tree_ends_in_key item.tree) o false) (cond-false (is_entry key item.tree) (Some item) (find (λ item. is_entry key item.tree) rest) e))
-        ∙ sym (ap found_ends (cond-false (is_entry key item.tree) (new ∷ items) (item ∷ rest) e)) ∙ ends) behind)))
+        ∙ sym (ap found_ends (cond-false (is_entry key item.tree) (new ∷ items) (item ∷ rest) e)) ∙ ends) after)))
         (cases_Bool (is_entry key item.tree))
 
 pub drop_field-reads : (key_base : Record → Text) (file : Text) (db : Reading) (key name : Text) → Reads file db → IsAccepted key_base db (DropField key name) →

@@ -34,11 +34,11 @@ row_then s v b r = simp append_assoc
 -- ---- rows
 
 -- a row before others, from its parts
-row_and_rest : (row : Row) (rest : Text) → row_start row ++ (value_bytes row.assignment.value ++ (row.assignment.space_behind ++ rest)) ≡ row_bytes row ++ rest
-row_and_rest row rest = row_then (row_start row) (value_bytes row.assignment.value) row.assignment.space_behind rest ∙ ap (λ t. t ++ rest) (sym (row-parts row))
+row_and_rest : (row : Row) (rest : Text) → row_start row ++ (value_bytes row.assignment.value ++ (row.assignment.space_after ++ rest)) ≡ row_bytes row ++ rest
+row_and_rest row rest = row_then (row_start row) (value_bytes row.assignment.value) row.assignment.space_after rest ∙ ap (λ t. t ++ rest) (sym (row-parts row))
 
 kept_and_rest : (b : Bool) (row : Row) (rows : List Row) →
-    row_start row ++ (value_bytes row.assignment.value ++ (row.assignment.space_behind ++ read b (kept_rows rows))) ≡ row_bytes row ++ rows_bytes rows
+    row_start row ++ (value_bytes row.assignment.value ++ (row.assignment.space_after ++ read b (kept_rows rows))) ≡ row_bytes row ++ rows_bytes rows
 kept_and_rest b row rows = row_and_rest row (read b (kept_rows rows)) ∙ ap (λ t. row_bytes row ++ t) (rows-kept b rows)
 
 module _ (name : Text) (value : Value) where
@@ -46,13 +46,13 @@ module _ (name : Text) (value : Value) where
   set_old before [] = refl
   set_old before (row ∷ rows) = ⊎_elim
       (λ e. ap (read false) (cond-true (same row.assignment.name name)
-      (Kept before ∷ Kept (row_start row) ∷ Replaced (value_bytes row.assignment.value) (value_bytes value) ∷ Kept row.assignment.space_behind ∷ kept_rows rows)
-      (Kept before ∷ Kept (row_start row) ∷ Kept (value_bytes row.assignment.value) ∷ field_set name value row.assignment.space_behind rows) e)
+      (Kept before ∷ Kept (row_start row) ∷ Replaced (value_bytes row.assignment.value) (value_bytes value) ∷ Kept row.assignment.space_after ∷ kept_rows rows)
+      (Kept before ∷ Kept (row_start row) ∷ Kept (value_bytes row.assignment.value) ∷ field_set name value row.assignment.space_after rows) e)
       ∙ ap (λ t. before ++ t) (kept_and_rest false row rows))
       (λ e. ap (read false) (cond-false (same row.assignment.name name)
-      (Kept before ∷ Kept (row_start row) ∷ Replaced (value_bytes row.assignment.value) (value_bytes value) ∷ Kept row.assignment.space_behind ∷ kept_rows rows)
-      (Kept before ∷ Kept (row_start row) ∷ Kept (value_bytes row.assignment.value) ∷ field_set name value row.assignment.space_behind rows) e)
-      ∙ ap (λ t. before ++ (row_start row ++ (value_bytes row.assignment.value ++ t))) (set_old row.assignment.space_behind rows)
+      (Kept before ∷ Kept (row_start row) ∷ Replaced (value_bytes row.assignment.value) (value_bytes value) ∷ Kept row.assignment.space_after ∷ kept_rows rows)
+      (Kept before ∷ Kept (row_start row) ∷ Kept (value_bytes row.assignment.value) ∷ field_set name value row.assignment.space_after rows) e)
+      ∙ ap (λ t. before ++ (row_start row ++ (value_bytes row.assignment.value ++ t))) (set_old row.assignment.space_after rows)
       ∙ ap (λ t. before ++ t) (row_and_rest row (rows_bytes rows)))
       (cases_Bool (same row.assignment.name name))
 
@@ -62,17 +62,17 @@ module _ (name : Text) (value : Value) where
       added : (s v b : Text) → (s ++ v) ++ (b ++ []) ≡ (s ++ (v ++ b)) ++ []
       added s v b = simp append_assoc
   set_new before (row ∷ rows) =
-      let rest = with_field name value row.assignment.space_behind rows in
+      let rest = with_field name value row.assignment.space_after rows in
       ⊎_elim
       (λ e. ap (read true) (cond-true (same row.assignment.name name)
-      (Kept before ∷ Kept (row_start row) ∷ Replaced (value_bytes row.assignment.value) (value_bytes value) ∷ Kept row.assignment.space_behind ∷ kept_rows rows)
-      (Kept before ∷ Kept (row_start row) ∷ Kept (value_bytes row.assignment.value) ∷ field_set name value row.assignment.space_behind rows) e)
+      (Kept before ∷ Kept (row_start row) ∷ Replaced (value_bytes row.assignment.value) (value_bytes value) ∷ Kept row.assignment.space_after ∷ kept_rows rows)
+      (Kept before ∷ Kept (row_start row) ∷ Kept (value_bytes row.assignment.value) ∷ field_set name value row.assignment.space_after rows) e)
       ∙ ap (λ t. before ++ t) (kept_and_rest true (row_to value row) rows)
       ∙ sym (ap spaced_rows (cond-true (same row.assignment.name name) (before, row_to value row ∷ rows) (before, row_before rest.0 row ∷ rest.1) e)))
       (λ e. ap (read true) (cond-false (same row.assignment.name name)
-      (Kept before ∷ Kept (row_start row) ∷ Replaced (value_bytes row.assignment.value) (value_bytes value) ∷ Kept row.assignment.space_behind ∷ kept_rows rows)
-      (Kept before ∷ Kept (row_start row) ∷ Kept (value_bytes row.assignment.value) ∷ field_set name value row.assignment.space_behind rows) e)
-      ∙ ap (λ t. before ++ (row_start row ++ (value_bytes row.assignment.value ++ t))) (set_new row.assignment.space_behind rows)
+      (Kept before ∷ Kept (row_start row) ∷ Replaced (value_bytes row.assignment.value) (value_bytes value) ∷ Kept row.assignment.space_after ∷ kept_rows rows)
+      (Kept before ∷ Kept (row_start row) ∷ Kept (value_bytes row.assignment.value) ∷ field_set name value row.assignment.space_after rows) e)
+      ∙ ap (λ t. before ++ (row_start row ++ (value_bytes row.assignment.value ++ t))) (set_new row.assignment.space_after rows)
       ∙ ap (λ t. before ++ t) (row_and_rest (row_before rest.0 row) (rows_bytes rest.1))
       ∙ sym (ap spaced_rows (cond-false (same row.assignment.name name) (before, row_to value row ∷ rows) (before, row_before rest.0 row ∷ rest.1) e)))
       (cases_Bool (same row.assignment.name name))
@@ -81,10 +81,10 @@ module _ (name : Text) (value : Value) where
   replaced_old [] = refl
   replaced_old (row ∷ rows) = ⊎_elim
       (λ e. ap (read false) (cond-true (same row.assignment.name name)
-      (Kept (row_start row) ∷ Replaced (value_bytes row.assignment.value) (value_bytes value) ∷ Kept row.assignment.space_behind ∷ kept_rows rows) (Kept (row_bytes row) ∷ value_replaced name value rows) e)
+      (Kept (row_start row) ∷ Replaced (value_bytes row.assignment.value) (value_bytes value) ∷ Kept row.assignment.space_after ∷ kept_rows rows) (Kept (row_bytes row) ∷ value_replaced name value rows) e)
       ∙ kept_and_rest false row rows)
       (λ e. ap (read false) (cond-false (same row.assignment.name name)
-      (Kept (row_start row) ∷ Replaced (value_bytes row.assignment.value) (value_bytes value) ∷ Kept row.assignment.space_behind ∷ kept_rows rows) (Kept (row_bytes row) ∷ value_replaced name value rows) e)
+      (Kept (row_start row) ∷ Replaced (value_bytes row.assignment.value) (value_bytes value) ∷ Kept row.assignment.space_after ∷ kept_rows rows) (Kept (row_bytes row) ∷ value_replaced name value rows) e)
       ∙ ap (λ t. row_bytes row ++ t) (replaced_old rows))
       (cases_Bool (same row.assignment.name name))
 
@@ -92,11 +92,11 @@ module _ (name : Text) (value : Value) where
   replaced_new [] = refl
   replaced_new (row ∷ rows) = ⊎_elim
       (λ e. ap (read true) (cond-true (same row.assignment.name name)
-      (Kept (row_start row) ∷ Replaced (value_bytes row.assignment.value) (value_bytes value) ∷ Kept row.assignment.space_behind ∷ kept_rows rows) (Kept (row_bytes row) ∷ value_replaced name value rows) e)
+      (Kept (row_start row) ∷ Replaced (value_bytes row.assignment.value) (value_bytes value) ∷ Kept row.assignment.space_after ∷ kept_rows rows) (Kept (row_bytes row) ∷ value_replaced name value rows) e)
       ∙ kept_and_rest true (row_to value row) rows
       ∙ sym (ap rows_bytes (cond-true (same row.assignment.name name) (row_to value row ∷ rows) (row ∷ with_value name value rows) e)))
       (λ e. ap (read true) (cond-false (same row.assignment.name name)
-      (Kept (row_start row) ∷ Replaced (value_bytes row.assignment.value) (value_bytes value) ∷ Kept row.assignment.space_behind ∷ kept_rows rows) (Kept (row_bytes row) ∷ value_replaced name value rows) e)
+      (Kept (row_start row) ∷ Replaced (value_bytes row.assignment.value) (value_bytes value) ∷ Kept row.assignment.space_after ∷ kept_rows rows) (Kept (row_bytes row) ∷ value_replaced name value rows) e)
       ∙ ap (λ t. row_bytes row ++ t) (replaced_new rows)
       ∙ sym (ap rows_bytes (cond-false (same row.assignment.name name) (row_to value row ∷ rows) (row ∷ with_value name value rows) e)))
       (cases_Bool (same row.assignment.name name))
@@ -109,34 +109,34 @@ module _ (name : Text) where
   drop_old before [] = refl
   drop_old before (row ∷ rows) = ⊎_elim
       (λ e. ap (read false) (cond-true (same row.assignment.name name)
-      (Kept before ∷ Replaced (row_start row ++ value_bytes row.assignment.value) [] ∷ Kept row.assignment.space_behind ∷ kept_rows rows)
-      (Kept before ∷ Kept (row_start row) ∷ Kept (value_bytes row.assignment.value) ∷ field_dropped name row.assignment.space_behind rows) e)
-      ∙ ap (λ t. before ++ t) (gone_row (row_start row) (value_bytes row.assignment.value) row.assignment.space_behind (read false (kept_rows rows))
+      (Kept before ∷ Replaced (row_start row ++ value_bytes row.assignment.value) [] ∷ Kept row.assignment.space_after ∷ kept_rows rows)
+      (Kept before ∷ Kept (row_start row) ∷ Kept (value_bytes row.assignment.value) ∷ field_dropped name row.assignment.space_after rows) e)
+      ∙ ap (λ t. before ++ t) (gone_row (row_start row) (value_bytes row.assignment.value) row.assignment.space_after (read false (kept_rows rows))
       ∙ ap₂ ◌++◌ (sym (row-parts row)) (rows-kept false rows)))
       (λ e. ap (read false) (cond-false (same row.assignment.name name)
-      (Kept before ∷ Replaced (row_start row ++ value_bytes row.assignment.value) [] ∷ Kept row.assignment.space_behind ∷ kept_rows rows)
-      (Kept before ∷ Kept (row_start row) ∷ Kept (value_bytes row.assignment.value) ∷ field_dropped name row.assignment.space_behind rows) e)
-      ∙ ap (λ t. before ++ (row_start row ++ (value_bytes row.assignment.value ++ t))) (drop_old row.assignment.space_behind rows)
+      (Kept before ∷ Replaced (row_start row ++ value_bytes row.assignment.value) [] ∷ Kept row.assignment.space_after ∷ kept_rows rows)
+      (Kept before ∷ Kept (row_start row) ∷ Kept (value_bytes row.assignment.value) ∷ field_dropped name row.assignment.space_after rows) e)
+      ∙ ap (λ t. before ++ (row_start row ++ (value_bytes row.assignment.value ++ t))) (drop_old row.assignment.space_after rows)
       ∙ ap (λ t. before ++ t) (row_and_rest row (rows_bytes rows)))
       (cases_Bool (same row.assignment.name name))
 
   drop_new : (before : Text) (rows : List Row) → read true (field_dropped name before rows) ≡ spaced_rows (without_field name before rows)
   drop_new before [] = refl
   drop_new before (row ∷ rows) =
-      let rest = without_field name row.assignment.space_behind rows in
+      let rest = without_field name row.assignment.space_after rows in
       ⊎_elim
       (λ e. ap (read true) (cond-true (same row.assignment.name name)
-      (Kept before ∷ Replaced (row_start row ++ value_bytes row.assignment.value) [] ∷ Kept row.assignment.space_behind ∷ kept_rows rows)
-      (Kept before ∷ Kept (row_start row) ∷ Kept (value_bytes row.assignment.value) ∷ field_dropped name row.assignment.space_behind rows) e)
-      ∙ ap (λ t. before ++ (row.assignment.space_behind ++ t)) (rows-kept true rows)
-      ∙ sym (append_assoc before row.assignment.space_behind (rows_bytes rows))
-      ∙ sym (ap spaced_rows (cond-true (same row.assignment.name name) (before ++ row.assignment.space_behind, rows) (before, row_before rest.0 row ∷ rest.1) e)))
+      (Kept before ∷ Replaced (row_start row ++ value_bytes row.assignment.value) [] ∷ Kept row.assignment.space_after ∷ kept_rows rows)
+      (Kept before ∷ Kept (row_start row) ∷ Kept (value_bytes row.assignment.value) ∷ field_dropped name row.assignment.space_after rows) e)
+      ∙ ap (λ t. before ++ (row.assignment.space_after ++ t)) (rows-kept true rows)
+      ∙ sym (append_assoc before row.assignment.space_after (rows_bytes rows))
+      ∙ sym (ap spaced_rows (cond-true (same row.assignment.name name) (before ++ row.assignment.space_after, rows) (before, row_before rest.0 row ∷ rest.1) e)))
       (λ e. ap (read true) (cond-false (same row.assignment.name name)
-      (Kept before ∷ Replaced (row_start row ++ value_bytes row.assignment.value) [] ∷ Kept row.assignment.space_behind ∷ kept_rows rows)
-      (Kept before ∷ Kept (row_start row) ∷ Kept (value_bytes row.assignment.value) ∷ field_dropped name row.assignment.space_behind rows) e)
-      ∙ ap (λ t. before ++ (row_start row ++ (value_bytes row.assignment.value ++ t))) (drop_new row.assignment.space_behind rows)
+      (Kept before ∷ Replaced (row_start row ++ value_bytes row.assignment.value) [] ∷ Kept row.assignment.space_after ∷ kept_rows rows)
+      (Kept before ∷ Kept (row_start row) ∷ Kept (value_bytes row.assignment.value) ∷ field_dropped name row.assignment.space_after rows) e)
+      ∙ ap (λ t. before ++ (row_start row ++ (value_bytes row.assignment.value ++ t))) (drop_new row.assignment.space_after rows)
       ∙ ap (λ t. before ++ t) (row_and_rest (row_before rest.0 row) (rows_bytes rest.1))
-      ∙ sym (ap spaced_rows (cond-false (same row.assignment.name name) (before ++ row.assignment.space_behind, rows) (before, row_before rest.0 row ∷ rest.1) e)))
+      ∙ sym (ap spaced_rows (cond-false (same row.assignment.name name) (before ++ row.assignment.space_after, rows) (before, row_before rest.0 row ∷ rest.1) e)))
       (cases_Bool (same row.assignment.name name))
 
 -- ---- from the first item that passes a test
@@ -167,7 +167,7 @@ rest-read b body item items bytes e =
 
 -- an entry with other rows
 module _ (become : Entry → Text × List Row) (body : Entry → List Chunk)
-    (old : (e : Entry) → read false (body e) ≡ e.space_behind_key ++ rows_bytes e.rows) (new : (e : Entry) → read true (body e) ≡ spaced_rows (become e))
+    (old : (e : Entry) → read false (body e) ≡ e.space_after_key ++ rows_bytes e.rows) (new : (e : Entry) → read true (body e) ≡ spaced_rows (become e))
   where
     abbrev entry_chunked : Entry → List Chunk
     entry_chunked e = entry_chunks (Kept e.key) (body e) e
@@ -176,7 +176,7 @@ module _ (become : Entry → Text × List Row) (body : Entry → List Chunk)
     entry_become e = entry_with_rows (become e) e
 
     body_old : (tree : Tree) → read false (entry_body entry_chunked tree) ≡ tree_bytes tree
-    body_old (EntryTree e) = entry-read false (Kept e.key) (body e) e e.key e.space_behind_key e.rows refl (old e)
+    body_old (EntryTree e) = entry-read false (Kept e.key) (body e) e e.key e.space_after_key e.rows refl (old e)
     body_old (CommentTree h) = append-nil (tree_bytes (CommentTree h))
     body_old (DefinitionTree d) = append-nil (tree_bytes (DefinitionTree d))
     body_old (PreambleTree p) = append-nil (tree_bytes (PreambleTree p))
@@ -272,16 +272,16 @@ module _ (new : ℕ → Option Text) (entries : List EntryTexts) where
   crossref_new (Some key) rows = replaced_new crossref (in_braces key) rows
 
   key_tree_old : (n : ℕ) (tree : Tree) → read false (tree_key_chunks new entries n tree) ≡ tree_bytes tree
-  key_tree_old n (EntryTree e) = entry-read false (token e.key (new n)) (Kept e.space_behind_key ∷ crossref_chunks (option_and_then new (target entries n)) e.rows) e e.key e.space_behind_key e.rows
-      (token_old e.key (new n)) (ap (λ t. e.space_behind_key ++ t) (crossref_old (option_and_then new (target entries n)) e.rows))
+  key_tree_old n (EntryTree e) = entry-read false (token e.key (new n)) (Kept e.space_after_key ∷ crossref_chunks (option_and_then new (target entries n)) e.rows) e e.key e.space_after_key e.rows
+      (token_old e.key (new n)) (ap (λ t. e.space_after_key ++ t) (crossref_old (option_and_then new (target entries n)) e.rows))
   key_tree_old n (CommentTree h) = append-nil (tree_bytes (CommentTree h))
   key_tree_old n (DefinitionTree d) = append-nil (tree_bytes (DefinitionTree d))
   key_tree_old n (PreambleTree p) = append-nil (tree_bytes (PreambleTree p))
 
   key_tree_new : (n : ℕ) (tree : Tree) → read true (tree_key_chunks new entries n tree) ≡ tree_bytes (tree_with_keys new entries n tree)
-  key_tree_new n (EntryTree e) = entry-read true (token e.key (new n)) (Kept e.space_behind_key ∷ crossref_chunks (option_and_then new (target entries n)) e.rows) e
-      (unwrap_or (new n) e.key) e.space_behind_key (with_crossref (option_and_then new (target entries n)) e.rows)
-      (token_new e.key (new n)) (ap (λ t. e.space_behind_key ++ t) (crossref_new (option_and_then new (target entries n)) e.rows))
+  key_tree_new n (EntryTree e) = entry-read true (token e.key (new n)) (Kept e.space_after_key ∷ crossref_chunks (option_and_then new (target entries n)) e.rows) e
+      (unwrap_or (new n) e.key) e.space_after_key (with_crossref (option_and_then new (target entries n)) e.rows)
+      (token_new e.key (new n)) (ap (λ t. e.space_after_key ++ t) (crossref_new (option_and_then new (target entries n)) e.rows))
   key_tree_new n (CommentTree h) = append-nil (tree_bytes (CommentTree h))
   key_tree_new n (DefinitionTree d) = append-nil (tree_bytes (DefinitionTree d))
   key_tree_new n (PreambleTree p) = append-nil (tree_bytes (PreambleTree p))
@@ -399,8 +399,8 @@ module _ (key : Text) (place : ℕ) (items : List Item) (item : Item) where
 items-append : (xs ys : List Item) → items_bytes (xs ++ ys) ≡ items_bytes xs ++ items_bytes ys
 items-append xs ys = flat_map-append item_bytes xs ys
 
-added-read : (b : Bool) (before behind : List Item) (put : List Chunk) → read b (kept_items before ++ (put ++ kept_items behind)) ≡ items_bytes before ++ (read b put ++ items_bytes behind)
-added-read b before behind put = read-append b (kept_items before) (put ++ kept_items behind) ∙ ap₂ ◌++◌ (items-kept b before) (read-append b put (kept_items behind) ∙ ap (λ t. read b put ++ t) (items-kept b behind))
+added-read : (b : Bool) (before after : List Item) (put : List Chunk) → read b (kept_items before ++ (put ++ kept_items after)) ≡ items_bytes before ++ (read b put ++ items_bytes after)
+added-read b before after put = read-append b (kept_items before) (put ++ kept_items after) ∙ ap₂ ◌++◌ (items-kept b before) (read-append b put (kept_items after) ∙ ap (λ t. read b put ++ t) (items-kept b after))
 
 appended_old : (news : List NewEntry) → read false (appended news) ≡ []
 appended_old [] = refl
@@ -415,9 +415,9 @@ appended_new (new ∷ news) = append-nil (items_bytes (map item_of (new ∷ news
 module _ (key_base : Record → Text) (db : Reading) where
   items_old : (e : Edit) → read false (changed_items key_base db e) ≡ items_bytes db.items
   items_old (SetField key name value) =
-      entry_old (λ e. with_field name value e.space_behind_key e.rows) (λ e. field_set name value e.space_behind_key e.rows) (λ e. set_old name value e.space_behind_key e.rows) (λ e. set_new name value e.space_behind_key e.rows) key db.items
+      entry_old (λ e. with_field name value e.space_after_key e.rows) (λ e. field_set name value e.space_after_key e.rows) (λ e. set_old name value e.space_after_key e.rows) (λ e. set_new name value e.space_after_key e.rows) key db.items
   items_old (DropField key name) =
-      entry_old (λ e. without_field name e.space_behind_key e.rows) (λ e. field_dropped name e.space_behind_key e.rows) (λ e. drop_old name e.space_behind_key e.rows) (λ e. drop_new name e.space_behind_key e.rows) key db.items
+      entry_old (λ e. without_field name e.space_after_key e.rows) (λ e. field_dropped name e.space_after_key e.rows) (λ e. drop_old name e.space_after_key e.rows) (λ e. drop_new name e.space_after_key e.rows) key db.items
   items_old (AddEntry place new) =
       added-read false (take place db.items) (drop place db.items) (inserted (item_of new))
       ∙ sym (items-append (take place db.items) (drop place db.items)) ∙ ap items_bytes (take-append-drop place db.items)
@@ -439,9 +439,9 @@ module _ (key_base : Record → Text) (db : Reading) where
 
   file_new : (e : Edit) → db.front ++ read true (changed_items key_base db e) ≡ bytes_of (edited key_base db e)
   file_new (SetField key name value) = ap (λ t. db.front ++ t)
-      (entry_new (λ e. with_field name value e.space_behind_key e.rows) (λ e. field_set name value e.space_behind_key e.rows) (λ e. set_old name value e.space_behind_key e.rows) (λ e. set_new name value e.space_behind_key e.rows) key db.items)
+      (entry_new (λ e. with_field name value e.space_after_key e.rows) (λ e. field_set name value e.space_after_key e.rows) (λ e. set_old name value e.space_after_key e.rows) (λ e. set_new name value e.space_after_key e.rows) key db.items)
   file_new (DropField key name) = ap (λ t. db.front ++ t)
-      (entry_new (λ e. without_field name e.space_behind_key e.rows) (λ e. field_dropped name e.space_behind_key e.rows) (λ e. drop_old name e.space_behind_key e.rows) (λ e. drop_new name e.space_behind_key e.rows) key db.items)
+      (entry_new (λ e. without_field name e.space_after_key e.rows) (λ e. field_dropped name e.space_after_key e.rows) (λ e. drop_old name e.space_after_key e.rows) (λ e. drop_new name e.space_after_key e.rows) key db.items)
   file_new (AddEntry place new) = ap (λ t. db.front ++ t)
       (added-read true (take place db.items) (drop place db.items) (inserted (item_of new))
       ∙ ap (λ t. items_bytes (take place db.items) ++ (t ++ items_bytes (drop place db.items))) (append-nil (item_bytes (item_of new)))

@@ -8,7 +8,7 @@ use Rattle.bib_spec.specs.Reading.{Item, Reading}
 use Rattle.bib_spec.specs.Texts.{Macros, updated, part_text, raw_text, macros_in, macros_after, macros_at, gathered}
 use Rattle.bib_spec.specs.Records.{entry_in, preamble_in}
 use Rattle.edit_spec.specs.Edits.{changed, leaving, tree_with, items_with, defines, from_first, use_inlined, uses_inlined, without_first}
-use Rattle.edit_spec.specs.Laws.{is_behind}
+use Rattle.edit_spec.specs.Laws.{is_after}
 use Rattle.bib_spec.proofs.Names.{same-is, same-true, same_of, true-eq}
 use Rattle.edit_spec.proofs.InUse.{InTree_undefined}
 use Rattle.bib_spec.proofs.Counts.{count-yes, count-no}
@@ -72,12 +72,12 @@ module _ (name held : Text) where
         uncounted items (sym (count-no (λ item. defines name item.tree) item items none) ∙ h),
       )
 
-  none_beyond : (items : List Item) → count items ≡ 0 → (n : ℕ) → is_behind name items n ≡ false
+  none_beyond : (items : List Item) → count items ≡ 0 → (n : ℕ) → is_after name items n ≡ false
   none_beyond items h zero = refl
   none_beyond [] h (suc n) = refl
   none_beyond (item ∷ items) h (suc n) =
       let none : defines name item.tree ≡ false = false_from_ne_true (defines name item.tree) (λ e. let c = count-yes (λ item. defines name item.tree) item items e in absurd (omega (arith, c, h))) in
-      or_from (defines name item.tree) (is_behind name items n) none (none_beyond items (sym (count-no (λ item. defines name item.tree) item items none) ∙ h) n)
+      or_from (defines name item.tree) (is_after name items n) none (none_beyond items (sym (count-no (λ item. defines name item.tree) item items none) ∙ h) n)
 
   pub rest_uncounted : (item : Item) (items : List Item) → count (item ∷ items) ≡ 1 → defines name item.tree ≡ true → count items ≡ 0
   rest_uncounted item items h e = let c = count-yes (λ item. defines name item.tree) item items e in omega (arith, c, h)
@@ -154,8 +154,8 @@ module _ (name held : Text) where
 
   -- up to the definition the macros are what they were; after it every other name, with item numbers one less
   pub at_inlined : (m : Macros) (front : Text) (items : List Item) → count items ≡ 1 → IsHeld m items → (k : ℕ) →
-      (is_behind name items k ≡ false → macros_at m (left front items).items k ≡ macros_at m items k)
-      × (is_behind name items (suc k) ≡ true → (x : Text) → same x name ≡ false → macros_at m (left front items).items k (folded x) ≡ macros_at m items (suc k) (folded x))
+      (is_after name items k ≡ false → macros_at m (left front items).items k ≡ macros_at m items k)
+      × (is_after name items (suc k) ≡ true → (x : Text) → same x name ≡ false → macros_at m (left front items).items k (folded x) ≡ macros_at m items (suc k) (folded x))
   at_inlined m front [] h is k = ((λ _. refl), (λ e. absurd (false≢true e)))
   at_inlined m front (item ∷ items) h is zero = (
     (λ _. refl),
@@ -168,14 +168,14 @@ module _ (name held : Text) where
       let rest = at_inlined (macros_after m item.tree) item.trail items in
       ⊎_elim
       (λ e. (
-        (λ none. absurd (both_ways (defines name item.tree) (or_parts (defines name item.tree) (is_behind name items k) none).0 e)),
+        (λ none. absurd (both_ways (defines name item.tree) (or_parts (defines name item.tree) (is_after name items k) none).0 e)),
         (λ _ x p. ap (λ new. macros_at m new (suc k) (folded x)) (left-defined front item items e)
             ∙ (at_same leaving (use_inlined name held) IsAny IsOther Agree gives stays (macros_after m item.tree) m (begins m item.tree e (held_here m item items h is e)) items
             (uncounted items (rest_uncounted item items h e)) (suc k)).1 x p),
       ))
       (λ e. let both = rest (sym (count-no (λ item. defines name item.tree) item items e) ∙ h) is k in (
-        (λ none. ap (λ new. macros_at m new (suc k)) (left-other front item items e) ∙ both.0 (or_parts (defines name item.tree) (is_behind name items k) none).1),
+        (λ none. ap (λ new. macros_at m new (suc k)) (left-other front item items e) ∙ both.0 (or_parts (defines name item.tree) (is_after name items k) none).1),
         (λ some x p. ap (λ new. macros_at m new (suc k) (folded x)) (left-other front item items e)
-            ∙ both.1 (⊎_elim (λ k. absurd (both_ways (defines name item.tree) e k)) (λ k. k) (or_cases (defines name item.tree) (is_behind name items (suc k)) some)) x p),
+            ∙ both.1 (⊎_elim (λ k. absurd (both_ways (defines name item.tree) e k)) (λ k. k) (or_cases (defines name item.tree) (is_after name items (suc k)) some)) x p),
       ))
       (cases_Bool (defines name item.tree))

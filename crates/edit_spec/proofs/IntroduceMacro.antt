@@ -44,10 +44,10 @@ module _ (name held : Text) where
   )
 
   -- after the new definition
-  abbrev pub behind : Macros → Macros
-  behind m = macros_after m (DefinitionTree (definition_of name held))
+  abbrev pub after : Macros → Macros
+  after m = macros_after m (DefinitionTree (definition_of name held))
 
-  pub begins : (m : Macros) → Agree m (behind m)
+  pub begins : (m : Macros) → Agree m (after m)
   begins m = (
     cond-true (bytes_eq (folded name) (folded name)) (Some (held ++ [])) (m (folded name)) (true-eq (folded name) (folded name) refl) ∙ ap Some (append-nil held),
     (λ x p. cond-false (bytes_eq (folded x) (folded name)) (Some (held ++ [])) (m (folded x)) (sym (same-is x name) ∙ p)),
@@ -68,7 +68,7 @@ module _ (name held : Text) where
         let P : List Item → Type 0 = λ new. gathered say m new ≡ gathered say m (item ∷ items) in
         let rest = gathered_introduced (macros_after m item.tree) items h.1 in
         cond_both (any_part (holds held) item.tree) (introduced name held (item ∷ items)) (item ∷ macro_introduced items) P
-        (λ e. ap₂ ◌++◌ (quiet m) (gathered_same leaving (part_introduced name held) IsUnused IsOther Agree gives stays say says m (behind m) (begins m) (item ∷ items) h))
+        (λ e. ap₂ ◌++◌ (quiet m) (gathered_same leaving (part_introduced name held) IsUnused IsOther Agree gives stays say says m (after m) (begins m) (item ∷ items) h))
         (λ e. ap (λ more. say m item.tree ++ more) rest)
 
   pub entries_introduced : (m : Macros) (items : List Item) → InItems IsUnused IsOther items → gathered entry_in m (macro_introduced items) ≡ gathered entry_in m items
@@ -96,7 +96,7 @@ module _ (name held : Text) where
       cond_both (any_part (holds held) item.tree) (introduced name held (item ∷ items)) (item ∷ macro_introduced items) P
       (λ e. (
         (λ none. absurd (both_ways t (or_parts t r none).0 e)),
-        (λ _. at_same leaving (part_introduced name held) IsUnused IsOther Agree gives stays m (behind m) (begins m) (item ∷ items) h (suc k)),
+        (λ _. at_same leaving (part_introduced name held) IsUnused IsOther Agree gives stays m (after m) (begins m) (item ∷ items) h (suc k)),
       ))
       (λ e. (
         (λ none. rest.0 (or_parts t r none).1),

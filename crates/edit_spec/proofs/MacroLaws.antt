@@ -8,7 +8,7 @@ use Rattle.bib_spec.specs.Reading.{Reading}
 use Rattle.bib_spec.specs.Texts.{months, macros_at, seen}
 use Rattle.bib_spec.specs.Records.{Record, entries_of, preambles_of, expanded, parent, listed, unknown}
 use Rattle.edit_spec.specs.Edits.{defines, uses, any_part, is_in_use, rename_macro, inline_macro, introduce_macro, text_of_macro, NotFound, Ambiguous, NameInUse}
-use Rattle.edit_spec.specs.Laws.{record_with_key, no_new_key, KeepsEntries, KeepsCitations, is_behind, SeesRenamed, rename_macro_keeps, inline_macro_keeps, introduce_macro_keeps}
+use Rattle.edit_spec.specs.Laws.{record_with_key, no_new_key, KeepsEntries, KeepsCitations, is_after, SeesRenamed, rename_macro_keeps, inline_macro_keeps, introduce_macro_keeps}
 use Rattle.bib_spec.proofs.Accepted.{there_once}
 use Rattle.bib_spec.proofs.Names.{same-true, true-same}
 use Rattle.edit_spec.proofs.Simulation.{InItems}
@@ -61,8 +61,8 @@ module _ (from to : Text) (db : Reading) (unused : (not (same to from) && is_in_
       respelled : same to from ≡ true → InItems (IsFreePart from to) (IsFree from to) db.items
       respelled e = InItems_all (IsFreePart from to) (IsFree from to) (λ part. free_part from to part e) (λ name h. true-same name from (same-true name to h ∙ same-true to from e)) db.items
 
-  sees_at : (n : ℕ) → (is_behind from db.items n ≡ false → (name : Text) → seen (rename_macro from to db) n name ≡ seen db n name)
-      × (is_behind from db.items n ≡ true → Agree from to (macros_at months db.items n) (macros_at months (rename_macro from to db).items n))
+  sees_at : (n : ℕ) → (is_after from db.items n ≡ false → (name : Text) → seen (rename_macro from to db) n name ≡ seen db n name)
+      × (is_after from db.items n ≡ true → Agree from to (macros_at months db.items n) (macros_at months (rename_macro from to db).items n))
   sees_at n = let both = at_renamed from to months db.items all_free n in ((λ e name. ap (λ m. m (folded name)) (both.0 e)), both.1)
 
   respelled_folded : same to from ≡ true → (name : Text) → folded (renamed from to name) ≡ folded name
@@ -76,13 +76,13 @@ module _ (from to : Text) (db : Reading) (unused : (not (same to from) && is_in_
     other = λ n name p q. ⊎_elim
         (λ e. ap (λ y. seen (rename_macro from to db) n y) (sym (renamed-other from to name p)) ∙ (sees_at n).1 e name (λ h. absurd (both_ways (same name to) q h)))
         (λ e. (sees_at n).0 e name)
-        (cases_Bool (is_behind from db.items n));
+        (cases_Bool (is_after from db.items n));
     before = λ n name e. (sees_at n).0 e name;
-    behind = λ n e. ap (λ y. seen (rename_macro from to db) n y) (sym (renamed-from from to from (true-same from from refl))) ∙ (sees_at n).1 e from (λ _. true-same from from refl);
+    after = λ n e. ap (λ y. seen (rename_macro from to db) n y) (sym (renamed-from from to from (true-same from from refl))) ∙ (sees_at n).1 e from (λ _. true-same from from refl);
     respelled = λ s n name. ⊎_elim
         (λ e. ap (λ y. macros_at months (rename_macro from to db).items n y) (sym (respelled_folded s name)) ∙ (sees_at n).1 e name (λ h. true-same name from (same-true name to h ∙ same-true to from s)))
         (λ e. (sees_at n).0 e name)
-        (cases_Bool (is_behind from db.items n));
+        (cases_Bool (is_after from db.items n));
   }
 
   pub macro_renamed_keeps : KeepsEntries no_new_key db (rename_macro from to db) × KeepsCitations db (rename_macro from to db) × SeesRenamed from to db (rename_macro from to db)
@@ -104,7 +104,7 @@ inline-macro-keeps key_base db name accepted =
       keeps_citations db (inline_macro name db) is,
       record {
         before = λ n other e. ap (λ m. m (folded other)) ((at_inlined name held months db.front db.items once refl n).0 e);
-        behind = λ n other e p. (at_inlined name held months db.front db.items once refl n).1 e other p;
+        after = λ n other e p. (at_inlined name held months db.front db.items once refl n).1 e other p;
       },
     )
 
@@ -121,7 +121,7 @@ introduce-macro-keeps key_base db name text accepted =
       keeps_citations db (introduce_macro name text db) is,
       record {
         before = λ n other e. ap (λ m. m (folded other)) ((at_introduced name text months db.items fine n).0 e);
-        behind = λ n other e p. ((at_introduced name text months db.items fine n).1 e).1 other p;
+        after = λ n other e p. ((at_introduced name text months db.items fine n).1 e).1 other p;
         introduced = λ n e. ((at_introduced name text months db.items fine n).1 e).0;
       },
     )

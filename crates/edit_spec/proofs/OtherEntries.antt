@@ -46,13 +46,13 @@ module _ (key : Text) where
   moved_to {found} {a} {b} {xs} {ys} {more} p q h =
       subst (λ (n : ℕ). IsOneMore n found ys more) p (subst (λ (l : List EntryTexts). IsOneMore a found l more) q h)
 
-  removed_behind : (m : Macros) (front : Text) (tree : Tree) (trail : Text) (items : List Item) →
+  removed_after : (m : Macros) (front : Text) (tree : Tree) (trail : Text) (items : List Item) →
       ((i : ℕ) → first_named key (keys_of (gathered entry_in (macros_after m tree) items)) ≡ Some i → IsRemovedAt (macros_after m tree) trail items i) →
       (i : ℕ) → first_named key (keys_of (gathered entry_in m (item_at tree trail ∷ items))) ≡ Some i → IsRemovedAt m front (item_at tree trail ∷ items) i
-  removed_behind m front (CommentTree h) trail items rest i e = rest i e
-  removed_behind m front (DefinitionTree d) trail items rest i e = rest i e
-  removed_behind m front (PreambleTree p) trail items rest i e = rest i e
-  removed_behind m front (EntryTree entry) trail items rest i e = ⊎_elim
+  removed_after m front (CommentTree h) trail items rest i e = rest i e
+  removed_after m front (DefinitionTree d) trail items rest i e = rest i e
+  removed_after m front (PreambleTree p) trail items rest i e = rest i e
+  removed_after m front (EntryTree entry) trail items rest i e = ⊎_elim
       (λ t.
       let at : zero ≡ i = same_Some zero i (sym (cond-true (is_named key entry.key) (Some zero) (option_map suc (first_named key (keys_of (gathered entry_in m items)))) t) ∙ e) in
       let it : IsOneMore zero entry.key (gathered entry_in m items) (gathered entry_in m (item_at (EntryTree entry) trail ∷ items)) =
@@ -63,37 +63,37 @@ module _ (key : Text) where
       ))
       (λ t.
       let later = suc_some (first_named key (keys_of (gathered entry_in m items))) i (sym (cond-false (is_named key entry.key) (Some zero) (option_map suc (first_named key (keys_of (gathered entry_in m items)))) t) ∙ e) in
-      let behind = rest later.0 later.1 in
-      let it : IsOneMore (suc later.0) behind.0 (gathered entry_in m (kept entry front trail items).items) (gathered entry_in m (item_at (EntryTree entry) trail ∷ items)) = record {
-        added = behind.2.added;
-        has_key = behind.2.has_key;
-        within = suc-le-suc behind.2.within;
-        is = ap (λ l. texts_of m entry ∷ l) behind.2.is;
+      let after = rest later.0 later.1 in
+      let it : IsOneMore (suc later.0) after.0 (gathered entry_in m (kept entry front trail items).items) (gathered entry_in m (item_at (EntryTree entry) trail ∷ items)) = record {
+        added = after.2.added;
+        has_key = after.2.has_key;
+        within = suc-le-suc after.2.within;
+        is = ap (λ l. texts_of m entry ∷ l) after.2.is;
       } in (
-        behind.0,
-        behind.1,
+        after.0,
+        after.1,
         moved_to later.2 (sym (ap (λ (db : Reading). gathered entry_in m db.items) (cond-false (is_named key entry.key) (without front trail items) (kept entry front trail items) t))) it,
       ))
       (cases_Bool (is_named key entry.key))
 
   removed : (m : Macros) (front : Text) (items : List Item) (i : ℕ) → first_named key (keys_of (gathered entry_in m items)) ≡ Some i → IsRemovedAt m front items i
   removed m front [] i e = absurd (none-some i e)
-  removed m front (item ∷ items) i e = removed_behind m front item.tree item.trail items (removed (macros_after m item.tree) item.trail items) i e
+  removed m front (item ∷ items) i e = removed_after m front item.tree item.trail items (removed (macros_after m item.tree) item.trail items) i e
 
-  preambles_behind : (m : Macros) (front : Text) (tree : Tree) (trail : Text) (items : List Item) →
+  preambles_after : (m : Macros) (front : Text) (tree : Tree) (trail : Text) (items : List Item) →
       gathered preamble_in (macros_after m tree) (without_first (is_entry key) trail items).items ≡ gathered preamble_in (macros_after m tree) items →
       gathered preamble_in m (without_first (is_entry key) front (item_at tree trail ∷ items)).items ≡ gathered preamble_in m (item_at tree trail ∷ items)
-  preambles_behind m front (CommentTree h) trail items rest = rest
-  preambles_behind m front (DefinitionTree d) trail items rest = rest
-  preambles_behind m front (PreambleTree p) trail items rest = ap (λ l. raw_text m p.value ∷ l) rest
-  preambles_behind m front (EntryTree e) trail items rest = ⊎_elim
+  preambles_after m front (CommentTree h) trail items rest = rest
+  preambles_after m front (DefinitionTree d) trail items rest = rest
+  preambles_after m front (PreambleTree p) trail items rest = ap (λ l. raw_text m p.value ∷ l) rest
+  preambles_after m front (EntryTree e) trail items rest = ⊎_elim
       (λ t. ap (λ (db : Reading). gathered preamble_in m db.items) (cond-true (is_named key e.key) (without front trail items) (kept e front trail items) t))
       (λ t. ap (λ (db : Reading). gathered preamble_in m db.items) (cond-false (is_named key e.key) (without front trail items) (kept e front trail items) t) ∙ rest)
       (cases_Bool (is_named key e.key))
 
   preambles_removed : (m : Macros) (front : Text) (items : List Item) → gathered preamble_in m (without_first (is_entry key) front items).items ≡ gathered preamble_in m items
   preambles_removed m front [] = refl
-  preambles_removed m front (item ∷ items) = preambles_behind m front item.tree item.trail items (preambles_removed (macros_after m item.tree) item.trail items)
+  preambles_removed m front (item ∷ items) = preambles_after m front item.tree item.trail items (preambles_removed (macros_after m item.tree) item.trail items)
 
 -- ---- the others
 

@@ -23,12 +23,12 @@ module _ (name : Text) (value : Value) where
   valued_rows v [] are = All-nil (IsRow name_limit)
   valued_rows v (row ∷ rows) are =
       let is = All-head (IsRow name_limit) row rows are in
-      let behind = All-tail (IsRow name_limit) row rows are in
+      let after = All-tail (IsRow name_limit) row rows are in
       ⊎_elim
       (λ e. subst (All (IsRow name_limit)) (sym (cond-true (same row.assignment.name name) (row_to value row ∷ rows) (row ∷ with_value name value rows) e))
-      (All-cons (IsRow name_limit) (row_to value row) rows (row_with_value value row v is) behind))
+      (All-cons (IsRow name_limit) (row_to value row) rows (row_with_value value row v is) after))
       (λ e. subst (All (IsRow name_limit)) (sym (cond-false (same row.assignment.name name) (row_to value row ∷ rows) (row ∷ with_value name value rows) e))
-      (All-cons (IsRow name_limit) row (with_value name value rows) is (valued_rows v rows behind)))
+      (All-cons (IsRow name_limit) row (with_value name value rows) is (valued_rows v rows after)))
       (cases_Bool (same row.assignment.name name))
 
   valued_ends : (d : Delimiter) (space : Text) (rows : List Row) (last : Option Text) → IsSpace space → EndsKey d space rows last → EndsKey d space (with_value name value rows) last
@@ -51,15 +51,15 @@ crossref_ends (Some key) d space rows last s ends = valued_ends crossref (in_bra
 rekeyed_entry : (o named : Option Text) → AreNew o → AreNew named → (e : Entry) → IsEntry name_limit e →
     IsEntry name_limit (record e { key = unwrap_or o e.key; rows = with_crossref named e.rows })
 rekeyed_entry None named new_key new_name e is =
-    entry-is e e.key e.space_behind_key (with_crossref named e.rows) is is.key is.key_len is.empty_key
-    (are_rows e.space_behind_key (with_crossref named e.rows) is.space_behind_key (crossref_rows named new_name e.rows is.rows))
-    (crossref_ends named e.opening.delimiter e.space_behind_key e.rows e.last_comma is.space_behind_key is.key_ends)
+    entry-is e e.key e.space_after_key (with_crossref named e.rows) is is.key is.key_len is.empty_key
+    (are_rows e.space_after_key (with_crossref named e.rows) is.space_after_key (crossref_rows named new_name e.rows is.rows))
+    (crossref_ends named e.opening.delimiter e.space_after_key e.rows e.last_comma is.space_after_key is.key_ends)
 rekeyed_entry (Some key) named new_key new_name e is =
     let new = new_key key refl in
-    entry-is e key e.space_behind_key (with_crossref named e.rows) is (new_key-goes_on key new e.opening.delimiter) (new_key-length key new)
+    entry-is e key e.space_after_key (with_crossref named e.rows) is (new_key-goes_on key new e.opening.delimiter) (new_key-length key new)
     (λ empty. absurd (not_empty key (new_key_parts key new).0 empty))
-    (are_rows e.space_behind_key (with_crossref named e.rows) is.space_behind_key (crossref_rows named new_name e.rows is.rows))
-    (crossref_ends named e.opening.delimiter e.space_behind_key e.rows e.last_comma is.space_behind_key is.key_ends)
+    (are_rows e.space_after_key (with_crossref named e.rows) is.space_after_key (crossref_rows named new_name e.rows is.rows))
+    (crossref_ends named e.opening.delimiter e.space_after_key e.rows e.last_comma is.space_after_key is.key_ends)
 
 module _ (new : ℕ → Option Text) (are_new : (n : ℕ) → AreNew (new n)) (entries : List EntryTexts) where
   new_of : (t : Option ℕ) → AreNew (option_and_then new t)

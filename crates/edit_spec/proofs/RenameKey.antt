@@ -55,17 +55,17 @@ only text [] h = absurd (omega (arith, h))
 only text (k ∷ ks) h = ⊎_elim
     (λ e. (zero, cond-true (is_named text k) (Some zero) (option_map suc (first_named text ks)) e, at_head e))
     (λ e. let rest = only text ks (sym (count-no (is_named text) k ks e) ∙ h) in
-    (suc rest.0, cond-false (is_named text k) (Some zero) (option_map suc (first_named text ks)) e ∙ ap (option_map suc) rest.1, behind_head e rest.0 rest.2))
+    (suc rest.0, cond-false (is_named text k) (Some zero) (option_map suc (first_named text ks)) e ∙ ap (option_map suc) rest.1, after_head e rest.0 rest.2))
     (cases_Bool (is_named text k))
   where
     at_head : is_named text k ≡ true → (j : ℕ) (key : Text) → slice_get (k ∷ ks) j ≡ Some key → is_named text key ≡ true → j ≡ zero
     at_head e zero key s t = refl
     at_head e (suc j) key s t = absurd (both_ways (is_named text key) (uncounted (is_named text) ks (let c = count-yes (is_named text) k ks e in omega (arith, c, h)) j key s) t)
 
-    behind_head : is_named text k ≡ false → (m : ℕ) → ((j : ℕ) (key : Text) → slice_get ks j ≡ Some key → is_named text key ≡ true → j ≡ m) →
+    after_head : is_named text k ≡ false → (m : ℕ) → ((j : ℕ) (key : Text) → slice_get ks j ≡ Some key → is_named text key ≡ true → j ≡ m) →
         (j : ℕ) (key : Text) → slice_get (k ∷ ks) j ≡ Some key → is_named text key ≡ true → j ≡ suc m
-    behind_head e m rest zero key s t = absurd (both_ways (is_named text key) (ap (is_named text) (sym (same_Some k key s)) ∙ e) t)
-    behind_head e m rest (suc j) key s t = ap suc (rest j key s t)
+    after_head e m rest zero key s t = absurd (both_ways (is_named text key) (ap (is_named text) (sym (same_Some k key s)) ∙ e) t)
+    after_head e m rest (suc j) key s t = ap suc (rest j key s t)
 
 -- what is used of the conditions
 pub record CanRenameKey (from to : Text) (entries : List EntryTexts) : Type 0 where

@@ -8,7 +8,7 @@ use Rattle.bib_spec.specs.Reading.{Item}
 use Rattle.bib_spec.specs.Texts.{Macros, updated, part_text, macros_after, macros_at, gathered}
 use Rattle.bib_spec.specs.Records.{entry_in, preamble_in}
 use Rattle.edit_spec.specs.Edits.{changed, tree_with, items_with, defines, from_first, name_renamed, use_renamed}
-use Rattle.edit_spec.specs.Laws.{is_behind}
+use Rattle.edit_spec.specs.Laws.{is_after}
 use Rattle.bib_spec.proofs.Names.{same-is, same-true, true-same}
 use Rattle.edit_spec.proofs.Simulation.{InTree, InItems, AgreeOn, names_stay, define_same, entry_same, preamble_same, gathered_same, at_same}
 
@@ -128,22 +128,22 @@ module _ (from to : Text) where
 
   -- up to the definition the macros are what they were, and after it they agree
   pub at_renamed : (m : Macros) (items : List Item) → InItems IsFreePart IsFree items → (k : ℕ) →
-      (is_behind from items k ≡ false → macros_at m (macro_renamed items) k ≡ macros_at m items k)
-      × (is_behind from items k ≡ true → Agree (macros_at m items k) (macros_at m (macro_renamed items) k))
+      (is_after from items k ≡ false → macros_at m (macro_renamed items) k ≡ macros_at m items k)
+      × (is_after from items k ≡ true → Agree (macros_at m items k) (macros_at m (macro_renamed items) k))
   at_renamed m items h zero = ((λ _. refl), (λ e. absurd (false≢true e)))
   at_renamed m [] h (suc k) = ((λ _. refl), (λ e. absurd (false≢true e)))
   at_renamed m (item ∷ items) h (suc k) =
       let rest = at_renamed (macros_after m item.tree) items h.1 k in
       let P : List Item → Type 0 = λ new.
-      ((defines from item.tree || is_behind from items k) ≡ false → macros_at m new (suc k) ≡ macros_at (macros_after m item.tree) items k)
-      × ((defines from item.tree || is_behind from items k) ≡ true → Agree (macros_at (macros_after m item.tree) items k) (macros_at m new (suc k))) in
+      ((defines from item.tree || is_after from items k) ≡ false → macros_at m new (suc k) ≡ macros_at (macros_after m item.tree) items k)
+      × ((defines from item.tree || is_after from items k) ≡ true → Agree (macros_at (macros_after m item.tree) items k) (macros_at m new (suc k))) in
       cond_both (defines from item.tree) (new_items (item ∷ items)) (item ∷ macro_renamed items) P
       (λ e. (
-        (λ none. absurd (both_ways (defines from item.tree) (or_parts (defines from item.tree) (is_behind from items k) none).0 e)),
+        (λ none. absurd (both_ways (defines from item.tree) (or_parts (defines from item.tree) (is_after from items k) none).0 e)),
         (λ _. at_same (name_renamed from to) (use_renamed from to) IsFreePart IsFree Agree gives stays
             (macros_after m item.tree) (macros_after m (new_tree item.tree)) (begins_tree m item.tree e h.0) items h.1 k),
       ))
       (λ e. (
-        (λ none. rest.0 (or_parts (defines from item.tree) (is_behind from items k) none).1),
-        (λ some. rest.1 (⊎_elim (λ k. absurd (both_ways (defines from item.tree) e k)) (λ k. k) (or_cases (defines from item.tree) (is_behind from items k) some))),
+        (λ none. rest.0 (or_parts (defines from item.tree) (is_after from items k) none).1),
+        (λ some. rest.1 (⊎_elim (λ k. absurd (both_ways (defines from item.tree) e k)) (λ k. k) (or_cases (defines from item.tree) (is_after from items k) some))),
       ))

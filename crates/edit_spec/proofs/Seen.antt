@@ -8,7 +8,7 @@ use Rattle.bib_spec.specs.Tree.{Definition, Tree, CommentTree, DefinitionTree, P
 use Rattle.bib_spec.specs.Reading.{Item}
 use Rattle.bib_spec.specs.Texts.{Macros, months, raw_text, macros_in, macros_after, macros_at}
 use Rattle.edit_spec.specs.Edits.{defines}
-use Rattle.edit_spec.specs.Laws.{is_behind, sees_last_definition, sees_months}
+use Rattle.edit_spec.specs.Laws.{is_after, sees_last_definition, sees_months}
 use Rattle.bib_spec.proofs.Names.{same-is, same_comm}
 
 module _ (name : Text) where
@@ -24,17 +24,17 @@ module _ (name : Text) where
       cond-true (bytes_eq (folded name) (folded d.assignment.name)) (Some (raw_text (macros_in m (DefinitionTree d)) d.assignment.value)) (m (folded name)) (sym (same-is name d.assignment.name) ∙ same_comm name d.assignment.name ∙ e)
 
   -- as long as no definition of it follows, a name stands for what it stood for
-  pub undefined : (m : Macros) (items : List Item) (n : ℕ) → is_behind name items n ≡ false → macros_at m items n (folded name) ≡ m (folded name)
+  pub undefined : (m : Macros) (items : List Item) (n : ℕ) → is_after name items n ≡ false → macros_at m items n (folded name) ≡ m (folded name)
   undefined m items zero e = refl
   undefined m [] (suc n) e = refl
   undefined m (item ∷ items) (suc n) e =
-      let both = or_parts (defines name item.tree) (is_behind name items n) e in
+      let both = or_parts (defines name item.tree) (is_after name items n) e in
       undefined (macros_after m item.tree) items n both.1 ∙ after_other m item.tree both.0
 
-  none_beyond : (items : List Item) (n : ℕ) → ((j : ℕ) (item : Item) → j < n → slice_get items j ≡ Some item → defines name item.tree ≡ false) → is_behind name items n ≡ false
+  none_beyond : (items : List Item) (n : ℕ) → ((j : ℕ) (item : Item) → j < n → slice_get items j ≡ Some item → defines name item.tree ≡ false) → is_after name items n ≡ false
   none_beyond items zero h = refl
   none_beyond [] (suc n) h = refl
-  none_beyond (item ∷ items) (suc n) h = or_from (defines name item.tree) (is_behind name items n) (h zero item (zero-lt-suc n) refl) (none_beyond items n (λ j other lt at. h (suc j) other (suc-le-suc lt) at))
+  none_beyond (item ∷ items) (suc n) h = or_from (defines name item.tree) (is_after name items n) (h zero item (zero-lt-suc n) refl) (none_beyond items n (λ j other lt at. h (suc j) other (suc-le-suc lt) at))
 
   last : (m : Macros) (items : List Item) (k n : ℕ) (item : Item) (d : Definition) → slice_get items k ≡ Some item → item.tree ≡ DefinitionTree d → same d.assignment.name name ≡ true → k < n →
       ((j : ℕ) (other : Item) → k < j → j < n → slice_get items j ≡ Some other → defines name other.tree ≡ false) →

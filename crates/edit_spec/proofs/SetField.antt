@@ -17,13 +17,13 @@ module _ (name : Text) (value : Value) where
   set_rows n v before [] s are = are_rows [] (new_row name value before ∷ []) no_space
       (All-cons (IsRow name_limit) (new_row name value before) [] (new_row-is name value before n v s) (All-nil (IsRow name_limit)))
   set_rows n v before (row ∷ rows) s are =
-      let rest = with_field name value row.assignment.space_behind rows in
+      let rest = with_field name value row.assignment.space_after rows in
       let is = All-head (IsRow name_limit) row rows are in
-      let behind = All-tail (IsRow name_limit) row rows are in
-      let later = set_rows n v row.assignment.space_behind rows is.assignment.space_behind behind in
+      let after = All-tail (IsRow name_limit) row rows are in
+      let later = set_rows n v row.assignment.space_after rows is.assignment.space_after after in
       ⊎_elim
       (λ e. subst AreRows (sym (cond-true (same row.assignment.name name) (before, row_to value row ∷ rows) (before, row_before rest.0 row ∷ rest.1) e))
-      (are_rows before (row_to value row ∷ rows) s (All-cons (IsRow name_limit) (row_to value row) rows (row_with_value value row v is) behind)))
+      (are_rows before (row_to value row ∷ rows) s (All-cons (IsRow name_limit) (row_to value row) rows (row_with_value value row v is) after)))
       (λ e. subst AreRows (sym (cond-false (same row.assignment.name name) (before, row_to value row ∷ rows) (before, row_before rest.0 row ∷ rest.1) e))
       (are_rows before (row_before rest.0 row ∷ rest.1) s (All-cons (IsRow name_limit) (row_before rest.0 row) rest.1 (row_before_space rest.0 row later.space is) later.rows)))
       (cases_Bool (same row.assignment.name name))
@@ -32,7 +32,7 @@ module _ (name : Text) (value : Value) where
       EndsKey d (with_field name value before rows).0 (with_field name value before rows).1 last
   set_ends d last before [] s = ends_at_row d [] (new_row name value before) [] last no_space
   set_ends d last before (row ∷ rows) s =
-      let rest = with_field name value row.assignment.space_behind rows in
+      let rest = with_field name value row.assignment.space_after rows in
       ⊎_elim
       (λ e. subst (λ (r : Text × List Row). EndsKey d r.0 r.1 last) (sym (cond-true (same row.assignment.name name) (before, row_to value row ∷ rows) (before, row_before rest.0 row ∷ rest.1) e))
       (ends_at_row d before (row_to value row) rows last s))
@@ -42,9 +42,9 @@ module _ (name : Text) (value : Value) where
 
   set_entry : is_name name ≡ true → IsValue name_limit value → (key : Text) (e : Entry) → is_named key e.key ≡ true → IsEntry name_limit e → IsEntry name_limit (entry_with_field name value e)
   set_entry n v key e named is =
-      let new = with_field name value e.space_behind_key e.rows in
+      let new = with_field name value e.space_after_key e.rows in
       entry-is e e.key new.0 new.1 is is.key is.key_len (λ empty. absurd (not_empty e.key (named_not_empty key e.key named) empty))
-      (set_rows n v e.space_behind_key e.rows is.space_behind_key is.rows) (set_ends e.opening.delimiter e.last_comma e.space_behind_key e.rows is.space_behind_key)
+      (set_rows n v e.space_after_key e.rows is.space_after_key is.rows) (set_ends e.opening.delimiter e.last_comma e.space_after_key e.rows is.space_after_key)
 
 pub set_field-reads : (key_base : Record → Text) (file : Text) (db : Reading) (key name : Text) (value : Value) → Reads file db → IsAccepted key_base db (SetField key name value) →
     Reads (bytes_of (set_field key name value db)) (set_field key name value db)

@@ -10,7 +10,7 @@ use Rattle.bib_spec.specs.Reading.{Item, item_bytes}
 use Rattle.bib_spec.specs.Texts.{row_start}
 use Rattle.bib_spec.specs.Pieces.{Chunk, Kept, Replaced, old_of, new_of}
 use Rattle.edit_spec.specs.Edits.{changed, tree_with, items_with}
-use Rattle.edit_spec.specs.EditChunks.{token, part_token, link_chunks, value_chunks, assignment_chunks, row_chunks, behind_rows, entry_chunks, tree_chunks, item_chunks, items_chunks, kept_items, kept_rows}
+use Rattle.edit_spec.specs.EditChunks.{token, part_token, link_chunks, value_chunks, assignment_chunks, row_chunks, after_rows, entry_chunks, tree_chunks, item_chunks, items_chunks, kept_items, kept_rows}
 
 -- a chunk's bytes, before or afterwards
 abbrev pub chunk_text : Bool → Chunk → Text
@@ -62,8 +62,8 @@ row_regroup : (c n x y v s : Text) → c ++ (n ++ x ++ y ++ v ++ s) ≡ (c ++ (n
 row_regroup c n x y v s = simp append_assoc
 
 -- a row is what stands before its value, the value, and what stands after it
-pub row-parts : (row : Row) → row_bytes row ≡ row_start row ++ (value_bytes row.assignment.value ++ row.assignment.space_behind)
-row-parts row = row_regroup (comma ∷ row.space_before_name) row.assignment.name row.assignment.space_before_equals (equals_sign ∷ row.assignment.space_before_value) (value_bytes row.assignment.value) row.assignment.space_behind
+pub row-parts : (row : Row) → row_bytes row ≡ row_start row ++ (value_bytes row.assignment.value ++ row.assignment.space_after)
+row-parts row = row_regroup (comma ∷ row.space_before_name) row.assignment.name row.assignment.space_before_equals (equals_sign ∷ row.assignment.space_before_value) (value_bytes row.assignment.value) row.assignment.space_after
 
 -- ---- trees with names and parts changed
 
@@ -94,9 +94,9 @@ last-read b chunks t bytes e = read-append b chunks (Kept t ∷ []) ∙ ap₂ �
 
 -- an entry with its key, and what stands between that and the end of the rows
 pub entry-read : (b : Bool) (key : Chunk) (rows : List Chunk) (e : Entry) (new_key space : Text) (new_rows : List Row) → chunk_text b key ≡ new_key → read b rows ≡ space ++ flat_map row_bytes new_rows →
-    read b (entry_chunks key rows e) ≡ entry_bytes (record e { key = new_key; space_behind_key = space; rows = new_rows })
+    read b (entry_chunks key rows e) ≡ entry_bytes (record e { key = new_key; space_after_key = space; rows = new_rows })
 entry-read b key rows e new_key space new_rows k r =
-    ap₂ (λ x y. opening_bytes e.opening ++ (x ++ y)) k (last-read b rows (behind_rows e) (space ++ flat_map row_bytes new_rows) r)
+    ap₂ (λ x y. opening_bytes e.opening ++ (x ++ y)) k (last-read b rows (after_rows e) (space ++ flat_map row_bytes new_rows) r)
     ∙ entry_regroup (opening_bytes e.opening) new_key space (flat_map row_bytes new_rows) (last_comma_bytes e.last_comma) (close_byte e.opening.delimiter ∷ [])
 
 module _ (b : Bool) (names : Text → Option Text) (parts : Part → Option Part) (name : Text → Text) (part : Part → Part)
@@ -106,22 +106,22 @@ module _ (b : Bool) (names : Text → Option Text) (parts : Part → Option Part
     links-read : (links : List Link) → read b (flat_map (link_chunks parts) links) ≡ flat_map link_bytes (map (link_by name part) links)
     links-read [] = refl
     links-read (l ∷ links) = read-append b (link_chunks parts l) (flat_map (link_chunks parts) links)
-        ∙ ap₂ ◌++◌ (ap (λ t. (l.space_before_hash ++ hash ∷ l.space_behind_hash) ++ t) (append-nil (chunk_text b (part_token parts l.part)) ∙ part_is l.part)) (links-read links)
+        ∙ ap₂ ◌++◌ (ap (λ t. (l.space_before_hash ++ hash ∷ l.space_after_hash) ++ t) (append-nil (chunk_text b (part_token parts l.part)) ∙ part_is l.part)) (links-read links)
 
     value-read : (v : Value) → read b (value_chunks parts v) ≡ value_bytes (value_by name part v)
     value-read v = ap₂ ◌++◌ (part_is v.first) (links-read v.links)
 
     assignment-read : (a : Assignment) → read b (assignment_chunks names parts a) ≡ assignment_bytes (assignment_by name part a)
     assignment-read a =
-        ap₂ (λ n t. n ++ ((a.space_before_equals ++ equals_sign ∷ a.space_before_value) ++ t)) (name_is a.name) (last-read b (value_chunks parts a.value) a.space_behind (value_bytes (value_by name part a.value)) (value-read a.value))
-        ∙ assignment_regroup (name a.name) a.space_before_equals (equals_sign ∷ a.space_before_value) (value_bytes (value_by name part a.value)) a.space_behind
+        ap₂ (λ n t. n ++ ((a.space_before_equals ++ equals_sign ∷ a.space_before_value) ++ t)) (name_is a.name) (last-read b (value_chunks parts a.value) a.space_after (value_bytes (value_by name part a.value)) (value-read a.value))
+        ∙ assignment_regroup (name a.name) a.space_before_equals (equals_sign ∷ a.space_before_value) (value_bytes (value_by name part a.value)) a.space_after
 
     row-read : (row : Row) → read b (row_chunks parts row) ≡ row_bytes (row_by name part row)
     row-read row =
         ap (λ t. (comma ∷ row.space_before_name) ++ t)
         (ap (λ t. row.assignment.name ++ ((row.assignment.space_before_equals ++ equals_sign ∷ row.assignment.space_before_value) ++ t))
-        (last-read b (value_chunks parts row.assignment.value) row.assignment.space_behind (value_bytes (value_by name part row.assignment.value)) (value-read row.assignment.value))
-        ∙ assignment_regroup row.assignment.name row.assignment.space_before_equals (equals_sign ∷ row.assignment.space_before_value) (value_bytes (value_by name part row.assignment.value)) row.assignment.space_behind)
+        (last-read b (value_chunks parts row.assignment.value) row.assignment.space_after (value_bytes (value_by name part row.assignment.value)) (value-read row.assignment.value))
+        ∙ assignment_regroup row.assignment.name row.assignment.space_before_equals (equals_sign ∷ row.assignment.space_before_value) (value_bytes (value_by name part row.assignment.value)) row.assignment.space_after)
 
     rows-read : (rows : List Row) → read b (flat_map (row_chunks parts) rows) ≡ flat_map row_bytes (map (row_by name part) rows)
     rows-read [] = refl
@@ -133,9 +133,9 @@ module _ (b : Bool) (names : Text → Option Text) (parts : Part → Option Part
         ap (λ t. opening_bytes d.opening ++ t) (last-read b (assignment_chunks names parts d.assignment) (close_byte d.opening.delimiter ∷ []) (assignment_bytes (assignment_by name part d.assignment)) (assignment-read d.assignment))
         ∙ sym (append_assoc (opening_bytes d.opening) (assignment_bytes (assignment_by name part d.assignment)) (close_byte d.opening.delimiter ∷ []))
     tree-read (PreambleTree p) =
-        ap (λ t. opening_bytes p.opening ++ t) (last-read b (value_chunks parts p.value) (p.space_behind ++ close_byte p.opening.delimiter ∷ []) (value_bytes (value_by name part p.value)) (value-read p.value))
-        ∙ preamble_regroup (opening_bytes p.opening) (value_bytes (value_by name part p.value)) p.space_behind (close_byte p.opening.delimiter ∷ [])
-    tree-read (EntryTree e) = entry-read b (Kept e.key) (Kept e.space_behind_key ∷ flat_map (row_chunks parts) e.rows) e e.key e.space_behind_key (map (row_by name part) e.rows) refl (ap (λ t. e.space_behind_key ++ t) (rows-read e.rows))
+        ap (λ t. opening_bytes p.opening ++ t) (last-read b (value_chunks parts p.value) (p.space_after ++ close_byte p.opening.delimiter ∷ []) (value_bytes (value_by name part p.value)) (value-read p.value))
+        ∙ preamble_regroup (opening_bytes p.opening) (value_bytes (value_by name part p.value)) p.space_after (close_byte p.opening.delimiter ∷ [])
+    tree-read (EntryTree e) = entry-read b (Kept e.key) (Kept e.space_after_key ∷ flat_map (row_chunks parts) e.rows) e e.key e.space_after_key (map (row_by name part) e.rows) refl (ap (λ t. e.space_after_key ++ t) (rows-read e.rows))
 
     pub items-read : (items : List Item) → read b (items_chunks names parts items) ≡ flat_map item_bytes (map (item_by name part) items)
     items-read [] = refl

@@ -49,7 +49,7 @@ unrefuted_part limit (Macro t) h = unrefuted_true _ h
 unrefuted_link : (limit : ℕ) (l : Link) → ((IsLink limit l → ⊥) → ⊥) → IsLink limit l
 unrefuted_link limit l h = record {
   space_before_hash = unrefuted_space l.space_before_hash (λ none. h (λ is. none is.space_before_hash));
-  space_behind_hash = unrefuted_space l.space_behind_hash (λ none. h (λ is. none is.space_behind_hash));
+  space_after_hash = unrefuted_space l.space_after_hash (λ none. h (λ is. none is.space_after_hash));
   part = unrefuted_part limit l.part (λ none. h (λ is. none is.part));
 }
 

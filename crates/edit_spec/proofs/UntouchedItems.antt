@@ -13,7 +13,7 @@ use Rattle.bib_spec.specs.Texts.{Macros, months, macros_after, gathered}
 use Rattle.bib_spec.specs.Records.{EntryTexts, Record, entry_in, entries_of, keys_of, crossref, is_named, entry_named, target}
 use Rattle.edit_spec.specs.Edits.{SetField, DropField, AddEntry, RemoveEntry, MoveEntry, RenameKey, RenameMacro, InlineMacro, IntroduceMacro, RegenerateKeys, AddMany, NotFound, Ambiguous, BadPosition, IsAccepted, edited, leaving, item_with, items_with, defines, uses, holds, any_part, is_entry, from_first, with_first_tree, without_first, of_entry, entry_with_field, entry_without_field, in_line, item_of, with_item, remove_entry, next_number, tree_with_keys, item_with_keys, items_with_keys, in_braces, row_to, with_value, with_crossref, key_for, name_renamed, use_renamed, use_inlined, uses_inlined, text_of_macro, part_introduced, introduced, holders, last_position}
 use Rattle.bib_spec.specs.MadeKeys.{new_keys}
-use Rattle.edit_spec.specs.Laws.{is_behind, is_reached}
+use Rattle.edit_spec.specs.Laws.{is_after, is_reached}
 use Rattle.edit_spec.specs.OtherLaws.{number_with_one_more, number_with_one_less, entries_before, passes, number_of_first, is_first, is_any_entry, is_braced, is_in_braces, names_already, has_its_keys, is_or_refers_to, is_changed, gained, StandsAt, KeepsItems, untouched_items_stay, moved_entry_stays}
 use Rattle.bib_spec.proofs.Names.{both_true, eq-true}
 use Rattle.bib_spec.proofs.Counts.{count-no}
@@ -84,21 +84,21 @@ changed_at test change (first ∷ items) n item at = by_test (λ n at. changed_a
     by_test : ((n : ℕ) → slice_get items n ≡ Some item → StandsAt (from_first test (with_first_tree change) items) n (is_first test items n) item.tree item.trail) →
         (b : Bool) (n : ℕ) → slice_get (first ∷ items) n ≡ Some item →
         StandsAt (if b then record first { tree = change first.tree } ∷ items else first ∷ from_first test (with_first_tree change) items) n ((if b then 0 else suc (number_of_first test items)) == n) item.tree item.trail
-    by_test behind true zero at = record {
+    by_test after true zero at = record {
       item = record first { tree = change first.tree };
       at = refl;
       trail_is = ap (λ (i : Item). i.trail) (same_Some first item at);
       tree_is = λ e. absurd (both_ways (zero == zero) e (eq-eqb zero zero refl));
     }
-    by_test behind true (suc n) at = stands (record first { tree = change first.tree } ∷ items) (suc n) (zero == suc n) item item at refl (λ _. refl)
-    by_test behind false zero at = let is = same_Some first item at in record {
+    by_test after true (suc n) at = stands (record first { tree = change first.tree } ∷ items) (suc n) (zero == suc n) item item at refl (λ _. refl)
+    by_test after false zero at = let is = same_Some first item at in record {
       item = first;
       at = refl;
       trail_is = ap (λ (i : Item). i.trail) is;
       tree_is = λ _. ap (λ (i : Item). i.tree) is;
     }
-    by_test behind false (suc n) at =
-        let rest = behind n at in
+    by_test after false (suc n) at =
+        let rest = after n at in
         record { item = rest.item; at = rest.at; trail_is = rest.trail_is; tree_is = λ e. rest.tree_is (sym (eq-suc (number_of_first test items) n) ∙ e) }
 
 -- ---- a change of names and parts
@@ -142,16 +142,16 @@ renamed_at from to (first ∷ items) n item at = by_test (λ n at. renamed_at fr
         (is_reached (defines from) items n && passes (is_renamed from) items n) item.tree item.trail) → (b : Bool) (n : ℕ) → slice_get (first ∷ items) n ≡ Some item →
         StandsAt (if b then items_with (name_renamed from to) (use_renamed from to) (first ∷ items) else first ∷ from_first (defines from) (items_with (name_renamed from to) (use_renamed from to)) items) n
         ((b || list_any (λ item. defines from item.tree) (take n items)) && passes (is_renamed from) (first ∷ items) n) item.tree item.trail
-    by_test behind true n at =
+    by_test after true n at =
         with_at (name_renamed from to) (use_renamed from to) (uses from) (renamed_leaves from to) (first ∷ items) n (passes (is_renamed from) (first ∷ items) n) item at
         (λ e. let both = or_parts (defines from item.tree) (any_part (uses from) item.tree) (sym (passes-at (is_renamed from) (first ∷ items) n item at) ∙ e) in (renamed_name from to item.tree both.0, both.1))
-    by_test behind false zero at = let is = same_Some first item at in record {
+    by_test after false zero at = let is = same_Some first item at in record {
       item = first;
       at = refl;
       trail_is = ap (λ (i : Item). i.trail) is;
       tree_is = λ _. ap (λ (i : Item). i.tree) is;
     }
-    by_test behind false (suc n) at = let rest = behind n at in record { item = rest.item; at = rest.at; trail_is = rest.trail_is; tree_is = rest.tree_is }
+    by_test after false (suc n) at = let rest = after n at in record { item = rest.item; at = rest.at; trail_is = rest.trail_is; tree_is = rest.tree_is }
 
 -- ---- a change of keys
 
@@ -206,8 +206,8 @@ rows-left key (row ∷ rows) h = by_test (rows-left key rows) (same row.assignme
     by_test : (names_already (Some key) rows ≡ true → with_value crossref (in_braces key) rows ≡ rows) →
         (b : Bool) → (if b then is_in_braces key row.assignment.value else names_already (Some key) rows) ≡ true →
         (if b then row_to (in_braces key) row ∷ rows else row ∷ with_value crossref (in_braces key) rows) ≡ row ∷ rows
-    by_test behind true h = ap (λ (v : Value). row_to v row ∷ rows) (sym (in_braces-is key row.assignment.value h))
-    by_test behind false h = ap (λ rows. row ∷ rows) (behind h)
+    by_test after true h = ap (λ (v : Value). row_to v row ∷ rows) (sym (in_braces-is key row.assignment.value h))
+    by_test after false h = ap (λ rows. row ∷ rows) (after h)
 
 crossref-left : (key : Option Text) (rows : List Row) → names_already key rows ≡ true → with_crossref key rows ≡ rows
 crossref-left None rows h = refl
@@ -282,14 +282,14 @@ removed_at test front (first ∷ items) n item stays at = by_test (λ n stays at
         slice_get (without_first test first.trail items).items (number_with_one_less (number_of_first test items) n) ≡ Some (record item { trail = item.trail ++ gained (is_first test items) items (suc n) })) → (b : Bool) (n : ℕ) → ((if b then 0 else suc (number_of_first test items)) == n) ≡ false → slice_get (first ∷ items) n ≡ Some item →
         slice_get (without_by b front first items (without_first test first.trail items)).items (number_with_one_less (if b then 0 else suc (number_of_first test items)) n)
         ≡ Some (record item { trail = item.trail ++ gained (λ n. (if b then 0 else suc (number_of_first test items)) == n) (first ∷ items) (suc n) })
-    by_test behind true zero stays at = absurd (both_ways (zero == zero) stays (eq-eqb zero zero refl))
-    by_test behind true (suc n) stays at = at ∙ ap (with_trail item) (sym (append-nil item.trail) ∙ sym (ap (λ t. item.trail ++ t) (gained-after (first ∷ items) 0 (suc (suc n)) (zero-suc (suc n)))))
-    by_test behind false zero stays at =
+    by_test after true zero stays at = absurd (both_ways (zero == zero) stays (eq-eqb zero zero refl))
+    by_test after true (suc n) stays at = at ∙ ap (with_trail item) (sym (append-nil item.trail) ∙ sym (ap (λ t. item.trail ++ t) (gained-after (first ∷ items) 0 (suc (suc n)) (zero-suc (suc n)))))
+    by_test after false zero stays at =
         let is = same_Some first item at in
         ap (with_trail first) (gained_front test first.trail items ∙ ap (λ t. first.trail ++ t) (sym (gained-suc first items (number_of_first test items) zero)))
         ∙ ap (λ (i : Item). with_trail i (i.trail ++ gained (λ n. suc (number_of_first test items) == n) (first ∷ items) 1)) is
-    by_test behind false (suc n) stays at =
-        behind n (sym (eq-suc (number_of_first test items) n) ∙ stays) at
+    by_test after false (suc n) stays at =
+        after n (sym (eq-suc (number_of_first test items) n) ∙ stays) at
         ∙ ap (λ t. with_trail item (item.trail ++ t)) (sym (gained-suc first items (number_of_first test items) (suc n)))
 
 removal-order : (test : Tree → Bool) (items : List Item) (n m : ℕ) → is_first test items n ≡ false → is_first test items m ≡ false → n < m →
@@ -320,7 +320,7 @@ abbrev by_inlining : Bool → Text → Text → Item → List Item → List Item
 by_inlining b name text first items = if b then first ∷ items_with leaving (use_inlined name text) items else first ∷ with_uses_inlined name text items
 
 inlined_at : (name text : Text) (items : List Item) (n : ℕ) (item : Item) → slice_get items n ≡ Some item →
-    StandsAt (with_uses_inlined name text items) n (is_behind name items n && passes (any_part (uses name)) items n) item.tree item.trail
+    StandsAt (with_uses_inlined name text items) n (is_after name items n && passes (any_part (uses name)) items n) item.tree item.trail
 inlined_at name text [] n item at = absurd (none-some item at)
 inlined_at name text (first ∷ items) zero item at = by_test (defines name first.tree)
   where
@@ -329,8 +329,8 @@ inlined_at name text (first ∷ items) zero item at = by_test (defines name firs
     by_test false = stands (by_inlining false name text first items) zero false item item at refl (λ _. refl)
 inlined_at name text (first ∷ items) (suc n) item at = by_test (inlined_at name text items n item at) (defines name first.tree)
   where
-    by_test : StandsAt (with_uses_inlined name text items) n (is_behind name items n && passes (any_part (uses name)) items n) item.tree item.trail →
-        (b : Bool) → StandsAt (by_inlining b name text first items) (suc n) ((b || is_behind name items n) && passes (any_part (uses name)) items n) item.tree item.trail
+    by_test : StandsAt (with_uses_inlined name text items) n (is_after name items n && passes (any_part (uses name)) items n) item.tree item.trail →
+        (b : Bool) → StandsAt (by_inlining b name text first items) (suc n) ((b || is_after name items n) && passes (any_part (uses name)) items n) item.tree item.trail
     by_test rest true =
         let it = with_at leaving (use_inlined name text) (uses name) (inlined_leaves name text) items n (passes (any_part (uses name)) items n) item at
         (λ e. (leaving-leaves item.tree, sym (passes-at (any_part (uses name)) items n item at) ∙ e)) in
@@ -380,7 +380,7 @@ inlined-gained name text items n =
 
 inlined_item : (name text front : Text) (items : List Item) (n : ℕ) (item : Item) → is_first (defines name) items n ≡ false → slice_get items n ≡ Some item →
     StandsAt (without_first (defines name) front (with_uses_inlined name text items)).items (number_with_one_less (number_of_first (defines name) items) n)
-    (is_behind name items n && passes (any_part (uses name)) items n) item.tree (item.trail ++ gained (is_first (defines name) items) items (suc n))
+    (is_after name items n && passes (any_part (uses name)) items n) item.tree (item.trail ++ gained (is_first (defines name) items) items (suc n))
 inlined_item name text front items n item stays at =
     let new : List Item = with_uses_inlined name text items in
     let changed = inlined_at name text items n item at in
@@ -407,17 +407,17 @@ introduced_at name text (first ∷ items) n item at = by_test (λ n at. introduc
         (b : Bool) (n : ℕ) → slice_get (first ∷ items) n ≡ Some item →
         StandsAt (if b then introduced name text (first ∷ items) else first ∷ from_first (any_part (holds text)) (introduced name text) items)
         (number_with_one_more (if b then 0 else suc (number_of_first (any_part (holds text)) items)) n) (passes (any_part (holds text)) (first ∷ items) n) item.tree item.trail
-    by_test behind true n at =
+    by_test after true n at =
         let it = with_at leaving (part_introduced name text) (holds text) (λ part h. cond-false (holds text part) (Some (Macro name)) None h) (first ∷ items) n (passes (any_part (holds text)) (first ∷ items) n) item at
         (λ e. (leaving-leaves item.tree, sym (passes-at (any_part (holds text)) (first ∷ items) n item at) ∙ e)) in
         record { item = it.item; at = it.at; trail_is = it.trail_is; tree_is = it.tree_is }
-    by_test behind false zero at = let is = same_Some first item at in record {
+    by_test after false zero at = let is = same_Some first item at in record {
       item = first;
       at = refl;
       trail_is = ap (λ (i : Item). i.trail) is;
       tree_is = λ _. ap (λ (i : Item). i.tree) is;
     }
-    by_test behind false (suc n) at = let rest = behind n at in record { item = rest.item; at = rest.at; trail_is = rest.trail_is; tree_is = rest.tree_is }
+    by_test after false (suc n) at = let rest = after n at in record { item = rest.item; at = rest.at; trail_is = rest.trail_is; tree_is = rest.tree_is }
 
 -- ---- an item put in
 
@@ -453,8 +453,8 @@ length-removed test front (first ∷ items) found e = by_test (length-removed te
   where
     by_test : (find (λ item. test item.tree) items ≡ Some found → suc (length (without_first test first.trail items).items) ≡ length items) →
         (b : Bool) → (if b then Some first else find (λ item. test item.tree) items) ≡ Some found → suc (length (without_by b front first items (without_first test first.trail items)).items) ≡ suc (length items)
-    by_test behind true e = refl
-    by_test behind false e = ap suc (behind e)
+    by_test after true e = refl
+    by_test after false e = ap suc (after e)
 
 -- the item that is moved, and the place that it goes to
 pub record IsMove (key : Text) (place : ℕ) (db : Reading) : Type 0 where

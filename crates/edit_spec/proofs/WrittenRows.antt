@@ -57,7 +57,7 @@ brace_ends = refl
 -- without rows the closing parenthesis may not stand directly after the key
 pub ends_without_rows : (d : Delimiter) (space : Text) (last : Option Text) → IsSpace space →
     bytes_eq (space ++ flat_map row_bytes [] ++ last_comma_bytes last ++ close_byte d ∷ []) (close_paren ∷ []) ≡ false → EndsKey d space [] last
-ends_without_rows d [] (Some behind) h differs = comma_ends d
+ends_without_rows d [] (Some after) h differs = comma_ends d
 ends_without_rows Brace [] None h differs = brace_ends
 ends_without_rows Paren [] None h differs = absurd (true≢false differs)
 ends_without_rows d (b ∷ space) last h differs = space_ends d b (All-head (λ b. is_space b ≡ true) b space h)
@@ -80,7 +80,7 @@ row_with_value value row v is = record {
     space_before_equals = is.assignment.space_before_equals;
     space_before_value = is.assignment.space_before_value;
     value = v;
-    space_behind = is.assignment.space_behind;
+    space_after = is.assignment.space_after;
   };
 }
 
@@ -92,14 +92,14 @@ row_before_space space row s is = record {
     space_before_equals = is.assignment.space_before_equals;
     space_before_value = is.assignment.space_before_value;
     value = is.assignment.value;
-    space_behind = s;
+    space_after = s;
   };
 }
 
-pub new_row-is : (name : Text) (value : Value) (behind : Text) → is_name name ≡ true → IsValue name_limit value → IsSpace behind → IsRow name_limit (new_row name value behind)
-new_row-is name value behind n v s = record {
+pub new_row-is : (name : Text) (value : Value) (after : Text) → is_name name ≡ true → IsValue name_limit value → IsSpace after → IsRow name_limit (new_row name value after)
+new_row-is name value after n v s = record {
   space_before_name = row_space;
-  assignment = record { name = n; space_before_equals = one_space; space_before_value = one_space; value = v; space_behind = s };
+  assignment = record { name = n; space_before_equals = one_space; space_before_value = one_space; value = v; space_after = s };
 }
 
 -- ---- entries
@@ -110,14 +110,14 @@ not_empty key h e = both_ways (is_empty key) h (ap is_empty e)
 -- an entry with another key, other white space after it, and other rows
 pub entry-is : (e : Entry) (key space : Text) (rows : List Row) → IsEntry name_limit e → AllPass (goes_on_key e.opening.delimiter) key → length key ≤ name_limit →
     (key ≡ [] → space ≡ []) → AreRows (space, rows) → EndsKey e.opening.delimiter space rows e.last_comma →
-    IsEntry name_limit (record e { key = key; space_behind_key = space; rows = rows })
+    IsEntry name_limit (record e { key = key; space_after_key = space; rows = rows })
 entry-is e key space rows is k len empty are ends = record {
   opening = is.opening;
   type_name = is.type_name;
   key = k;
   key_len = len;
   key_ends = ends;
-  space_behind_key = are.space;
+  space_after_key = are.space;
   empty_key = empty;
   rows = are.rows;
   last_comma = is.last_comma;

@@ -25,7 +25,7 @@ part_token parts part = token (part_bytes part) (option_map part_bytes (parts pa
 
 -- a link in chunks
 abbrev pub link_chunks : (Part → Option Part) → Link → List Chunk
-link_chunks parts l = Kept (l.space_before_hash ++ hash ∷ l.space_behind_hash) ∷ part_token parts l.part ∷ []
+link_chunks parts l = Kept (l.space_before_hash ++ hash ∷ l.space_after_hash) ∷ part_token parts l.part ∷ []
 
 -- a value in chunks
 abbrev pub value_chunks : (Part → Option Part) → Value → List Chunk
@@ -34,19 +34,19 @@ value_chunks parts v = part_token parts v.first ∷ flat_map (link_chunks parts)
 -- an assignment in chunks
 abbrev pub assignment_chunks : (Text → Option Text) → (Part → Option Part) → Assignment → List Chunk
 assignment_chunks names parts a =
-    token a.name (names a.name) ∷ Kept (a.space_before_equals ++ equals_sign ∷ a.space_before_value) ∷ (value_chunks parts a.value ++ Kept a.space_behind ∷ [])
+    token a.name (names a.name) ∷ Kept (a.space_before_equals ++ equals_sign ∷ a.space_before_value) ∷ (value_chunks parts a.value ++ Kept a.space_after ∷ [])
 
 -- a row in chunks
 abbrev pub row_chunks : (Part → Option Part) → Row → List Chunk
 row_chunks parts row = Kept (comma ∷ row.space_before_name) ∷ assignment_chunks leaving parts row.assignment
 
 -- the bytes of an entry after its rows
-abbrev pub behind_rows : Entry → Text
-behind_rows e = last_comma_bytes e.last_comma ++ close_byte e.opening.delimiter ∷ []
+abbrev pub after_rows : Entry → Text
+after_rows e = last_comma_bytes e.last_comma ++ close_byte e.opening.delimiter ∷ []
 
 -- an entry in chunks, given that of its key and those from there to the end of the rows
 abbrev pub entry_chunks : Chunk → List Chunk → Entry → List Chunk
-entry_chunks key rows e = Kept (opening_bytes e.opening) ∷ key ∷ (rows ++ Kept (behind_rows e) ∷ [])
+entry_chunks key rows e = Kept (opening_bytes e.opening) ∷ key ∷ (rows ++ Kept (after_rows e) ∷ [])
 
 -- a tree in chunks, where these changes replace the name that it defines and its parts
 abbrev pub tree_chunks : (Text → Option Text) → (Part → Option Part) → Tree → List Chunk
@@ -54,8 +54,8 @@ tree_chunks names parts (CommentTree h) = Kept (head_bytes h) ∷ []
 tree_chunks names parts (DefinitionTree d) =
     Kept (opening_bytes d.opening) ∷ (assignment_chunks names parts d.assignment ++ Kept (close_byte d.opening.delimiter ∷ []) ∷ [])
 tree_chunks names parts (PreambleTree p) =
-    Kept (opening_bytes p.opening) ∷ (value_chunks parts p.value ++ Kept (p.space_behind ++ close_byte p.opening.delimiter ∷ []) ∷ [])
-tree_chunks names parts (EntryTree e) = entry_chunks (Kept e.key) (Kept e.space_behind_key ∷ flat_map (row_chunks parts) e.rows) e
+    Kept (opening_bytes p.opening) ∷ (value_chunks parts p.value ++ Kept (p.space_after ++ close_byte p.opening.delimiter ∷ []) ∷ [])
+tree_chunks names parts (EntryTree e) = entry_chunks (Kept e.key) (Kept e.space_after_key ∷ flat_map (row_chunks parts) e.rows) e
 
 -- an item in chunks
 abbrev pub item_chunks : (Text → Option Text) → (Part → Option Part) → Item → List Chunk
@@ -109,7 +109,7 @@ abbrev pub value_replaced : Text → Value → List Row → List Chunk
 value_replaced name value [] = []
 value_replaced name value (row ∷ rows) =
     if same row.assignment.name name
-    then Kept (row_start row) ∷ Replaced (value_bytes row.assignment.value) (value_bytes value) ∷ Kept row.assignment.space_behind ∷ kept_rows rows
+    then Kept (row_start row) ∷ Replaced (value_bytes row.assignment.value) (value_bytes value) ∷ Kept row.assignment.space_after ∷ kept_rows rows
     else Kept (row_bytes row) ∷ value_replaced name value rows
 
 -- the white space before the rows, and the rows, of which the first of this name has another value or a new one is added
@@ -117,16 +117,16 @@ abbrev pub field_set : Text → Value → Text → List Row → List Chunk
 field_set name value before [] = Replaced [] (row_start (new_row name value []) ++ value_bytes value) ∷ Kept before ∷ []
 field_set name value before (row ∷ rows) =
     if same row.assignment.name name
-    then Kept before ∷ Kept (row_start row) ∷ Replaced (value_bytes row.assignment.value) (value_bytes value) ∷ Kept row.assignment.space_behind ∷ kept_rows rows
-    else Kept before ∷ Kept (row_start row) ∷ Kept (value_bytes row.assignment.value) ∷ field_set name value row.assignment.space_behind rows
+    then Kept before ∷ Kept (row_start row) ∷ Replaced (value_bytes row.assignment.value) (value_bytes value) ∷ Kept row.assignment.space_after ∷ kept_rows rows
+    else Kept before ∷ Kept (row_start row) ∷ Kept (value_bytes row.assignment.value) ∷ field_set name value row.assignment.space_after rows
 
 -- the white space before the rows, and the rows, of which the first of this name goes up to its value's end
 abbrev pub field_dropped : Text → Text → List Row → List Chunk
 field_dropped name before [] = Kept before ∷ []
 field_dropped name before (row ∷ rows) =
     if same row.assignment.name name
-    then Kept before ∷ Replaced (row_start row ++ value_bytes row.assignment.value) [] ∷ Kept row.assignment.space_behind ∷ kept_rows rows
-    else Kept before ∷ Kept (row_start row) ∷ Kept (value_bytes row.assignment.value) ∷ field_dropped name row.assignment.space_behind rows
+    then Kept before ∷ Replaced (row_start row ++ value_bytes row.assignment.value) [] ∷ Kept row.assignment.space_after ∷ kept_rows rows
+    else Kept before ∷ Kept (row_start row) ∷ Kept (value_bytes row.assignment.value) ∷ field_dropped name row.assignment.space_after rows
 
 -- ---- keys
 
@@ -138,7 +138,7 @@ crossref_chunks (Some key) rows = value_replaced crossref (in_braces key) rows
 -- entry n in chunks, with its new key and its target's
 abbrev pub tree_key_chunks : (ℕ → Option Text) → List EntryTexts → ℕ → Tree → List Chunk
 tree_key_chunks new entries n (EntryTree e) =
-    entry_chunks (token e.key (new n)) (Kept e.space_behind_key ∷ crossref_chunks (option_and_then new (target entries n)) e.rows) e
+    entry_chunks (token e.key (new n)) (Kept e.space_after_key ∷ crossref_chunks (option_and_then new (target entries n)) e.rows) e
 tree_key_chunks new entries n other = Kept (tree_bytes other) ∷ []
 
 -- an item in chunks, with the new keys, if the next entry has the number n
@@ -182,9 +182,9 @@ appended (new ∷ news) = Replaced [] (flat_map item_bytes (map item_of (new ∷
 -- the items of the file, in the chunks that the edit leaves and replaces
 abbrev pub changed_items : (Record → Text) → Reading → Edit → List Chunk
 changed_items key_base db (SetField key name value) =
-    chunks_from_first (is_entry key) (entry_as (λ e. entry_chunks (Kept e.key) (field_set name value e.space_behind_key e.rows) e)) db.items
+    chunks_from_first (is_entry key) (entry_as (λ e. entry_chunks (Kept e.key) (field_set name value e.space_after_key e.rows) e)) db.items
 changed_items key_base db (DropField key name) =
-    chunks_from_first (is_entry key) (entry_as (λ e. entry_chunks (Kept e.key) (field_dropped name e.space_behind_key e.rows) e)) db.items
+    chunks_from_first (is_entry key) (entry_as (λ e. entry_chunks (Kept e.key) (field_dropped name e.space_after_key e.rows) e)) db.items
 changed_items key_base db (AddEntry position new) = kept_items (take position db.items) ++ (inserted (item_of new) ++ kept_items (drop position db.items))
 changed_items key_base db (RemoveEntry key) = chunks_from_first (is_entry key) without_body db.items
 changed_items key_base db (MoveEntry key position) =

@@ -5,7 +5,7 @@ use Rattle.std.specs.Option.{option_map_or}
 use Rattle.bib_spec.specs.Bytes.{name_limit, file_limit, close_paren}
 use Rattle.bib_spec.specs.Text.{Text, folded, same, is_name, is_new_key}
 use Rattle.bib_spec.specs.Clean.{IsClean, IsCleanTrail}
-use Rattle.bib_spec.specs.Tree.{Part, Braced, Quoted, Digits, Macro, Link, Value, Assignment, Row, Brace, Definition, Entry, Tree, CommentTree, DefinitionTree, PreambleTree, EntryTree, is_comment, is_type, behind_key_bytes, value_bytes, IsValue}
+use Rattle.bib_spec.specs.Tree.{Part, Braced, Quoted, Digits, Macro, Link, Value, Assignment, Row, Brace, Definition, Entry, Tree, CommentTree, DefinitionTree, PreambleTree, EntryTree, is_comment, is_type, after_key_bytes, value_bytes, IsValue}
 use Rattle.bib_spec.specs.Reading.{Item, Reading, bytes_of, IsValueWithin}
 use Rattle.bib_spec.specs.Texts.{months, parts_of, values_of, seen, too_long_at}
 use Rattle.bib_spec.specs.Records.{EntryTexts, Record, entries_of, keys_of, crossref, has_name, is_named, entry_named, target, parent, dangling_texts}
@@ -157,14 +157,14 @@ without_first test front (item ∷ items) =
 
 -- a row as an edit writes it: in a line of its own, with this white space after it
 abbrev pub new_row : Text → Value → Text → Row
-new_row name value behind = record {
+new_row name value after = record {
   space_before_name = codes "\n  ";
-  assignment = record { name = name; space_before_equals = codes " "; space_before_value = codes " "; value = value; space_behind = behind };
+  assignment = record { name = name; space_before_equals = codes " "; space_before_value = codes " "; value = value; space_after = after };
 }
 
 -- a row with this white space after it
 abbrev pub row_before : Text → Row → Row
-row_before space row = record row { assignment = record row.assignment { space_behind = space } }
+row_before space row = record row { assignment = record row.assignment { space_after = space } }
 
 -- a row with another value
 abbrev pub row_to : Value → Row → Row
@@ -175,7 +175,7 @@ row_to value row = record row { assignment = record row.assignment { value = val
 abbrev pub with_field : Text → Value → Text → List Row → Text × List Row
 with_field name value before [] = ([], new_row name value before ∷ [])
 with_field name value before (row ∷ rows) =
-    let rest = with_field name value row.assignment.space_behind rows in
+    let rest = with_field name value row.assignment.space_after rows in
     if same row.assignment.name name then (before, row_to value row ∷ rows) else (before, row_before rest.0 row ∷ rest.1)
 
 -- The white space before the rows, and the rows without the first of this name: it goes from its comma to the end of its value,
@@ -183,20 +183,20 @@ with_field name value before (row ∷ rows) =
 abbrev pub without_field : Text → Text → List Row → Text × List Row
 without_field name before [] = (before, [])
 without_field name before (row ∷ rows) =
-    let rest = without_field name row.assignment.space_behind rows in
-    if same row.assignment.name name then (before ++ row.assignment.space_behind, rows) else (before, row_before rest.0 row ∷ rest.1)
+    let rest = without_field name row.assignment.space_after rows in
+    if same row.assignment.name name then (before ++ row.assignment.space_after, rows) else (before, row_before rest.0 row ∷ rest.1)
 
 -- an entry with this white space before its rows, and these rows
 abbrev pub entry_with_rows : Text × List Row → Entry → Entry
-entry_with_rows rows e = record e { space_behind_key = rows.0; rows = rows.1 }
+entry_with_rows rows e = record e { space_after_key = rows.0; rows = rows.1 }
 
 -- an entry with the field set
 abbrev pub entry_with_field : Text → Value → Entry → Entry
-entry_with_field name value e = entry_with_rows (with_field name value e.space_behind_key e.rows) e
+entry_with_field name value e = entry_with_rows (with_field name value e.space_after_key e.rows) e
 
 -- an entry without the field
 abbrev pub entry_without_field : Text → Entry → Entry
-entry_without_field name e = entry_with_rows (without_field name e.space_behind_key e.rows) e
+entry_without_field name e = entry_with_rows (without_field name e.space_after_key e.rows) e
 
 -- a change of entries, as a change of trees that leaves other items alone
 abbrev pub of_entry : (Entry → Entry) → Tree → Tree
@@ -236,10 +236,10 @@ entry_of new = record {
     head = record { space_before_type = []; type_name = new.kind_name };
     space_before_delimiter = [];
     delimiter = Brace;
-    space_behind = [];
+    space_after = [];
   };
   key = new.key;
-  space_behind_key = [];
+  space_after_key = [];
   rows = new_rows new.fields;
   last_comma = None;
 }
@@ -374,9 +374,9 @@ definition_of name text = record {
     head = record { space_before_type = []; type_name = codes "string" };
     space_before_delimiter = [];
     delimiter = Brace;
-    space_behind = [];
+    space_after = [];
   };
-  assignment = record { name = name; space_before_equals = codes " "; space_before_value = codes " "; value = in_braces text; space_behind = [] };
+  assignment = record { name = name; space_before_equals = codes " "; space_before_value = codes " "; value = in_braces text; space_after = [] };
 }
 
 -- the change of a part: a part that is the text becomes a use of the macro
@@ -485,7 +485,7 @@ pub record HasCleanTexts (db : Reading) : Type 0 where
 
 -- nothing but a closing parenthesis follows the key, so it would belong to the key
 abbrev pub ends_in_key : Entry → Bool
-ends_in_key e = bytes_eq (behind_key_bytes e) (close_paren ∷ [])
+ends_in_key e = bytes_eq (after_key_bytes e) (close_paren ∷ [])
 
 -- the item is such an entry
 abbrev pub tree_ends_in_key : Tree → Bool

@@ -21,20 +21,20 @@ only part = record { first = part; links = [] }
 
 -- two parts, with ` # ` between them
 abbrev pub both : Part → Part → Value
-both part other = record { first = part; links = record { space_before_hash = codes " "; space_behind_hash = codes " "; part = other } ∷ [] }
+both part other = record { first = part; links = record { space_before_hash = codes " "; space_after_hash = codes " "; part = other } ∷ [] }
 
 -- `, name = value`
 abbrev pub spaced : Text → Value → Row
 spaced name value = record {
   space_before_name = codes " ";
-  assignment = record { name = name; space_before_equals = codes " "; space_before_value = codes " "; value = value; space_behind = [] };
+  assignment = record { name = name; space_before_equals = codes " "; space_before_value = codes " "; value = value; space_after = [] };
 }
 
 -- `,name=value`
 abbrev pub tight : Text → Value → Row
 tight name value = record {
   space_before_name = [];
-  assignment = record { name = name; space_before_equals = []; space_before_value = []; value = value; space_behind = [] };
+  assignment = record { name = name; space_before_equals = []; space_before_value = []; value = value; space_after = [] };
 }
 
 abbrev pub opened : Delimiter → Text → Opening
@@ -42,13 +42,13 @@ opened delimiter kind = record {
   head = record { space_before_type = []; type_name = kind };
   space_before_delimiter = [];
   delimiter = delimiter;
-  space_behind = [];
+  space_after = [];
 }
 
 -- `@kind{key, ..}`, and the text after it
 abbrev pub entry : Text → Text → List Row → Text → Item
 entry kind key rows trail = record {
-  tree = EntryTree (record { opening = opened Brace kind; key = key; space_behind_key = []; rows = rows; last_comma = None });
+  tree = EntryTree (record { opening = opened Brace kind; key = key; space_after_key = []; rows = rows; last_comma = None });
   trail = trail;
 }
 
@@ -61,7 +61,7 @@ abbrev pub string : Text → Value → Item
 string name value = record {
   tree = DefinitionTree (record {
     opening = opened Brace (codes "string");
-    assignment = record { name = name; space_before_equals = []; space_before_value = []; value = value; space_behind = [] };
+    assignment = record { name = name; space_before_equals = []; space_before_value = []; value = value; space_after = [] };
   });
   trail = [];
 }
@@ -114,7 +114,7 @@ pub record MacroIsReadWhereItStands : Type 0 where
   pub first : texts_at 1 defined_twice 0 ≡ codes "A" ∷ []
   pub second : texts_at 1 defined_twice 1 ≡ codes "B" ∷ []
   pub at_head : seen defined_twice 0 (codes "p") ≡ None
-  pub behind : seen defined_twice 1 (codes "p") ≡ Some (codes "A")
+  pub after : seen defined_twice 1 (codes "p") ≡ Some (codes "A")
   pub at_end : seen defined_twice 4 (codes "p") ≡ Some (codes "B")
   pub month : seen defined_twice 0 (codes "MAY") ≡ Some (codes "May")
   pub renamed : Refuses author_year Ambiguous defined_twice (RenameMacro (codes "p") (codes "q"))
@@ -124,7 +124,7 @@ overridden_month = file (
     record {
       tree = DefinitionTree (record {
         opening = opened Brace (codes "string");
-        assignment = record { name = codes "jan"; space_before_equals = codes " "; space_before_value = codes " "; value = both (Macro (codes "jan")) (Braced (codes " x")); space_behind = [] };
+        assignment = record { name = codes "jan"; space_before_equals = codes " "; space_before_value = codes " "; value = both (Macro (codes "jan")) (Braced (codes " x")); space_after = [] };
       });
       trail = [];
     }
@@ -146,7 +146,7 @@ quoting = file (
     record {
       tree = DefinitionTree (record {
         opening = opened Brace (codes "string");
-        assignment = record { name = codes "m"; space_before_equals = codes " "; space_before_value = codes " "; value = both (Quoted (codes "a")) (Braced (codes "\"")); space_behind = [] };
+        assignment = record { name = codes "m"; space_before_equals = codes " "; space_before_value = codes " "; value = both (Quoted (codes "a")) (Braced (codes "\"")); space_after = [] };
       });
       trail = [];
     }
@@ -183,7 +183,7 @@ used_before = file (
     ∷ record {
       tree = DefinitionTree (record {
         opening = opened Brace (codes "string");
-        assignment = record { name = codes "m"; space_before_equals = codes " "; space_before_value = codes " "; value = only (Digits (codes "1")); space_behind = [] };
+        assignment = record { name = codes "m"; space_before_equals = codes " "; space_before_value = codes " "; value = only (Digits (codes "1")); space_after = [] };
       });
       trail = [];
     }
@@ -196,7 +196,7 @@ pub record UseBeforeDefinitionIsLeft : Type 0 where
   pub digits : Refuses author_year NotFound used_before (IntroduceMacro (codes "k") (codes "1"))
 
 abbrev pub preamble : Value → Item
-preamble value = record { tree = PreambleTree (record { opening = opened Brace (codes "preamble"); value = value; space_behind = [] }); trail = [] }
+preamble value = record { tree = PreambleTree (record { opening = opened Brace (codes "preamble"); value = value; space_after = [] }); trail = [] }
 
 abbrev pub joined_text : Reading
 joined_text = file (preamble (both (Quoted (codes "a")) (Braced (codes " b"))) ∷ [])
@@ -212,7 +212,7 @@ pub record TextsAreJoined : Type 0 where
 -- `@misc{a, t = 1,}`
 abbrev pub one_field : Reading
 one_field = file (record {
-  tree = EntryTree (record { opening = opened Brace (codes "misc"); key = codes "a"; space_behind_key = []; rows = spaced (codes "t") (only (Digits (codes "1"))) ∷ []; last_comma = Some [] });
+  tree = EntryTree (record { opening = opened Brace (codes "misc"); key = codes "a"; space_after_key = []; rows = spaced (codes "t") (only (Digits (codes "1"))) ∷ []; last_comma = Some [] });
   trail = [];
 } ∷ [])
 
@@ -222,10 +222,10 @@ in_parentheses space = file (record {
   tree = EntryTree (record {
     opening = opened Paren (codes "misc");
     key = codes "a";
-    space_behind_key = [];
+    space_after_key = [];
     rows = record {
       space_before_name = codes " ";
-      assignment = record { name = codes "t"; space_before_equals = []; space_before_value = []; value = only (Digits (codes "1")); space_behind = space };
+      assignment = record { name = codes "t"; space_before_equals = []; space_before_value = []; value = only (Digits (codes "1")); space_after = space };
     } ∷ [];
     last_comma = None;
   });
@@ -267,7 +267,7 @@ two_lines = file (entry (codes "misc") (codes "a") [] (codes "\n") ∷ entry (co
 abbrev pub book : NewEntry
 book = record { kind_name = codes "book"; key = codes "c"; fields = (codes "title", only (Braced (codes "T"))) ∷ [] }
 
--- an entry is added in lines of its own; one that is moved leaves its line behind
+-- an entry is added in lines of its own; one that is moved leaves its line after
 pub record EntriesAreAddedAndMoved : Type 0 where
   pub bytes : bytes_of two_lines ≡ codes "@misc{a}\n@misc{b}\n"
   pub added : file_after two_lines (AddEntry 1 book) ≡ codes "@misc{a}\n@book{c,\n  title = {T}\n}\n@misc{b}\n"

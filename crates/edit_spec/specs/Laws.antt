@@ -14,8 +14,8 @@ use Rattle.edit_spec.specs.EditChunks.{chunks, pieces_of}
 -- ---- macros
 
 -- item n stands after a definition of the name
-abbrev pub is_behind : Text → List Item → ℕ → Bool
-is_behind name items n = list_any (λ item. defines name item.tree) (take n items)
+abbrev pub is_after : Text → List Item → ℕ → Bool
+is_after name items n = list_any (λ item. defines name item.tree) (take n items)
 
 -- item n passes the test, or stands after an item that does
 abbrev pub is_reached : (Tree → Bool) → List Item → ℕ → Bool
@@ -30,7 +30,7 @@ sees_last_definition = (db : Reading) (name : Text) (k n : ℕ) (item : Item) (d
 
 -- Before the first definition of a name it stands for a month, if it is a month's, or else for nothing.
 abbrev pub sees_months : Type 0
-sees_months = (db : Reading) (name : Text) (n : ℕ) → is_behind name db.items n ≡ false → seen db n name ≡ months (folded name)
+sees_months = (db : Reading) (name : Text) (n : ℕ) → is_after name db.items n ≡ false → seen db n name ≡ months (folded name)
 
 -- what a macro stands for is balanced, so that in braces it is a part
 abbrev pub macros_balance : Type 0
@@ -117,8 +117,8 @@ regenerating_again_changes_nothing = (key_base : Record → Text) → IsKeyBase 
 -- After the definition the new name stands for what the old one stood for. A change of case alone changes nothing.
 pub record SeesRenamed (from to : Text) (old new : Reading) : Type 0 where
   pub other : (n : ℕ) (name : Text) → same name from ≡ false → same name to ≡ false → seen new n name ≡ seen old n name
-  pub before : (n : ℕ) (name : Text) → is_behind from old.items n ≡ false → seen new n name ≡ seen old n name
-  pub behind : (n : ℕ) → is_behind from old.items n ≡ true → seen new n to ≡ seen old n from
+  pub before : (n : ℕ) (name : Text) → is_after from old.items n ≡ false → seen new n name ≡ seen old n name
+  pub after : (n : ℕ) → is_after from old.items n ≡ true → seen new n to ≡ seen old n from
   pub respelled : same to from ≡ true → (n : ℕ) (name : Text) → seen new n name ≡ seen old n name
 
 -- Renaming a macro keeps all that the database says, but for the name.
@@ -130,8 +130,8 @@ rename_macro_keeps = (key_base : Record → Text) (db : Reading) (from to : Text
 -- Before the definition all names stand for what they did. After it, where each item's number is one less, all other names
 -- do.
 pub record SeesInlined (name : Text) (old new : Reading) : Type 0 where
-  pub before : (n : ℕ) (other : Text) → is_behind name old.items n ≡ false → seen new n other ≡ seen old n other
-  pub behind : (n : ℕ) (other : Text) → is_behind name old.items (suc n) ≡ true → same other name ≡ false → seen new n other ≡ seen old (suc n) other
+  pub before : (n : ℕ) (other : Text) → is_after name old.items n ≡ false → seen new n other ≡ seen old n other
+  pub after : (n : ℕ) (other : Text) → is_after name old.items (suc n) ≡ true → same other name ≡ false → seen new n other ≡ seen old (suc n) other
 
 -- Writing a macro's text for its uses keeps all that the database says, but for the macro.
 abbrev pub inline_macro_keeps : Type 0
@@ -143,7 +143,7 @@ inline_macro_keeps = (key_base : Record → Text) (db : Reading) (name : Text) �
 -- more, all other names do, and the new name stands for the text.
 pub record SeesIntroduced (name text : Text) (old new : Reading) : Type 0 where
   pub before : (n : ℕ) (other : Text) → is_reached (any_part (holds text)) old.items n ≡ false → seen new n other ≡ seen old n other
-  pub behind : (n : ℕ) (other : Text) → is_reached (any_part (holds text)) old.items n ≡ true → same other name ≡ false → seen new (suc n) other ≡ seen old n other
+  pub after : (n : ℕ) (other : Text) → is_reached (any_part (holds text)) old.items n ≡ true → same other name ≡ false → seen new (suc n) other ≡ seen old n other
   pub introduced : (n : ℕ) → is_reached (any_part (holds text)) old.items n ≡ true → seen new (suc n) name ≡ Some text
 
 -- Giving a text a name keeps all that the database says, but for the name.

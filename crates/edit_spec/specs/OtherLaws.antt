@@ -8,7 +8,7 @@ use Rattle.bib_spec.specs.Reading.{Item, Reading}
 use Rattle.bib_spec.specs.MadeKeys.{new_keys}
 use Rattle.bib_spec.specs.Records.{EntryTexts, Record, entries_of, preambles_of, crossref, entry_named, target, parent, dangling_texts, expanded}
 use Rattle.edit_spec.specs.Edits.{NewEntry, Edit, SetField, DropField, AddEntry, RemoveEntry, MoveEntry, RenameKey, RenameMacro, InlineMacro, IntroduceMacro, RegenerateKeys, AddMany, given_keys, defines, uses, holds, any_part, is_entry, in_line, edited, IsAccepted}
-use Rattle.edit_spec.specs.Laws.{is_behind, is_reached}
+use Rattle.edit_spec.specs.Laws.{is_after, is_reached}
 
 -- ---- numbers
 
@@ -127,7 +127,7 @@ is_changed key_base db (DropField key name) n = is_first (is_entry key) db.items
 is_changed key_base db (RenameKey from to) n =
     passes is_any_entry db.items n && is_or_refers_to (entries_of db) (entry_named (entries_of db) from) (entries_before n db)
 is_changed key_base db (RenameMacro from to) n = is_reached (defines from) db.items n && passes (λ tree. defines from tree || any_part (uses from) tree) db.items n
-is_changed key_base db (InlineMacro name) n = is_behind name db.items n && passes (any_part (uses name)) db.items n
+is_changed key_base db (InlineMacro name) n = is_after name db.items n && passes (any_part (uses name)) db.items n
 is_changed key_base db (IntroduceMacro name text) n = passes (any_part (holds text)) db.items n
 is_changed key_base db (RegenerateKeys depth) n =
     passes (λ tree. not (has_its_keys (slice_get (new_keys key_base depth (entries_of db))) (entries_of db) (entries_before n db) tree)) db.items n

@@ -42,7 +42,7 @@ pub fn the_first_of_a_name_counts()
     ensures { FirstCounts }
 {}
 
-/// An entry is added in lines of its own; one that is moved leaves its line behind.
+/// An entry is added in lines of its own; one that is moved leaves its line after.
 pub fn entries_are_added_and_moved()
     ensures { EntriesAreAddedAndMoved }
 {}

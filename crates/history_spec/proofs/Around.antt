@@ -167,7 +167,7 @@ pieces_level text at mid (p ∷ ps) a s h =
 composed_same : (at mid more_at more_mid n : ℕ) (gs : List Group) → ApartFrom n gs → mid ≤ n → more_mid ≤ n → at + more_mid ≡ more_at + mid → composed_from at mid gs ≡ composed_from more_at more_mid gs
 composed_same at mid more_at more_mid n [] a h k e = refl
 composed_same at mid more_at more_mid n (g ∷ gs) a h k e =
-    let behind : n < g.place = a.0 in
+    let after : n < g.place = a.0 in
     let same : at + (g.place - mid) ≡ more_at + (g.place - more_mid) = omega arith in
     ap (λ place. record { place = place; old = group_old g; new = group_new g } ∷ composed_from (place + length (group_old g)) (group_end g) gs) same
 
@@ -185,21 +185,21 @@ composed_cut text at mid n first later second others w a s inside h e f b c =
     let backs : List Piece = reversed_from at mid first in
     let ends : ℕ = old_end at first in
     let mids : ℕ = new_end at mid first in
-    let behind : List Piece = reversed_from ends mids later in
+    let later_backs : List Piece = reversed_from ends mids later in
     let gs : List Group = groups (in_order backs second) in
-    let hs : List Group = groups (in_order behind others) in
-    let after : MembersAfter n (in_order behind others) = members_after n behind others b c in
+    let hs : List Group = groups (in_order later_backs others) in
+    let after : MembersAfter n (in_order later_backs others) = members_after n later_backs others b c in
     let end : MembersEndBy n (in_order backs second) = members_end n backs second e f in
     let level : (ends + (length text - mids) ≡ at + length (applied_from mid backs text)) × (mids ≤ length text) = pieces_level text at mid first a s inside in
     let glue : applied_from mid backs text ≡ glued group_old mid gs text = ap (λ ps. applied_from mid ps text) (sym (groups_backs backs second)) ∙ backs_glued text mid gs w in
     let last : last_mid mid gs ≤ n = last_mid_by n mid gs h (groups_end_by n (in_order backs second) end) in
     let same : last_old at mid gs + mids ≡ ends + last_mid mid gs
     = omega (arith, level.0, level.1, ap length glue, groups_level text at mid gs w inside, last_inside text mid gs w inside) in
-    ap (λ ms. composed_from at mid (groups ms)) (order_cut n backs behind second others e f b c)
-    ∙ ap (composed_from at mid) (groups_cut n (in_order backs second) (in_order behind others) end after)
+    ap (λ ms. composed_from at mid (groups ms)) (order_cut n backs later_backs second others e f b c)
+    ∙ ap (composed_from at mid) (groups_cut n (in_order backs second) (in_order later_backs others) end after)
     ∙ composed_append at mid gs hs
     ∙ ap (λ ps. composed_at at mid first second ++ ps)
-    (composed_same (last_old at mid gs) (last_mid mid gs) ends mids n hs (groups_after n (in_order behind others) after) last (new_end_by n at mid first h e) same)
+    (composed_same (last_old at mid gs) (last_mid mid gs) ends mids n hs (groups_after n (in_order later_backs others) after) last (new_end_by n at mid first h e) same)
 
 -- ---- standing apart
 
@@ -212,9 +212,9 @@ apart_rest [] qs s = s
 apart_rest (p ∷ ps) qs s = apart_rest ps qs s.1
 
 -- of pieces that stand apart, those that come after others begin after these end
-pub apart_behind : (at : ℕ) (p : Piece) (ps : List Piece) (q : Piece) (qs : List Piece) → StandApart ((p ∷ ps) ++ q ∷ qs) [] → old_end at (p ∷ ps) < q.place
-apart_behind at p [] q qs s = s.0
-apart_behind at p (r ∷ ps) q qs s = apart_behind (end_of p) r ps q qs s.1
+pub apart_after : (at : ℕ) (p : Piece) (ps : List Piece) (q : Piece) (qs : List Piece) → StandApart ((p ∷ ps) ++ q ∷ qs) [] → old_end at (p ∷ ps) < q.place
+apart_after at p [] q qs s = s.0
+apart_after at p (r ∷ ps) q qs s = apart_after (end_of p) r ps q qs s.1
 
 -- the composed pieces stand apart
 composed_apart : (at mid : ℕ) (g : Group) (gs : List Group) → ApartFrom (group_end g) gs → StandApart (composed_from at mid (g ∷ gs)) []
@@ -247,9 +247,9 @@ pub ascend_front : (at : ℕ) (ps qs : List Piece) → AscendFrom at (ps ++ qs) 
 ascend_front at [] qs a = tt
 ascend_front at (p ∷ ps) qs a = (a.0, ascend_front (end_of p) ps qs a.1)
 
-pub ascend_behind : (at : ℕ) (ps qs : List Piece) → AscendFrom at (ps ++ qs) → AscendFrom (old_end at ps) qs
-ascend_behind at [] qs a = a
-ascend_behind at (p ∷ ps) qs a = ascend_behind (end_of p) ps qs a.1
+pub ascend_past : (at : ℕ) (ps qs : List Piece) → AscendFrom at (ps ++ qs) → AscendFrom (old_end at ps) qs
+ascend_past at [] qs a = a
+ascend_past at (p ∷ ps) qs a = ascend_past (end_of p) ps qs a.1
 
 pub standing_front : (text : Text) (ps qs : List Piece) → AllByRecursion (Stands text) (ps ++ qs) → AllByRecursion (Stands text) ps
 standing_front text [] qs s = tt
@@ -277,9 +277,9 @@ ascend_after : (n : ℕ) (ps : List Piece) → BeginsAfter n ps → IsAscending 
 ascend_after n [] b a = tt
 ascend_after n (p ∷ ps) b a = (omega (arith, b), a.1)
 
-pub ascend_behind_front : (front ps : List Piece) → EndBefore front ps → IsAscending ps → AscendFrom (new_end 0 0 front) ps
-ascend_behind_front [] ps b a = a
-ascend_behind_front (p ∷ front) ps b a = ascend_after (new_end 0 0 (p ∷ front)) ps b a
+pub ascend_after_front : (front ps : List Piece) → EndBefore front ps → IsAscending ps → AscendFrom (new_end 0 0 front) ps
+ascend_after_front [] ps b a = a
+ascend_after_front (p ∷ front) ps b a = ascend_after (new_end 0 0 (p ∷ front)) ps b a
 
 -- ---- where to cut
 
@@ -287,23 +287,23 @@ ascend_behind_front (p ∷ front) ps b a = ascend_after (new_end 0 0 (p ∷ fron
 pub record CutAt (n : ℕ) (front back part others : List Piece) : Type 0 where
   pub mids : new_end 0 0 front ≤ n
   pub ends : EndBy n part
-  pub behind : BeginsAfter n (reversed_from (old_end 0 front) (new_end 0 0 front) back)
+  pub after : BeginsAfter n (reversed_from (old_end 0 front) (new_end 0 0 front) back)
   pub later : BeginsAfter n others
 
 after_mids : (p : Piece) (ps back : List Piece) → StandApart ((p ∷ ps) ++ back) [] → BeginsAfter (new_end 0 0 (p ∷ ps)) (reversed_from (old_end 0 (p ∷ ps)) (new_end 0 0 (p ∷ ps)) back)
 after_mids p ps [] s = tt
-after_mids p ps (q ∷ qs) s = omega (arith, apart_behind 0 p ps q qs s)
+after_mids p ps (q ∷ qs) s = omega (arith, apart_after 0 p ps q qs s)
 
 cut_between : (end : ℕ) (front back part others : List Piece) → StandApart (front ++ back) [] → EndBy end part
     → BeginsAfter end (reversed_from (old_end 0 front) (new_end 0 0 front) back) → BeginsAfter end others → EndBefore front others
     → (n : ℕ) × CutAt n front back part others
-cut_between end [] back part others s e b o m = (end, record { mids = omega arith; ends = e; behind = b; later = o })
+cut_between end [] back part others s e b o m = (end, record { mids = omega arith; ends = e; after = b; later = o })
 cut_between end (p ∷ ps) back part others s e b o m =
     let mids : ℕ = new_end 0 0 (p ∷ ps) in
     ⊎_elim (λ t. let below : end ≤ mids = leb-true end mids t in
-    (mids, record { mids = omega arith; ends = end_later end mids part below e; behind = after_mids p ps back s; later = m }))
+    (mids, record { mids = omega arith; ends = end_later end mids part below e; after = after_mids p ps back s; later = m }))
     (λ f. let above : mids < end = leb-false end mids f in
-    (end, record { mids = omega arith; ends = e; behind = b; later = o }))
+    (end, record { mids = omega arith; ends = e; after = b; later = o }))
     (cases_Bool (nat_le end mids))
 
 -- ---- the law
@@ -355,10 +355,10 @@ parted front back part others text n a f s c =
     let known : SideStands text [] front = side_stands [] front back text a f in
     ap (λ rs. composed_from 0 0 (groups (in_order rs (part ++ others)))) (reversed_append 0 0 front back)
     ∙ composed_cut text 0 0 n front back part others (are_groups text (reversed front) part known.fit s) (ascend_front 0 front back a) known.standing (omega arith) (omega arith)
-    (end_later (new_end 0 0 front) n (reversed front) c.mids (reversed_end 0 0 front)) c.ends c.behind c.later
+    (end_later (new_end 0 0 front) n (reversed front) c.mids (reversed_end 0 0 front)) c.ends c.after c.later
 
 no_part : (n : ℕ) (front back part others : List Piece) → CutAt n front back part others → CutAt n front back [] others
-no_part n front back part others c = record { mids = c.mids; ends = tt; behind = c.behind; later = c.later }
+no_part n front back part others c = record { mids = c.mids; ends = tt; after = c.after; later = c.later }
 
 -- the front of a list, and what comes after it
 take_front : (ps qs rs : List Piece) → take (length ps) ((ps ++ qs) ++ rs) ≡ ps

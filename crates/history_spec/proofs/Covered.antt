@@ -6,7 +6,7 @@ use Rattle.std.specs.List.{AllByRecursion, between}
 use Rattle.bib_spec.specs.Text.{Text}
 use Rattle.bib_spec.specs.Pieces.{Piece, end_of, Stands, AscendFrom, BeginFrom, EndBy}
 use Rattle.bib_spec.proofs.PieceLemmas.{length-between, between-split}
-use Rattle.history_spec.specs.Shifting.{moved_back, all_moved_back, FitBehind}
+use Rattle.history_spec.specs.Shifting.{moved_back, all_moved_back, FitAfter}
 use Rattle.history_spec.proofs.Ordered.{ascend_earlier}
 
 -- ---- the bytes
@@ -65,7 +65,7 @@ covers_more text place covered p c s h k =
 pub record SideFits (lo hi : ℕ) (ps : List Piece) (covered : Text) : Type 0 where
   pub ascending : AscendFrom lo ps
   pub ended : EndBy hi ps
-  pub fit : FitBehind lo ps covered
+  pub fit : FitAfter lo ps covered
 
 front_alone : (at : ℕ) (ps rest : List Piece) → AscendFrom at (ps ++ rest) → AscendFrom at ps
 front_alone at [] rest a = tt

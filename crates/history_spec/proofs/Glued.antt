@@ -10,7 +10,7 @@ use Rattle.bib_spec.proofs.Chunks.{chunks-fit, chunks-lead}
 use Rattle.bib_spec.proofs.WayBack.{fit_back, applied-reversed}
 use Rattle.history_spec.specs.Shifting.{all_moved_back}
 use Rattle.history_spec.specs.Composing.{in_order, Group, group_end, groups, group_old, group_new, composed_from, composed, composed_pieces_fit, composed_pieces_lead}
-use Rattle.history_spec.proofs.Shifts.{applied-from_behind}
+use Rattle.history_spec.proofs.Shifts.{applied-from_after}
 use Rattle.history_spec.proofs.Covered.{Covers, SideFits}
 use Rattle.history_spec.proofs.Grouped.{AreGroups, are_groups, groups_backs, groups_ons}
 
@@ -35,7 +35,7 @@ group_applied text lo covered ps rest c s b =
     ∙ ap (λ t. t ++ applied_from hi rest text)
     (ap (λ t. applied_from lo ps t) (up_to text lo covered c)
     ∙ ap (λ n. applied_from n ps (take lo text ++ (covered ++ []))) same
-    ∙ applied-from_behind (take lo text) covered [] lo 0 ps before (omega arith) s.fit.begin s.fit.fit.ascending s.fit.fit.standing
+    ∙ applied-from_after (take lo text) covered [] lo 0 ps before (omega arith) s.fit.begin s.fit.fit.ascending s.fit.fit.standing
     ∙ append-nil (applied (all_moved_back lo ps) covered))
 
 -- ---- all groups
@@ -113,7 +113,7 @@ pieces_composed at mid (g ∷ gs) text w =
 record AreBoth (chunks : List Chunk) (first second : List Piece) (text : Text) : Type 0 where
   pieces : pieces_of_chunks chunks ≡ composed first second
   before : old_of chunks ≡ text
-  behind : new_of chunks ≡ applied second (applied first text)
+  after : new_of chunks ≡ applied second (applied first text)
 
 abbrev both_chunks : List Piece → List Piece → Text → List Chunk
 both_chunks first second text = chunks_of 0 (groups (in_order (reversed first) second)) (applied first text)
@@ -127,7 +127,7 @@ are_both first second text f s =
     record {
       pieces = pieces_composed 0 0 gs middle w;
       before = old_glued 0 gs middle ∙ sym (backs_glued middle 0 gs w) ∙ ap (λ ps. applied ps middle) (groups_backs backs second) ∙ applied-reversed first text f;
-      behind = new_glued 0 gs middle ∙ sym (ons_glued middle 0 gs w) ∙ ap (λ ps. applied ps middle) (groups_ons backs second);
+      after = new_glued 0 gs middle ∙ sym (ons_glued middle 0 gs w) ∙ ap (λ ps. applied ps middle) (groups_ons backs second);
     }
 
 pub composed-fit : composed_pieces_fit
@@ -138,4 +138,4 @@ composed-fit first second text f s =
 pub composed-lead : composed_pieces_lead
 composed-lead first second text f s =
     let w : AreBoth (both_chunks first second text) first second text = are_both first second text f s in
-    sym (ap₂ (λ ps t. applied ps t) w.pieces w.before) ∙ chunks-lead (both_chunks first second text) ∙ w.behind
+    sym (ap₂ (λ ps t. applied ps t) w.pieces w.before) ∙ chunks-lead (both_chunks first second text) ∙ w.after

@@ -22,14 +22,14 @@ AreGroups text at (g ∷ gs) = (at ≤ g.place) × IsGroup text g × AreGroups t
 
 -- a group has begun, and these members come after it
 pub record Grows (text : Text) (at : ℕ) (g : Group) (ms : List Member) : Type 0 where
-  pub behind : at ≤ g.place
+  pub after : at ≤ g.place
   pub covers : Covers text g.place g.covered
   pub ordered : OrderedFrom g.place ms
   pub backs : SideGrows text at g.place (group_end g) g.backs (backs_of ms)
   pub ons : SideGrows text at g.place (group_end g) g.ons (ons_of ms)
 
-some_behind : (ps : List Piece) (p : Piece) → 0 < length (ps ++ p ∷ [])
-some_behind ps p = omega (arith, length-append ps (p ∷ []))
+some_after : (ps : List Piece) (p : Piece) → 0 < length (ps ++ p ∷ [])
+some_after ps p = omega (arith, length-append ps (p ∷ []))
 
 stand_next : (text : Text) (ps : List Piece) (p : Piece) (rest : List Piece) → AllByRecursion (Stands text) (ps ++ p ∷ rest) → Stands text p
 stand_next text [] p rest s = s.0
@@ -46,26 +46,26 @@ joined text at g (Back p) ms w h =
     let longer : group_end g ≤ g.place + length (covered_with g p) = omega (arith, more.longer) in
     record {
       grows = record {
-        behind = w.behind;
+        after = w.after;
         covers = more.covers;
         ordered = ordered_earlier g.place p.place ms w.ordered.0 w.ordered.1;
         backs = side_takes text at g.place (group_end g) (g.place + length (covered_with g p)) g.backs (backs_of ms) p w.backs w.ordered.0 longer more.ends;
         ons = side_waits text at g.place (group_end g) (g.place + length (covered_with g p)) g.ons (ons_of ms) w.ons longer;
       };
-      some = omega (arith, some_behind g.backs p);
+      some = omega (arith, some_after g.backs p);
     }
 joined text at g (On p) ms w h =
     let more : CoversMore text g.place g.covered (covered_with g p) p = covers_more text g.place g.covered p w.covers (stand_next text g.ons p (ons_of ms) w.ons.standing) w.ordered.0 h in
     let longer : group_end g ≤ g.place + length (covered_with g p) = omega (arith, more.longer) in
     record {
       grows = record {
-        behind = w.behind;
+        after = w.after;
         covers = more.covers;
         ordered = ordered_earlier g.place p.place ms w.ordered.0 w.ordered.1;
         backs = side_waits text at g.place (group_end g) (g.place + length (covered_with g p)) g.backs (backs_of ms) w.backs longer;
         ons = side_takes text at g.place (group_end g) (g.place + length (covered_with g p)) g.ons (ons_of ms) p w.ons w.ordered.0 longer more.ends;
       };
-      some = omega (arith, some_behind g.ons p);
+      some = omega (arith, some_after g.ons p);
     }
 
 member_stands : (text : Text) (m : Member) (ms : List Member) → AllByRecursion (Stands text) (backs_of (m ∷ ms)) → AllByRecursion (Stands text) (ons_of (m ∷ ms)) → Stands text (piece_of m)
@@ -89,7 +89,7 @@ begun text at g m ms w h =
     let inside : end_of (piece_of m) ≤ length text = stands.inside in
     joined text (group_end g) (begun_at place) m ms
     (record {
-      behind = h;
+      after = h;
       covers = covers_nothing text place (omega arith);
       ordered = order;
       backs = subst (λ (n : ℕ). SideGrows text (group_end g) place n [] (backs_of (m ∷ ms))) (sym same) (side_earlier text (group_end g) place place place [] (backs_of (m ∷ ms)) h backs);
@@ -106,13 +106,13 @@ is_group text at g ms j = record {
 }
 
 groups_grow : (text : Text) (at : ℕ) (g : Group) (ms : List Member) → Joins text at g ms → AreGroups text at (groups_from g ms)
-groups_grow text at g [] j = (j.grows.behind, is_group text at g [] j, tt)
+groups_grow text at g [] j = (j.grows.after, is_group text at g [] j, tt)
 groups_grow text at g (m ∷ ms) j =
     ⊎_elim (λ t. subst (λ (gs : List Group). AreGroups text at gs) (sym (cond-true (nat_le (piece_of m).place (group_end g)) (groups_from (with_member g m) ms) (g ∷ groups_from (alone m) ms) t))
     (groups_grow text at (with_member g m) ms (joined text at g m ms j.grows (leb-true (piece_of m).place (group_end g) t))))
     (λ f. let above : group_end g < (piece_of m).place = leb-false (piece_of m).place (group_end g) f in
     subst (λ (gs : List Group). AreGroups text at gs) (sym (cond-false (nat_le (piece_of m).place (group_end g)) (groups_from (with_member g m) ms) (g ∷ groups_from (alone m) ms) f))
-    (j.grows.behind, is_group text at g (m ∷ ms) j, groups_grow text (group_end g) (alone m) ms (begun text at g m ms j.grows (omega arith))))
+    (j.grows.after, is_group text at g (m ∷ ms) j, groups_grow text (group_end g) (alone m) ms (begun text at g m ms j.grows (omega arith))))
     (cases_Bool (nat_le (piece_of m).place (group_end g)))
 
 -- what the groups stand on: members in order, whose sides fit the text
@@ -121,7 +121,7 @@ groups_stand text [] o b n = tt
 groups_stand text (m ∷ ms) o b n =
     groups_grow text 0 (alone m) ms (begun text 0 (begun_at 0) m ms
     (record {
-      behind = omega arith;
+      after = omega arith;
       covers = covers_nothing text 0 (omega arith);
       ordered = o;
       backs = record { ascending = b.ascending; standing = b.standing; begin = tt; ended = tt };

@@ -12,7 +12,7 @@ use Rattle.history_spec.proofs.Ordered.{OrderedFrom, order_ascends}
 use Rattle.history_spec.proofs.Grouped.{AreGroups, are_groups}
 use Rattle.history_spec.proofs.Glued.{composed-fit}
 use Rattle.history_spec.proofs.Parted.{same_place}
-use Rattle.history_spec.proofs.Around.{SideStands, side_stands, ascend_front, ascend_behind, ascend_behind_front, reversed_ascends, reversed_append, fit_part, new_end_append, composed-in_turn, nothing-changes}
+use Rattle.history_spec.proofs.Around.{SideStands, side_stands, ascend_front, ascend_past, ascend_after_front, reversed_ascends, reversed_append, fit_part, new_end_append, composed-in_turn, nothing-changes}
 
 -- ---- groups from a place on
 
@@ -99,10 +99,10 @@ composable_near front middle back part c s l =
     let near : EndBy file_limit (front ++ (composed_after front middle part ++ back)) = subst (EndBy file_limit) (composed_near front middle back part c s l) all in (
       made,
       record {
-        ascending = ascend_front (old_end 0 front) middle back (ascend_behind 0 front (middle ++ back) c.1.first_fit.ascending);
+        ascending = ascend_front (old_end 0 front) middle back (ascend_past 0 front (middle ++ back) c.1.first_fit.ascending);
         turned_fit = known.fit;
         second_fit = c.1.second_fit;
-        second_ascends = ascend_behind_front front part l.begins c.1.second_fit.ascending;
+        second_ascends = ascend_after_front front part l.begins c.1.second_fit.ascending;
         short = ends_front file_limit middle back (ends_rest file_limit front (middle ++ back) short);
         short_start = old_end_by file_limit 0 front (omega arith) (ends_front file_limit front (middle ++ back) short);
         inside = known.inside;
@@ -150,9 +150,9 @@ old_end_at (p ∷ ps) q s e =
     ap (old_end 0) (sym all) ∙ old_end_last 0 (p ∷ ps) (length ps) q (omega arith) (e ∙ ap (λ n. get_or (p ∷ ps) n q) last)
 
 -- the piece at a position begins after this place, if it ends by more than its bytes after it
-pub begins_behind : (ps : List Piece) (k place : ℕ) (q : Piece) → k < length ps → q ≡ get_or ps k q → place + length q.new < get_or (ends_of ps) k 0
+pub begins_after : (ps : List Piece) (k place : ℕ) (q : Piece) → k < length ps → q ≡ get_or ps k q → place + length q.new < get_or (ends_of ps) k 0
     → BeginsAfter place (reversed_from (old_end 0 (take k ps)) (new_end 0 0 (take k ps)) (drop k ps))
-begins_behind ps k place q h e b =
+begins_after ps k place q h e b =
     let next : drop k ps ≡ q ∷ drop (k + 1) ps = drop_more ps k q h ∙ ap (λ r. r ∷ drop (k + 1) ps) (sym e) in
     let one : suc k ≡ k + 1 = omega arith in
     let more : take (suc k) ps ≡ take k ps ++ q ∷ [] = ap (λ n. take n ps) one ∙ take_more ps k q h ∙ ap (λ r. take k ps ++ r ∷ []) (sym e) in

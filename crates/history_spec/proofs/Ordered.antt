@@ -54,19 +54,19 @@ ons_alone : (ons : List Piece) → ons_of (map On ons) ≡ ons
 ons_alone [] = refl
 ons_alone (q ∷ ons) = ap (λ qs. q ∷ qs) (ons_alone ons)
 
-backs_put : (p : Piece) (backs : List Piece) (behind : List Piece → List Member) (ons : List Piece) → ((qs : List Piece) → backs_of (behind qs) ≡ backs)
-    → backs_of (put_in p behind ons) ≡ p ∷ backs
-backs_put p backs behind [] h = ap (λ ps. p ∷ ps) (h [])
-backs_put p backs behind (q ∷ ons) h =
-    ⊎_elim (λ t. ap backs_of (cond-true (nat_le p.place q.place) (Back p ∷ behind (q ∷ ons)) (On q ∷ put_in p behind ons) t) ∙ ap (λ ps. p ∷ ps) (h (q ∷ ons)))
-    (λ f. ap backs_of (cond-false (nat_le p.place q.place) (Back p ∷ behind (q ∷ ons)) (On q ∷ put_in p behind ons) f) ∙ backs_put p backs behind ons h)
+backs_put : (p : Piece) (backs : List Piece) (after : List Piece → List Member) (ons : List Piece) → ((qs : List Piece) → backs_of (after qs) ≡ backs)
+    → backs_of (put_in p after ons) ≡ p ∷ backs
+backs_put p backs after [] h = ap (λ ps. p ∷ ps) (h [])
+backs_put p backs after (q ∷ ons) h =
+    ⊎_elim (λ t. ap backs_of (cond-true (nat_le p.place q.place) (Back p ∷ after (q ∷ ons)) (On q ∷ put_in p after ons) t) ∙ ap (λ ps. p ∷ ps) (h (q ∷ ons)))
+    (λ f. ap backs_of (cond-false (nat_le p.place q.place) (Back p ∷ after (q ∷ ons)) (On q ∷ put_in p after ons) f) ∙ backs_put p backs after ons h)
     (cases_Bool (nat_le p.place q.place))
 
-ons_put : (p : Piece) (behind : List Piece → List Member) (ons : List Piece) → ((qs : List Piece) → ons_of (behind qs) ≡ qs) → ons_of (put_in p behind ons) ≡ ons
-ons_put p behind [] h = h []
-ons_put p behind (q ∷ ons) h =
-    ⊎_elim (λ t. ap ons_of (cond-true (nat_le p.place q.place) (Back p ∷ behind (q ∷ ons)) (On q ∷ put_in p behind ons) t) ∙ h (q ∷ ons))
-    (λ f. ap ons_of (cond-false (nat_le p.place q.place) (Back p ∷ behind (q ∷ ons)) (On q ∷ put_in p behind ons) f) ∙ ap (λ qs. q ∷ qs) (ons_put p behind ons h))
+ons_put : (p : Piece) (after : List Piece → List Member) (ons : List Piece) → ((qs : List Piece) → ons_of (after qs) ≡ qs) → ons_of (put_in p after ons) ≡ ons
+ons_put p after [] h = h []
+ons_put p after (q ∷ ons) h =
+    ⊎_elim (λ t. ap ons_of (cond-true (nat_le p.place q.place) (Back p ∷ after (q ∷ ons)) (On q ∷ put_in p after ons) t) ∙ h (q ∷ ons))
+    (λ f. ap ons_of (cond-false (nat_le p.place q.place) (Back p ∷ after (q ∷ ons)) (On q ∷ put_in p after ons) f) ∙ ap (λ qs. q ∷ qs) (ons_put p after ons h))
     (cases_Bool (nat_le p.place q.place))
 
 pub backs_of-order : (backs ons : List Piece) → backs_of (in_order backs ons) ≡ backs
@@ -92,16 +92,16 @@ ordered_ons : (n : ℕ) (ons : List Piece) → AscendFrom n ons → OrderedFrom 
 ordered_ons n [] a = tt
 ordered_ons n (q ∷ ons) a = (a.0, ordered_ons q.place ons (ascend_earlier q.place (end_of q) ons (omega arith) a.1))
 
-ordered_put : (n : ℕ) (p : Piece) (behind : List Piece → List Member) (ons : List Piece) → n ≤ p.place → AscendFrom n ons
-    → ((qs : List Piece) → AscendFrom p.place qs → OrderedFrom p.place (behind qs)) → OrderedFrom n (put_in p behind ons)
-ordered_put n p behind [] h a b = (h, b [] tt)
-ordered_put n p behind (q ∷ ons) h a b =
+ordered_put : (n : ℕ) (p : Piece) (after : List Piece → List Member) (ons : List Piece) → n ≤ p.place → AscendFrom n ons
+    → ((qs : List Piece) → AscendFrom p.place qs → OrderedFrom p.place (after qs)) → OrderedFrom n (put_in p after ons)
+ordered_put n p after [] h a b = (h, b [] tt)
+ordered_put n p after (q ∷ ons) h a b =
     ⊎_elim (λ t. let below : p.place ≤ q.place = leb-true p.place q.place t in
-    rw (cond-true (nat_le p.place q.place) (Back p ∷ behind (q ∷ ons)) (On q ∷ put_in p behind ons) t) (h, b (q ∷ ons) (below, a.1)))
+    rw (cond-true (nat_le p.place q.place) (Back p ∷ after (q ∷ ons)) (On q ∷ put_in p after ons) t) (h, b (q ∷ ons) (below, a.1)))
     (λ f. let above : q.place < p.place = leb-false p.place q.place f in
     let from : q.place ≤ p.place = omega arith in
-    rw (cond-false (nat_le p.place q.place) (Back p ∷ behind (q ∷ ons)) (On q ∷ put_in p behind ons) f)
-    (a.0, ordered_put q.place p behind ons from (ascend_earlier q.place (end_of q) ons (omega arith) a.1) b))
+    rw (cond-false (nat_le p.place q.place) (Back p ∷ after (q ∷ ons)) (On q ∷ put_in p after ons) f)
+    (a.0, ordered_put q.place p after ons from (ascend_earlier q.place (end_of q) ons (omega arith) a.1) b))
     (cases_Bool (nat_le p.place q.place))
 
 pub order_ascends : (n : ℕ) (backs ons : List Piece) → AscendFrom n backs → AscendFrom n ons → OrderedFrom n (in_order backs ons)

@@ -24,7 +24,7 @@ byte_of : (g : Group) (p : Piece) (n : ℕ) → p.place ≤ group_end g → g.pl
 byte_of g p n h from to =
     let long : length (covered_with g p) ≡ length g.covered + (length p.old - (group_end g - p.place)) =
     length-append g.covered (drop (group_end g - p.place) p.old) ∙ ap (λ k. length g.covered + k) (length-drop (group_end g - p.place) p.old) in
-    ⊎_elim (λ t. let behind : group_end g ≤ n = leb-true (group_end g) n t in inr (omega arith, omega (arith, long)))
+    ⊎_elim (λ t. let after : group_end g ≤ n = leb-true (group_end g) n t in inr (omega arith, omega (arith, long)))
     (λ f. inl (leb-false (group_end g) n f))
     (cases_Bool (nat_le (group_end g) n))
 

@@ -5,44 +5,44 @@ use Rattle.std.specs.List.{AllByRecursion, between}
 use Rattle.bib_spec.specs.Text.{Text}
 use Rattle.bib_spec.specs.Pieces.{Piece, end_of, Stands, AscendFrom, Fit, BeginFrom, applied_from, applied}
 use Rattle.bib_spec.proofs.PieceLemmas.{drop-place, stands_before, applied_from-begin}
-use Rattle.history_spec.specs.Shifting.{moved_back, all_moved_back, FitBehind}
+use Rattle.history_spec.specs.Shifting.{moved_back, all_moved_back, FitAfter}
 
 -- from a place of the bytes on, the text is what the bytes are from there, and what follows them
-drop-behind : (before bytes behind : Text) (at n : ℕ) → length before ≡ at → n ≤ length bytes → drop (at + n) (before ++ (bytes ++ behind)) ≡ drop n bytes ++ behind
-drop-behind before bytes behind at n e h =
-    sym (drop-drop n at (before ++ (bytes ++ behind)))
-    ∙ ap (drop n) (drop_at before (bytes ++ behind) at e)
-    ∙ drop-append-le n bytes behind h
+drop-after : (before bytes after : Text) (at n : ℕ) → length before ≡ at → n ≤ length bytes → drop (at + n) (before ++ (bytes ++ after)) ≡ drop n bytes ++ after
+drop-after before bytes after at n e h =
+    sym (drop-drop n at (before ++ (bytes ++ after)))
+    ∙ ap (drop n) (drop_at before (bytes ++ after) at e)
+    ∙ drop-append-le n bytes after h
 
-stands-behind : (before bytes behind : Text) (at : ℕ) (p : Piece) → length before ≡ at → at ≤ p.place → Stands bytes (moved_back at p) → Stands (before ++ (bytes ++ behind)) p
-stands-behind before bytes behind at p e h s =
+stands-after : (before bytes after : Text) (at : ℕ) (p : Piece) → length before ≡ at → at ≤ p.place → Stands bytes (moved_back at p) → Stands (before ++ (bytes ++ after)) p
+stands-after before bytes after at p e h s =
     let inside : p.place - at + length p.old ≤ length bytes = s.inside in
     let place : at + (p.place - at) ≡ p.place = omega arith in
-    stands_before (before ++ (bytes ++ behind)) (drop (end_of (moved_back at p)) bytes ++ behind) p
-    (omega (arith, length-append before (bytes ++ behind), length-append bytes behind))
-    (ap (λ n. drop n (before ++ (bytes ++ behind))) (sym place)
-    ∙ drop-behind before bytes behind at (p.place - at) e (omega arith)
-    ∙ ap (λ l. l ++ behind) (drop-place bytes (moved_back at p) s)
-    ∙ append_assoc p.old (drop (end_of (moved_back at p)) bytes) behind)
+    stands_before (before ++ (bytes ++ after)) (drop (end_of (moved_back at p)) bytes ++ after) p
+    (omega (arith, length-append before (bytes ++ after), length-append bytes after))
+    (ap (λ n. drop n (before ++ (bytes ++ after))) (sym place)
+    ∙ drop-after before bytes after at (p.place - at) e (omega arith)
+    ∙ ap (λ l. l ++ after) (drop-place bytes (moved_back at p) s)
+    ∙ append_assoc p.old (drop (end_of (moved_back at p)) bytes) after)
 
-standing-behind : (before bytes behind : Text) (at : ℕ) (ps : List Piece) → length before ≡ at → BeginFrom at ps → AllByRecursion (Stands bytes) (all_moved_back at ps)
-    → AllByRecursion (Stands (before ++ (bytes ++ behind))) ps
-standing-behind before bytes behind at [] e b s = tt
-standing-behind before bytes behind at (p ∷ ps) e b s = (stands-behind before bytes behind at p e b.0 s.0, standing-behind before bytes behind at ps e b.1 s.1)
+standing-after : (before bytes after : Text) (at : ℕ) (ps : List Piece) → length before ≡ at → BeginFrom at ps → AllByRecursion (Stands bytes) (all_moved_back at ps)
+    → AllByRecursion (Stands (before ++ (bytes ++ after))) ps
+standing-after before bytes after at [] e b s = tt
+standing-after before bytes after at (p ∷ ps) e b s = (stands-after before bytes after at p e b.0 s.0, standing-after before bytes after at ps e b.1 s.1)
 
 -- the pieces ascend in the text as they do in the bytes
-ascend-behind : (at end from : ℕ) (ps : List Piece) → from ≤ at + end → BeginFrom at ps → AscendFrom end (all_moved_back at ps) → AscendFrom from ps
-ascend-behind at end from [] h b a = tt
-ascend-behind at end from (p ∷ ps) h b a =
+ascend-after : (at end from : ℕ) (ps : List Piece) → from ≤ at + end → BeginFrom at ps → AscendFrom end (all_moved_back at ps) → AscendFrom from ps
+ascend-after at end from [] h b a = tt
+ascend-after at end from (p ∷ ps) h b a =
     let begins : at ≤ p.place = b.0 in
     let below : end ≤ p.place - at = a.0 in
-    (omega arith, ascend-behind at (end_of (moved_back at p)) (end_of p) ps (omega arith) b.1 a.1)
+    (omega arith, ascend-after at (end_of (moved_back at p)) (end_of p) ps (omega arith) b.1 a.1)
 
-pub applied-from_behind : (before bytes behind : Text) (at end : ℕ) (ps : List Piece) → length before ≡ at → end ≤ length bytes → BeginFrom at ps
+pub applied-from_after : (before bytes after : Text) (at end : ℕ) (ps : List Piece) → length before ≡ at → end ≤ length bytes → BeginFrom at ps
     → AscendFrom end (all_moved_back at ps) → AllByRecursion (Stands bytes) (all_moved_back at ps)
-    → applied_from (at + end) ps (before ++ (bytes ++ behind)) ≡ applied_from end (all_moved_back at ps) bytes ++ behind
-applied-from_behind before bytes behind at end [] e h b a s = drop-behind before bytes behind at end e h
-applied-from_behind before bytes behind at end (p ∷ ps) e h b a s =
+    → applied_from (at + end) ps (before ++ (bytes ++ after)) ≡ applied_from end (all_moved_back at ps) bytes ++ after
+applied-from_after before bytes after at end [] e h b a s = drop-after before bytes after at end e h
+applied-from_after before bytes after at end (p ∷ ps) e h b a s =
     let begins : at ≤ p.place = b.0 in
     let below : end ≤ p.place - at = a.0 in
     let stand : Stands bytes (moved_back at p) = s.0 in
@@ -50,35 +50,35 @@ applied-from_behind before bytes behind at end (p ∷ ps) e h b a s =
     let gap : p.place - (at + end) ≡ p.place - at - end = omega arith in
     let stop : at + end_of (moved_back at p) ≡ end_of p = omega arith in
     let room : p.place - at - end ≤ length (drop end bytes) = omega (arith, length-drop end bytes) in
-    let text : Text = before ++ (bytes ++ behind) in
+    let text : Text = before ++ (bytes ++ after) in
     let rest : Text = applied_from (end_of (moved_back at p)) (all_moved_back at ps) bytes in
     let front : between (at + end) p.place text ≡ between end (p.place - at) bytes
     = ap (λ n. take n (drop (at + end) text)) gap
-    ∙ ap (take (p.place - at - end)) (drop-behind before bytes behind at end e h)
-    ∙ take-append-le (p.place - at - end) (drop end bytes) behind room in
-    let back : applied_from (end_of p) ps text ≡ rest ++ behind
-    = ap (λ n. applied_from n ps text) (sym stop) ∙ applied-from_behind before bytes behind at (end_of (moved_back at p)) ps e inside b.1 a.1 s.1 in
-    ap₂ (λ x y. x ++ p.new ++ y) front back ∙ sym (append_assoc (between end (p.place - at) bytes ++ p.new) rest behind)
+    ∙ ap (take (p.place - at - end)) (drop-after before bytes after at end e h)
+    ∙ take-append-le (p.place - at - end) (drop end bytes) after room in
+    let back : applied_from (end_of p) ps text ≡ rest ++ after
+    = ap (λ n. applied_from n ps text) (sym stop) ∙ applied-from_after before bytes after at (end_of (moved_back at p)) ps e inside b.1 a.1 s.1 in
+    ap₂ (λ x y. x ++ p.new ++ y) front back ∙ sym (append_assoc (between end (p.place - at) bytes ++ p.new) rest after)
 
 -- ---- the laws
 
-pub fit-behind : (before bytes behind : Text) (at : ℕ) (ps : List Piece) → length before ≡ at → FitBehind at ps bytes → Fit ps (before ++ (bytes ++ behind))
-fit-behind before bytes behind at ps e f = record {
-  ascending = ascend-behind at 0 0 ps (omega arith) f.begin f.fit.ascending;
-  standing = standing-behind before bytes behind at ps e f.begin f.fit.standing;
+pub fit-after : (before bytes after : Text) (at : ℕ) (ps : List Piece) → length before ≡ at → FitAfter at ps bytes → Fit ps (before ++ (bytes ++ after))
+fit-after before bytes after at ps e f = record {
+  ascending = ascend-after at 0 0 ps (omega arith) f.begin f.fit.ascending;
+  standing = standing-after before bytes after at ps e f.begin f.fit.standing;
 }
 
-pub applied-behind : (before bytes behind : Text) (at : ℕ) (ps : List Piece) → length before ≡ at → FitBehind at ps bytes
-    → applied ps (before ++ (bytes ++ behind)) ≡ before ++ (applied (all_moved_back at ps) bytes ++ behind)
-applied-behind before bytes behind at ps e f =
+pub applied-after : (before bytes after : Text) (at : ℕ) (ps : List Piece) → length before ≡ at → FitAfter at ps bytes
+    → applied ps (before ++ (bytes ++ after)) ≡ before ++ (applied (all_moved_back at ps) bytes ++ after)
+applied-after before bytes after at ps e f =
     let same : at + 0 ≡ at = omega arith in
     let whole : at - 0 ≡ at = omega arith in
-    let text : Text = before ++ (bytes ++ behind) in
+    let text : Text = before ++ (bytes ++ after) in
     applied_from-begin 0 at ps text (omega arith) f.begin
     ∙ ap (λ n. take n text ++ applied_from at ps text) whole
-    ∙ ap (λ l. l ++ applied_from at ps text) (take_at before (bytes ++ behind) at e)
+    ∙ ap (λ l. l ++ applied_from at ps text) (take_at before (bytes ++ after) at e)
     ∙ ap (λ n. before ++ applied_from n ps text) (sym same)
-    ∙ ap (λ l. before ++ l) (applied-from_behind before bytes behind at 0 ps e (omega arith) f.begin f.fit.ascending f.fit.standing)
+    ∙ ap (λ l. before ++ l) (applied-from_after before bytes after at 0 ps e (omega arith) f.begin f.fit.ascending f.fit.standing)
 
 -- ---- the whole text
 
@@ -93,5 +93,5 @@ begin_anywhere : (ps : List Piece) → BeginFrom 0 ps
 begin_anywhere [] = tt
 begin_anywhere (p ∷ ps) = (omega arith, begin_anywhere ps)
 
-pub fit_behind_nothing : (ps : List Piece) (text : Text) → Fit ps text → FitBehind 0 ps text
-fit_behind_nothing ps text f = record { begin = begin_anywhere ps; fit = subst (λ (qs : List Piece). Fit qs text) (sym (none-moved ps)) f }
+pub fit_after_nothing : (ps : List Piece) (text : Text) → Fit ps text → FitAfter 0 ps text
+fit_after_nothing ps text f = record { begin = begin_anywhere ps; fit = subst (λ (qs : List Piece). Fit qs text) (sym (none-moved ps)) f }

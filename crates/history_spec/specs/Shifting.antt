@@ -11,6 +11,6 @@ abbrev pub all_moved_back : ℕ → List Piece → List Piece
 all_moved_back at ps = map (moved_back at) ps
 
 -- the pieces lie in these bytes, which begin at `at`, and fit them
-pub record FitBehind (at : ℕ) (ps : List Piece) (bytes : Text) : Type 0 where
+pub record FitAfter (at : ℕ) (ps : List Piece) (bytes : Text) : Type 0 where
   pub begin : BeginFrom at ps
   pub fit : Fit (all_moved_back at ps) bytes

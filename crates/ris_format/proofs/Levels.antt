@@ -11,7 +11,7 @@ use Rattle.bib_spec.proofs.Names.{both_true}
 use Rattle.bib_names.specs.Places.{is_level, places_from, between, Stretch, stretch}
 use Rattle.bib_trim.specs.Trimming.{before_run}
 use Rattle.bib_names.specs.Name.{is_comma, commas}
-use Rattle.bib_names.proofs.CommaLemmas.{level_behind}
+use Rattle.bib_names.proofs.CommaLemmas.{level_after}
 use Rattle.ris_format.proofs.Trims.{after_run-yes, after_run-no, before_run-cons, before_run-none, fails}
 
 -- how many braces open in the text, and how many close
@@ -169,7 +169,7 @@ stretches text at place (suc n) le sum start end none =
     (λ (h : is_comma text place ≡ true).
     let p = and_parts (is_level text place) (eqb (get_or text place 0) 44) h in
     let here = stretch-is (is_comma text) text at place le (omega arith) start p.0 none in
-    let later = stretches text (place + 1) (place + 1) n (omega arith) (omega arith) (level_behind text place (omega arith) p.0 (eqb-true (get_or text place 0) 44 p.1)) end (λ q low high. absurd (omega arith)) in
+    let later = stretches text (place + 1) (place + 1) n (omega arith) (omega arith) (level_after text place (omega arith) p.0 (eqb-true (get_or text place 0) 44 p.1)) end (λ q low high. absurd (omega arith)) in
     subst (λ (ps : List ℕ). AllByRecursion (IsStretch (is_comma text) text) (between 1 text at ps)) (sym (cond-true (is_comma text place) (place ∷ places_from (is_comma text) (place + 1) n) _ h)) (here, later))
     (λ (h : is_comma text place ≡ false).
     let later = stretches text at (place + 1) n (omega arith) (omega arith) start end (λ q low high. below_more (λ r. at ≤ r → is_comma text r ≡ false) place (λ r hr lr. none r lr hr) (λ _. h) q high low) in

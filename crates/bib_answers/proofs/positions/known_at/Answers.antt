@@ -1,6 +1,6 @@
 use Rattle.std.proofs.Common.{◌≡◌, ◌∙◌, ◌≤◌, ◌<◌, ◌^◌, ◌-◌, length, take, drop, fold, rules, ap, arith}
 use Rattle.bib_answers.specs.declared.positions.Position.{Position}
-use Rattle.bib_answers.specs.Positions.{behind, IsKnown}
+use Rattle.bib_answers.specs.Positions.{position_after, IsKnown}
 use Rattle.bib_answers.proofs.PositionSteps.{position_later, position_end, numbers_fit}
 use Rattle.bib_answers.proofs.positions.known_at.Goals as goal
 
@@ -22,7 +22,7 @@ returns-clause-known c =
     record {
       within = omega (arith, c.min-end.ensures);
       at = c.moved.ensures
-          ∙ ap (λ (p : Position). fold behind p (take (c.min-end.result - c.known_before-from.result.place) (drop c.known_before-from.result.place c.args.file.now))) from.at
+          ∙ ap (λ (p : Position). fold position_after p (take (c.min-end.result - c.known_before-from.result.place) (drop c.known_before-from.result.place c.args.file.now))) from.at
           ∙ position_later c.args.file.now c.known_before-from.result.place c.min-end.result c.known_before-from.ensures.place;
     }
 
@@ -30,6 +30,6 @@ pub returns-clause-at : goal.returns-clause-at
 returns-clause-at c =
     let from : IsKnown c.args.file.now c.known_before-from.result = c.known_before-from.ensures.known c.args.file.now c.requires in
     c.moved.ensures
-    ∙ ap (λ (p : Position). fold behind p (take (c.min-end.result - c.known_before-from.result.place) (drop c.known_before-from.result.place c.args.file.now))) from.at
+    ∙ ap (λ (p : Position). fold position_after p (take (c.min-end.result - c.known_before-from.result.place) (drop c.known_before-from.result.place c.args.file.now))) from.at
     ∙ position_later c.args.file.now c.known_before-from.result.place c.min-end.result c.known_before-from.ensures.place
     ∙ position_end c.args.file.now c.args.place c.min-end.result c.min-end.ensures

@@ -2,7 +2,7 @@ use Rattle.std.proofs.Common.{◌≡◌, ℕ, ◌≤◌, ◌<◌, ◌+◌, ◌�
 use Rattle.bib_spec.specs.Records.{entries_of}
 use Rattle.bib_spec.proofs.Parents.{named_within}
 use Rattle.bib_edit.specs.NewKeys.{AreQuiet, HavePieces}
-use Rattle.bib_edit.proofs.EntryPieces.{first-pieces, next-pieces, all-pieces, none-passed, quiet-before, quiet-behind}
+use Rattle.bib_edit.proofs.EntryPieces.{first-pieces, next-pieces, all-pieces, none-passed, quiet-before, quiet-after}
 use Rattle.bib_edit.proofs.Referrers.{key-short}
 use Rattle.bib_edit.proofs.rekeying.renaming.Goals as goal
 
@@ -20,8 +20,8 @@ push_referrers-requires-clause-end g c db reads =
 pub push_entry-requires : goal.push_entry-requires
 push_entry-requires g c db reads = named_within (entries_of db) c.args.key.now c.args.n (c.requires.named db reads)
 
-pub behind_itself-after-requires : goal.behind_itself-after-requires
-behind_itself-after-requires g c =
+pub after_itself-after-requires : goal.after_itself-after-requires
+after_itself-after-requires g c =
     let db = c.opens.ensures.0 in
     let reads = c.opens.ensures.1.reads in
     key-short c.args.db.now db reads c.args.key.now c.args.n (c.requires.named db reads)
@@ -41,14 +41,14 @@ returns-clause-pieces g c db reads =
     let none : HavePieces new db key 0 0 c.new-pieces.result.items = record { pieces = first-pieces new db c.new-pieces.result.items c.new-pieces.ensures.items; passed = none-passed db key } in
     let before : HavePieces new db key c.in_ok-before.before c.args.n c.push_referrers.new.pieces.items
     = c.in_ok-before.ensures.pieces db reads 0 (omega arith) (quiet-before new db key c.args.n named c.requires.alone) none in
-    let its : HavePieces new db key c.behind_itself-after.result (c.args.n + 1) c.push_entry.new.pieces.items = record {
+    let its : HavePieces new db key c.after_itself-after.result (c.args.n + 1) c.push_entry.new.pieces.items = record {
       pieces = next-pieces new db c.args.n c.push_referrers.new.pieces.items c.push_entry.new.pieces.items low before.pieces (c.in_ok-push_entry.ensures.pieces db reads);
-      passed = c.behind_itself-after.ensures db reads before.passed;
+      passed = c.after_itself-after.ensures db reads before.passed;
     } in
     let count : c.entry_count.result ≡ length (entries_of db) = c.entry_count.ensures db reads in
     let high : c.args.n + 1 ≤ c.entry_count.result = omega (arith, low, count) in
     let all : HavePieces new db key c.in_ok-push_referrers.field-0 c.entry_count.result c.push_referrers-2.new.pieces.items
     = c.in_ok-push_referrers.ensures.pieces db reads (c.args.n + 1) high
-    (subst (λ (k : ℕ). AreQuiet new db key (c.args.n + 1) k) (sym count) (quiet-behind new db key c.args.n named c.requires.alone)) its in
+    (subst (λ (k : ℕ). AreQuiet new db key (c.args.n + 1) k) (sym count) (quiet-after new db key c.args.n named c.requires.alone)) its in
     let past : length (entries_of db) ≤ c.entry_count.result = omega (arith, count) in
     c.from_vec.ensures ∙ all-pieces new db c.entry_count.result c.push_referrers-2.new.pieces.items past all.pieces

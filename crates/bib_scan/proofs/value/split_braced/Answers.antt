@@ -13,7 +13,7 @@ returns-then-depth-eq0-clause-read c =
     let d = c.loop-brace.depth in
     let next = c.in-Some.ensures in
     let here = found_from (is_byte2 123 125) (read_braced d) (braced_takes d) t c.loop-brace.at c.in-Some.brace.place (read_braced 0 t) next.first next.brace c.loop-brace.invariant.scanned.read in
-    rw (c.split_at.ensures.front, c.behind.ensures)
+    rw (c.split_at.ensures.front, c.after.ensures)
     (braced_done _ _ d _ _ here.read c.if-depth-eq0.true (second _ here.passes c.if-text-place-eq123.false))
 
 pub returns-clause-read : goal.returns-clause-read
@@ -21,7 +21,7 @@ returns-clause-read c =
     let t = c.args.text.now in
     let d = c.loop-brace.depth in
     let gone : drop (length t) t ≡ [] = drop_all _ t (omega arith) in
-    rw (c.behind-2.ensures, gone)
+    rw (c.text_from-2.ensures, gone)
     (not_found_from (is_byte2 123 125) (read_braced d) (braced_takes d) (stop Unended []) (braced_nil d) t c.loop-brace.at (read_braced 0 t) c.in_default.ensures c.loop-brace.invariant.scanned.read)
 
 pub loop-brace-preserved : goal.loop-brace-preserved

@@ -3,7 +3,7 @@ use Rattle.bib_spec.specs.Bytes.{file_limit}
 use Rattle.bib_spec.specs.Text.{Text}
 use Rattle.bib_spec.specs.Reading.{Reading, Reads, HasReading}
 use Rattle.bib_scan.specs.Layout.{IsLayoutOf}
-use Rattle.bib_store.specs.Windows.{bytes_behind}
+use Rattle.bib_store.specs.Windows.{bytes_after}
 use Rattle.bib_store.proofs.WindowChanges.{not_served, lent_made, too_long_made, unread_made, len-around}
 use Rattle.bib_store.proofs.change.change_of.Goals as goal
 
@@ -23,7 +23,7 @@ returns-then-file_len-gt-FILE_LIMIT-clause-none g c = λ _ whole.
     let around = len-around c.args.window c.args.front.now items c.requires.window in
     let made = lent_made c.args.pieces.now c.args.front.now items c.args.window c.args.window.place c.in_ok-old.old.items c.deref.result.now c.deref-2.result.now c.in_ok-text.text.items
     c.requires.window c.requires.place c.in_ok-old.ensures c.deref.ensures.value (c.if-not-fits.ensures.0 refl) c.deref-2.ensures.value c.in_ok-text.ensures in
-    too_long_made c.args.pieces.now c.args.front.now items c.args.window c.args.window.place c.in_ok-text.text.items (length (bytes_behind c.args.window items)) made c.requires.place refl
+    too_long_made c.args.pieces.now c.args.front.now items c.args.window c.args.window.place c.in_ok-text.text.items (length (bytes_after c.args.window items)) made c.requires.place refl
     (omega (arith, c.if-file_len-gt-FILE_LIMIT.true, around, c.requires.len, c.requires.place, c.len.ensures, c.len-2.ensures, ap (length {A = ℕ}) c.in_ok-old.ensures))
 
 pub returns-in-Some-clause-change : goal.returns-in-Some-clause-change

@@ -10,7 +10,7 @@ invariant_of-rest c =
     let char = c.in-Some.ensures.found in
     record {
       within = char.within;
-      braces = braces_over text c.loop-place.place c.in-Some.end _ _ _ _ (omega (arith, char.behind)) char.within here.braces c.over.ensures.opened c.over.ensures.closed;
+      braces = braces_over text c.loop-place.place c.in-Some.end _ _ _ _ (omega (arith, char.after)) char.within here.braces c.over.ensures.opened c.over.ensures.closed;
       fresh = (char_passed text c.loop-place.place c.in-Some.end here.fresh char).fresh;
     }
 

@@ -15,7 +15,7 @@ returns-in_default-split_group-clause-refused c =
 pub loop-inside-smaller : goal.loop-inside-smaller
 loop-inside-smaller c =
     let rest = after_byte-found 123 c.loop-inside.rest.now c.in-Some.inside.now c.in-Some.ensures.found in
-    length-after c.loop-inside.rest.now c.in-Some.inside.now c.in-Some-split_group.group c.in-Some-split_group.behind.now rest c.in-Some-split_group.ensures.found
+    length-after c.loop-inside.rest.now c.in-Some.inside.now c.in-Some-split_group.group c.in-Some-split_group.after.now rest c.in-Some-split_group.ensures.found
 
 pub loop-inside-preserved : goal.loop-inside-preserved
 loop-inside-preserved c =
@@ -23,7 +23,7 @@ loop-inside-preserved c =
     let rest = after_byte-found 123 c.loop-inside.rest.now c.in-Some.inside.now c.in-Some.ensures.found in
     let far = subst (λ (t : List ℕ). IsReadSoFar bytes c.split_plain.result.0.now c.loop-inside.groups.items t) rest c.loop-inside.invariant in
     rw c.in_ok-push_group.ensures
-    (read_more bytes c.split_plain.result.0.now c.loop-inside.groups.items c.in-Some.inside.now _ c.in-Some-split_group.behind.now far c.in-Some-split_group.ensures.found)
+    (read_more bytes c.split_plain.result.0.now c.loop-inside.groups.items c.in-Some.inside.now _ c.in-Some-split_group.after.now far c.in-Some-split_group.ensures.found)
 
 pub returns-then-not-is_empty-clause-refused : goal.returns-then-not-is_empty-clause-refused
 returns-then-not-is_empty-clause-refused c =

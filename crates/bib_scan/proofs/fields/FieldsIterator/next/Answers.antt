@@ -15,7 +15,7 @@ returns-clause-steps c =
     let f = field_seen c.in_ok-field.field in
     sym c.self.view_is
     ∙ field_step c.self.inside.kind c.self.inside.body_len c.self.inside.rest.now (f, c.in_ok-field.rest.now) (sym c.in_ok-field.ensures.read) c.in_ok-field.ensures.shorter
-    ∙ ap (λ (k : Kind). f ∷ all_fields_left k c.self.inside.body_len c.in_ok-field.rest.now) (sym c.behind_field-self-inside.ensures)
+    ∙ ap (λ (k : Kind). f ∷ all_fields_left k c.self.inside.body_len c.in_ok-field.rest.now) (sym c.after_field-self-inside.ensures)
 
 pub returns-clause-goes : goal.returns-clause-goes
 returns-clause-goes c =

@@ -40,7 +40,7 @@ returns-in-Err-keep-clause-fault c = subst (λ (t : Text). IsReadFault t 10 0) (
 pub invariant_of-self-2 : goal.invariant_of-self-2
 invariant_of-self-2 c =
     let some : length c.self.inside.rest.now ≢ 0 = eqb-false _ _ (sym c.is_empty.ensures ∙ c.if-is_empty.false) in
-    let next = rw c.next_command.ensures.read at c.behind-self-inside.ensures in
+    let next = rw c.next_command.ensures.read at c.text_from-self-inside.ensures in
     let more = commands_more name_limit _ _ _ _ _ c.self.invariant.2 c.in-Ok.ensures.read c.in-Ok.ensures.shorter next in
     let start : c.of_left-span.result.start ≡ length c.self.inside.bytes.now - length c.self.inside.rest.now = ap (λ (s : Span). s.start) c.of_left-span.ensures in
     let noted = noted_more _ _ _ _ _ _ c.of_left-span.result c.of-note.result c.in-Ok.read.1 c.self.invariant.3 (omega arith) c.in-Ok.ensures.read next start c.in-Ok.ensures.head c.of-note.ensures in
@@ -49,10 +49,10 @@ invariant_of-self-2 c =
 pub returns-clause-item : goal.returns-clause-item
 returns-clause-item c =
     let some : length c.self.inside.rest.now ≢ 0 = eqb-false _ _ (sym c.is_empty.ensures ∙ c.if-is_empty.false) in
-    let next = rw c.next_command.ensures.read at c.behind-self-inside.ensures in
+    let next = rw c.next_command.ensures.read at c.text_from-self-inside.ensures in
     subst (λ (p : Progress). IsItemOf p.file p.count c.split_at.result.0.now c.of_left-span.result.start) c.self.view_is
     (item_here c.self.inside.bytes.now c.self.inside.rest.now c.in-Ok.read.0.now _ _ c.self.invariant.2 c.self.invariant.3 (omega arith) c.in-Ok.ensures.read
-    c.behind-self-inside.result.now c.of_left-span.result c.in-Ok.ensures.shorter next c.of_left-span.ensures c.split_at.result.0.now c.split_at.ensures.front)
+    c.text_from-self-inside.result.now c.of_left-span.result c.in-Ok.ensures.shorter next c.of_left-span.ensures c.split_at.result.0.now c.split_at.ensures.front)
 
 pub returns-clause-note : goal.returns-clause-note
 returns-clause-note c =

@@ -15,7 +15,7 @@ returns-in-Entry-clause-item c tree is whole =
     let inside : Text = c.split_opening-delimiter.result.1.now in
     let d = delimiter_view c.split_opening-delimiter.result.0 in
     let key : c.split_at.result.0.now ≡ take_while (goes_on_key d) inside = c.split_at.ensures.front ∙ ap (λ (n : ℕ). take n inside) c.key_len.ensures.len in
-    let behind : c.split_at.result.1.now ≡ after_run (goes_on_key d) inside = c.split_at.ensures.back ∙ ap (λ (n : ℕ). drop n inside) c.key_len.ensures.len in
+    let after : c.split_at.result.1.now ≡ after_run (goes_on_key d) inside = c.split_at.ensures.back ∙ ap (λ (n : ℕ). drop n inside) c.key_len.ensures.len in
     let opened = c.split_opening-delimiter.ensures.parts ∙ ap read_opening c.past_space.ensures.rest in
     (λ i. record {
       kind = kind.Entry;
@@ -24,7 +24,7 @@ returns-in-Entry-clause-item c tree is whole =
       type_name = (read_head body).0;
       key = key i;
       key_at = length body - length inside;
-      fields = all_fields_left kind.Entry (length body) (after_run is_space (behind i));
+      fields = all_fields_left kind.Entry (length body) (after_run is_space (after i));
     })
     ∙ view_found body trail _ kind.Entry _ tree refl (sym c.in-Entry.is ∙ c.named.ensures ∙ ap (λ (h : Text × Text). kind_named h.0) c.split_head.ensures.parts) (opened ∙ ap (λ (h : Text × Text). read_opening (after_run is_space h.1)) c.split_head.ensures.parts) is whole
 

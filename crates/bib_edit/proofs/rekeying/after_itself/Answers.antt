@@ -2,8 +2,8 @@ use Rattle.std.proofs.Common.{◌≡◌, ◌<◌, Some, length, sym, ◌∙◌, 
 use Rattle.std.proofs.lemmas.Option.{none-some, same_Some}
 use Rattle.bib_spec.specs.Records.{entries_of}
 use Rattle.bib_keys.proofs.EntryCounts.{few-entries}
-use Rattle.bib_edit.proofs.EntryPieces.{refers-within, behind-with, behind-without}
-use Rattle.bib_edit.proofs.rekeying.behind_itself.Goals as goal
+use Rattle.bib_edit.proofs.EntryPieces.{refers-within, after-with, after-without}
+use Rattle.bib_edit.proofs.rekeying.after_itself.Goals as goal
 
 pub overflow_add-result : goal.overflow_add-result
 overflow_add-result g c =
@@ -18,14 +18,14 @@ overflow_add-result g c =
 pub returns-in-Some : goal.returns-in-Some
 returns-in-Some g c db reads passed =
     let same : c.in-Some.m ≡ c.args.n = omega (arith, c.if-m-n.true) in
-    behind-with db c.args.key.now c.args.k c.args.n passed (sym (c.referrer.ensures db reads) ∙ c.in-Some.is ∙ ap Some same)
+    after-with db c.args.key.now c.args.k c.args.n passed (sym (c.referrer.ensures db reads) ∙ c.in-Some.is ∙ ap Some same)
 
 pub returns-in_default : goal.returns-in_default
 returns-in_default g c db reads passed =
-    behind-without db c.args.key.now c.args.k c.args.n passed (λ at.
+    after-without db c.args.key.now c.args.k c.args.n passed (λ at.
     let same : c.in-Some.m ≡ c.args.n = same_Some c.in-Some.m c.args.n (sym c.in-Some.is ∙ c.referrer.ensures db reads ∙ at) in
     omega (arith, c.if-m-n.false, same))
 
 pub returns-in_default-2 : goal.returns-in_default-2
 returns-in_default-2 g c db reads passed =
-    behind-without db c.args.key.now c.args.k c.args.n passed (λ at. none-some c.args.n (sym c.in_default.is ∙ c.referrer.ensures db reads ∙ at))
+    after-without db c.args.key.now c.args.k c.args.n passed (λ at. none-some c.args.n (sym c.in_default.is ∙ c.referrer.ensures db reads ∙ at))
