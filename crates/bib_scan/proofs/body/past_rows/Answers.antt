@@ -38,7 +38,7 @@ pub turns-preserved-then-same_folded : goal.turns-preserved-then-same_folded
 turns-preserved-then-same_folded c =
     let still = rw c.past_space-named.ensures.rest at c.in_default-past_byte.ensures.read in
     let read = rw c.past_space-named.ensures.rest at c.in_ok-assigned.ensures.read in
-    let shorter : length c.in_ok-assigned.after.now < length c.turns.rest.now = omega (arith, c.in_ok-assigned.ensures.shorter, c.past_space-named.ensures.within, c.in_ok-past_comma.ensures.shorter) in (
+    let shorter : length c.in_ok-assigned.later.now < length c.turns.rest.now = omega (arith, c.in_ok-assigned.ensures.shorter, c.past_space-named.ensures.within, c.in_ok-past_comma.ensures.shorter) in (
       rows_more name_limit _ _ _ _ _ c.turns.invariant.0 c.in_default.ensures.read c.in_ok-past_comma.ensures.read still read shorter,
       crossref_here _ _ _ _ c.turns.crossref_left c.turns.invariant.1 c.turns.invariant.0.shorter c.in_ok-past_comma.ensures.read read shorter c.if-crossref_left-eq0.true (sym c.same_folded.ensures ∙ c.if-same_folded.true),
     )
@@ -47,7 +47,7 @@ pub turns-preserved : goal.turns-preserved
 turns-preserved c =
     let still = rw c.past_space-named.ensures.rest at c.in_default-past_byte.ensures.read in
     let read = rw c.past_space-named.ensures.rest at c.in_ok-assigned.ensures.read in
-    let shorter : length c.in_ok-assigned.after.now < length c.turns.rest.now = omega (arith, c.in_ok-assigned.ensures.shorter, c.past_space-named.ensures.within, c.in_ok-past_comma.ensures.shorter) in (
+    let shorter : length c.in_ok-assigned.later.now < length c.turns.rest.now = omega (arith, c.in_ok-assigned.ensures.shorter, c.past_space-named.ensures.within, c.in_ok-past_comma.ensures.shorter) in (
       rows_more name_limit _ _ _ _ _ c.turns.invariant.0 c.in_default.ensures.read c.in_ok-past_comma.ensures.read still read shorter,
       elim c.else-crossref_left-eq0.branch [
         | else-crossref_left-eq0-via-then-crossref_left-eq0+else-same_folded w ↦

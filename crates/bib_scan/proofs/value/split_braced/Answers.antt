@@ -13,7 +13,7 @@ returns-then-depth-eq0-clause-read c =
     let d = c.loop-brace.depth in
     let next = c.in-Some.ensures in
     let here = found_from (is_byte2 123 125) (read_braced d) (braced_takes d) t c.loop-brace.at c.in-Some.brace.place (read_braced 0 t) next.first next.brace c.loop-brace.invariant.scanned.read in
-    rw (c.split_at.ensures.front, c.after.ensures)
+    rw (c.split_at.ensures.front, c.text_from.ensures)
     (braced_done _ _ d _ _ here.read c.if-depth-eq0.true (second _ here.passes c.if-text-place-eq123.false))
 
 pub returns-clause-read : goal.returns-clause-read

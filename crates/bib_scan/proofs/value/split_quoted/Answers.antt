@@ -12,7 +12,7 @@ returns-then-depth-eq0-clause-read c =
     let t = c.args.text.now in
     let d = c.loop-found.depth in
     let at = c.loop-found.at in
-    let here = found_at (is_byte3 123 125 34) (read_quoted d) (quoted_takes d) t c.after.result.now at c.in-Some.found (read_quoted 0 t) c.after.ensures c.in-Some.ensures c.loop-found.invariant.read in
+    let here = found_at (is_byte3 123 125 34) (read_quoted d) (quoted_takes d) t c.text_from.result.now at c.in-Some.found (read_quoted 0 t) c.text_from.ensures c.in-Some.ensures c.loop-found.invariant.read in
     rw (c.text_from-then-depth-eq0.ensures, drop_more t (at + c.in-Some.found) 0 here.within)
     (quoted_refused _ _ d _ _ here.read c.if-depth-eq0.true c.in-125.is)
 
@@ -21,7 +21,7 @@ returns-then-depth-eq0-2-clause-read c =
     let t = c.args.text.now in
     let d = c.loop-found.depth in
     let at = c.loop-found.at in
-    let here = found_at (is_byte3 123 125 34) (read_quoted d) (quoted_takes d) t c.after.result.now at c.in-Some.found (read_quoted 0 t) c.after.ensures c.in-Some.ensures c.loop-found.invariant.read in
+    let here = found_at (is_byte3 123 125 34) (read_quoted d) (quoted_takes d) t c.text_from.result.now at c.in-Some.found (read_quoted 0 t) c.text_from.ensures c.in-Some.ensures c.loop-found.invariant.read in
     rw (c.split_at.ensures.front, c.text_from-then-depth-eq0-2.ensures)
     (quoted_done _ _ d _ _ here.read c.if-depth-eq0-2.true (third _ here.passes (λ e. omega arith) (λ e. omega arith)))
 
@@ -31,7 +31,7 @@ returns-clause-read c =
     let d = c.loop-found.depth in
     let gone : drop (length t) t ≡ [] = drop_all _ t (omega arith) in
     rw (c.text_from-2.ensures, gone)
-    (not_found (is_byte3 123 125 34) (read_quoted d) (quoted_takes d) (stop Unended []) (quoted_nil d) t c.after.result.now c.loop-found.at (read_quoted 0 t) c.after.ensures c.in_default.ensures c.loop-found.invariant.read)
+    (not_found (is_byte3 123 125 34) (read_quoted d) (quoted_takes d) (stop Unended []) (quoted_nil d) t c.text_from.result.now c.loop-found.at (read_quoted 0 t) c.text_from.ensures c.in_default.ensures c.loop-found.invariant.read)
 
 pub loop-found-preserved : goal.loop-found-preserved
 loop-found-preserved c =
@@ -39,7 +39,7 @@ loop-found-preserved c =
     let d = c.loop-found.depth in
     let at = c.loop-found.at in
     let place = c.loop-found.at + c.in-Some.found in
-    let here = found_at (is_byte3 123 125 34) (read_quoted d) (quoted_takes d) t c.after.result.now at c.in-Some.found (read_quoted 0 t) c.after.ensures c.in-Some.ensures c.loop-found.invariant.read in
+    let here = found_at (is_byte3 123 125 34) (read_quoted d) (quoted_takes d) t c.text_from.result.now at c.in-Some.found (read_quoted 0 t) c.text_from.ensures c.in-Some.ensures c.loop-found.invariant.read in
     elim c.match-text-place.branch [
       | in-123 w ↦ record {
         within = omega (arith, here.within);

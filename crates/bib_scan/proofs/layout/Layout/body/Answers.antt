@@ -23,12 +23,12 @@ split_at-requires c =
     let layout = subst (IsLayoutOf c.args.bytes.now) (sym c.self.view_is) c.requires.layout in
     let lt = subst (λ (p : Places). c.args.n < length p.items) (sym c.self.view_is) c.requires.n_in_range in
     let lies = body_lies c.args.bytes.now _ c.args.n c.index-body.result.now layout lt c.index-body.ensures in
-    omega (arith, lies.ordered, lies.within, ap (length {A = ℕ}) c.after.ensures, length-drop c.index-body.result.now.start c.args.bytes.now)
+    omega (arith, lies.ordered, lies.within, ap (length {A = ℕ}) c.text_from.ensures, length-drop c.index-body.result.now.start c.args.bytes.now)
 
 pub returns : goal.returns
 returns c db i reads found =
     let layout = subst (IsLayoutOf c.args.bytes.now) (sym c.self.view_is) c.requires.layout in
     let lt = subst (λ (p : Places). c.args.n < length p.items) (sym c.self.view_is) c.requires.n_in_range in
     let s = c.index-body.result.now in
-    c.split_at.ensures.front ∙ ap (take (s.end - s.start)) c.after.ensures
+    c.split_at.ensures.front ∙ ap (take (s.end - s.start)) c.text_from.ensures
     ∙ body_is c.args.bytes.now _ c.args.n s db i layout lt c.index-body.ensures reads found

@@ -26,7 +26,7 @@ split_at-requires c =
     let lt = subst (λ (p : Places). c.args.n < length p.items) (sym c.self.view_is) c.requires.n_in_range in
     let ends = c.trail_end-end.ensures ∙ ap (λ (p : Places). trail_end c.args.bytes.now p c.args.n) (sym c.self.view_is) in
     let lies = trail_lies c.args.bytes.now _ c.args.n _ c.index-body.result.now layout lt c.index-body.ensures ends in
-    omega (arith, lies.ordered, lies.within, ap (length {A = ℕ}) c.after.ensures, length-drop c.index-body.result.now.end c.args.bytes.now)
+    omega (arith, lies.ordered, lies.within, ap (length {A = ℕ}) c.text_from.ensures, length-drop c.index-body.result.now.end c.args.bytes.now)
 
 pub returns : goal.returns
 returns c db i reads found =
@@ -34,5 +34,5 @@ returns c db i reads found =
     let lt = subst (λ (p : Places). c.args.n < length p.items) (sym c.self.view_is) c.requires.n_in_range in
     let ends = c.trail_end-end.ensures ∙ ap (λ (p : Places). trail_end c.args.bytes.now p c.args.n) (sym c.self.view_is) in
     let s = c.index-body.result.now in
-    c.split_at.ensures.front ∙ ap (take (c.trail_end-end.result - s.end)) c.after.ensures
+    c.split_at.ensures.front ∙ ap (take (c.trail_end-end.result - s.end)) c.text_from.ensures
     ∙ trail_is c.args.bytes.now _ c.args.n _ s db i layout lt c.index-body.ensures ends reads found

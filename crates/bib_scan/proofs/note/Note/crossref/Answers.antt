@@ -19,9 +19,9 @@ returns-then-at-eq0 c tree is whole noted =
 pub returns-in-Ok : goal.returns-in-Ok
 returns-in-Ok c tree is whole noted =
     let some : c.args.self.crossref_at ≢ 0 = c.if-at-eq0.false in
-    crossref_read c.args.body.now tree c.args.self is whole noted (omega (arith, some)) _ (ap (λ (u : Text). read_row_field (length c.args.body.now) u) (sym c.after.ensures) ∙ c.in-Ok.ensures.read)
+    crossref_read c.args.body.now tree c.args.self is whole noted (omega (arith, some)) _ (ap (λ (u : Text). read_row_field (length c.args.body.now) u) (sym c.text_from.ensures) ∙ c.in-Ok.ensures.read)
 
 pub returns-in-Err : goal.returns-in-Err
 returns-in-Err c tree is whole noted =
     let some : c.args.self.crossref_at ≢ 0 = c.if-at-eq0.false in
-    crossref_read c.args.body.now tree c.args.self is whole noted (omega (arith, some)) _ (ap (λ (u : Text). read_row_field (length c.args.body.now) u) (sym c.after.ensures) ∙ c.in-Err.ensures.read)
+    crossref_read c.args.body.now tree c.args.self is whole noted (omega (arith, some)) _ (ap (λ (u : Text). read_row_field (length c.args.body.now) u) (sym c.text_from.ensures) ∙ c.in-Err.ensures.read)

@@ -10,7 +10,7 @@ returns-then-bytes-gt-FILE_LIMIT-clause-fault c = too_long (omega (arith, c.if-b
 
 pub invariant_of-result : goal.invariant_of-result
 invariant_of-result c =
-    let rest = rw c.next_command-front_len.ensures.read at c.after.ensures in (
+    let rest = rw c.next_command-front_len.ensures.read at c.text_from.ensures in (
       omega (arith, c.if-bytes-gt-FILE_LIMIT.false),
       c.next_command-front_len.ensures.read,
       rw c.new.ensures.items (commands_start name_limit _ _ rest),
