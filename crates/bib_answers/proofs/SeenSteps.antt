@@ -4,7 +4,7 @@ use Rattle.std.specs.List.{list_any}
 use Rattle.std.proofs.lemmas.Bool.{cases_Bool, both_ways}
 use Rattle.std.proofs.lemmas.List.Folds.{list_any-append}
 use Rattle.bib_spec.specs.Text.{Text, folded, same}
-use Rattle.bib_value.specs.FoldedMap.{value_at, IsWith}
+use Rattle.folded_map.specs.FoldedMap.{value_at, IsWith}
 use Rattle.bib_answers.specs.declared.marks.Marks.{Marks}
 use Rattle.bib_answers.specs.Recurring.{may_recur}
 use Rattle.bib_answers.specs.Seen.{is_other}

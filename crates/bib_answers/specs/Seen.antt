@@ -2,7 +2,7 @@
 use Rattle.std.specs.Prelude.{◌≡◌, ◌||◌, Bool, true, List, is_some}
 use Rattle.std.specs.List.{list_any}
 use Rattle.bib_spec.specs.Text.{Text, folded, same}
-use Rattle.bib_value.specs.FoldedMap.{value_at}
+use Rattle.folded_map.specs.FoldedMap.{value_at}
 use Rattle.bib_answers.specs.Recurring.{may_recur, AreTold, unrolled}
 use Rattle.bib_answers.specs.declared.seen_names.SeenNames.{SeenNames}
 

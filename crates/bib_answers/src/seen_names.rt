@@ -8,7 +8,7 @@ ghost use Rattle.bib_answers.specs.Recurring.{may_recur, AreTold, names_of};
 
 use crate::marks::Marks;
 use bib_scan::{ItemView, same_folded};
-use bib_value::FoldedMap;
+use folded_map::FoldedMap;
 use std::alloc::{AllocError, Global};
 
 /// How many names are compared one by one. More names than most items have.

@@ -1,6 +1,6 @@
 //! What may be asked of a database.
 
-use bib_scan::{Seq, Text};
+use bib_text::{Seq, Text};
 
 /// An entry to be added: its type, its key, and its fields' names and values, as bytes.
 #[derive(Debug, Drop)]

@@ -4,7 +4,7 @@ ghost use Rattle.std.specs.Prelude.{◌≡◌, ◌↔◌, IsTrue, IfOk};
 ghost use Rattle.std.specs.List.{list_all};
 ghost use Rattle.history_spec.specs.Steps.{is_label_byte, is_label, label_of, IsLabel};
 
-use bib_scan::{Seq, Text};
+use bib_text::{Seq, Text};
 use std::alloc::{AllocError, Global};
 use std::marker::Model;
 

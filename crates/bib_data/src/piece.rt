@@ -1,6 +1,6 @@
 //! One replaced stretch of a text.
 
-use bib_scan::Text;
+use bib_text::Text;
 use std::marker::Model;
 
 /// One replaced stretch of a text: where it begins in the old text, in bytes from 0, what stood there, and what stands there now.

@@ -1,6 +1,6 @@
 //! Records.
 
-use bib_scan::{Seq, Text};
+use bib_text::{Seq, Text};
 use std::marker::Model;
 
 /// An entry as its readers see it: its type, its key, and the names and texts of its fields.

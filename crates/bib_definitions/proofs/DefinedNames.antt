@@ -7,7 +7,7 @@ use Rattle.std.proofs.lemmas.Bool.{cases_Bool, cond-true, cond-false, lt-ltb, le
 use Rattle.std.proofs.lemmas.List.Elements.{All-append}
 use Rattle.bib_spec.specs.Text.{Text, folded}
 use Rattle.bib_spec.specs.Texts.{months}
-use Rattle.bib_value.specs.FoldedMap.{value_at, IsWith}
+use Rattle.folded_map.specs.FoldedMap.{value_at, IsWith}
 use Rattle.bib_value.specs.Macros.{or_else}
 use Rattle.bib_spec.proofs.Names.{eq-true}
 use Rattle.bib_definitions.specs.declared.held.Definition.{Definition}

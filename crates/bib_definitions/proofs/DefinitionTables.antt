@@ -7,9 +7,9 @@ use Rattle.bib_spec.specs.Text.{Text, folded}
 use Rattle.bib_spec.specs.Tree.{Tree, CommentTree, DefinitionTree, PreambleTree, EntryTree}
 use Rattle.bib_spec.specs.Reading.{Item}
 use Rattle.bib_spec.specs.Texts.{Macros, months, macros_at, macros_after, gathered}
-use Rattle.bib_entries.specs.Numbers.{PartAt, HaveNext, rank_in, numbered, numbers}
-use Rattle.bib_entries.proofs.MovedNumbers.{rank_all, rank_of}
-use Rattle.bib_entries.proofs.ItemNumbers.{front_numbers, rest_numbers, parts_at, numbers-below, numbers-parts, numbers-with, put_numbers, moved_numbers, closed_numbers}
+use Rattle.bib_numbers.specs.Numbers.{PartAt, HaveNext, rank_in, numbered, numbers}
+use Rattle.bib_numbers.proofs.MovedNumbers.{rank_all, rank_of}
+use Rattle.bib_numbers.proofs.ItemNumbers.{front_numbers, rest_numbers, parts_at, numbers-below, numbers-parts, numbers-with, put_numbers, moved_numbers, closed_numbers}
 use Rattle.bib_definitions.specs.ByName.{Named, AreAllOf}
 use Rattle.bib_definitions.specs.Definitions.{Known, texts_at, is_definition_tree, definition_numbers, defined_by, definitions_in, AreDefinitionsOf, Defines, AreSettled}
 use Rattle.bib_definitions.proofs.MacrosAfter.{after_other, gathered-append}

@@ -10,7 +10,7 @@ use Rattle.bib_spec.specs.Reading.{Item}
 use Rattle.bib_spec.specs.Texts.{Macros, months, macros_after, gathered}
 use Rattle.bib_spec.proofs.Counts.{count-yes, count-no}
 use Rattle.bib_spec.proofs.Names.{eq-true, true-eq}
-use Rattle.bib_entries.specs.Numbers.{numbered, numbers}
+use Rattle.bib_numbers.specs.Numbers.{numbered, numbers}
 use Rattle.bib_definitions.specs.declared.held.Definition.{Definition}
 use Rattle.bib_definitions.specs.ByName.{definitions_of, named_among}
 use Rattle.bib_definitions.specs.Definitions.{Known, is_definition_tree, is_definition_of, definition_count, first_definition, defined_by, definitions_in, AreDefinitionsOf}

@@ -7,7 +7,7 @@ use Rattle.std.proofs.lemmas.Bool.{cases_Bool, cases_lt, cond-true, cond-false}
 use Rattle.std.proofs.lemmas.Option.{none-some, same_Some}
 use Rattle.bib_spec.specs.Text.{Text, folded}
 use Rattle.bib_spec.specs.Texts.{months, month_names}
-use Rattle.bib_value.specs.FoldedMap.{IsWith}
+use Rattle.folded_map.specs.FoldedMap.{IsWith}
 use Rattle.bib_definitions.specs.declared.held.Definition.{Definition}
 use Rattle.bib_definitions.specs.ByName.{Defined, definitions_of, texts_after}
 use Rattle.bib_definitions.specs.Definitions.{AreAtMost, AreWithin}

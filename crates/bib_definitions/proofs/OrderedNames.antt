@@ -9,7 +9,7 @@ use Rattle.std.proofs.lemmas.List.Elements.{All-head}
 use Rattle.bib_spec.specs.Text.{Text, folded}
 use Rattle.bib_spec.specs.Texts.{Macros, months}
 use Rattle.bib_spec.proofs.Names.{eq-true, true-eq}
-use Rattle.bib_value.specs.FoldedMap.{IsWith}
+use Rattle.folded_map.specs.FoldedMap.{IsWith}
 use Rattle.bib_value.specs.Macros.{or_else}
 use Rattle.bib_definitions.specs.declared.held.Definition.{Definition}
 use Rattle.bib_definitions.specs.ByName.{Defined, Named, AreAllOf, definitions_of, named_among, text_after, texts_after, EndsBy}

@@ -5,7 +5,7 @@ use Rattle.bib_spec.specs.Text.{Text, folded, same}
 use Rattle.bib_spec.specs.Tree.{Tree, CommentTree, DefinitionTree, PreambleTree, EntryTree}
 use Rattle.bib_spec.specs.Reading.{Item}
 use Rattle.bib_spec.specs.Texts.{Macros, months, raw_text, macros_in, macros_at, gathered}
-use Rattle.bib_entries.specs.Numbers.{rank_in}
+use Rattle.bib_numbers.specs.Numbers.{rank_in}
 use Rattle.bib_definitions.specs.ByName.{Defined, Named, AreAllOf, texts_after}
 
 -- the numbers that the definitions have among the items, and the definitions of each name

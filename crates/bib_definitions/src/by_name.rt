@@ -4,12 +4,13 @@ ghost use Rattle.std.specs.Prelude.{◌≡◌, ◌++◌, ◌∷◌, [], ◌<◌,
 ghost use Rattle.std.specs.Option.{option_copied};
 ghost use Rattle.bib_spec.specs.Bytes.{name_limit};
 ghost use Rattle.bib_spec.specs.Text.{folded};
-ghost use Rattle.bib_value.specs.FoldedMap.{value_at, IsWith};
+ghost use Rattle.folded_map.specs.FoldedMap.{value_at, IsWith};
 ghost use Rattle.bib_definitions.specs.Held.{Fits};
 ghost use Rattle.bib_definitions.specs.ByName.{text_after, definitions_of, each_held, Ascends};
 
 use crate::held::{Definition, Held};
-use bib_value::{FoldedMap, month};
+use bib_value::month;
+use folded_map::FoldedMap;
 use std::alloc::{AllocError, Global};
 use std::marker::Model;
 

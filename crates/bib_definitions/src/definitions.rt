@@ -2,8 +2,8 @@
 
 use crate::macros_at::MacrosAt;
 use crate::names::Names;
-use bib_entries::Numbers;
-use bib_scan::Text;
+use bib_numbers::Numbers;
+use bib_text::Text;
 use std::alloc::{AllocError, Global};
 use std::marker::Model;
 use std::mem;

@@ -3,7 +3,7 @@
 ghost use Rattle.std.specs.Prelude.{◌≡◌, ◌≤◌, ◌+◌, ◌++◌, ◌∷◌, [], vec_len, vec_capacity, IfOk};
 ghost use Rattle.bib_definitions.specs.Held.{definitions_held, HasRoom, Fits};
 
-use bib_scan::Text;
+use bib_text::Text;
 use std::alloc::{AllocError, Global};
 use std::slice::from_ref;
 

@@ -7,7 +7,7 @@ ghost use Rattle.bib_spec.specs.Text.{Text as Bytes, folded};
 
 use crate::by_name::ByName;
 use crate::held::Definition;
-use bib_scan::{NAME_LIMIT, Seq, Text};
+use bib_text::{NAME_LIMIT, Seq, Text};
 use std::alloc::{AllocError, Global};
 use std::marker::Model;
 

@@ -7,7 +7,7 @@ use Rattle.std.proofs.lemmas.List.{take_more, take_all, map-append}
 use Rattle.bib_spec.specs.Text.{Text, folded, same}
 use Rattle.edit_spec.specs.Edits.{has_same}
 use Rattle.bib_spec.proofs.Names.{same_comm}
-use Rattle.bib_value.specs.FoldedMap.{value_at, IsWith}
+use Rattle.folded_map.specs.FoldedMap.{value_at, IsWith}
 use Rattle.std.proofs.lemmas.List.Folds.{list_any-append}
 
 pub take-read : {X : Type 0} (xs : List X) (i : ℕ) (x : X) → i < length xs → x ≡ get_or xs i x → take (i + 1) xs ≡ take i xs ++ x ∷ []

@@ -16,7 +16,7 @@ use crate::pieces::one_piece;
 use bib_data::NewEntry;
 use bib_scan::{Seq, Text, is_key, is_type};
 use bib_store::{Database, ItemList, Piece};
-use bib_value::FoldedMap;
+use folded_map::FoldedMap;
 use std::alloc::{AllocError, Global};
 
 /// Whether each key is valid.

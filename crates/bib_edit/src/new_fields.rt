@@ -15,7 +15,8 @@ use crate::limits::is_text_too_long;
 use crate::values::{judge_value, value_parts};
 use bib_scan::{Text, is_name, only_part, same_folded};
 use bib_store::{Database, ItemList};
-use bib_value::{FoldedMap, RAW_LIMIT, part_text};
+use bib_value::{RAW_LIMIT, part_text};
+use folded_map::FoldedMap;
 use std::alloc::{AllocError, Global};
 
 /// Whether each field's name is one.

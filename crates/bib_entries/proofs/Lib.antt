@@ -1,6 +1,1 @@
 pub mod Tables
-pub mod Moves
-pub mod FilledPages
-pub mod SoughtPages
-pub mod MovedNumbers
-pub mod ItemNumbers

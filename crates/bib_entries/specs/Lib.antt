@@ -1,4 +1,2 @@
 pub mod Crossref
 pub mod EntryTable
-pub mod Moves
-pub mod Numbers

@@ -3,8 +3,8 @@
 ghost use Rattle.std.specs.Prelude.{◌≡◌, None, IfOk};
 ghost use Rattle.std.specs.Option.{option_copied};
 
-use bib_scan::Text;
-use bib_value::{SHORT_LEN, ShortText};
+use bib_text::Text;
+use folded_map::{SHORT_LEN, ShortText};
 use std::alloc::{AllocError, Global};
 use std::marker::Model;
 

@@ -9,7 +9,7 @@ ghost use Rattle.bib_entries.specs.EntryTable.{name_of, named_by, crossref_of, I
 use crate::crossref::Crossref;
 use bib_index::KeyIndex;
 use bib_order::Order;
-use bib_scan::{NAME_LIMIT, Text};
+use bib_text::{NAME_LIMIT, Text};
 use std::alloc::{AllocError, Global};
 use std::marker::Model;
 

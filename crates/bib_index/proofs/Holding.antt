@@ -16,7 +16,7 @@ use Rattle.bib_order.specs.Orders.{Lacks, IsDistinct}
 use Rattle.bib_order.specs.Holders.{holders, before}
 use Rattle.bib_order.proofs.Counting.{lacks_at}
 use Rattle.bib_order.proofs.Following.{holders-split, follow_order}
-use Rattle.bib_value.specs.FoldedMap.{value_at, IsWith}
+use Rattle.folded_map.specs.FoldedMap.{value_at, IsWith}
 use Rattle.bib_index.specs.KeyIndex.{is_text, has_text, with_text, also, IsIndexOf, without, members, ids_in, Has, HaveOneAtMost, TextsFollow}
 
 -- ---- one id among others

@@ -1,7 +1,7 @@
 -- Which ids have a text, and what an index says of it.
 use Rattle.std.specs.Prelude.{◌≡◌, ◌≤◌, ◌<◌, ℕ, Bool, true, false, not, ◌==◌, List, [], length, filter, insert, remove, slice_index, Option, None, Some, if◌then◌else◌, bytes_eq}
 use Rattle.bib_spec.specs.Text.{Text, folded}
-use Rattle.bib_value.specs.FoldedMap.{value_at}
+use Rattle.folded_map.specs.FoldedMap.{value_at}
 use Rattle.bib_order.specs.Holders.{holders}
 
 -- a text that is there is this one, once folded

@@ -3,13 +3,13 @@
 ghost use Rattle.std.specs.Prelude.{◌≡◌, ◌≢◌, ◌≤◌, ℕ, Bool, false, List, [], ◌∷◌, None, Some, Option, length, insert, slice_get, IsSome, IsTrue, OnOk, OnErr};
 ghost use Rattle.bib_spec.specs.Bytes.{name_limit};
 ghost use Rattle.bib_spec.specs.Text.{Text, folded};
-ghost use Rattle.bib_value.specs.FoldedMap.{value_at};
+ghost use Rattle.folded_map.specs.FoldedMap.{value_at};
 ghost use Rattle.bib_order.specs.Holders.{holders};
 ghost use Rattle.bib_index.specs.KeyIndex.{ids_in, also, with_text, without, IsIndexOf, Has, IsKept, HaveOneAtMost, TextsFollow};
 
 use crate::holders::Holders;
 use bib_order::Order;
-use bib_value::FoldedMap;
+use folded_map::FoldedMap;
 use std::alloc::{AllocError, Global};
 use std::marker::Model;
 

@@ -14,7 +14,7 @@ use Rattle.bib_spec.specs.Bytes.{name_limit}
 use Rattle.bib_spec.specs.Text.{Text, folded, same}
 use Rattle.bib_spec.specs.MadeKeys.{letters, candidate, is_taken}
 use Rattle.bib_spec.proofs.Names.{same-true, true-same, same_of}
-use Rattle.bib_value.specs.FoldedMap.{value_at, IsWith}
+use Rattle.folded_map.specs.FoldedMap.{value_at, IsWith}
 use Rattle.bib_keys.proofs.LookUps.{copied-some}
 use Rattle.bib_keys.proofs.FirstFree.{tried-more}
 use Rattle.bib_keys.specs.TakenKeys.{AreTaken, AreTried}

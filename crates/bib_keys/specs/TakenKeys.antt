@@ -5,7 +5,7 @@ use Rattle.bib_spec.specs.Text.{Text, folded}
 use Rattle.bib_spec.specs.Reading.{Reading}
 use Rattle.bib_spec.specs.Records.{entries_of, keys_of, dangling_texts}
 use Rattle.bib_spec.specs.MadeKeys.{candidate, is_taken}
-use Rattle.bib_value.specs.FoldedMap.{value_at}
+use Rattle.folded_map.specs.FoldedMap.{value_at}
 use Rattle.bib_keys.specs.declared.taken_keys.TakenKeys.{TakenKeys}
 
 -- the first n candidates of the base are taken

@@ -4,7 +4,7 @@ use crate::dangling::dangling_text;
 use bib_names::candidate;
 use bib_scan::{NAME_LIMIT, Text};
 use bib_store::{Database, ItemList};
-use bib_value::FoldedMap;
+use folded_map::FoldedMap;
 use std::alloc::{AllocError, Global};
 
 /// Keys that are taken, compared without regard to ASCII case, and of each base how many candidates are known to be. What

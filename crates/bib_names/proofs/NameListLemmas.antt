@@ -7,7 +7,7 @@ use Rattle.std.proofs.lemmas.Bool.{eqb-true, ne_eqb, ltb-true, ltb-false}
 use Rattle.std.proofs.Math.Dec.{ltb}
 use Rattle.std.proofs.lemmas.List.{get_or-drop, get_or_past, take_all, length-drop}
 use Rattle.bib_spec.specs.Text.{Text, is_space, same}
-use Rattle.bib_trim.specs.Trimming.{trimmed}
+use Rattle.bib_text.specs.Trimming.{trimmed}
 use Rattle.bib_names.specs.Places.{is_level, places_from, between, Stretch}
 use Rattle.bib_names.specs.NameList.{is_and, is_cut, cuts, names_of}
 use Rattle.bib_names.proofs.BoolLemmas.{both}

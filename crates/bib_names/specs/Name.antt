@@ -5,7 +5,7 @@ use Rattle.bib_spec.specs.Bytes.{comma}
 use Rattle.bib_spec.specs.Text.{Text}
 use Rattle.bib_names.specs.Marks.{hyphen, is_dropped_at_end}
 use Rattle.bib_names.specs.Places.{is_level, places, Stretch, between}
-use Rattle.bib_trim.specs.Trimming.{up_to_last, before_run}
+use Rattle.bib_text.specs.Trimming.{up_to_last, before_run}
 use Rattle.bib_names.specs.Words.{NameWord, words_of}
 use Rattle.bib_names.specs.Case.{is_lower}
 use Rattle.bib_names.specs.declared.name.Name.{Name}

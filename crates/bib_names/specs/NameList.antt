@@ -3,7 +3,7 @@ use Rattle.std.specs.Prelude.{ℕ, ◌+◌, ◌-◌, Bool, ◌&&◌, nat_lt, Lis
 use Rattle.std.specs.List.{list_all}
 use Rattle.bib_spec.specs.Text.{Text, is_space, same}
 use Rattle.bib_names.specs.Places.{is_level, places, between}
-use Rattle.bib_trim.specs.Trimming.{trimmed}
+use Rattle.bib_text.specs.Trimming.{trimmed}
 
 -- the word `and`, folded, stands at the place, with white space on both sides (btxhak 5.3)
 abbrev pub is_and : Text → ℕ → Bool

@@ -3,7 +3,7 @@
 ghost use Rattle.std.specs.Prelude.{◌≡◌, ◌↔◌, ◌<◌, ◌≤◌, ◌==◌, length, map, IfOk, IfErr, OnOk, Err, IsTrue};
 ghost use Rattle.std.specs.List.{slice_range};
 ghost use Rattle.bib_spec.specs.Text.{IsBalanced};
-ghost use Rattle.bib_trim.specs.Trimming.{trimmed};
+ghost use Rattle.bib_text.specs.Trimming.{trimmed};
 ghost use Rattle.bib_names.specs.Places.{is_level};
 ghost use Rattle.bib_names.specs.NameList.{is_and, is_cut, names_of};
 
@@ -11,7 +11,7 @@ use crate::braces::Braces;
 use crate::fault::NameFault;
 use crate::text::{is_balanced, is_blank};
 use bib_scan::{Seq, same_folded};
-use bib_trim::{is_space, trimmed};
+use bib_text::{is_space, trimmed};
 use std::alloc::{AllocError, Global};
 
 /// Whether the word `and` stands at the place, between white space.

@@ -6,7 +6,7 @@ ghost use Rattle.bib_spec.specs.Text.{is_space, IsBalanced};
 ghost use Rattle.bib_names.specs.Marks.{is_separator, is_dropped_at_end, goes_on};
 ghost use Rattle.bib_names.specs.Name.{without_end};
 
-use bib_trim::is_space;
+use bib_text::is_space;
 
 /// Whether the byte stands between words. (btxhak 5.4)
 pub(crate) fn is_separator(byte: u8) -> bool

@@ -8,7 +8,7 @@ ghost use Rattle.bib_names.specs.Name.{is_von, is_free};
 use crate::braces::Braces;
 use crate::case::is_lower;
 use crate::text::is_separator;
-use bib_trim::is_space;
+use bib_text::is_space;
 use std::alloc::{AllocError, Global};
 use std::marker::Model;
 

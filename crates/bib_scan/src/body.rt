@@ -18,8 +18,8 @@ use crate::note::EntryHead;
 use crate::opening::Delimiter;
 use crate::row::{past_row, split_assignment};
 use crate::spans::{past_space, split_type_name, text_from};
-use crate::text::{NAME_LIMIT, same_folded};
 use crate::value::split_value;
+use bib_text::{NAME_LIMIT, same_folded};
 
 /// The text after this byte, where the text begins with it.
 #[inline(always)]

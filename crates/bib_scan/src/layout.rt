@@ -3,9 +3,9 @@
 ghost use Rattle.std.specs.Prelude.{◌≡◌};
 
 use crate::note::Note;
-use crate::seq::Seq;
 use crate::spans::text_from;
 use crate::view::ItemView;
+use bib_text::Seq;
 use std::marker::Model;
 
 /// Where the body of an item lies: its first byte, and the first one after it.

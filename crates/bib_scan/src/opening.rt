@@ -9,7 +9,8 @@ ghost use Rattle.bib_scan.specs.DelimiterView.{delimiter_view};
 
 use crate::class::is_type_byte;
 use crate::spans::{past_space, split_type_name, text_from};
-use crate::text::{are_type_name, same_folded};
+use crate::text::are_type_name;
+use bib_text::same_folded;
 use memchr::memchr;
 
 /// `{` with `}`, or `(` with `)`.

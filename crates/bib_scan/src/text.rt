@@ -3,13 +3,11 @@
 ghost use Rattle.std.specs.Prelude.{◌≡◌, ◌↔◌, true, IsTrue};
 ghost use Rattle.std.specs.List.{list_all};
 ghost use Rattle.std.specs.Char.{is_ascii_digit};
-ghost use Rattle.bib_spec.specs.Text.{is_name_byte, is_type_byte, is_new_key_byte, is_name, is_new_key, same, does_not_begin_with, IsBalanced};
+ghost use Rattle.bib_spec.specs.Text.{is_name_byte, is_type_byte, is_new_key_byte, is_name, is_new_key, does_not_begin_with, IsBalanced};
 ghost use Rattle.bib_spec.specs.Tree.{is_no_keyword, is_type};
 
 use crate::class::{is_name_byte, is_new_key_byte, is_type_byte};
-
-/// The longest name or key, in bytes. (dialect)
-pub const NAME_LIMIT: usize = 255;
+use bib_text::{NAME_LIMIT, same_folded};
 
 /// Whether each byte may stand in a name.
 fn all_name_bytes(bytes: &[u8]) -> bool
@@ -47,14 +45,6 @@ pub(crate) fn are_type_name(bytes: &[u8]) -> bool
     ensures { result ≡ is_name bytes.now }
 {
     !bytes.is_empty() && bytes.len() <= NAME_LIMIT && begins_with_no_digit(bytes)
-}
-
-/// Whether two texts are the same but for the case of ASCII letters, as types, names and keys are
-/// compared. (btxdoc 3)
-pub fn same_folded(a: &[u8], b: &[u8]) -> bool
-    ensures { result ≡ same a.now b.now }
-{
-    a.eq_ignore_ascii_case(b)
 }
 
 /// Whether each byte may stand in a type name.

@@ -13,7 +13,7 @@ use crate::class::is_name_byte;
 use crate::fault::{Fault, Stop};
 use crate::near::first_of_three;
 use crate::spans::{digits_len, name_len, past_space, text_from};
-use crate::text::NAME_LIMIT;
+use bib_text::NAME_LIMIT;
 
 /// A part of a value, with its content.
 #[derive(Clone, Copy, Debug, PartialEq, Eq)]

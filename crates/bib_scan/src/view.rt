@@ -11,7 +11,7 @@ use crate::fields::Fields;
 use crate::note::Note;
 use crate::opening::Delimiter;
 use crate::spans::{past_space, split_type_name, text_from};
-use crate::text::same_folded;
+use bib_text::same_folded;
 use std::marker::Model;
 
 /// The kinds of items.

@@ -4,7 +4,7 @@ ghost use Rattle.std.specs.Prelude.{◌≡◌, ◌++◌, ◌∷◌, [], Some, No
 ghost use Rattle.bib_spec.specs.Text.{Text as Bytes};
 ghost use Rattle.bib_script.specs.Script.{fields_of};
 
-use bib_scan::{Seq, Text};
+use bib_text::{Seq, Text};
 use std::alloc::{AllocError, Global};
 
 /// The bytes, copied.

@@ -6,7 +6,7 @@ ghost use Rattle.history_spec.specs.Steps.{label_limit};
 ghost use Rattle.bib_script.specs.Words.{spaced, continues, kept_len, shown_byte, label_of_words};
 
 use bib_data::{LABEL_LIMIT, Label};
-use bib_scan::Text;
+use bib_text::Text;
 use std::alloc::{AllocError, Global};
 
 /// The words as a label: with a space between each two and in the place of each control byte, and no longer than a label

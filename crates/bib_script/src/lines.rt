@@ -5,7 +5,7 @@ ghost use Rattle.std.specs.List.{prefix_len};
 ghost use Rattle.bib_spec.specs.Bytes.{tab, line_feed};
 ghost use Rattle.bib_script.specs.Parting.{words_of, without_return, lines_of};
 
-use bib_scan::Seq;
+use bib_text::Seq;
 use std::alloc::{AllocError, Global};
 
 /// How many bytes stand before the first line feed, or before the end.

@@ -8,7 +8,7 @@ ghost use Rattle.bib_script.specs.Script.{request_of, said, said_of};
 use crate::lines::{split_line, words_of};
 use crate::verbs::request_of;
 use bib_data::Request;
-use bib_scan::Seq;
+use bib_text::Seq;
 use std::alloc::{AllocError, Global};
 use std::marker::Model;
 

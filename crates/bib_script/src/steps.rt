@@ -7,7 +7,7 @@ ghost use Rattle.bib_script.specs.Words.{step_of, asked_by_words};
 use crate::labels::label_of_words;
 use crate::verbs::edit_of;
 use bib_data::{Edit, Label, Request};
-use bib_scan::{Seq, Text};
+use bib_text::{Seq, Text};
 use std::alloc::{AllocError, Global};
 
 /// Reads the words of one edit, as a line of a script has them, but each with any bytes. They ask for a step of that edit, whose

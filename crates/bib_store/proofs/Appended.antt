@@ -22,7 +22,7 @@ use Rattle.bib_store.specs.Tables.{is_preamble_tree}
 use Rattle.bib_entries.specs.EntryTable.{IsTableOf}
 use Rattle.bib_store.specs.ItemTexts.{first_too_long, placed_texts}
 use Rattle.bib_store.specs.Beside.{AreTablesOf}
-use Rattle.bib_entries.specs.Numbers.{numbered, numbers}
+use Rattle.bib_numbers.specs.Numbers.{numbered, numbers}
 use Rattle.bib_store.proofs.RowTexts.{cons_parts}
 use Rattle.bib_store.proofs.OneItemMore.{raw_texts-append, first-append}
 use Rattle.bib_store.proofs.Placed.{first_of, first_kept, none_both, fit_parts, fit_joined}

@@ -12,7 +12,7 @@ use Rattle.bib_spec.specs.Texts.{Macros, raw_text, field_text}
 use Rattle.bib_spec.specs.Records.{Field, RecordField, record_field, field_of, crossref, has_name, effective, missing}
 use Rattle.bib_spec.proofs.Names.{same_of, same_comm, same-true}
 use Rattle.bib_scan.specs.View as view
-use Rattle.bib_value.specs.FoldedMap.{value_at, IsWith}
+use Rattle.folded_map.specs.FoldedMap.{value_at, IsWith}
 use Rattle.bib_value.specs.Raw.{OfValue}
 use Rattle.bib_store.specs.Gathering.{is_taken, AreTaken, with_field, with_fields, IsReadable, IsFieldOf}
 use Rattle.bib_store.proofs.Filters.{filter_twice, filter_all}

@@ -4,7 +4,7 @@ use Rattle.std.proofs.lemmas.Bool.{cases_Bool, cond-true, cond-false}
 use Rattle.bib_spec.specs.Tree.{Tree}
 use Rattle.bib_spec.specs.Reading.{Item}
 use Rattle.bib_spec.specs.Texts.{Macros, macros_after, macros_at, gathered}
-use Rattle.bib_entries.specs.Numbers.{numbered, numbers, those}
+use Rattle.bib_numbers.specs.Numbers.{numbered, numbers, those}
 
 -- item n of a kind: where it stands, and what is said of it there
 pub record StandsAt {X : Type 0} (test : Tree → Bool) (say : Macros → Tree → List X) (m : Macros) (from : ℕ) (items : List Item) (n : ℕ) : Type 0 where

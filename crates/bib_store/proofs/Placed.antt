@@ -21,7 +21,7 @@ use Rattle.bib_store.specs.ItemTexts.{first_too_long, placed_texts}
 use Rattle.bib_store.specs.Beside.{AreTablesOf}
 use Rattle.bib_store.specs.InPlace.{with_bounds}
 use Rattle.bib_store.specs.declared.bounds.Bounds.{Bounds}
-use Rattle.bib_entries.specs.Numbers.{numbered, numbers}
+use Rattle.bib_numbers.specs.Numbers.{numbered, numbers}
 use Rattle.bib_definitions.proofs.MacrosAfter.{gathered-append}
 use Rattle.bib_store.proofs.OneItemMore.{raw_texts-append, first-append, first-shift}
 

@@ -11,7 +11,7 @@ use Rattle.bib_spec.specs.Reading.{Item, Reading, Reads}
 use Rattle.bib_spec.specs.Texts.{Macros, months, macros_at, raw_text, raw_texts_in, raw_limit, too_long_at}
 use Rattle.bib_scan.specs.View.{fields_after, fields_of}
 use Rattle.bib_scan.proofs.TakenApart.{one_value}
-use Rattle.bib_value.proofs.Entries.{name_short}
+use Rattle.folded_map.proofs.Entries.{name_short}
 use Rattle.bib_spec.specs.Records.{RecordField, entries_of, own_fields, field_of, fields_at, missing}
 use Rattle.bib_definitions.specs.declared.macros_at.MacrosAt.{MacrosAt}
 use Rattle.bib_definitions.specs.MacrosSeen.{macros_seen}

@@ -13,7 +13,7 @@ use Rattle.bib_scan.specs.View.{Field, View, field_after, view_of}
 use Rattle.bib_scan.specs.declared.view.Kind.TheVariants as kind
 use Rattle.bib_value.specs.Raw.{OfValue}
 use Rattle.bib_entries.specs.EntryTable.{IsTableOf}
-use Rattle.bib_entries.specs.Numbers.{rank_in}
+use Rattle.bib_numbers.specs.Numbers.{rank_in}
 use Rattle.bib_definitions.specs.ByName.{Named}
 use Rattle.bib_definitions.specs.Definitions.{texts_at, is_definition_tree, defined_by, AreDefinitionsOf, AreAtMost, AreWithin, AreSettled, Defines}
 use Rattle.bib_definitions.proofs.MacrosAfter.{macros_in_front, gathered-append}

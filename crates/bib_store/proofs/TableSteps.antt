@@ -12,9 +12,9 @@ use Rattle.bib_scan.specs.View.{Field, View, field_after, fields_of, view_of}
 use Rattle.bib_scan.specs.declared.view.Kind.{Kind}
 use Rattle.bib_scan.specs.declared.view.Kind.TheVariants as kind
 use Rattle.bib_value.specs.Raw.{OfValue}
-use Rattle.bib_entries.specs.Numbers.{PartAt, HaveNext}
+use Rattle.bib_numbers.specs.Numbers.{PartAt, HaveNext}
 use Rattle.bib_entries.specs.EntryTable.{Kept, IsTableOf}
-use Rattle.bib_entries.proofs.MovedNumbers.{part_with}
+use Rattle.bib_numbers.proofs.MovedNumbers.{part_with}
 use Rattle.bib_store.specs.declared.tables.Tables.{Tables}
 use Rattle.bib_store.specs.Meaning.{is_entry_tree}
 use Rattle.bib_definitions.specs.Definitions.{Known, texts_at, is_definition_tree, AreDefinitionsOf, Defines}
@@ -22,9 +22,9 @@ use Rattle.bib_store.specs.Tables.{is_preamble_tree}
 use Rattle.bib_store.specs.ItemTexts.{first_too_long, placed_texts, own_text}
 use Rattle.bib_store.specs.Beside.{AreTablesOf, IsStep, IsInsertion, IsRemoval, IsTooLongAt, SayTheSame, OfView, item_with}
 use Rattle.bib_store.proofs.RowTexts.{cons_parts, first_fits, first_over}
-use Rattle.bib_entries.specs.Numbers.{numbers}
+use Rattle.bib_numbers.specs.Numbers.{numbers}
 use Rattle.bib_store.proofs.OneItemMore.{gathered-more, number_same}
-use Rattle.bib_entries.proofs.ItemNumbers.{numbers-parts, numbers-with, parts_at, put_numbers, moved_numbers, taken_numbers, closed_numbers}
+use Rattle.bib_numbers.proofs.ItemNumbers.{numbers-parts, numbers-with, parts_at, put_numbers, moved_numbers, taken_numbers, closed_numbers}
 use Rattle.bib_definitions.proofs.MacrosAfter.{macros_in_front, gathered-append}
 use Rattle.bib_store.specs.declared.bounds.Bounds.{Bounds}
 use Rattle.bib_store.specs.Bounds.{IsSettled, IsBounded, AreBounded, Admits}

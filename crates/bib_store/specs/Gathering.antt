@@ -9,7 +9,7 @@ use Rattle.bib_spec.specs.Texts.{Macros, raw_text, raw_limit}
 use Rattle.bib_spec.specs.Records as records
 use Rattle.bib_spec.specs.Records.{RecordField, record_field, crossref}
 use Rattle.bib_scan.specs.View.{Field}
-use Rattle.bib_value.specs.FoldedMap.{value_at}
+use Rattle.folded_map.specs.FoldedMap.{value_at}
 use Rattle.bib_value.specs.Raw.{OfValue}
 
 -- ---- names

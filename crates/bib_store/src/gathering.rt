@@ -16,7 +16,7 @@ use crate::measuring::short_field_text;
 use bib_definitions::MacrosAt;
 use bib_items::StoreFault;
 use bib_scan::{Fields, Seq, Text};
-use bib_value::FoldedMap;
+use folded_map::FoldedMap;
 use std::alloc::{AllocError, Global};
 
 /// The text with its letters in lower case.

@@ -8,7 +8,7 @@ ghost use Rattle.bib_scan.specs.View.{kind_of};
 ghost use Rattle.bib_scan.specs.declared.view.Kind.TheVariants as kind;
 ghost use Rattle.bib_store.specs.declared.item_fault.ItemFault.TheVariants.{TooLong as ItemTooLong, Memory as ItemMemory};
 ghost use Rattle.bib_spec.specs.Text.{Text as Bytes};
-ghost use Rattle.bib_entries.specs.Numbers.{PartAt, HaveNext};
+ghost use Rattle.bib_numbers.specs.Numbers.{PartAt, HaveNext};
 ghost use Rattle.bib_entries.specs.EntryTable.{IsTableOf};
 
 use crate::bounds::{Bounds, is_settled_value};
@@ -16,8 +16,9 @@ use crate::crossrefs::{Said, crossref_within};
 use crate::item_fault::ItemFault;
 use crate::measuring::{measure, value_text};
 use bib_definitions::Definitions;
-use bib_entries::{EntryTable, Numbers};
+use bib_entries::EntryTable;
 use bib_items::ItemList;
+use bib_numbers::Numbers;
 use bib_scan::{FieldView, ItemView, Kind, Layout, NAME_LIMIT, Note, ReadFault, Reader, Text};
 use std::alloc::Global;
 

@@ -1,4 +1,3 @@
-pub mod Entries
 pub mod FieldTextLemmas
 pub mod MonthLemmas
 pub mod NeatTexts

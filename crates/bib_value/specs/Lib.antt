@@ -1,5 +1,3 @@
-pub mod FoldedMap
-pub mod Held
 pub mod Faults
 pub mod Macros
 pub mod Months

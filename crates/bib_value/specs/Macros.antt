@@ -2,7 +2,7 @@
 use Rattle.std.specs.Prelude.{◌≡◌, ◌≤◌, Bool, false, List, length, Option, Some, None, bytes_eq}
 use Rattle.bib_spec.specs.Text.{Text, folded}
 use Rattle.bib_spec.specs.Texts.{Macros, months, updated, raw_limit}
-use Rattle.bib_value.specs.FoldedMap.{value_at}
+use Rattle.folded_map.specs.FoldedMap.{value_at}
 
 -- the first of two texts that is there
 abbrev pub or_else : Option Text → Option Text → Option Text

@@ -3,19 +3,13 @@
 #![tactic(auto)]
 
 mod fault;
-mod folded_map;
-mod folding;
-mod kept_name;
 mod months;
 mod raw;
-mod short_text;
 mod spacing;
 mod table;
 
 pub use fault::ValueFault;
-pub use folded_map::FoldedMap;
 pub use months::month;
 pub use raw::{RAW_LIMIT, part_text, raw_len, raw_text};
-pub use short_text::{SHORT_LEN, ShortText};
 pub use spacing::{field_text, is_neat};
 pub use table::{MacroTable, Macros};

@@ -8,9 +8,9 @@ ghost use Rattle.bib_value.specs.Macros.{macros_of};
 ghost use Rattle.bib_value.specs.declared.fault.ValueFault.TheVariants.{Memory};
 
 use crate::fault::ValueFault;
-use crate::folded_map::FoldedMap;
 use crate::months::month;
 use bib_scan::{Seq, Text};
+use folded_map::FoldedMap;
 use std::alloc::Global;
 use std::marker::Model;
 

@@ -1,6 +1,6 @@
 //! A command as its words.
 
-use bib_scan::{Seq, Text};
+use bib_text::{Seq, Text};
 
 /// The greatest number that a command takes.
 const NUMBER_LIMIT: u32 = 65_535;

@@ -1,6 +1,6 @@
 //! Numbers of items that come and go.
 
-use bib_entries::Numbers;
+use bib_numbers::Numbers;
 use std::alloc::{AllocError, Global};
 use std::test::Fail;
 

@@ -1,7 +1,7 @@
 //! What a journal says.
 
 use crate::step::Step;
-use bib_scan::{Seq, Text};
+use bib_text::{Seq, Text};
 use std::marker::Model;
 
 /// What a journal says: the digest of the present file, the past steps from the oldest, and the future steps from the

@@ -10,7 +10,7 @@ use crate::cutting::cut;
 use crate::fault::Stop;
 use crate::numbers::read_number;
 use bib_data::Piece;
-use bib_scan::{Seq, Text};
+use bib_text::{Seq, Text};
 use std::alloc::{AllocError, Global};
 
 /// The three numbers that the line says, parted by spaces, if the first is not below this place.

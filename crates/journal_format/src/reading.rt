@@ -14,7 +14,7 @@ use crate::pieces::copied;
 use crate::step::Step;
 use crate::steps::{STEP_TEXTS_LIMIT, split_steps};
 use crate::version::Version;
-use bib_scan::Seq;
+use bib_text::Seq;
 use std::alloc::Global;
 
 /// How long a journal can be, in bytes. (dialect)

@@ -1,7 +1,7 @@
 //! One step of undo.
 
 use bib_data::Piece;
-use bib_scan::{Seq, Text};
+use bib_text::{Seq, Text};
 use std::marker::Model;
 
 /// What one undo takes back: one edit, or several that were made as one. Its label, which may be empty, and the pieces that

@@ -15,7 +15,7 @@ use crate::pieces::{copied, split_piece};
 use crate::step::Step;
 use crate::version::Version;
 use bib_data::{Piece, is_label};
-use bib_scan::Seq;
+use bib_text::Seq;
 use std::alloc::Global;
 
 /// How long the texts of all steps may be together, in bytes. (dialect)

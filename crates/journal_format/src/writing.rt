@@ -9,7 +9,7 @@ ghost use Rattle.journal_format.specs.JournalText.{counts, head_text, journal_te
 use crate::step::Step;
 use crate::step_text::step_texts_len;
 use bib_data::Piece;
-use bib_scan::{Seq, Text};
+use bib_text::{Seq, Text};
 use itoa::Buffer;
 use std::alloc::{AllocError, Global};
 

@@ -8,7 +8,7 @@ use Rattle.std.proofs.lemmas.Bool.{cases_Bool, or_parts, cond-false}
 use Rattle.bib_spec.specs.Text.{Text, is_space, after_run}
 use Rattle.bib_spec.specs.Texts.{is_empty}
 use Rattle.bib_spec.proofs.Names.{eq-true}
-use Rattle.bib_trim.specs.Trimming.{trimmed}
+use Rattle.bib_text.specs.Trimming.{trimmed}
 use Rattle.bib_value.specs.Spacing.{neat}
 use Rattle.ris_format.specs.Lines.{has_bytes}
 use Rattle.ris_format.specs.Dates.{Month, month, months, is_slash, has_slash, is_no_slash, month_digits, written_year, written_month, date_value, date_values, written_date, before_slash, after_slash, read_year, read_month, numbers_month, is_plain_month}

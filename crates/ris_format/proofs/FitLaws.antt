@@ -11,7 +11,7 @@ use Rattle.bib_spec.specs.Text.{Text, is_space, IsBalanced}
 use Rattle.bib_spec.specs.Texts.{is_empty, field_text}
 use Rattle.bib_spec.specs.Records.{Record, RecordField}
 use Rattle.bib_spec.proofs.Names.{eq-true}
-use Rattle.bib_trim.specs.Trimming.{trimmed}
+use Rattle.bib_text.specs.Trimming.{trimmed}
 use Rattle.bib_names.specs.NameList.{names_of}
 use Rattle.bib_names.specs.Words.{NameWord}
 use Rattle.bib_names.specs.Name.{parts_of}

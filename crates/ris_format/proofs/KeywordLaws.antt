@@ -5,7 +5,7 @@ use Rattle.std.specs.List.{slice_split, onto_first}
 use Rattle.std.proofs.lemmas.Bool.{cases_Bool, cond-true, cond-false}
 use Rattle.bib_spec.specs.Text.{Text, is_space}
 use Rattle.bib_spec.proofs.Names.{eq-true}
-use Rattle.bib_trim.specs.Trimming.{trimmed}
+use Rattle.bib_text.specs.Trimming.{trimmed}
 use Rattle.bib_value.specs.Spacing.{neat}
 use Rattle.ris_format.specs.Lines.{has_bytes}
 use Rattle.ris_format.specs.Pieces.{with_front}

@@ -9,7 +9,7 @@ use Rattle.std.proofs.Math.Seq.{take-append-add}
 use Rattle.bib_spec.specs.Text.{Text, is_space, after_run, opened_before, closed_before, IsBalanced}
 use Rattle.bib_spec.proofs.Names.{both_true}
 use Rattle.bib_names.specs.Places.{is_level, places_from, between, Stretch, stretch}
-use Rattle.bib_trim.specs.Trimming.{before_run}
+use Rattle.bib_text.specs.Trimming.{before_run}
 use Rattle.bib_names.specs.Name.{is_comma, commas}
 use Rattle.bib_names.proofs.CommaLemmas.{level_after}
 use Rattle.ris_format.proofs.Trims.{after_run-yes, after_run-no, before_run-cons, before_run-none, fails}

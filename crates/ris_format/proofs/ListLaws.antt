@@ -7,7 +7,7 @@ use Rattle.std.proofs.lemmas.Bool.{cases_Bool, cond-true, cond-false, eqb-true, 
 use Rattle.std.proofs.lemmas.List.{take-append-drop, take-append-le, take_all, drop-append-le, get_or_past, length-drop, length-take-le}
 use Rattle.std.proofs.Math.Seq.{drop-append-add}
 use Rattle.bib_spec.specs.Text.{Text, is_space, after_run, same, opened_before, closed_before, IsBalanced}
-use Rattle.bib_trim.specs.Trimming.{trimmed}
+use Rattle.bib_text.specs.Trimming.{trimmed}
 use Rattle.bib_names.specs.Places.{is_level, places_from, between, Stretch, stretch}
 use Rattle.bib_names.specs.NameList.{is_and, is_cut, cuts, names_of}
 use Rattle.bib_value.specs.Spacing.{neat}

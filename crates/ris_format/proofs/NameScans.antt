@@ -10,7 +10,7 @@ use Rattle.bib_spec.specs.Text.{Text, is_space, same}
 use Rattle.bib_names.specs.Places.{is_level, places_from, between, Stretch}
 use Rattle.bib_names.specs.NameList.{is_and, is_cut, cuts, names_of}
 use Rattle.bib_names.specs.Name.{is_comma, commas}
-use Rattle.bib_trim.specs.Trimming.{trimmed}
+use Rattle.bib_text.specs.Trimming.{trimmed}
 use Rattle.ris_format.proofs.Levels.{opens, closes, count-append, count-cons, eqb-shift}
 use Rattle.ris_format.specs.Pieces.{one, pieces_from, with_front}
 use Rattle.ris_format.specs.People.{lacks_and}

@@ -3,7 +3,7 @@ use Rattle.std.proofs.Common.{◌≡◌, ℕ, ◌+◌, ◌≤◌, ◌<◌, true,
 use Rattle.std.proofs.lemmas.Bool.{or_left, lt-ltb, le-ltb}
 use Rattle.std.proofs.lemmas.List.{length-map}
 use Rattle.bib_spec.specs.Text.{Text}
-use Rattle.bib_trim.specs.Trimming.{trimmed}
+use Rattle.bib_text.specs.Trimming.{trimmed}
 use Rattle.bib_names.specs.NameList.{names_of}
 use Rattle.bib_names.specs.Name.{commas}
 use Rattle.ris_format.specs.Pieces.{pieces_from}

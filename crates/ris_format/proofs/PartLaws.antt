@@ -9,7 +9,7 @@ use Rattle.std.proofs.lemmas.List.FromFn.{length-range_with_len, get_or-range_wi
 use Rattle.std.proofs.Math.Seq.{drop-append-add}
 use Rattle.bib_spec.specs.Text.{Text, is_space, opened_before, closed_before, IsBalanced}
 use Rattle.bib_names.specs.Marks.{is_separator, is_dropped_at_end}
-use Rattle.bib_trim.specs.Trimming.{up_to_last}
+use Rattle.bib_text.specs.Trimming.{up_to_last}
 use Rattle.bib_names.specs.Places.{is_level, places, places_from, between, Stretch, stretch}
 use Rattle.bib_names.specs.Words.{NameWord, is_gap, begins_word, word_at, words_of}
 use Rattle.bib_names.specs.Name.{is_comma, commas, von_end, von_start, hyphened_start, cut_at, without_comma, with_commas, parts_of_pieces, parts_of, without_end}

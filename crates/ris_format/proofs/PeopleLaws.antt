@@ -9,7 +9,7 @@ use Rattle.std.proofs.lemmas.List.{take-append-le, take_all}
 use Rattle.std.proofs.Math.Seq.{take-append-add}
 use Rattle.bib_spec.specs.Text.{Text, is_space, opened_before, closed_before, IsBalanced}
 use Rattle.bib_spec.proofs.Names.{eq-true}
-use Rattle.bib_trim.specs.Trimming.{before_run, trimmed}
+use Rattle.bib_text.specs.Trimming.{before_run, trimmed}
 use Rattle.bib_names.specs.Places.{between, Stretch}
 use Rattle.bib_names.specs.NameList.{names_of}
 use Rattle.bib_names.specs.Name.{commas, parts_of}

@@ -5,7 +5,7 @@ use Rattle.std.proofs.lemmas.Bool.{cond-true, cond-false, and_parts, eqb-true}
 use Rattle.std.proofs.lemmas.List.{take_all, drop_all, take_more, get_or-drop, length-drop}
 use Rattle.std.proofs.Math.Seq.{drop-cons}
 use Rattle.bib_spec.specs.Text.{Text}
-use Rattle.bib_trim.specs.Trimming.{trimmed}
+use Rattle.bib_text.specs.Trimming.{trimmed}
 use Rattle.ris_format.specs.Pieces.{one, pieces_from, with_front}
 use Rattle.ris_format.specs.People.{name_pieces}
 use Rattle.ris_format.specs.Keywords.{is_comma_byte, keyword_pieces}

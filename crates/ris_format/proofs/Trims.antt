@@ -4,7 +4,7 @@ use Rattle.std.proofs.lemmas.Bool.{cases_Bool, both_ways, not-true}
 use Rattle.std.proofs.lemmas.List.{take-append-drop}
 use Rattle.std.specs.List.{prefix_len, list_any}
 use Rattle.bib_spec.specs.Text.{Text, is_space, after_run}
-use Rattle.bib_trim.specs.Trimming.{up_to_last, before_run, trimmed}
+use Rattle.bib_text.specs.Trimming.{up_to_last, before_run, trimmed}
 use Rattle.bib_value.specs.Spacing.{neat}
 use Rattle.ris_format.specs.Lines.{has_bytes}
 use Rattle.ris_format.proofs.Neat.{begins_plain, ends_plain, neat-slice, neat-begins, neat-ends}

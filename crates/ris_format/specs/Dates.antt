@@ -6,7 +6,7 @@ use Rattle.std.specs.Str.{bytes_eq}
 use Rattle.std.specs.Borrow.{Bor}
 use Rattle.bib_spec.specs.Text.{Text, same, after_run}
 use Rattle.bib_spec.specs.Texts.{is_empty}
-use Rattle.bib_trim.specs.Trimming.{trimmed}
+use Rattle.bib_text.specs.Trimming.{trimmed}
 
 -- a month's name, and its number with two digits
 pub record Month : Type 0 where

@@ -4,7 +4,7 @@ use Rattle.std.specs.List.{slice_split, join_by}
 use Rattle.std.specs.Str.{bytes_eq}
 use Rattle.bib_spec.specs.Bytes.{comma}
 use Rattle.bib_spec.specs.Text.{Text}
-use Rattle.bib_trim.specs.Trimming.{trimmed}
+use Rattle.bib_text.specs.Trimming.{trimmed}
 use Rattle.ris_format.specs.Lines.{has_bytes}
 
 abbrev pub is_comma_byte : ℕ → Bool

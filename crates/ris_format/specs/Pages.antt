@@ -5,7 +5,7 @@ use Rattle.std.specs.Str.{bytes_eq}
 use Rattle.bib_spec.specs.Text.{Text, is_space, after_run}
 use Rattle.bib_spec.specs.Texts.{is_empty}
 use Rattle.bib_names.specs.Marks.{hyphen}
-use Rattle.bib_trim.specs.Trimming.{before_run}
+use Rattle.bib_text.specs.Trimming.{before_run}
 use Rattle.ris_format.specs.Lines.{has_bytes, single}
 
 abbrev pub is_no_hyphen : ℕ → Bool

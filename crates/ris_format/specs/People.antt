@@ -7,7 +7,7 @@ use Rattle.std.specs.Char.{to_ascii_lowercase}
 use Rattle.bib_spec.specs.Bytes.{open_brace, close_brace}
 use Rattle.bib_spec.specs.Text.{Text, is_space}
 use Rattle.bib_spec.specs.Texts.{is_empty}
-use Rattle.bib_trim.specs.Trimming.{trimmed}
+use Rattle.bib_text.specs.Trimming.{trimmed}
 use Rattle.bib_names.specs.Places.{between}
 use Rattle.bib_names.specs.NameList.{names_of}
 use Rattle.bib_names.specs.Words.{NameWord}

@@ -11,7 +11,7 @@ use crate::keeping::Kept;
 use crate::kinds::is;
 use crate::text::has_bytes;
 use bib_scan::{Seq, Text, same_folded};
-use bib_trim::trimmed;
+use bib_text::trimmed;
 use std::alloc::{AllocError, Global};
 
 /// The twelve months, each with its number in two digits.

@@ -3,7 +3,7 @@
 ghost use Rattle.std.specs.Prelude.{◌≡◌, ◌++◌, ◌≤◌, OnOk, IfOk, length, map, take, drop, ◌+◌};
 ghost use Rattle.std.specs.List.{prefix_len, list_all, flat_map};
 ghost use Rattle.bib_spec.specs.Text.{after_run};
-ghost use Rattle.bib_trim.specs.Trimming.{before_run};
+ghost use Rattle.bib_text.specs.Trimming.{before_run};
 ghost use Rattle.ris_format.specs.Lines.{line};
 ghost use Rattle.ris_format.specs.Pages.{is_no_hyphen, begins_with_hyphen, before_dash, has_dash, before_cut, after_cut, is_margin, page, are_two, written_start, written_end, read_pages, is_plain_page, are_plain_pages};
 
@@ -12,7 +12,7 @@ use crate::kinds::is;
 use crate::lines::push_single;
 use crate::text::{copy, has_bytes};
 use bib_scan::{Seq, Text};
-use bib_trim::is_space;
+use bib_text::is_space;
 use std::alloc::{AllocError, Global};
 
 /// Whether the text begins with a hyphen.

@@ -14,7 +14,7 @@ use crate::text::{
 };
 use bib_names::{Name, NameFault, Word, split_name, split_names};
 use bib_scan::{Seq, Text};
-use bib_trim::is_space;
+use bib_text::is_space;
 use std::alloc::{AllocError, Global};
 use std::marker::Model;
 

@@ -2,13 +2,13 @@
 
 ghost use Rattle.std.specs.Prelude.{◌≡◌, ◌≤◌, IfOk, length, map};
 ghost use Rattle.std.specs.List.{slice_range, join_by};
-ghost use Rattle.bib_trim.specs.Trimming.{trimmed};
+ghost use Rattle.bib_text.specs.Trimming.{trimmed};
 ghost use Rattle.bib_names.specs.Label.{balances};
 ghost use Rattle.ris_format.specs.Lines.{has_bytes};
 ghost use Rattle.ris_format.specs.People.{with_comma, in_braces};
 
 use bib_scan::{Seq, Text, is_balanced};
-use bib_trim::trimmed;
+use bib_text::trimmed;
 use std::alloc::{AllocError, Global};
 
 /// What stands between two places, without white space at its ends.

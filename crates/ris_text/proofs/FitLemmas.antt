@@ -6,10 +6,10 @@ use Rattle.std.proofs.lemmas.Bool.{and_from, not_from_false, not-true}
 use Rattle.std.proofs.lemmas.List.{take_all, length-append}
 use Rattle.std.proofs.lemmas.Slice.Eq.{bytes_eq-Decides}
 use Rattle.bib_spec.specs.Text.{Text, is_space, after_run}
-use Rattle.bib_trim.specs.Trimming.{up_to_last, before_run, trimmed}
+use Rattle.bib_text.specs.Trimming.{up_to_last, before_run, trimmed}
 use Rattle.ris_text.specs.Writing.{ends_line, fits_line}
 use Rattle.ris_text.specs.Laws.{IsBare, BareTextsFit}
-use Rattle.bib_trim.proofs.TrimLemmas.{up_to_last-snoc-yes}
+use Rattle.bib_text.proofs.TrimLemmas.{up_to_last-snoc-yes}
 
 -- the last byte and those before it
 last_of : (b : ℕ) (t : Text) → (front : Text) × (last : ℕ) × (b ∷ t ≡ front ++ last ∷ [])

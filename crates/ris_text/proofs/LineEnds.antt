@@ -9,7 +9,7 @@ use Rattle.memchr.specs.Find.{NoneBefore, Nowhere, Passes, is_byte}
 use Rattle.bib_spec.specs.Bytes.{line_feed}
 use Rattle.bib_spec.specs.Text.{Text}
 use Rattle.bib_spec.specs.Texts.{is_empty}
-use Rattle.bib_trim.specs.Trimming.{trimmed}
+use Rattle.bib_text.specs.Trimming.{trimmed}
 use Rattle.ris_text.specs.declared.lines.Class.TheVariants.{Begin, End, Known, Other, Blank, Untagged}
 use Rattle.ris_text.specs.Lines.{line_at, tag_line, plain_line, line_texts, lines_from, is_untagged}
 use Rattle.ris_text.specs.Tags.{begin_tag, end_tag, is_tag, is_known, is_rule, has_tag, tag_class}

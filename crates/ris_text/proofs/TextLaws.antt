@@ -12,7 +12,7 @@ use Rattle.ris_text.specs.declared.lines.Class.{Class}
 use Rattle.ris_text.specs.declared.lines.Class.TheVariants.{Begin, End, Known}
 use Rattle.ris_text.specs.declared.records.RisLine.{RisLine}
 use Rattle.ris_text.specs.declared.records.RisRecord.{RisRecord}
-use Rattle.bib_trim.specs.Trimming.{before_run, trimmed}
+use Rattle.bib_text.specs.Trimming.{before_run, trimmed}
 use Rattle.ris_text.specs.Tags.{begin_tag, end_tag, known_tags, is_known, is_tag, has_tag, tag_class}
 use Rattle.ris_text.specs.Lines.{Line, line_at, line_texts, lines_from, lines_of, mark_len, is_untagged}
 use Rattle.ris_text.specs.Trees.{joined}

@@ -6,7 +6,7 @@ use Rattle.bib_spec.specs.Text.{Text}
 use Rattle.bib_spec.specs.Texts.{is_empty, onto_first}
 use Rattle.ris_text.specs.declared.lines.Class.{Class}
 use Rattle.ris_text.specs.declared.lines.Class.TheVariants.{Begin, End, Known, Other, Blank, Untagged}
-use Rattle.bib_trim.specs.Trimming.{trimmed}
+use Rattle.bib_text.specs.Trimming.{trimmed}
 use Rattle.ris_text.specs.Tags.{has_tag, tag_class}
 
 -- A line has one of six classes: `Begin` with the tag TY, `End` with ER, `Known tag` with a tag that a record keeps, `Other` with another tag; without a tag

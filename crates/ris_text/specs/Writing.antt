@@ -6,7 +6,7 @@ use Rattle.bib_spec.specs.Text.{Text}
 use Rattle.bib_spec.specs.Texts.{is_empty}
 use Rattle.ris_text.specs.declared.records.RisLine.{RisLine}
 use Rattle.ris_text.specs.declared.records.RisRecord.{RisRecord}
-use Rattle.bib_trim.specs.Trimming.{trimmed}
+use Rattle.bib_text.specs.Trimming.{trimmed}
 use Rattle.ris_text.specs.Tags.{begin_tag, end_tag, is_known}
 
 -- ---- text

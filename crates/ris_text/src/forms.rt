@@ -6,7 +6,7 @@ ghost use Rattle.ris_text.specs.Writing.{ends_line, fits_line, is_well_formed_li
 
 use crate::records::{RisLine, RisRecord};
 use crate::tags::is_known;
-use bib_trim::trimmed;
+use bib_text::trimmed;
 
 /// Whether a line ends at the byte.
 fn ends_line(byte: u8) -> bool

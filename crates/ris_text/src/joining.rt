@@ -5,7 +5,7 @@ ghost use Rattle.ris_text.specs.Trees.{joined};
 ghost use Rattle.ris_text.specs.Code.{continuation, after_continuation};
 
 use crate::lines::Lines;
-use bib_scan::{Seq, Text};
+use bib_text::{Seq, Text};
 use std::alloc::{AllocError, Global};
 
 /// Puts a text after a value, with a space between them where neither is empty.

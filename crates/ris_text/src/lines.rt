@@ -7,7 +7,7 @@ ghost use Rattle.ris_text.specs.Lines.{line_at, tag_line, plain_line, lines_of, 
 ghost use Rattle.ris_text.specs.Code.{seen, continues};
 
 use crate::tags::{has_tag, tag_class};
-use bib_trim::trimmed;
+use bib_text::trimmed;
 use memchr::memchr;
 use std::marker::Model;
 

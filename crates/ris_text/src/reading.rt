@@ -10,7 +10,7 @@ use crate::fault::RisFault;
 use crate::joining::continued;
 use crate::lines::{Class, Line, Lines};
 use crate::records::{RisFile, RisLine, RisRecord};
-use bib_scan::Seq;
+use bib_text::Seq;
 use std::alloc::Global;
 use std::marker::Model;
 

@@ -1,7 +1,7 @@
 use Rattle.std.proofs.Common.{◌∷◌, ◌++◌, List, [], unwrap_or, sym, ap, ◌∙◌, subst}
 use Rattle.std.specs.Option.{option_copied}
 use Rattle.bib_spec.specs.Text.{folded}
-use Rattle.bib_value.specs.FoldedMap.{IsWith}
+use Rattle.folded_map.specs.FoldedMap.{IsWith}
 use Rattle.bib_definitions.specs.declared.held.Definition.{Definition}
 use Rattle.bib_definitions.specs.declared.held.Held.TheVariants.{One}
 use Rattle.bib_definitions.specs.ByName.{each_held}

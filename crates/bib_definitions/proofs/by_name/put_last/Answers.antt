@@ -1,6 +1,6 @@
 use Rattle.std.proofs.Common.{◌∷◌, ◌++◌, List, [], sym, ap, ◌∙◌, subst}
 use Rattle.bib_spec.specs.Text.{folded}
-use Rattle.bib_value.specs.FoldedMap.{IsWith}
+use Rattle.folded_map.specs.FoldedMap.{IsWith}
 use Rattle.bib_definitions.specs.declared.held.Definition.{Definition}
 use Rattle.bib_definitions.specs.declared.held.Held.TheVariants.{Nothing}
 use Rattle.bib_definitions.specs.ByName.{each_held}

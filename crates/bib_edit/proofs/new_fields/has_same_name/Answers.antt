@@ -1,6 +1,6 @@
 use Rattle.std.proofs.Common.{◌≡◌, false, true, is_some, sym, ◌∙◌, ap}
 use Rattle.bib_spec.specs.Text.{folded}
-use Rattle.bib_value.specs.FoldedMap.{value_at}
+use Rattle.folded_map.specs.FoldedMap.{value_at}
 use Rattle.bib_keys.proofs.LookUps.{copied-some}
 use Rattle.bib_edit.proofs.SeenNames.{seen-found, seen-more}
 use Rattle.bib_edit.proofs.NewFields.{name-at, name-short}

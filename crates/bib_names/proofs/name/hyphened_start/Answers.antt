@@ -1,8 +1,8 @@
 use Rattle.std.proofs.Common.{◌≡◌, ◌-◌, sym, ap, ◌∙◌, arith, length, take}
 use Rattle.bib_names.specs.Name.{is_free}
 use Rattle.std.proofs.lemmas.List.{take_all}
-use Rattle.bib_trim.specs.Trimming.{up_to_last}
-use Rattle.bib_trim.proofs.TrimLemmas.{IsTrimming-less, IsTrimming-done, IsTrimming-none}
+use Rattle.bib_text.specs.Trimming.{up_to_last}
+use Rattle.bib_text.proofs.TrimLemmas.{IsTrimming-less, IsTrimming-done, IsTrimming-none}
 use Rattle.bib_names.proofs.name.hyphened_start.Goals as goal
 use Rattle.bib_names.proofs.name.hyphened_start.Goals.{then-loop-end-test+else-not-is_free, else-loop-end-test}
 

@@ -1,6 +1,6 @@
 use Rattle.std.proofs.Common.{◌-◌, ap, ◌∙◌, arith, length}
 use Rattle.bib_names.specs.Name.{is_von, von_end, von_start}
-use Rattle.bib_trim.proofs.TrimLemmas.{prefix_len-le-up_to_last}
+use Rattle.bib_text.proofs.TrimLemmas.{prefix_len-le-up_to_last}
 use Rattle.bib_names.proofs.surname.without_comma.Goals as goal
 
 pub invariant_of-result-2 : goal.invariant_of-result-2

@@ -1,7 +1,7 @@
 use Rattle.std.proofs.Common.{length}
 use Rattle.std.specs.Prelude.{not}
 use Rattle.ris_format.specs.Pages.{is_margin}
-use Rattle.bib_trim.proofs.TrimLemmas.{IsTrimming}
+use Rattle.bib_text.proofs.TrimLemmas.{IsTrimming}
 use Rattle.ris_format.proofs.pages.before_margin.Given as goal
 
 abbrev pub decreases-loop-end : goal.decreases-loop-end

@@ -1,5 +1,5 @@
 use Rattle.std.proofs.Common.{true, sym, ap, subst}
-use Rattle.bib_value.specs.FoldedMap.{IsWith}
+use Rattle.folded_map.specs.FoldedMap.{IsWith}
 use Rattle.bib_keys.specs.declared.taken_keys.TakenKeys.{TakenKeys}
 use Rattle.bib_keys.proofs.TakenLists.{added-short, added-long}
 use Rattle.bib_keys.proofs.taken_keys.TakenKeys.add.Goals as goal

@@ -2,7 +2,7 @@ use Rattle.std.proofs.Common.{◌≤◌, ◌<◌, ◌^◌, not, length, sym, ◌
 use Rattle.bib_spec.specs.Bytes.{name_limit}
 use Rattle.bib_spec.specs.Text.{Text, folded}
 use Rattle.bib_spec.specs.MadeKeys.{candidate}
-use Rattle.bib_value.specs.FoldedMap.{value_at}
+use Rattle.folded_map.specs.FoldedMap.{value_at}
 use Rattle.bib_keys.proofs.CandidateLengths.{candidate-short}
 use Rattle.bib_keys.proofs.FirstFree.{free-found, free-exhausted, tried-more}
 use Rattle.bib_keys.proofs.TakenLists.{told-free, told-taken}

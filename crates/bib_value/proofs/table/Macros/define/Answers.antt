@@ -1,4 +1,4 @@
-use Rattle.bib_value.proofs.Entries.{name_short}
+use Rattle.folded_map.proofs.Entries.{name_short}
 use Rattle.bib_value.proofs.table.Macros.define.Goals as goal
 
 pub insert-requires : goal.insert-requires

@@ -1,7 +1,0 @@
-use Rattle.std.proofs.Common.{◌∙◌, ℕ, List, remove, map, ap}
-use Rattle.bib_entries.specs.Moves.{plus}
-use Rattle.bib_entries.proofs.Moves.{map-remove}
-use Rattle.bib_entries.proofs.leaf.Leaf.remove.Goals as goal
-
-pub returns : goal.returns
-returns c = ap (map (plus c.self.inside.base)) c.remove.ensures.items ∙ map-remove (plus c.self.inside.base) c.self.inside.list.items c.args.k ∙ ap (λ (l : List ℕ). remove l c.args.k) c.self.view_is

@@ -1,7 +1,0 @@
-use Rattle.std.proofs.Common.{◌∙◌, ap, map}
-use Rattle.bib_entries.specs.Moves.{plus}
-use Rattle.bib_entries.proofs.Moves.{map-plus}
-use Rattle.bib_entries.proofs.leaf.Leaf.shift.Goals as goal
-
-pub returns : goal.returns
-returns c = map-plus c.self.inside.base c.args.step c.self.inside.list.items ∙ ap (map (plus c.args.step)) c.self.view_is

@@ -1,5 +1,0 @@
-use Rattle.bib_pages.specs.Pages.{IsOnWay}
-use Rattle.bib_entries.proofs.leaves.locate_from.Given as goal
-
-abbrev pub invariant-pass : goal.invariant-pass
-invariant-pass l = IsOnWay l.leaves l.p l.k l.left

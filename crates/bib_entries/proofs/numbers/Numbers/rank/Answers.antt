@@ -1,7 +1,0 @@
-use Rattle.std.proofs.Common.{◌∙◌, ap}
-use Rattle.bib_entries.specs.Numbers.{rank_in}
-use Rattle.bib_entries.proofs.MovedNumbers.{rank_of}
-use Rattle.bib_entries.proofs.numbers.Numbers.rank.Goals as goal
-
-pub returns-clause-below : goal.returns-clause-below
-returns-clause-below c front rest p = c.count_below.ensures.counted c.self.invariant ∙ ap (rank_in c.args.n) c.self.view_is ∙ rank_of c.args.n front rest c.args.self.now p

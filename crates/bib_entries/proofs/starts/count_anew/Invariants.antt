@@ -1,5 +1,0 @@
-use Rattle.bib_entries.proofs.FilledPages.{AreCounted}
-use Rattle.bib_entries.proofs.starts.count_anew.Given as goal
-
-abbrev pub invariant-pass : goal.invariant-pass
-invariant-pass l = AreCounted l.leaves l.initial.firsts l.firsts l.p l.first

@@ -1,0 +1,5 @@
+pub mod Moves
+pub mod FilledPages
+pub mod SoughtPages
+pub mod MovedNumbers
+pub mod ItemNumbers

@@ -1,0 +1,8 @@
+use Rattle.std.proofs.Common.{◌≡◌, ◌+◌, map, set}
+use Rattle.bib_pages.specs.Pages.{page_at}
+use Rattle.bib_numbers.specs.Moves.{plus, moved_from}
+use Rattle.bib_numbers.proofs.Moves.{moved_so_far}
+use Rattle.bib_numbers.proofs.leaves.shift_from.Given as goal
+
+abbrev pub invariant-pass : goal.invariant-pass
+invariant-pass l = l.leaves ≡ moved_so_far (map (plus l.step)) l.q (l.p + 1) (set l.fn.leaves l.p (moved_from (plus l.step) l.k (page_at l.fn.leaves l.p)))

@@ -1,0 +1,7 @@
+use Rattle.std.proofs.Common.{◌≡◌}
+use Rattle.bib_numbers.specs.Moves.{plus}
+use Rattle.bib_numbers.proofs.Moves.{moved_so_far}
+use Rattle.bib_numbers.proofs.moving.move_from.Given as goal
+
+abbrev pub invariant-pass : goal.invariant-pass
+invariant-pass l = l.numbers ≡ moved_so_far (plus l.step) l.i l.from l.initial.numbers

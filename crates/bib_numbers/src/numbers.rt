@@ -1,0 +1,144 @@
+//! Numbers in ascending order.
+
+ghost use Rattle.std.specs.Prelude.{◌≡◌, ◌≤◌, ◌<◌, ◌+◌, ◌^◌, ℕ, List, length};
+ghost use Rattle.bib_numbers.specs.Numbers.{PartAt, HaveNext};
+
+use crate::paged::Paged;
+use std::alloc::{AllocError, Global};
+use std::marker::Model;
+
+/// The numbers that the items of a kind have among all items, in order. When an item comes or goes, the numbers of those
+/// after it change, which takes a step for each page of up to 512 numbers, and some for the numbers of one.
+#[derive(Drop)]
+pub struct Numbers {
+    list: Paged,
+}
+
+impl Model for Numbers {
+    ghost use Rattle.std.specs.Prelude.{List, ℕ};
+    ghost use Rattle.bib_numbers.specs.Numbers.{Ascend};
+
+    ghost Value = { List ℕ };
+
+    ghost view = { λ numbers. numbers.list };
+
+    ghost invariant = { λ numbers. Ascend numbers.list };
+}
+
+impl Numbers {
+    ghost use Rattle.std.specs.Prelude.{[], ◌++◌, ◌∷◌, suc, map, Some, slice_get, OnOk, OnErr, IsTrue, IsFalse, ◌≢◌};
+    ghost use Rattle.std.specs.List.{AllByRecursion};
+    ghost use Rattle.std.specs.Option.{IfSome, IfNone};
+    ghost use Rattle.bib_numbers.specs.Numbers.{rank_in};
+
+    /// No numbers. It asks for no memory.
+    pub fn new(alloc: Global) -> Self
+        ensures { result ≡ [] }
+    {
+        Numbers {
+            list: Paged::new(alloc),
+        }
+    }
+
+    /// How many numbers there are.
+    pub fn count(&self) -> usize
+        ensures { result ≡ length self.now }
+    {
+        self.list.count()
+    }
+
+    /// Number `n` in order, counted from 0. It takes time in the logarithm of their count.
+    pub fn get(&self, n: usize) -> usize
+        requires { n < length self.now }
+        ensures { slice_get self.now n ≡ Some result }
+    {
+        self.list.get(n)
+    }
+
+    /// How many numbers are below `n`. It takes a step where all are, else time in the logarithm of their count.
+    pub fn rank(&self, n: usize) -> usize
+        ensures within { result ≤ length self.now }
+        ensures below { (front rest : List ℕ) → PartAt n front rest self.now → result ≡ length front }
+        ensures counted { result ≡ rank_in n self.now }
+    {
+        self.list.count_below(n)
+    }
+
+    /// Which in order, counted from 0, the number `n` is, if it is one of them.
+    pub fn position(&self, n: usize) -> Option<usize>
+        ensures found { IfSome result (λ k. slice_get self.now k ≡ Some n) }
+        ensures none { IfNone result (AllByRecursion (λ m. m ≢ n) self.now) }
+    {
+        let k = self.list.count_below(n);
+        if k == self.list.count() {
+            return None;
+        }
+        if self.list.get(k) == n { Some(k) } else { None }
+    }
+
+    /// Whether the greatest number that a machine has is one of them. None is greater.
+    fn has_greatest(&self) -> bool
+        ensures fit { AllByRecursion (λ m. m < 2 ^ 64) self.now }
+        ensures none { IsFalse result → HaveNext self.now }
+        ensures some { IsTrue result → (n : ℕ) (front rest : List ℕ) → n < 2 ^ 64 → PartAt n front rest self.now → HaveNext rest → ⊥ }
+    {
+        match self.list.last() {
+            Some(last) => last == usize::MAX,
+            None => false,
+        }
+    }
+
+    /// Puts in number `n`, of an item that comes: those from `n` on are one greater then. Where memory is refused, or the
+    /// last of them has no next, nothing changes.
+    pub fn insert(&mut self, n: usize) -> Result<(), AllocError>
+        ensures ok { OnOk result ((front rest : List ℕ) → PartAt n front rest self.old → HaveNext rest → self.new ≡ front ++ n ∷ map suc rest) }
+        ensures count { OnOk result (length self.new ≡ suc (length self.old)) }
+        ensures err { OnErr result (self.new ≡ self.old) }
+    {
+        if self.has_greatest() {
+            return Err(AllocError);
+        }
+        let k = self.list.count_below(n);
+        self.list.insert(k, n)?;
+        self.list.shift_from(k + 1, 1);
+        Ok(())
+    }
+
+    /// Takes number `n` out, of an item that goes: those after it are one less then. It asks for no memory.
+    pub fn remove(&mut self, n: usize)
+        ensures taken { (front rest : List ℕ) → PartAt n front rest (front ++ rest) → HaveNext rest → self.old ≡ front ++ n ∷ map suc rest → self.new ≡ front ++ rest }
+        ensures count { length self.old ≤ length self.new + 1 }
+    {
+        let k = self.list.count_below(n);
+        if k < self.list.count() {
+            self.list.remove(k);
+            self.close(n);
+        }
+    }
+
+    /// Makes way for an item that comes, of another kind: numbers from `n` on are one greater then, if the last of them has
+    /// a next.
+    pub fn make_way(&mut self, n: usize)
+        ensures moved { (front rest : List ℕ) → PartAt n front rest self.old → HaveNext rest → self.new ≡ front ++ map suc rest }
+        ensures count { length self.new ≡ length self.old }
+        ensures rank { rank_in n self.new ≡ rank_in n self.old }
+    {
+        if self.has_greatest() {
+            return;
+        }
+        let k = self.list.count_below(n);
+        self.list.shift_from(k, 1);
+    }
+
+    /// Closes the gap of an item that goes, of another kind: numbers after `n` are one less then.
+    pub fn close(&mut self, n: usize)
+        ensures moved { (front rest : List ℕ) → PartAt n front rest (front ++ rest) → HaveNext rest → self.old ≡ front ++ map suc rest → self.new ≡ front ++ rest }
+        ensures count { length self.new ≡ length self.old }
+    {
+        // they are numbers of a machine
+        let _ = self.has_greatest();
+        // zero stays
+        let k = self.list.count_below(n.max(1));
+        self.list.shift_from(k, usize::MAX);
+    }
+}

@@ -1,8 +1,0 @@
--- How the bytes of a name are kept.
-use Rattle.bib_spec.specs.Text.{Text}
-use Rattle.bib_value.specs.declared.kept_name.Held.{Held}
-use Rattle.bib_value.specs.declared.kept_name.Held.TheVariants.{Short, Long}
-
-abbrev pub bytes_of : Held → Text
-bytes_of (Short t) = t
-bytes_of (Long bytes) = bytes.value.items

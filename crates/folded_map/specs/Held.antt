@@ -1,0 +1,8 @@
+-- How the bytes of a name are kept.
+use Rattle.bib_spec.specs.Text.{Text}
+use Rattle.folded_map.specs.declared.kept_name.Held.{Held}
+use Rattle.folded_map.specs.declared.kept_name.Held.TheVariants.{Short, Long}
+
+abbrev pub bytes_of : Held → Text
+bytes_of (Short t) = t
+bytes_of (Long bytes) = bytes.value.items

@@ -1,0 +1,2 @@
+pub mod FoldedMap
+pub mod Held
