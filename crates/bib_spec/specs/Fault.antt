@@ -1,10 +1,10 @@
--- What is wrong where a text goes wrong, judged by what might have stood there instead. (dialect)
+-- What is wrong where a text goes wrong, by the bytes that could be there instead. (dialect)
 use Rattle.std.specs.Prelude.{ℕ, ◌≡◌, ◌+◌, ◌<◌, ◌≤◌, ◌++◌, ◌∷◌, [], length, take}
 use Rattle.bib_spec.specs.Bytes.{quote, comma, digit_one, equals_sign, letter_x, name_limit, file_limit}
 use Rattle.bib_spec.specs.Text.{Text}
 use Rattle.bib_spec.specs.Reading.{HasReading, HasReadingWithin, IsViable, FailsAt}
 
--- a kind of text, with names and keys of at most so many bytes
+-- a kind of text, given the largest number of bytes in a name or key
 abbrev pub TextKind : Type 1
 TextKind = ℕ → Text → Type 0
 
