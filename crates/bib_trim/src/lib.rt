@@ -1,5 +1,5 @@
-//! Texts without white space at their ends. It knows which bytes are white space, and nothing of what the texts say.
-//! It promises the one longest stretch of a text that neither begins nor ends with white space.
+//! Texts without white space at their ends. It knows which bytes are white space, and nothing about what the texts mean.
+//! It promises the text without the white space at its front and at its end, and nothing else taken away.
 #![tactic(auto)]
 
 mod trimming;
