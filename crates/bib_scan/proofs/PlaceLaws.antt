@@ -1,4 +1,4 @@
--- Of any kind of text: where it goes wrong, and what is wrong there.
+-- For every kind of text: where it goes wrong, and what is wrong there.
 use Rattle.std.proofs.Common.{◌≡◌, ℕ, ◌+◌, ◌-◌, ◌<◌, ◌≤◌, [], ◌∷◌, ◌++◌, length, take, drop, refl, sym, ap, subst, ◌∙◌, arith, append_assoc, inl, inr, ◌⊎◌}
 use Rattle.std.proofs.lemmas.List.{length-append, take-append-drop, take_at, take-take}
 use Rattle.bib_spec.specs.Text.{Text}
@@ -40,7 +40,7 @@ one_place IsSuch t p q first second = omega (arith, no_earlier IsSuch t p q firs
 
 -- ---- the one kind
 
--- X holds and then P, or it does not and then Q
+-- X is true and so is P, or X is not true and Q is
 abbrev Way : Type 0 → Type 0 → Type 0 → Type 0
 Way X P Q = (X × P) ⊎ ((X → ⊥) × Q)
 

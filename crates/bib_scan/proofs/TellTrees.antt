@@ -24,7 +24,7 @@ use Rattle.bib_scan.proofs.TellRows.{tried_space, tries_space, tell_space, tell_
 
 -- ---- commas and closing delimiters
 
--- a byte that no fault is told by
+-- a byte by which no fault is known
 abbrev pub Untried : ℕ → Type 0
 Untried c = (d : ℕ) → IsTried d → eqb d c ≡ false
 
@@ -183,7 +183,7 @@ close_moves limit d v h is =
     let here : after_run is_space (c ∷ v) ≡ c ∷ v = skip_space [] (c ∷ v) (All-nil (λ (x : ℕ). is_space x ≡ true)) (not_from_false _ (closes d).ends.no_space) in
     not_ok (tt, v) h (plain (read_all_rows limit c) (c ∷ v)) (ap (plain (read_all_rows limit c)) (sym here) ∙ is) (all_again limit c [] None v (c ∷ v) (closes d) (All-nil (IsRow limit)) tt refl)
 
--- after a key at its end, the rows do not stop at once
+-- after a key that has ended, the reader of rows does not stop at once
 key_moves : (limit : ℕ) (d : Delimiter) (b : ℕ) (v : Text) (h : Halt) → goes_on_key d b ≡ false → space_rows limit (close_byte d) (b ∷ v) ≡ Err h → length h.rest ≤ length v
 key_moves limit d b v h ends is =
     elim (key_end d b ends) [
