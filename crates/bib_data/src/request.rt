@@ -1,9 +1,9 @@
-//! What can be asked of a session.
+//! Requests to a session.
 
 use crate::edit::Edit;
 use crate::label::Label;
 
-/// What can be asked of a session.
+/// A request to a session.
 #[derive(Debug, Drop)]
 pub enum Request {
     /// Makes this edit.

@@ -107,7 +107,7 @@ braced_again d (b ∷ c) r bal =
 
 -- ---- quoted text
 
--- a quotation mark stands only where a brace is open
+-- a quotation mark is only in open braces
 abbrev pub QuotesInside : ℕ → Text → Type 0
 QuotesInside d t = (n : ℕ) → n < length t → slice_index t n ≡ 34 → closed_before t n < d + opened_before t n
 

@@ -280,7 +280,7 @@ all_rows_is limit c n t small = ap (λ (m : Result Text Halt). m >>= ready) (row
 pub local_all_rows : (limit : ℕ) (c : ℕ) → Local (plain (read_all_rows limit c))
 local_all_rows limit c = local_family (plain (read_all_rows limit c)) (λ n t. rows_read limit (suc n) c t) (all_rows_is limit c) (λ n. local_rows limit (suc n) c)
 
--- ---- what stands between the delimiters
+-- ---- the text between the delimiters
 
 pub local_entry : (limit : ℕ) (d : Delimiter) → Local (plain (read_entry limit d))
 unfolding read_entry

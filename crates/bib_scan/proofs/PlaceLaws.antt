@@ -34,7 +34,7 @@ front_more t u c v split =
 no_earlier : (IsSuch : Text → Type 0) (t : Text) (p q : ℕ) → FailsAt IsSuch t p → FailsAt IsSuch t q → p < q → ⊥
 no_earlier IsSuch t p q first second less = first.stuck (omega (arith, second.within)) (viable_take IsSuch (p + 1) q t (omega arith) second.viable)
 
--- a text goes wrong at one place
+-- a text goes wrong at one place at most
 pub one_place : (IsSuch : Text → Type 0) (t : Text) (p q : ℕ) → FailsAt IsSuch t p → FailsAt IsSuch t q → p ≡ q
 one_place IsSuch t p q first second = omega (arith, no_earlier IsSuch t p q first second, no_earlier IsSuch t q p second first)
 

@@ -22,7 +22,7 @@ use Rattle.bib_scan.proofs.MendRows.{resumes_run, resumes_name, resumes_part, x_
 use Rattle.bib_scan.proofs.TellLaws.{Past, Stopped, Leaves, Passes, Blocks, Tries, AsksDigit, IsEnd, DigitToo, TellsAt, Tells, Keeps, TakesDigit, keeps_of, digits_of}
 use Rattle.bib_scan.proofs.TellLaws as tells
 
--- ---- what a fault at the end of front tells
+-- ---- what a fault at the end of `front` shows
 
 pub told : {A : Type 0} (p : Text → Read A) (G : ℕ → Type 0) (t front r : Text) (f : ReadingFault) (h : Halt) → stop f r ≡ h → t ≡ front ++ r → IsEnd f r
     → ((d : ℕ) → Passes f d → Past p front d) → ((d : ℕ) → Blocks f d → Stopped p front d) → (AsksDigit f → DigitToo p front) → (front ≡ [] → (d : ℕ) → Tries f d → G d) → TellsAt p G t h

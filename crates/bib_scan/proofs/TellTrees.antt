@@ -135,7 +135,7 @@ tell_rows limit some (suc n) c G untried each =
 pub tell_all_rows : (limit : ℕ) (some : 0 < limit) (c : ℕ) (G : ℕ → Type 0) → Untried c → ((d : ℕ) → Tries ExpectedCommaOrClose d → G d) → Tells (plain (read_all_rows limit c)) G
 tell_all_rows limit some c G untried each = tell_family (plain (read_all_rows limit c)) (λ n t. rows_read limit (suc n) c t) G (all_rows_is limit c) (λ n. tell_rows limit some (suc n) c G untried each)
 
--- ---- what stands between the delimiters
+-- ---- the text between the delimiters
 
 pub tell_definition : (limit : ℕ) (some : 0 < limit) (c : ℕ) → Untried c → Tells (plain (read_definition limit c)) (λ d. Unit {0})
 tell_definition limit some c untried = tell_same (plain (read_definition limit c)) (λ t. plain (read_row limit) t >>= λ r. plain (read_close c) r.1) (λ d. Unit {0}) (definition_is limit c)

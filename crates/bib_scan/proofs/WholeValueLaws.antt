@@ -191,7 +191,7 @@ module _ (limit : ℕ) (some : 0 < limit) where
   pub failing_value : (t : Text) (h : Halt) → read_whole_value limit t ≡ Err h → FailsAt (IsValueWithin limit) t (length t - length h.rest)
   failing_value = failing_by (IsValueWithin limit) (read_whole_value limit) (no_value_fault limit) stops_by
 
-  -- ---- what other bytes tell
+  -- ---- what other bytes show
 
   past_value : (u : Text) (d : ℕ) → Past (value_gap limit) u d → IsViable (IsValueWithin limit) (u ++ d ∷ [])
   past_value u d past = go (value_gap limit t) refl past

@@ -195,7 +195,7 @@ module _ (limit : ℕ) where
   widen_all_rows : (c : ℕ) → Widens (plain (read_all_rows limit c)) (plain (read_all_rows (suc limit) c))
   widen_all_rows c = widen_family (plain (read_all_rows limit c)) (plain (read_all_rows (suc limit) c)) (λ n t. rows_read limit (suc n) c t) (λ n t. rows_read (suc limit) (suc n) c t) (all_rows_is limit c) (all_rows_is (suc limit) c) (λ n. widen_rows (suc n) c)
 
-  -- ---- what stands between the delimiters
+  -- ---- the text between the delimiters
 
   pub widen_definition : (c : ℕ) → Widens (plain (read_definition limit c)) (plain (read_definition (suc limit) c))
   widen_definition c = widen_same (plain (read_definition limit c)) (plain (read_definition (suc limit) c)) _ _ (definition_is limit c) (definition_is (suc limit) c)

@@ -8,7 +8,7 @@ use Rattle.bib_scan.specs.Note.{note_of}
 use Rattle.bib_scan.specs.declared.layout.Span.{Span}
 use Rattle.bib_scan.specs.declared.note.Note.{Note}
 
--- the length of the front, where the body of each item lies, and what is noted of each
+-- the length of the front, the span of each item's body, and the note of each item
 pub record Places : Type 0 where
   pub front_len : ℕ
   pub items : List Span

@@ -1,4 +1,4 @@
-//! Where an at-sign begins an item.
+//! Finding the at-signs that begin items.
 
 ghost use Rattle.std.specs.Prelude.{◌≡◌, ◌↔◌, ◌≤◌, IsTrue, length};
 ghost use Rattle.bib_spec.specs.Text.{is_type_byte, does_not_begin_with};

@@ -1,4 +1,4 @@
--- What two lists of keys give as targets, where some entries get new keys that are no other entry's.
+-- The entries that texts name before and after some entries get new keys that are no other entry's.
 use Rattle.std.proofs.Common.{◌≡◌, ◌≢◌, ℕ, zero, suc, ◌+◌, ◌<◌, true, false, not, List, [], ◌∷◌, Option, Some, None, unwrap_or, option_map, slice_get, ◌⊎◌, inl, inr, ⊎_elim, refl, sym, ◌∙◌, ap, arith, add-zero, zero-add}
 use Rattle.std.proofs.lemmas.Bool.{false_from_ne_true, both_ways, and_parts, and_from, and_right, not_from_false}
 use Rattle.std.proofs.lemmas.Option.{same_Some, none-some}

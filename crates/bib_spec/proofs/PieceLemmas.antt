@@ -76,7 +76,7 @@ pub begin_earlier : (from to : ℕ) (ps : List Piece) → from ≤ to → BeginF
 begin_earlier from to [] h b = tt
 begin_earlier from to (p ∷ ps) h b = (omega (arith, h, b.0), begin_earlier from to ps h b.1)
 
--- a text is cut in two where no piece reaches over
+-- a text can be cut in two at a place that no piece reaches over
 pub applied_from-append : (at mid : ℕ) (earlier later : List Piece) (text : Text) → at ≤ mid → AscendFrom at earlier → EndBy mid earlier → BeginFrom mid later
     → applied_from at (earlier ++ later) text ≡ applied_from at earlier (take mid text) ++ applied_from mid later text
 applied_from-append at mid [] later text h a e b =

@@ -48,7 +48,7 @@ pub data IsFaultAt (IsSuch : TextKind) (t : Text) (place : ℕ) : ReadingFault �
   -- the text is inside a quoted part: it could end here, or continue with a comma
   brace : place < length t → (IsOneTooLong IsSuch t place → ⊥) → MayStand IsSuch t place quote → MayStand IsSuch t place comma
       → IsFaultAt IsSuch t place UnbalancedBrace
-  -- neither a quoted part nor an equals sign could stand here, and a letter only where a digit could stand as well
+  -- neither a quoted part nor an equals sign could stand here; a letter could stand here only if a digit could, too
   comma_or_close : place < length t → (IsOneTooLong IsSuch t place → ⊥) → (MayStand IsSuch t place quote → ⊥) → (MayStand IsSuch t place equals_sign → ⊥)
       → (MayStand IsSuch t place letter_x → MayStand IsSuch t place digit_one) → IsFaultAt IsSuch t place ExpectedCommaOrClose
 

@@ -1,4 +1,4 @@
--- What it is to read a text as a database, and where a text without a reading goes wrong.
+-- Reading a text as a database, and the place at which a text without a reading goes wrong.
 use Rattle.std.specs.Prelude.{ℕ, ◌≡◌, ◌+◌, ◌<◌, ◌≤◌, List, ◌++◌, length, take, All}
 use Rattle.std.specs.List.{flat_map}
 use Rattle.bib_spec.specs.Bytes.{name_limit}

@@ -96,7 +96,7 @@ is_repeated entries n = option_map_or (λ entry. list_any (is_named entry.key) (
 abbrev pub target_of : List EntryTexts → EntryTexts → Option ℕ
 target_of entries entry = option_and_then (entry_named entries) (crossref_text entry)
 
--- the target of entry n: the entry that its crossref names, wherever it stands in the file (btxdoc 2.1; dialect)
+-- the target of entry n: the entry that its crossref names, wherever that is in the file (btxdoc 2.1; dialect)
 abbrev pub target : List EntryTexts → ℕ → Option ℕ
 target entries n = option_and_then (target_of entries) (slice_get entries n)
 
@@ -140,7 +140,7 @@ own_fields entry = map record_field (filter (λ field. not (has_name crossref fi
 abbrev pub missing : List RecordField → List RecordField → List RecordField
 missing own fields = filter (λ field. not (list_any (λ other. same other.0 field.0) own)) fields
 
--- the longest chain of parents that can be asked for (dialect)
+-- the greatest depth: the length of the longest chain of parents from which an entry can inherit (dialect)
 abbrev pub depth_limit : ℕ
 depth_limit = 8
 
@@ -148,7 +148,7 @@ depth_limit = 8
 abbrev pub default_depth : ℕ
 default_depth = 1
 
--- a depth that can be asked for
+-- a depth that a caller may choose: 1 to `depth_limit`
 pub record IsDepth (depth : ℕ) : Type 0 where
   pub least : 1 ≤ depth
   pub most : depth ≤ depth_limit
@@ -176,7 +176,7 @@ abbrev pub with_inherited : List EntryTexts → List RecordField → List ℕ �
 with_inherited entries own [] = own
 with_inherited entries own (n ∷ ns) = with_inherited entries (own ++ missing own (fields_at entries n)) ns
 
--- the record of entry n at this depth: its type in lower case, its key as it stands, its own fields and the inherited ones
+-- the record of entry n at this depth: its type in lower case, its key unchanged, its own fields and the inherited ones
 abbrev pub record_of : ℕ → List EntryTexts → ℕ → EntryTexts → Record
 record_of depth entries n entry = record {
   kind_name = folded entry.kind;

@@ -1,5 +1,5 @@
 -- A text is a list of bytes. Its bytes fall into classes, and names, keys and balanced texts are made of them.
--- (Reading treats all numbers above 127 alike, so no definition here asks whether a number is a byte.)
+-- (Reading treats all numbers above 127 alike, so no definition here requires that a number is a byte.)
 use Rattle.std.specs.Prelude.{ℕ, ◌≡◌, ◌<◌, ◌≤◌, Bool, true, ◌&&◌, ◌||◌, not, ◌==◌, nat_lt, nat_le, List, [], ◌∷◌, length, take, drop, slice_index, count_by, map, codes}
 use Rattle.std.specs.List.{prefix_len, list_all, list_any}
 use Rattle.std.specs.Char.{is_ascii_digit, to_ascii_lowercase}
@@ -83,6 +83,6 @@ pub record IsBalanced (t : Text) : Type 0 where
   pub never_negative : (n : ℕ) → closed_before t n ≤ opened_before t n
   pub all_closed : closed_before t (length t) ≡ opened_before t (length t)
 
--- a quotation mark stands only inside braces (dialect)
+-- each quotation mark is inside braces (dialect)
 abbrev pub QuotesAreBraced : Text → Type 0
 QuotesAreBraced t = (n : ℕ) → n < length t → slice_index t n ≡ quote → closed_before t n < opened_before t n

@@ -80,7 +80,7 @@ pub data Tree : Type 0 where
 
 -- ---- the bytes of a tree
 
--- a part as it stands in the file, with its braces or quotation marks
+-- the bytes of a part, with its braces or quotation marks
 abbrev pub part_bytes : Part → Text
 part_bytes (Braced t) = open_brace ∷ t ++ close_brace ∷ []
 part_bytes (Quoted t) = quote ∷ t ++ quote ∷ []
@@ -248,7 +248,7 @@ pub record IsEntry (limit : ℕ) (e : Entry) : Type 0 where
   -- the key is as long as it can be: in an item that a parenthesis opens, a `)` directly after the key would belong to it
   pub key_ends : IsTrue (does_not_begin_with (goes_on_key e.opening.delimiter) (after_key_bytes e))
   pub space_after_key : IsSpace e.space_after_key
-  -- white space beside an empty key stands before it
+  -- white space beside an empty key comes before the key
   pub empty_key : e.key ≡ [] → e.space_after_key ≡ []
   pub rows : All (IsRow limit) e.rows
   pub last_comma : IsLastComma e.last_comma

@@ -17,7 +17,7 @@ use Rattle.bib_spec.proofs.Accepted.{there_once, dangling_among}
 use Rattle.edit_spec.proofs.RenameKey.{only}
 use Rattle.edit_spec.proofs.OneMore.{length-keys, slice_get-insert, slice_get-insert_same, length-insert, keys-insert, more_other, parent_more, expanded_more}
 
--- the entries of `more` are those of `fewer` with one put in at i
+-- the entries of `more` are the entries of `fewer` with one more put in at i
 pub record IsOneMore (i : ℕ) (key : Text) (fewer more : List EntryTexts) : Type 0 where
   pub added : EntryTexts
   pub has_key : added.key ≡ key

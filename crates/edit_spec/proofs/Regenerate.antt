@@ -151,7 +151,7 @@ module _ (key_base : Record → Text) (fit : IsKeyBase key_base) (depth : ℕ) (
       ∙ bases_kept (suc n) rest
       ∙ sym (ap (λ k. map (λ p. key_base (record_of depth entries p.0 p.1)) (enumerate_from k rest)) (add-one n)))
 
-  -- the list stands in the entries from place n on
+  -- the list is the entries from number n on
   abbrev StandsFrom : ℕ → List EntryTexts → Type 0
   StandsFrom n rest = (k : ℕ) (entry : EntryTexts) → slice_get rest k ≡ Some entry → slice_get entries (n + k) ≡ Some entry
 

@@ -41,7 +41,7 @@ pub names_stay : (P : Text → Type 0) (new : Text → Text) (m n : Macros) (def
     AgreeOn P new m n → AgreeOn P new (updated m defined o) (updated n (new defined) o)
 names_stay P new m n defined o apart agree x p = ap₂ (λ b v. cond b o v) (apart x p) (agree x p)
 
--- what a name stands for stays where another name is set
+-- setting another name does not change what a name stands for
 pub name_stays : (m : Macros) (name defined : Text) (given o : Option Text) → same defined name ≡ false → m (folded name) ≡ given → updated m defined o (folded name) ≡ given
 name_stays m name defined given o other is =
     cond-false (bytes_eq (folded name) (folded defined)) o (m (folded name)) (sym (same-is name defined) ∙ same_comm name defined ∙ other) ∙ is

@@ -66,7 +66,7 @@ stands_alone : (items : List Item) (n : ℕ) (changed : Bool) (item : Item) (mor
 stands_alone items n changed item more e s =
     record { item = s.item; at = s.at; trail_is = s.trail_is ∙ sym (append-nil item.trail) ∙ sym (ap (λ t. item.trail ++ t) e); tree_is = s.tree_is }
 
--- where no item is removed, and all keep their numbers
+-- edits that remove no item and keep all numbers
 in_place : (changed : ℕ → Bool) (old new : Reading) → new.front ≡ old.front →
     ((n : ℕ) (item : Item) → slice_get old.items n ≡ Some item → StandsAt new.items n (changed n) item.tree item.trail) → KeepsItems (λ n. false) changed (λ n. n) old new
 in_place changed old new front items = record {
@@ -105,7 +105,7 @@ changed_at test change (first ∷ items) n item at = by_test (λ n at. changed_a
 -- ---- a change of names and parts
 
 module _ (names : Text → Option Text) (parts : Part → Option Part) (test : Part → Bool) (leaves : (part : Part) → test part ≡ false → parts part ≡ None) where
-  -- where every item may change
+  -- edits that may change every item
   with_at : (items : List Item) (n : ℕ) (changed : Bool) (item : Item) → slice_get items n ≡ Some item → (changed ≡ false → IsNameLeft names item.tree × (any_part test item.tree ≡ false)) →
       StandsAt (items_with names parts items) n changed item.tree item.trail
   with_at items n changed item at unchanged = record {
@@ -338,7 +338,7 @@ inlined_at name text (first ∷ items) (suc n) item at = by_test (inlined_at nam
         record { item = it.item; at = it.at; trail_is = it.trail_is; tree_is = it.tree_is }
     by_test rest false = record { item = rest.item; at = rest.at; trail_is = rest.trail_is; tree_is = rest.tree_is }
 
--- the definition stands where it stood
+-- the definition keeps its number
 inlined-first : (name text : Text) (items : List Item) → number_of_first (defines name) (with_uses_inlined name text items) ≡ number_of_first (defines name) items
 inlined-first name text [] = refl
 inlined-first name text (first ∷ items) = ⊎_elim

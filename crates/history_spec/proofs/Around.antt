@@ -108,7 +108,7 @@ groups_after n (On p ∷ ms) a = apart_from n (alone (On p)) ms a
 
 -- ---- places
 
--- where the groups end in the text before, and in the one in the middle
+-- the places where the groups end in the text before and in the text in the middle
 abbrev last_old : ℕ → ℕ → List Group → ℕ
 last_old at mid [] = at
 last_old at mid (g ∷ gs) = last_old (at + (g.place - mid) + length (group_old g)) (group_end g) gs

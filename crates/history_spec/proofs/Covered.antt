@@ -111,7 +111,7 @@ standing_moved : (text : Text) (lo hi : ℕ) (ps rest : List Piece) → hi ≤ l
 standing_moved text lo hi [] rest h b e s = tt
 standing_moved text lo hi (p ∷ ps) rest h b e s = (stands_moved text lo hi p h b.0 e.0 s.0, standing_moved text lo hi ps rest h b.1 e.1 s.1)
 
--- the pieces of one side: those of the group, and those after them
+-- the pieces of one side: the pieces of the group, and the pieces after them
 pub record SideGrows (text : Text) (at lo hi : ℕ) (ps rest : List Piece) : Type 0 where
   pub ascending : AscendFrom at (ps ++ rest)
   pub standing : AllByRecursion (Stands text) (ps ++ rest)

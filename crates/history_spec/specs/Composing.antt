@@ -221,8 +221,9 @@ abbrev pub EndBefore : List Piece → List Piece → Type 0
 EndBefore [] others = Unit {0}
 EndBefore (p ∷ ps) others = BeginsAfter (new_end 0 0 (p ∷ ps)) others
 
--- The pieces of `part` begin after the pieces of `front` end, and they end before those of `back` and the others of the second
--- edit begin, all in the text that the first edit makes. Between `front` and `back` are the pieces of `middle`.
+-- The pieces of `part` begin after the pieces of `front` end, and they end before the pieces of `back` and the other pieces
+-- of the second edit begin, all in the text that the first edit makes. Between `front` and `back` are the pieces of
+-- `middle`.
 pub record LiesBetween (front middle back part others : List Piece) : Type 0 where
   pub begins : EndBefore front part
   pub before_back : BeginsAfter (old_end 0 part) (reversed_from (old_end 0 (front ++ middle)) (new_end 0 0 (front ++ middle)) back)
