@@ -57,7 +57,7 @@ module _ {A : Type 0} (IsSuch : Text → Type 0) (read : Text → Result A Halt)
       let shape : (u ++ c ∷ []) ++ more ≡ at.front ++ c ∷ more = append_assoc u (c ∷ []) more ∙ ap (λ (w : Text). w ++ c ∷ more) u_is in
       no_fault (at.front ++ c ∷ more) (stop h.fault (c ∷ more)) (subst IsSuch shape such) (at.same c v more rest)
 
-  -- a text that is read to its end is a front of such a text
+  -- a text is a front of such a text if its reader stops at its end
   pub viable_by : (t : Text) (h : Halt) → read t ≡ Err h → h.rest ≡ [] → IsViable IsSuch t
   viable_by t h is none =
       let at = stops t h is in

@@ -86,7 +86,7 @@ module _ (limit : ℕ) (t : Text) (h : Halt) (file : FileStop limit t h) where
   abbrev reader : ℕ → Text → Result Text Halt
   reader m = inside m file.type_name file.delimiter
 
-  -- if the next text is read to its end, the whole is a front of a file
+  -- if the reader leaves nothing of the next text, the whole is a front of a file
   past_viable : (m : ℕ) → limit ≤ m → 0 < m → (s : Text) → rest_of (plain (reader m) s) ≡ [] → IsViable (HasReadingWithin m) (file.before ++ s)
   past_viable m longer some s past = go (reader m s) refl past
     where

@@ -35,7 +35,7 @@ resumes_run test t a r is u s split ends =
     let passes : AllPass test u = subst (AllPass test) (front ∙ sym u_is) (run_passes test t) in
     ap (λ (x : Text). Ok (x, after_run test (u ++ s))) (run_front test u s passes ends ∙ u_is) ∙ ap (λ (x : Text). Ok (a, x)) (run_rest test u s passes ends)
 
--- a run that is too long: its first bytes, up to the limit, are a run that is not too long
+-- a run that is too long, and its front of `limit` bytes, which is not
 pub record TooLong (limit : ℕ) (test : ℕ → Bool) (t : Text) (h : Halt) : Type 0 where
   pub front : Text
   pub split : t ≡ front ++ h.rest

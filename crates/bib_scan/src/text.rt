@@ -49,8 +49,8 @@ pub(crate) fn are_type_name(bytes: &[u8]) -> bool
     !bytes.is_empty() && bytes.len() <= NAME_LIMIT && begins_with_no_digit(bytes)
 }
 
-/// Whether two texts are equal if the case of ASCII letters does not count, as types, names and keys are compared. (btxdoc
-/// 3)
+/// Whether two texts are equal if the case of ASCII letters does not count, as types, names and keys are compared.
+/// (btxdoc 3)
 pub fn same_folded(a: &[u8], b: &[u8]) -> bool
     ensures { result ≡ same a.now b.now }
 {

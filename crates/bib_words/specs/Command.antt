@@ -8,9 +8,9 @@ abbrev pub number_limit : ℕ
 number_limit = 65535
 
 -- A name with the number of arguments that its command takes, and with a number or a depth if it takes one: `cat [F]`,
--- `check F`, `lint F`, `explain FAULT`, `show F KEY` with a depth, `cite F KEY..` with a number, `labels F KEY..`, `json F
--- KEY..` and `names F KEY TEMPLATE` with a depth, `edit F WORD..`, whose words may be left out, `undo F` and `redo F` with
--- a number, `log F`, `forget F`, `newkeys F` and `ris F KEY..` with a depth, `import F`. (dialect)
+-- `check F`, `lint F`, `explain FAULT`, `show F KEY` with a depth, `cite F KEY..` with a number, `labels F KEY..`,
+-- `json F KEY..` and `names F KEY TEMPLATE` with a depth, `edit F WORD..`, whose words may be left out, `undo F` and `redo F`
+-- with a number, `log F`, `forget F`, `newkeys F` and `ris F KEY..` with a depth, `import F`. (dialect)
 pub data HasItsWords (c : Command) : Type 0 where
   cat : c.name ≡ codes "cat" → length c.words ≤ 1 → c.n ≡ 0 → c.depth ≡ 0 → HasItsWords c
   check : c.name ≡ codes "check" → length c.words ≡ 1 → c.n ≡ 0 → c.depth ≡ 0 → HasItsWords c

@@ -47,7 +47,7 @@ line_clean zero = refl
 line_clean (suc zero) = refl
 line_clean (suc (suc p)) = refl
 
--- the files without the removed item
+-- the trails of the items that are left are clean
 abbrev AreClean : List Item → Type 0
 AreClean items = All (λ item. IsCleanTrail (is_comment item.tree) item.trail) items
 

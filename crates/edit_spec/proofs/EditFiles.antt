@@ -318,7 +318,7 @@ insert-map f xs zero x = refl
 insert-map f [] (suc place) x = refl
 insert-map f (y ∷ ys) (suc place) x = ap (λ l. f y ∷ l) (insert-map f ys place x)
 
--- the old text of an insertion is empty
+-- inserting the empty text does not change the joined texts
 insert-nothing : (xs : List Text) (place : ℕ) → concat (insert xs place []) ≡ concat xs
 insert-nothing xs zero = refl
 insert-nothing [] (suc place) = refl

@@ -418,7 +418,7 @@ pub record MadeKeysSwap : Type 0 where
   pub again : file_after (edited author_year swapped (RegenerateKeys 1)) (RegenerateKeys 1) ≡ file_after swapped (RegenerateKeys 1)
   pub parent : parent (entries_of (edited author_year swapped (RegenerateKeys 1))) 1 ≡ Some 0
 
--- entries with the same base for their keys, and a dangling crossref that names one of the candidates
+-- two entries with the same base for their keys, and a dangling crossref that names one of the candidates
 abbrev pub years : Reading
 years = file (
     misc [] (tight (codes "year") (only (Digits (codes "1999"))) ∷ [])
@@ -475,7 +475,7 @@ pub record KeyInUseTakesChildren : Type 0 where
   pub refused : Refuses author_year KeyInUse three (RenameKey (codes "a") (codes "B"))
   pub after : parent (entries_of (edited author_year three (RenameKey (codes "a") (codes "B")))) 2 ≡ Some 0
 
--- no crossref can name a key with two spaces, since a field text has one space for each run of white space
+-- no crossref can name a key with two spaces in a row, since a field text has one space for each run of white space
 pub record SpacedKeyLosesChildren : Type 0 where
   pub refused : Refuses author_year BadKey three (RenameKey (codes "b") (codes "x  y"))
   pub after : parent (entries_of (edited author_year three (RenameKey (codes "b") (codes "x  y")))) 2 ≡ None

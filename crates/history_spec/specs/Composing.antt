@@ -295,7 +295,7 @@ an_insertion_after_joins =
     composed (record { place = 0; old = codes "ab"; new = codes "x" } ∷ []) (record { place = 1; old = []; new = codes "y" } ∷ [])
     ≡ record { place = 0; old = codes "ab"; new = codes "xy" } ∷ []
 
--- pieces that do not touch stay two
+-- two pieces that do not touch are still two pieces
 abbrev pub pieces_apart_stay : Type 0
 pieces_apart_stay =
     composed (record { place = 0; old = codes "a"; new = codes "x" } ∷ []) (record { place = 2; old = codes "c"; new = codes "z" } ∷ [])
