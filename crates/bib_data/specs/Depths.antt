@@ -1,16 +1,16 @@
--- The depth that an edit asks for.
+-- The depth of the records from which an edit makes keys.
 use Rattle.bib_spec.specs.Records.{IsDepth}
 use Rattle.bib_data.specs.declared.edit.Edit.{Edit}
 use Rattle.bib_data.specs.declared.edit.Edit.TheVariants.{RegenerateKeys}
 use Rattle.bib_data.specs.declared.request.Request.{Request}
 use Rattle.bib_data.specs.declared.request.Request.TheVariants as request
 
--- where the edit makes keys, it asks for a depth of 1 to 8
+-- if the edit makes keys, its depth is 1 to 8
 abbrev pub HasDepth : Edit → Type 0
 HasDepth (RegenerateKeys depth) = IsDepth depth
 HasDepth other = Unit {0}
 
--- the same of what is asked of a session
+-- if the request is an edit that makes keys, its depth is 1 to 8
 abbrev pub AsksWithDepth : Request → Type 0
 AsksWithDepth (request.Edit edit) = HasDepth edit
 AsksWithDepth other = Unit {0}

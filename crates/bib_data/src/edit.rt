@@ -1,4 +1,4 @@
-//! What may be asked of a database.
+//! Edits of a database.
 
 use bib_text::{Seq, Text};
 
@@ -10,31 +10,32 @@ pub struct NewEntry {
     pub fields: Seq<(Text, Text)>,
 }
 
-/// What may be asked of a database. A key names the first entry that has it, folded; `place` is an item's position
-/// among the items, from 0.
+/// An edit of a database. A key names the first entry that has it, folded; `place` is an item's position among the items,
+/// from 0.
 #[derive(Debug, Drop)]
 pub enum Edit {
-    /// The field of this entry gets this value; where it has none, it is added after the last one.
+    /// Sets the field of this entry to this value; if the entry has no such field, it is added after the last field.
     SetField { key: Text, field: Text, value: Text },
-    /// The field of this entry goes, with the comma before it.
+    /// Removes the field of this entry, with the comma before it.
     DropField { key: Text, field: Text },
-    /// The entry stands before item `place`.
+    /// Adds the entry before item `place`.
     AddEntry { place: usize, entry: NewEntry },
-    /// The entries stand after the last item, in order.
+    /// Adds the entries after the last item, in order.
     AddMany { entries: Seq<NewEntry> },
-    /// The entry goes; the text after it stays.
+    /// Removes the entry; the text after it is kept.
     RemoveEntry { key: Text },
-    /// The entry goes, and then stands before item `place` of what remains.
+    /// Takes the entry out, and puts it in again before item `place` of the other items.
     MoveEntry { key: Text, place: usize },
-    /// The entry gets another key, and each crossref that names it names it by that.
+    /// Gives the entry another key, and changes each crossref that names it to the new key.
     RenameKey { from: Text, to: Text },
-    /// All entries get made keys at once, from their records at this depth, which is 1 to 8, and each crossref names its
-    /// target by the new one.
+    /// Gives all entries generated keys at once, made from their records at this depth, from 1 to 8, and changes each
+    /// crossref to the new key of its target.
     RegenerateKeys { depth: u8 },
-    /// The macro gets another name, in its definition and in each use from there on.
+    /// Gives the macro another name, in its definition and in each use after that.
     RenameMacro { from: Text, to: Text },
-    /// Each use of the macro after its definition becomes what the macro says, in braces, and the definition goes.
+    /// Replaces each use of the macro after its definition by the macro's text, in braces, and removes the definition.
     InlineMacro { name: Text },
-    /// Each part that is the text, in braces or in quotes, becomes a use of a macro that is defined as it before the first.
+    /// Replaces each part that is the text, in braces or in quotes, by a use of a new macro, defined as the text before the
+    /// first use.
     IntroduceMacro { name: Text, text: Text },
 }

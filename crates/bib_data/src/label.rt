@@ -8,25 +8,25 @@ use bib_text::{Seq, Text};
 use std::alloc::{AllocError, Global};
 use std::marker::Model;
 
-/// How long a label can be, in bytes. (dialect)
+/// The longest label, in bytes. (dialect)
 pub const LABEL_LIMIT: usize = 255;
 
-/// Whether the byte can stand in a label: whether it is no control byte of ASCII.
+/// Whether a label may have this byte: any byte except the control bytes of ASCII.
 fn is_label_byte(b: u8) -> bool
     ensures { result ≡ is_label_byte b }
 {
     b >= b' ' && b != 0x7F
 }
 
-/// Whether all bytes can stand in a label.
+/// Whether a label may have all these bytes.
 fn are_label_bytes(text: &[u8]) -> bool
     ensures { result ≡ list_all is_label_byte text.now }
 {
     text.iter().all(|b| is_label_byte(*b))
 }
 
-/// Whether the text can be the label of a step: whether it has at most 255 bytes, none of them a control byte of ASCII. The
-/// empty text can. It takes no memory.
+/// Whether the text can be the label of a step: it has at most 255 bytes, and none of them is a control byte of ASCII. The
+/// text may be empty. It takes no memory.
 pub fn is_label(text: &[u8]) -> bool
     ensures value { result ≡ is_label text.now }
     ensures label { IsTrue result ↔ IsLabel text.now }
@@ -34,7 +34,7 @@ pub fn is_label(text: &[u8]) -> bool
     text.len() <= LABEL_LIMIT && are_label_bytes(text)
 }
 
-/// The label of a step: a text that `is_label` holds of.
+/// The label of a step: a text for which `is_label` is true.
 #[derive(Debug, Drop)]
 pub struct Label {
     text: Text,
@@ -63,7 +63,7 @@ impl Label {
         Ok(Some(Label { text }))
     }
 
-    /// Its bytes.
+    /// The bytes of the label.
     pub fn as_slice(&self) -> &[u8]
         ensures value { result.now ≡ self.now }
         ensures label { IsLabel self.now }

@@ -1,6 +1,6 @@
-//! Plain data that crates hand to one another: records, pieces, edits, labels, and what can be asked of a session. It knows
-//! what they consist of, and nothing of how they are made or used, so that the crates that make them stand beside those that
-//! use them.
+//! Plain data that crates give to each other: records, pieces, edits, labels, and requests to a session. It knows what they
+//! consist of, and not how they are made or used. So the crates that make them and the crates that use them do not depend
+//! on each other.
 #![tactic(auto)]
 
 mod edit;

@@ -1,9 +1,9 @@
-//! One replaced stretch of a text.
+//! Pieces: replacements in a text.
 
 use bib_text::Text;
 use std::marker::Model;
 
-/// One replaced stretch of a text: where it begins in the old text, in bytes from 0, what stood there, and what stands there now.
+/// A replacement in a text: where it begins in the old text, in bytes from 0, the old bytes, and the new bytes.
 #[derive(Debug, Drop)]
 pub struct Piece {
     pub place: u64,

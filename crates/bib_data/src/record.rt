@@ -3,7 +3,7 @@
 use bib_text::{Seq, Text};
 use std::marker::Model;
 
-/// An entry as its readers see it: its type, its key, and the names and texts of its fields.
+/// An entry as bibliography styles see it: its type, its key, and the names and texts of its fields.
 #[derive(Debug, Drop)]
 pub struct Record {
     pub kind_name: Text,

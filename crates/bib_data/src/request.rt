@@ -1,19 +1,19 @@
-//! What can be asked of a session.
+//! Requests to a session.
 
 use crate::edit::Edit;
 use crate::label::Label;
 
-/// What can be asked of a session.
+/// A request to a session.
 #[derive(Debug, Drop)]
 pub enum Request {
-    /// Make this edit.
+    /// Makes this edit.
     Edit(Edit),
-    /// Begin a step with this label: the edits up to its end are one change.
+    /// Begins a step with this label: the edits up to its end are one change.
     Begin(Label),
-    /// End the step.
+    /// Ends the step.
     End,
-    /// Take the last change back.
+    /// Undoes the last change.
     Undo,
-    /// Make the change again that was taken back last.
+    /// Redoes the change that was undone last.
     Redo,
 }

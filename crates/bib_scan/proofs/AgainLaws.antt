@@ -1,4 +1,4 @@
--- What is written by the grammar is read again: values and rows.
+-- Bytes that the grammar gives are read again: values and rows.
 use Rattle.std.proofs.Common.{◌≡◌, ℕ, zero, suc, ◌-◌, ◌<◌, ◌≤◌, true, false, eqb, List, [], ◌∷◌, ◌++◌, length, take, refl, sym, ap, subst, ◌∙◌, arith, append_assoc, inl, inr, Option, None, Some, Result, Ok}
 use Rattle.std.proofs.lemmas.Bool.{eqb-true, eq-eqb, ne_eqb, or_cases, not_from_false, both_ways, cond-true, cond-false, false_from_ne_true}
 use Rattle.std.proofs.lemmas.List.{length-append, take_at}
@@ -142,7 +142,7 @@ pub equals_stands : (x : Text) → Stands (61 ∷ x)
 unfolding is_space
 equals_stands x = refl
 
--- what is read of an assignment with this text after it
+-- reading an assignment with this text after it
 abbrev pub assigned_of : Assignment → Text → Assigned
 assigned_of a u = record { name = a.name; value = value_bytes a.value; value_left = length (value_bytes a.value ++ (a.space_after ++ u)) }
 

@@ -2,7 +2,7 @@
 use Rattle.std.proofs.Common.{◌≡◌, ℕ, ◌+◌, ◌≤◌}
 use Rattle.bib_spec.specs.Text.{Text, opened_before, closed_before}
 
--- so many braces are open after the first i bytes, and no prefix up to there closes more than it opens
+-- `depth` braces are open after the first i bytes, and no prefix up to there closes more than it opens
 pub record Counted (t : Text) (i depth : ℕ) : Type 0 where
   pub sum : depth + closed_before t i ≡ opened_before t i
   pub small : depth ≤ i

@@ -8,7 +8,7 @@ use Rattle.bib_scan.specs.LeftToRight.{Read, with_front, read_braced, read_quote
 use Rattle.bib_scan.proofs.BraceLemmas.{braced_takes, quoted_takes, braced_opens, braced_closes, braced_ends, braced_nil, quoted_opens, quoted_closes, quoted_ends, quoted_inside, quoted_unbalanced, quoted_nil}
 use Rattle.bib_scan.proofs.RunLaws.{ok_same, not_ok}
 
--- the text closes the braces that it opens, and depth more, and these last
+-- the text closes all braces that it opens and `depth` more, and no prefix closes more than that
 pub record Closes (depth : ℕ) (t : Text) : Type 0 where
   pub never_negative : (n : ℕ) → closed_before t n ≤ depth + opened_before t n
   pub all_closed : closed_before t (length t) ≡ depth + opened_before t (length t)
@@ -107,7 +107,7 @@ braced_again d (b ∷ c) r bal =
 
 -- ---- quoted text
 
--- a quotation mark stands only where a brace is open
+-- a quotation mark is only in open braces
 abbrev pub QuotesInside : ℕ → Text → Type 0
 QuotesInside d t = (n : ℕ) → n < length t → slice_index t n ≡ 34 → closed_before t n < d + opened_before t n
 

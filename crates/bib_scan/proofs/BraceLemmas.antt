@@ -107,7 +107,7 @@ pub quoted_nil : (d : ℕ) → read_quoted d [] ≡ Err (stop Unended [])
 unfolding read_quoted
 quoted_nil d = refl
 
--- the byte at place goes to the front too
+-- the byte at `place` is put in front, too
 pub past : (F : Text → Read Text) (t : Text) (place : ℕ) (whole read : Read Text) → place < length t → whole ≡ with_front (take place t) (F (get_or t place 0 ∷ drop (place + 1) t)) → F (get_or t place 0 ∷ drop (place + 1) t) ≡ with_front (get_or t place 0 ∷ []) read → whole ≡ with_front (take (place + 1) t) read
 past F t place whole read lt before step =
     before ∙ ap (with_front (take place t)) step ∙ with_front-append (take place t) (get_or t place 0 ∷ []) read
@@ -135,7 +135,7 @@ not_found test F takes h end t hay at whole is first before =
     let here = subst (λ (u : Text). IsFirstByte test u None) is first in
     run_out test F takes h end t at whole (λ k low. false_from_ne_true _ (here k (omega arith) low)) before
 
--- the same where the place is counted from the start of the text
+-- the next byte that passes the test, if its place is counted from the start of the text
 pub found_from : (test : ℕ → Bool) (F : Text → Read Text) → Takes test F → (t : Text) (at place : ℕ) (whole : Read Text) → NoneBefore (Passes test t) at (length t) place → Passes test t place → whole ≡ with_front (take at t) (F (drop at t)) → Found test F t place whole
 found_from test F takes t at place whole first passes before =
     let found = place - at in

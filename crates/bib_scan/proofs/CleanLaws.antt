@@ -12,7 +12,7 @@ use Rattle.bib_scan.specs.LeftToRight.{next_command}
 use Rattle.bib_scan.specs.ReadSoFar.{Next}
 use Rattle.bib_scan.proofs.CommandLemmas.{next_none, next_here}
 
--- a byte that stops a run stops it wherever it stands
+-- a byte that stops a run stops it at every place
 stopped_len : (test : ℕ → Bool) (c : ℕ) (v x : Text) → test c ≡ false → prefix_len test (v ++ c ∷ x) ≡ prefix_len test v
 stopped_len test c [] x fails = rw fails refl
 stopped_len test c (b ∷ v) x fails = ap (λ (n : ℕ). cond (test b) (1 + n) 0) (stopped_len test c v x fails)
@@ -83,7 +83,7 @@ begins_sign (b ∷ x) is =
     let signs = and_parts _ _ (and_parts _ _ is).0 in
     (x, ap (λ (c : ℕ). c ∷ x) (eqb-true b 64 signs.0))
 
--- the same byte begins a command in the text alone as before what follows
+-- whether a command begins at a byte is the same in the text alone and with a text after it
 pub begins_before : (b : ℕ) (u r : Text) → Next r → begins_command (b ∷ u ++ r) ≡ begins_command (b ∷ u)
 begins_before b u r next =
     elim next [
@@ -97,7 +97,7 @@ next_again [] r clean next = elim next [ inl none ↦ ap next_command none | inr
 next_again (b ∷ u) r clean next =
     next_none b (u ++ r) (begins_before b u r next ∙ clean 0) ∙ ap (λ (n : ℕ). n + 1) (next_again u r (clean_tail b u clean) next) ∙ omega arith
 
--- what the search for the next command gives
+-- what the search for the next command finds
 pub record Found (t : Text) : Type 0 where
   pub clean : IsClean (take (next_command t) t)
   pub next : Next (drop (next_command t) t)

@@ -48,7 +48,7 @@ EndsName tree rest = is_comment tree ≡ true → does_not_begin_with is_type_by
 pub is_no_comment : (P : Type 0) → false ≡ true → P
 is_no_comment P e = cc
 
--- whole is a tree, and then rest
+-- `whole` is the bytes of a tree, and then `rest`
 abbrev pub IsTreeOf : ℕ → Text → Text → Type 0
 IsTreeOf limit whole rest = (tree : Tree) × IsTree limit tree × (whole ≡ tree_bytes tree ++ rest) × EndsName tree rest
 
@@ -98,7 +98,7 @@ preamble_ok limit y d t rest ok named is =
     space_split t ∙ ap (λ (u : Text). before ++ u) (v.3 ∙ ap (λ (u : Text). u ++ x.0.1) v.2 ∙ ap (λ (u : Text). value_bytes v.0 ++ u) last) in
     (PreambleTree tree, good, ap (λ (u : Text). typed_bytes y ++ (open_byte d ∷ u)) inside ∙ opening_shape y d before _ ∙ sym (four_regroup (opening_bytes o) (value_bytes v.0) after (close_byte d) rest), is_no_comment _)
 
--- a front that is not empty stops a run where the whole does
+-- a front that is not empty stops a run if the whole text does
 pub stops_front : (test : ℕ → Bool) (u r : Text) → 0 < length u → does_not_begin_with test (u ++ r) ≡ true → does_not_begin_with test u ≡ true
 stops_front test [] r some is = absurd (omega arith)
 stops_front test (b ∷ u) r some is = is

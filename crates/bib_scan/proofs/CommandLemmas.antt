@@ -7,7 +7,7 @@ use Rattle.bib_spec.specs.Text.{Text}
 use Rattle.bib_spec.specs.Clean.{begins_command}
 use Rattle.bib_scan.specs.LeftToRight.{next_command}
 
--- no command begins before at
+-- no command begins before `at`
 pub record NoneUpTo (t : Text) (at : ℕ) : Type 0 where
   pub within : at ≤ length t
   pub read : next_command t ≡ at + next_command (drop at t)

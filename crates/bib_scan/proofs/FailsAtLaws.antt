@@ -1,4 +1,4 @@
--- A file that is refused goes wrong where reading stops, and nowhere else.
+-- A refused file goes wrong where reading stops, and nowhere else.
 use Rattle.std.proofs.Common.{◌≡◌, ℕ, ◌+◌, ◌-◌, ◌<◌, false, [], ◌∷◌, ◌++◌, length, take, refl, sym, ap, subst, ◌∙◌, arith, append_assoc, append-nil, inl, inr, Result, Ok, Err}
 use Rattle.std.proofs.lemmas.Bool.{cases_Bool, or_from, not_from_false}
 use Rattle.std.proofs.lemmas.List.{append_cancel_right}
@@ -18,7 +18,7 @@ use Rattle.bib_scan.proofs.MendTrees.{mend_definition, mend_preamble, mend_entry
 use Rattle.bib_scan.proofs.StopLaws.{inside, file_stop}
 use Rattle.bib_scan.proofs.PlaceLaws.{front_cut, front_more}
 
--- what holds of the three readers of what stands after an opening delimiter holds of each command's
+-- what is true of the three readers after an opening delimiter is true of the reader of each command
 pub of_inside : (P : (ℕ → Text → Result Text Halt) → Type 0) (type_name : Text) (d : Delimiter) → same type_name (codes "comment") ≡ false
     → P (λ m. read_definition m (close_byte d)) → P (λ m. read_preamble m (close_byte d)) → P (λ m. read_entry m d) → P (λ m. inside m type_name d)
 of_inside P type_name d no_comment definition preamble entry =
@@ -41,7 +41,7 @@ mend_inside limit some type_name d no_comment = of_inside (λ p. Mends (plain (p
 
 -- ---- where reading stops
 
--- reading stops after front, whatever stands after the byte there, and front continues to such a text
+-- reading stops after `front`, whatever follows the next byte, and `front` can become such a text
 pub record StopsAt {A : Type 0} (IsSuch : Text → Type 0) (read : Text → Result A Halt) (t : Text) (h : Halt) : Type 0 where
   pub front : Text
   pub split : t ≡ front ++ h.rest
@@ -49,7 +49,7 @@ pub record StopsAt {A : Type 0} (IsSuch : Text → Type 0) (read : Text → Resu
   pub same : (c : ℕ) (v w : Text) → h.rest ≡ c ∷ v → read (front ++ c ∷ w) ≡ Err (stop h.fault (c ∷ w))
 
 module _ {A : Type 0} (IsSuch : Text → Type 0) (read : Text → Result A Halt) (no_fault : (t : Text) (h : Halt) → IsSuch t → read t ≡ Err h → ⊥) (stops : (t : Text) (h : Halt) → read t ≡ Err h → StopsAt IsSuch read t h) where
-  -- what continues with the byte at the fault is not the front of such a text
+  -- the text up to and with the byte at the fault is not the front of such a text
   pub stuck_by : (t u : Text) (h : Halt) (c : ℕ) (v : Text) → read t ≡ Err h → t ≡ u ++ h.rest → h.rest ≡ c ∷ v → IsViable IsSuch (u ++ c ∷ []) → ⊥
   stuck_by t u h c v is split rest (more, such) =
       let at = stops t h is in
@@ -57,7 +57,7 @@ module _ {A : Type 0} (IsSuch : Text → Type 0) (read : Text → Result A Halt)
       let shape : (u ++ c ∷ []) ++ more ≡ at.front ++ c ∷ more = append_assoc u (c ∷ []) more ∙ ap (λ (w : Text). w ++ c ∷ more) u_is in
       no_fault (at.front ++ c ∷ more) (stop h.fault (c ∷ more)) (subst IsSuch shape such) (at.same c v more rest)
 
-  -- what is read to its end is a front of such a text
+  -- a text is a front of such a text if its reader stops at its end
   pub viable_by : (t : Text) (h : Halt) → read t ≡ Err h → h.rest ≡ [] → IsViable IsSuch t
   viable_by t h is none =
       let at = stops t h is in

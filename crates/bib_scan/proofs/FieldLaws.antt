@@ -1,4 +1,4 @@
--- The fields that are read from left to right are those of the tree.
+-- The fields that are read from left to right are the fields of the tree.
 use Rattle.std.proofs.Common.{◌≡◌, ℕ, zero, suc, ◌-◌, ◌<◌, ◌≤◌, true, false, eqb, List, [], ◌∷◌, ◌++◌, length, refl, sym, ap, subst, ◌∙◌, arith, append_assoc, Option, None, Some, Ok}
 use Rattle.std.proofs.lemmas.Bool.{ne_eqb, not_from_false, both_ways, and_left}
 use Rattle.std.proofs.lemmas.List.{length-append}
@@ -19,7 +19,7 @@ use Rattle.bib_scan.proofs.AgainLaws.{EndsRow, Close, after_space, no_link, name
 
 -- ---- one field
 
--- the text before a value, and that from the value on
+-- the text before a value, and the text from the value on
 before_value : (before : Text) (a : Assignment) (u : Text) → before ++ assignment_inside a u ≡ (before ++ a.name ++ a.space_before_equals ++ 61 ∷ a.space_before_value) ++ (value_bytes a.value ++ (a.space_after ++ u))
 before_value before a u =
     let v : Text = value_bytes a.value ++ (a.space_after ++ u) in
@@ -110,7 +110,7 @@ definition_field_again total before a b x is ends whole =
     let some : 0 < length t = omega (arith, ap (length {A = ℕ}) (before_value [] a (b ∷ x)), length-append (a.name ++ a.space_before_equals) (61 ∷ a.space_before_value), length-append (a.name ++ a.space_before_equals ++ 61 ∷ a.space_before_value) (value_bytes a.value ++ (a.space_after ++ b ∷ x))) in
     one_field (length t) total kind.Macro t _ some found refl
 
--- the field of a preamble that begins after so much text
+-- the field of a preamble that begins after the text `before`
 abbrev pub preamble_field : Text → Value → Field
 preamble_field before v = record { name = []; value = value_bytes v; start = length before; name_at = length before; value_at = length before }
 

@@ -4,24 +4,24 @@ use Rattle.std.proofs.lemmas.Bool.{cases_Bool, cases_eq, cond-true, cond-false, 
 use Rattle.memchr.specs.Find.{IsFirstByte, NoneBefore, Nowhere, Passes, TakesFirst, places, places_from}
 
 module _ (test : ℕ → Bool) (hay : List ℕ) where
-  -- a place that passes leads the list
+  -- a place that passes is the first of the list
   places_from-passed : (i n : ℕ) → test (get_or hay i 0) ≡ true → places_from test hay i (suc n) ≡ i ∷ places_from test hay (i + 1) n
   unfolding places_from
   places_from-passed i n is = cond-true (test (get_or hay i 0)) _ _ is
 
-  -- and one that does not pass is left out
+  -- a place that does not pass is not in the list
   places_from-missed : (i n : ℕ) → test (get_or hay i 0) ≡ false → places_from test hay i (suc n) ≡ places_from test hay (i + 1) n
   unfolding places_from
   places_from-missed i n is = cond-false (test (get_or hay i 0)) _ _ is
 
-  -- one place more that does not pass
+  -- one more place that does not pass
   nowhere_from : (i j : ℕ) → test (get_or hay i 0) ≡ false → Nowhere (Passes test hay) (i + 1) j → Nowhere (Passes test hay) i j
   nowhere_from i j miss later k low high passes = ⊎_elim
       (λ (here : k ≡ i). both_ways (test (get_or hay i 0)) miss (subst (λ (m : ℕ). test (get_or hay m 0) ≡ true) here passes))
       (λ after. later k (omega arith) high passes)
       (cases_eq k i)
 
-  -- where the list is empty, no place passes
+  -- if the list is empty, no place passes
   nowhere : (n i : ℕ) → places_from test hay i n ≡ [] → Nowhere (Passes test hay) i (i + n)
   nowhere zero i none = λ k low high. absurd (omega arith)
   nowhere (suc n) i none = ⊎_elim
@@ -29,7 +29,7 @@ module _ (test : ℕ → Bool) (hay : List ℕ) where
       (λ miss. nowhere_from i (i + suc n) miss (λ k low high. nowhere n (i + 1) (sym (places_from-missed i n miss) ∙ none) k low (omega arith)))
       (cases_Bool (test (get_or hay i 0)))
 
-  -- what leads the list is the first place that passes
+  -- the first element of the list is the first place that passes
   leads : (n i x : ℕ) (rest : List ℕ) → places_from test hay i n ≡ x ∷ rest → NoneBefore (Passes test hay) i (i + n) x × Passes test hay x
   unfolding places_from
   leads zero i x rest is = absurd (omega (arith, ap (length {A = ℕ}) is))

@@ -1,4 +1,4 @@
--- The view that is read from left to right is that of the item.
+-- The view that is read from left to right is the view of the item.
 use Rattle.std.proofs.Common.{◌≡◌, ℕ, ◌-◌, true, List, [], ◌∷◌, ◌++◌, length, refl, sym, ap, subst, ◌∙◌, arith, append_assoc, append-nil}
 use Rattle.std.proofs.lemmas.Bool.{not_from_false, not-true, or_parts, cond-true, cond-false}
 use Rattle.std.proofs.lemmas.List.{length-append}
@@ -34,7 +34,7 @@ head_again h x is ends =
 opening_again : (d : Delimiter) (s u : Text) → AllPass is_space s → Stands u → read_opening (open_byte d ∷ (s ++ u)) ≡ (d, u)
 opening_again d s u space stands = λ i. (delimiter_again d i, skip_space s u space stands i)
 
--- what is read of a text that begins with this opening
+-- reading a text that begins with this opening
 pub record OpenedWith (t : Text) (o : Opening) (u : Text) : Type 0 where
   pub type_name : (read_head t).0 ≡ o.head.type_name
   pub opening : read_opening (after_run is_space (read_head t).1) ≡ (o.delimiter, u)

@@ -19,7 +19,7 @@ use Rattle.bib_scan.proofs.TellTrees.{close_untried, tell_definition, tell_pream
 use Rattle.bib_scan.proofs.WidenLaws.{IsLong, IsShort, Widens}
 use Rattle.bib_scan.proofs.WidenTrees.{widen_definition, widen_preamble, widen_entry}
 
--- Texts of this kind go wrong after front with this fault, where r stands.
+-- Texts of this kind go wrong after `front` with this fault, if `r` follows.
 pub record GoesWrong (IsSuch : TextKind) (t : Text) (f : ReadingFault) (r : Text) : Type 0 where
   pub front : Text
   pub split : t ≡ front ++ r
@@ -86,7 +86,7 @@ module _ (limit : ℕ) (t : Text) (h : Halt) (file : FileStop limit t h) where
   abbrev reader : ℕ → Text → Result Text Halt
   reader m = inside m file.type_name file.delimiter
 
-  -- what follows is read to its end: the whole is a front of a file
+  -- if the reader leaves nothing of the next text, the whole is a front of a file
   past_viable : (m : ℕ) → limit ≤ m → 0 < m → (s : Text) → rest_of (plain (reader m) s) ≡ [] → IsViable (HasReadingWithin m) (file.before ++ s)
   past_viable m longer some s past = go (reader m s) refl past
     where
@@ -94,7 +94,7 @@ module _ (limit : ℕ) (t : Text) (h : Halt) (file : FileStop limit t h) where
       go (Ok r) is none = ([], subst (HasReadingWithin m) (sym (append-nil (file.before ++ s))) (file.reads m longer s (is ∙ ap (λ (u : Text). Ok u) none)))
       go (Err k) is none = viable_at m some (file.before ++ s) k (file.stops m longer s k is) none
 
-  -- the reader stops at d: the whole with d is no front of a file
+  -- if the reader stops at `d`, the whole with `d` is no front of a file
   stopped_stuck : (m : ℕ) → limit ≤ m → 0 < m → (u : Text) (d : ℕ) → Stopped (plain (reader m)) u d → IsViable (HasReadingWithin m) ((file.before ++ u) ++ d ∷ []) → ⊥
   stopped_stuck m longer some u d s viable =
       let whole : (file.before ++ u) ++ d ∷ [] ≡ file.before ++ (u ++ d ∷ []) = append_assoc file.before u (d ∷ []) in

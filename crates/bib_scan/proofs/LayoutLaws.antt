@@ -26,7 +26,7 @@ front_is b places db (dc, rc, is) rb =
     let len : places.front_len ≡ length db.front = ap (λ (p : Places). p.front_len) is ∙ ap (λ (x : Reading). length x.front) (sym same) in
     ap (λ (n : ℕ). take n b) len ∙ ap (take (length db.front)) (sym rb.bytes) ∙ take_at db.front _ _ refl
 
--- where item n lies in the file, and what stands after it
+-- where item n lies in the file, and the text after it
 pub record ItemIn (b : Text) (places : Places) (n : ℕ) : Type 0 where
   pub item : Item
   pub is : (db : Reading) → Reads b db → slice_get db.items n ≡ Some item

@@ -1,4 +1,4 @@
--- A reader sees no byte after the first of those that it leaves.
+-- A reader does not depend on any byte after the first byte that it leaves.
 use Rattle.std.proofs.Common.{◌≡◌, ℕ, ◌+◌, ◌<◌, Bool, true, false, cond, ltb, [], ◌∷◌, ◌++◌, length, get_or, take, drop, refl, sym, ap, subst, ◌∙◌, arith, append_assoc, append-nil, Ok, Err}
 use Rattle.std.proofs.lemmas.Bool.{ltb-true, lt-ltb, cond-true, cond-false}
 use Rattle.std.proofs.lemmas.List.{take-append-drop, take-take, get_or-drop, drop_at, length-take-le}
@@ -11,7 +11,7 @@ use Rattle.bib_spec.specs.Text.{Text, does_not_begin_with, after_run}
 use Rattle.bib_scan.specs.LeftToRight.{Read, stop, expected, read_run, ◌>>=◌}
 use Rattle.bib_scan.proofs.RunLaws.{run_split, run_passes, run_stops, run_front, run_rest, limited_ok, limited_again, cons_nil}
 
--- what a reader left after it, and the same answer with other bytes left
+-- the text that a reader left, and its answer with other bytes in place of that text
 abbrev pub rest_of : {A : Type 0} → Read A → Text
 rest_of (Ok x) = x.1
 rest_of (Err h) = h.rest
@@ -20,7 +20,7 @@ abbrev pub with_rest : {A : Type 0} → Read A → Text → Read A
 with_rest (Ok x) r = Ok (x.0, r)
 with_rest (Err h) r = Err (stop h.fault r)
 
--- At t the reader left an end of t, and does the same where other bytes stand after the first of that end.
+-- At `t` the reader left an end of `t`, and does the same if other bytes follow the first byte of that end.
 pub record LocalAt {A : Type 0} (p : Text → Read A) (t : Text) (read : Read A) : Type 0 where
   pub front : Text
   pub split : t ≡ front ++ rest_of read

@@ -14,7 +14,7 @@ use Rattle.bib_scan.proofs.LocalLaws.{rest_of, with_rest, LocalAt, Local, local_
 use Rattle.bib_scan.proofs.LocalParts.{first_is, local_part, local_name}
 use Rattle.std.proofs.lemmas.List.Elements.{All-nil}
 
--- a reader of which only the rest is kept
+-- a reader that gives only the text after what it read
 abbrev pub ready : Text → Read (Unit {0})
 ready u = Ok (tt, u)
 
@@ -39,7 +39,7 @@ bind_same : {A B : Type 0} (m : Result A Halt) (f g : A → Result B Halt) → (
 bind_same (Ok x) f g same = same x refl
 bind_same (Err h) f g same = refl
 
--- a family of readers, of which each is the reader where the text is short
+-- if reader n of a family does the same as the reader on texts of at most n bytes, the reader is local if each of them is
 pub local_family : {A : Type 0} (p : Text → Read A) (G : ℕ → Text → Read A) → ((n : ℕ) (t : Text) → length t ≤ n → p t ≡ G n t) → ((n : ℕ) → Local (G n)) → Local p
 local_family {A} p G same local t = record {
   front = at.front;
@@ -67,7 +67,7 @@ joined_len t u is =
     let h = joined_ok (after_run is_space t) u is in
     omega (arith, after_len t, ap (length {A = ℕ}) h.2, length-append h.0 u)
 
--- enough turns are enough
+-- more turns than bytes change nothing
 links_turn : (limit : ℕ) (n m : ℕ) (t : Text) (o : Option Text) → past_hash (after_run is_space t) ≡ o → length t ≤ suc n → length t ≤ suc m → ((u : Text) → length u ≤ n → length u ≤ m → read_links limit n u ≡ read_links limit m u) → go_on (Ok t) (λ u. read_part limit u >>= λ p. read_links limit n p.1) o ≡ go_on (Ok t) (λ u. read_part limit u >>= λ p. read_links limit m p.1) o
 links_turn limit n m t None is small tiny later = refl
 links_turn limit n m t (Some u) is small tiny later =
@@ -211,7 +211,7 @@ row_skip limit t = ap (λ (s : Text). read_assignment limit s >>= λ x. Ok x.1) 
 abbrev pub rows_read : ℕ → ℕ → ℕ → Text → Read (Unit {0})
 rows_read limit n c t = plain (read_rows limit n c) t
 
--- what stands after a comma
+-- the text after a comma
 abbrev pub after_comma : ℕ → ℕ → ℕ → Text → Read (Unit {0})
 after_comma limit n c s = cond (first_is (λ b. eqb b c) s) (after_first ready s) (plain (read_row limit) s >>= λ r. rows_read limit n c r.1)
 
@@ -280,7 +280,7 @@ all_rows_is limit c n t small = ap (λ (m : Result Text Halt). m >>= ready) (row
 pub local_all_rows : (limit : ℕ) (c : ℕ) → Local (plain (read_all_rows limit c))
 local_all_rows limit c = local_family (plain (read_all_rows limit c)) (λ n t. rows_read limit (suc n) c t) (all_rows_is limit c) (λ n. local_rows limit (suc n) c)
 
--- ---- what stands between the delimiters
+-- ---- the text between the delimiters
 
 pub local_entry : (limit : ℕ) (d : Delimiter) → Local (plain (read_entry limit d))
 unfolding read_entry

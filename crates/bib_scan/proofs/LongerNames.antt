@@ -1,4 +1,4 @@
--- What the grammar has with names and keys up to a limit, it has with longer ones too.
+-- Trees of the grammar with names and keys up to a limit are trees of the grammar with a higher limit, too.
 use Rattle.std.proofs.Common.{ℕ, ◌≤◌, List, [], ◌∷◌, arith}
 use Rattle.std.proofs.lemmas.List.Elements.{All-nil, All-cons, All-head, All-tail}
 use Rattle.std.specs.List.{All}

@@ -1,4 +1,4 @@
--- Braces that are known before they are read.
+-- Braces that were found ahead.
 use Rattle.std.proofs.Common.{◌≡◌, ◌↔◌, ℕ, ◌+◌, ◌-◌, ◌<◌, ◌≤◌, length, sym, subst, arith, inl, inr}
 use Rattle.std.specs.Int.{bit_at}
 use Rattle.std.proofs.lemmas.Bool.{cases_lt}
@@ -9,14 +9,14 @@ use Rattle.bib_scan.specs.Braces.{IsBraceAt, IsMarked}
 use Rattle.bib_scan.specs.declared.braces.Marked.{Marked}
 
 module _ (t : Text) (at : ℕ) where
-  -- where all that are known are passed
+  -- if all braces found ahead were passed
   pub none_marked : (m : Marked) → IsMarked t at m → m.bits ≡ 0 → Nowhere (IsBraceAt t) at m.end
   none_marked m known none place low high brace =
       let k = place + 32 - m.end in
       let set : bit_at 0 k ≡ 1 = subst (λ bits. bit_at bits k ≡ 1) none (known.each place low high brace).1 in
       omega (arith, bit_at-zero k)
 
-  -- the 32 bytes after those
+  -- the next 32 bytes
   pub next_marked : (m : Marked) (bits : ℕ) → IsMarked t at m → m.bits ≡ 0 → m.end + 32 ≤ length t → ((k : ℕ) → (bit_at bits k ≡ 1) ↔ ((k < 32) × IsBraceAt t (m.end + k)))
       → IsMarked t at (record { end = m.end + 32; bits = bits })
   next_marked m bits known none within among = record {

@@ -8,7 +8,7 @@ use Rattle.std.proofs.lemmas.Nat.Bits.{bit_at_lowest, bit_at-suc, bit_at-lt, bit
 use Rattle.std.proofs.lemmas.Simd.{bit_mask_l, mask_l-mod, zip2_splat, zip2_of_maps}
 use Rattle.memchr.specs.Find.{is_byte2}
 
--- m - 1 has the bits of m above any that is set
+-- m - 1 has the bits of m above any bit that is set
 above_set : (j k m : ℕ) → j < k → bit_at m j ≡ 1 → bit_at (m - 1) k ≡ bit_at m k
 above_set j zero m low set = absurd (omega arith)
 above_set zero (suc k) m low set =
@@ -24,7 +24,7 @@ above_set (suc j) (suc k) m low set =
           bit_at-suc (m - 1) k ∙ ap (λ n. bit_at n k) half ∙ sym (bit_at-suc m k)
     ]
 
--- and not the lowest
+-- m - 1 does not have the lowest bit of m
 lowest_cleared : (k m : ℕ) → bit_at m k ≡ 1 → ((j : ℕ) → bit_at m j ≡ 1 → k ≤ j) → bit_at (m - 1) k ≡ 0
 lowest_cleared zero m set low = omega (arith, bit_at_lowest m, bit_at_lowest (m - 1))
 lowest_cleared (suc k) m set low =
@@ -39,7 +39,7 @@ lowest_cleared (suc k) m set low =
     let half : (m - 1) / 2 ≡ m / 2 - 1 = omega arith in
     bit_at-suc (m - 1) k ∙ ap (λ n. bit_at n k) half ∙ lowest_cleared k (m / 2) (sym (bit_at-suc m k) ∙ set) (λ j s. omega (arith, low (suc j) (bit_at-suc m j ∙ s)))
 
--- `m & (m - 1)` has the bits of m but its lowest
+-- `m & (m - 1)` has the bits of m except its lowest
 pub bit_at-without_lowest : (m place : ℕ) → bit_at m place ≡ 1 → ((j : ℕ) → bit_at m j ≡ 1 → place ≤ j) → (k : ℕ) → (bit_at (bit_and m (m - 1)) k ≡ 1) ↔ ((bit_at m k ≡ 1) × (place < k))
 bit_at-without_lowest m place set low k = (
   λ h.

@@ -1,4 +1,4 @@
--- Where reading stops, some bytes can stand with which it continues to the end.
+-- If reading stops, some bytes in place of the rest let it continue to the end.
 use Rattle.std.proofs.Common.{◌≡◌, ℕ, zero, suc, ◌+◌, ◌-◌, ◌<◌, Bool, true, false, cond, [], ◌∷◌, ◌++◌, length, refl, sym, ap, subst, ◌∙◌, arith, append_assoc, inl, inr, Result, Ok, Err}
 use Rattle.std.proofs.lemmas.List.{length-append}
 use Rattle.std.proofs.lemmas.Bool.{cases_eq, or_from, ne_eqb, cond-true, cond-false, both_ways}
@@ -10,9 +10,9 @@ use Rattle.bib_scan.proofs.BraceLemmas.{braced_takes, quoted_takes, braced_opens
 use Rattle.bib_scan.proofs.BraceLaws.{plain_byte}
 use Rattle.bib_scan.proofs.LocalLaws.{LocalAt, Local, after_first}
 
--- P speaks of the bytes that follow what is read, F and G of those that follow what was read before.
+-- P is about the bytes that follow what is read, F and G about the bytes that follow what was read before.
 
--- At t the reader stopped with h. With end in place of what it left it reads, whatever follows.
+-- At `t` the reader stopped with `h`. With `end` in place of what it left, it reads on, whatever follows.
 pub record MendAt {A : Type 0} (p : Text → Read A) (P F : Text → Type 0) (t : Text) (h : Halt) : Type 0 where
   pub front : Text
   pub split : t ≡ front ++ h.rest
@@ -23,7 +23,7 @@ pub record MendAt {A : Type 0} (p : Text → Read A) (P F : Text → Type 0) (t 
 abbrev pub Mends : {A : Type 0} → (Text → Read A) → (Text → Type 0) → (Text → Type 0) → Type 0
 Mends p P F = (t : Text) (h : Halt) → p t ≡ Err h → MendAt p P F t h
 
--- What the reader read, it reads too where bytes follow that F allows.
+-- The reader also reads what it read if bytes follow that F allows.
 abbrev pub Resumes : {A : Type 0} → (Text → Read A) → (Text → Type 0) → Type 0
 Resumes {A} p F = (t : Text) (a : A) (r : Text) → p t ≡ Ok (a, r) → (u s : Text) → t ≡ u ++ r → F s → p (u ++ s) ≡ Ok (a, s)
 
@@ -70,7 +70,7 @@ mend_bind {A} {B} p f Q P F G end local resumes first second default follows t h
           starts = λ none r ok. subst G (sym (append_assoc m.end end r)) (m.starts none (end ++ r) (follows r ok));
         }
 
--- the same where the first reader takes a byte at least
+-- one reader after another, if the first takes at least one byte
 pub mend_bind_some : {A B : Type 0} (p : Text → Read A) (f : A → Text → Read B) (Q P F G : Text → Type 0) (end : Text)
     → ((t : Text) (a : A) (r : Text) → p t ≡ Ok (a, r) → length r < length t)
     → Local p → Resumes p F → Mends p Q G → ((a : A) → Mends (f a) P F) → ((a : A) → Default (f a) end P) → ((r : Text) → P r → Q (end ++ r))

@@ -1,4 +1,4 @@
--- What can stand where the reading of a value or a row stops.
+-- Bytes that can follow where the reading of a value or a row stops.
 use Rattle.std.proofs.Common.{◌≡◌, ℕ, zero, suc, ◌<◌, Bool, true, false, cond, eqb, ltb, [], ◌∷◌, ◌++◌, length, get_or, take, drop, refl, sym, ap, subst, ◌∙◌, arith, append_assoc, inl, inr, Ok, Err}
 use Rattle.std.proofs.lemmas.List.{append_cancel_right, length-append, get_or-drop, take-append-drop, take-take, length-take-le}
 use Rattle.std.proofs.lemmas.List.Sums.{prefix_len_passes, prefix_len-le-length}
@@ -35,7 +35,7 @@ resumes_run test t a r is u s split ends =
     let passes : AllPass test u = subst (AllPass test) (front ∙ sym u_is) (run_passes test t) in
     ap (λ (x : Text). Ok (x, after_run test (u ++ s))) (run_front test u s passes ends ∙ u_is) ∙ ap (λ (x : Text). Ok (a, x)) (run_rest test u s passes ends)
 
--- a run that is too long: its first bytes, up to the limit, are none
+-- a run that is too long, and its front of `limit` bytes, which is not
 pub record TooLong (limit : ℕ) (test : ℕ → Bool) (t : Text) (h : Halt) : Type 0 where
   pub front : Text
   pub split : t ≡ front ++ h.rest
@@ -85,7 +85,7 @@ resumes_limited limit test t a r is u s split ends =
     let u_is : u ≡ a = append_cancel_right u a r (sym split ∙ l.split) in
     ap (λ (x : Text). read_run limit test (x ++ s)) u_is ∙ limited_again limit test a s l.pass l.len ends
 
--- as many name bytes as the limit allows are a name, where they begin one
+-- as many name bytes as the limit allows are a name, if a name begins with the first of them
 long_name : (limit : ℕ) (some : 0 < limit) (t u r : Text) → t ≡ u ++ r → AllPass is_name_byte u → length u ≡ limit → begins_name t ≡ true → is_name_within limit u ≡ true
 long_name limit some t [] r split passes len begins = absurd (omega arith)
 long_name limit some t (b ∷ u) r split passes len begins =
@@ -198,7 +198,7 @@ mend_part limit some F start (b ∷ t) h is =
 
 -- ---- values
 
--- where a row may end, a value ends
+-- a value ends where a row may end
 after_row_part : (r : Text) → AfterRow r → AfterPart r
 after_row_part r a = (after_value [] r (All-nil (λ (x : ℕ). is_space x ≡ true)) a).part
 
@@ -239,7 +239,7 @@ mend_links limit some (suc n) G =
     (λ s r a. (tt, cond-false (first_is (λ b. eqb b 35) r) _ _ (no_hash_first r a)))
     (λ r a. tt))
 
--- what reads with some turns reads as a value
+-- a text that is read as a value in some number of turns is read as a value
 value_more : (limit : ℕ) (n : ℕ) (u r : Text) (x : Unit {0}) → AfterRow r → value_family limit n u ≡ Ok (x, r) → value_gap limit u ≡ Ok (x, r)
 value_more limit n u r x a is =
     let one = bind_ok (read_part limit u) _ (x, r) is in

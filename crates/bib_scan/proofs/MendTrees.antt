@@ -1,4 +1,4 @@
--- What can stand where the reading of a command, or of a whole text, stops.
+-- Bytes that can follow where the reading of a command, or of a whole text, stops.
 use Rattle.std.proofs.Common.{◌≡◌, ℕ, zero, suc, ◌+◌, ◌<◌, Bool, true, false, cond, eqb, List, [], ◌∷◌, ◌++◌, length, refl, sym, ap, subst, ◌∙◌, arith, append_assoc, append-nil, inl, inr, ◌⊎◌, Option, None, Some, Result, Ok, Err}
 use Rattle.std.proofs.lemmas.List.{append_cancel_right, length-append}
 use Rattle.std.proofs.lemmas.List.Elements.{All-nil, All-cons, All-push}
@@ -146,7 +146,7 @@ all_again limit c rs tail x u close all space is =
     let room : length rs < length (rows_inside c rs tail x) + 1 = omega (arith, rows_len rs, length-append (flat_map row_bytes rs) (last_comma_bytes tail ++ c ∷ x)) in
     ap (plain (read_all_rows limit c)) is ∙ ap (λ (m : Result Text Halt). m >>= ready) (rows_again limit rs (length (rows_inside c rs tail x) + 1) c tail x all space close room)
 
--- how a turn ends well: a comma and the close, or the row mended and the close
+-- how a turn can end without a fault: with a comma and the close, or with the mended row and the close
 mend_turn : (limit : ℕ) (some : 0 < limit) (c : ℕ) (t : Text) (h : Halt) (G : Text → Type 0) → Close c → ((s : Text) → G (44 ∷ s)) → Turn limit c t h → MendAt (plain (read_all_rows limit c)) Always G t h
 mend_turn limit some c t h G close start turn =
     elim turn.stopped [

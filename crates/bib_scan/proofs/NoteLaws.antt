@@ -1,4 +1,4 @@
--- What is noted from left to right is what is noted of the tree.
+-- The note that is taken from left to right is the note of the tree.
 use Rattle.std.proofs.Common.{◌≡◌, ℕ, ◌+◌, ◌-◌, ◌<◌, ◌≤◌, true, false, eqb, List, [], ◌∷◌, ◌++◌, length, take, drop, map, refl, sym, ap, subst, ◌∙◌, arith, append_assoc, append-nil, Option, Some, None, option_map, Result, inl, inr}
 use Rattle.std.proofs.lemmas.Bool.{cases_Bool, cond-true, cond-false, ne_eqb}
 use Rattle.std.proofs.lemmas.Option.{none-some, same_Some}
@@ -34,7 +34,7 @@ use Rattle.bib_scan.proofs.ReadingLaws.{spans_from, spans_all, ends_more, items_
 
 -- ---- rows
 
--- how many bytes are left from the first of these rows on that is named `crossref`
+-- the number of bytes left from the first of these rows named `crossref` on
 abbrev lefts : ℕ → List Row → Option Text → Text → ℕ
 lefts c [] tail x = 0
 lefts c (r ∷ rs) tail x = if same r.assignment.name crossref then length (rows_inside c (r ∷ rs) tail x) else lefts c rs tail x
@@ -120,7 +120,7 @@ opened_head t o u k is stands named whole =
 
 -- ---- trees
 
--- what is noted is that the item is no entry
+-- the note of an item that is no entry
 plain_note : (t : Text) (n : Note) → read_entry_head t ≡ None → n ≡ note_from 0 None → read_note t ≡ n
 plain_note t n none is = ap (note_from (length t)) none ∙ sym is
 
@@ -190,7 +190,7 @@ notes_from file front (i ∷ items) all split =
     ∙ ap (λ (m : ℕ). note_of i.tree ∷ map (note_at file) (spans_from m items)) next
     ∙ ap (λ (ns : List Note). note_of i.tree ∷ ns) more
 
--- what is noted where the items of a file begin is what is noted of them
+-- the notes taken where the items of a file begin are the notes of the items
 pub notes_all : (file : Text) (db : Reading) → Reads file db → map (note_at file) (places_of db).items ≡ (places_of db).notes
 notes_all file db reads = ap (map (note_at file)) (sym (spans_all db)) ∙ notes_from file db.front db.items reads.items (sym reads.bytes)
 
@@ -225,7 +225,7 @@ noted_view body trail key rows (EntryTree e) n is whole noted some key_is rows_a
 
 -- ---- the crossref that a note leads to
 
--- no row is named so, or the field is read where the note says
+-- no row is named `crossref`, or the field is read at the place in the note
 pub record NotedCrossref (body : Text) (t : Tree) (n : Note) : Type 0 where
   pub none : n.crossref_at ≡ 0 → crossref_field t ≡ None
   pub some : 0 < n.crossref_at → (f : Field) × (rest : Text) × (crossref_field t ≡ Some f) × (first_field kind.Entry (length body) (drop n.crossref_at body) ≡ Some (f, rest)) × (n.crossref_at ≤ length body)
@@ -263,7 +263,7 @@ noted_crossref body (EntryTree e) n is whole noted = go (crossref_field (EntryTr
           some = λ more. (f, here.0, some, read, omega (arith, some_left (length body) (drop n.crossref_at body) (f, here.0) read, length-drop n.crossref_at body));
         }
 
--- what is read there is that field
+-- the field read at the place in the note is the first field named `crossref`
 pub crossref_read : (body : Text) (t : Tree) (n : Note) → IsTree name_limit t → tree_bytes t ≡ body → n ≡ note_of t → 0 < n.crossref_at → (r : Result (Field × Text) Halt) → read_row_field (length body) (drop n.crossref_at body) ≡ r →
     option_map (λ x. x.0) (result_ok r) ≡ crossref_field t
 crossref_read body t n is whole noted more r read =

@@ -1,4 +1,4 @@
--- Steps of the reader of rows, for the place of the first that is named `crossref`; and of the reader of a file, for its notes.
+-- Steps of the reader of rows, for the place of the first row named `crossref`; and of the reader of a file, for its notes.
 use Rattle.std.proofs.Common.{◌≡◌, ℕ, zero, suc, ◌-◌, ◌<◌, ◌≤◌, Bool, true, false, List, [], ◌∷◌, ◌++◌, length, map, take, drop, append_assoc, refl, sym, ap, subst, ◌∙◌, arith, Option, None, Some, Ok, IfSome, inl, inr}
 use Rattle.std.proofs.lemmas.List.{length-append, length-drop, map-append, drop_at, take-append-drop}
 use Rattle.std.proofs.lemmas.Bool.{cond-true, cond-false}
@@ -28,7 +28,7 @@ use Rattle.bib_scan.proofs.RowLaws.{closed_ok}
 use Rattle.bib_scan.proofs.FieldLaws.{no_assignment, no_field}
 use Rattle.bib_scan.proofs.StepLaws.{field_last, field_step}
 
--- the first of two that is not 0
+-- the first of two numbers that is not 0
 abbrev first_of : ℕ → ℕ → ℕ
 first_of zero later = later
 first_of (suc n) later = suc n
@@ -45,7 +45,8 @@ first_alone : (n : ℕ) → first_of n 0 ≡ n
 first_alone zero = refl
 first_alone (suc n) = refl
 
--- how many bytes of t are left from its first row on that is named `crossref`: that stands before rest, as seen says, or in it
+-- the number of bytes of `t` left from its first row named `crossref` on: the row is before `rest`, as `seen` says, or in
+-- it
 pub record CrossrefOn (t rest : Text) (seen : ℕ) : Type 0 where
   pub left : crossref_left t ≡ first_of seen (left_of_crossref (length t) (all_fields_left kind.Entry (length t) rest))
   pub within : seen ≤ length t
@@ -53,7 +54,7 @@ pub record CrossrefOn (t rest : Text) (seen : ℕ) : Type 0 where
 pub crossref_start : (t : Text) → CrossrefOn t t 0
 crossref_start t = record { left = refl; within = omega arith }
 
--- a field that has the name, and one that hasn't
+-- a field with the name, and a field without it
 named_here : (total : ℕ) (f : Field) (fields : List Field) → is_crossref f ≡ true → left_of_crossref total (f ∷ fields) ≡ total - f.start
 named_here total f fields is = ap (λ (o : Option Field). option_map_or (λ (g : Field). total - g.start) o 0) (cond-true (is_crossref f) (Some f) (find is_crossref fields) is)
 
@@ -71,18 +72,18 @@ module _ (t rest u : Text) (x : Assigned × Text) (seen : ℕ) (on : CrossrefOn 
       let found : first_field kind.Entry (length t) rest ≡ Some (row, x.1) = rw (comma, read) refl in
       field_step kind.Entry (length t) rest (row, x.1) found shorter
 
-  -- one that has the name was seen before
+  -- a field with the name was seen before
   pub crossref_seen : 0 < seen → CrossrefOn t x.1 seen
   crossref_seen some = record { left = on.left ∙ first_kept seen _ _ some; within = on.within }
 
-  -- this one hasn't the name
+  -- this field does not have the name
   pub crossref_other : same x.0.name crossref ≡ false → CrossrefOn t x.1 seen
   crossref_other other = record {
     left = on.left ∙ ap (λ (fs : List Field). first_of seen (left_of_crossref (length t) fs)) step ∙ ap (first_of seen) (named_later (length t) row (all_fields_left kind.Entry (length t) x.1) other);
     within = on.within;
   }
 
-  -- this one is the first that has it
+  -- this field is the first with the name
   pub crossref_here : seen ≡ 0 → same x.0.name crossref ≡ true → CrossrefOn t x.1 (length rest)
   crossref_here none is =
       let back : length t - (length t - length rest) ≡ length rest = omega (arith, fits) in
@@ -103,7 +104,7 @@ crossref_closed d t rest end seen on is =
     let here : rest ≡ c ∷ end = closed_ok c rest end (sym is) in
     last_row t rest seen on (ap (first_field kind.Entry (length t)) here ∙ no_field (length t) c None end tt (closes d))
 
--- they end with a comma and the closing delimiter
+-- the rows end with a comma and the closing delimiter
 pub crossref_tail : (d : Delimiter) (t rest u end : Text) (seen : ℕ) → CrossrefOn t rest seen → read_comma rest ≡ Ok u → Some end ≡ past_byte (close_byte d) (after_run is_space u) → seen ≡ crossref_left t
 crossref_tail d t rest u end seen on comma is =
     let c = close_byte d in
@@ -148,7 +149,7 @@ noted_start file rest spans notes is no_spans no_notes = record {
   notes_are = no_notes ∙ sym (ap (map (note_at file)) no_spans);
 }
 
--- one item more: its span and its note
+-- one more item: its span and its note
 pub noted_more : (file rest after next : Text) (spans : List Span) (notes : List Note) (s : Span) (n : Note) (o : Option EntryHead) → NotedOn file rest spans notes → 0 < length rest → read_command name_limit rest ≡ Ok after →
     next ≡ drop (next_command after) after → s.start ≡ length file - length rest → o ≡ read_entry_head rest → n ≡ note_from (length rest) o → NotedOn file next (spans ++ s ∷ []) (notes ++ n ∷ [])
 noted_more file rest after next spans notes s n o on some read next_is start head is =

@@ -28,7 +28,7 @@ head_of (DefinitionTree d) = d.opening.head
 head_of (PreambleTree p) = p.opening.head
 head_of (EntryTree e) = e.opening.head
 
--- the bytes after the type name, where the opening continues to u
+-- the bytes after the type name, if the opening continues to `u`
 abbrev opened_text : Opening → Text → Text
 opened_text o u = o.space_before_delimiter ++ (open_byte o.delimiter ∷ (o.space_after ++ u))
 
@@ -130,7 +130,7 @@ preamble_unique limit p q x y ip iq h =
       tail_same _ _ x y three.1,
     )
 
--- an entry's bytes after its opening, with the facts that fix them
+-- an entry's bytes after its opening, with the facts that determine them
 key_shape : (e : Entry) (x : Text) → after_key_bytes e ++ x ≡ e.space_after_key ++ rows_inside (close_byte e.opening.delimiter) e.rows e.last_comma x
 key_shape e x =
     let c = close_byte e.opening.delimiter in

@@ -1,4 +1,4 @@
--- A value in whose bytes no `#` stands has one part, and the first byte of a part tells its kind.
+-- A value whose bytes have no `#` has one part, and the first byte of a part determines its kind.
 use Rattle.std.proofs.Common.{◌≡◌, ℕ, suc, ◌<◌, ◌==◌, ◌||◌, Bool, true, false, List, [], ◌∷◌, ◌++◌, length, map, Option, None, Some, is_some, slice_get, slice_index, refl, sym, ◌∙◌, ap, ap₂, arith, append-nil}
 use Rattle.std.specs.List.{list_any, flat_map}
 use Rattle.std.specs.Char.{is_ascii_digit}
@@ -19,7 +19,7 @@ use Rattle.bib_scan.proofs.PartLaws.{name_parts}
 first_byte : (b c : ℕ) (t u : Text) → b ∷ t ≡ c ∷ u → b ≡ c
 first_byte b c t u same = ap (λ (x : Text). slice_index x 0) same
 
--- a byte that passes a test which `other` fails is another byte
+-- a byte that passes a test is not a byte that fails it
 differs : (test : ℕ → Bool) (b other : ℕ) → test b ≡ true → test other ≡ false → (b == other) ≡ false
 differs test b other passes fails =
     false_from_ne_true (b == other) (λ e. false≢true (sym fails ∙ ap test (sym (eqb-true b other e)) ∙ passes))
@@ -37,7 +37,7 @@ name_begins b name digit = sym
     ∙ cond-false (b == quote) kind.Quoted _ (differs is_name_byte b quote name refl)
     ∙ cond-false (is_ascii_digit b) kind.Digits kind.Macro digit)
 
--- the first byte of a part tells its kind
+-- the first byte of a part determines its kind
 kind_told : (p : Part) (b : ℕ) (t : Text) → IsPart name_limit p → part_bytes p ≡ b ∷ t → part_kind p ≡ kind_begun b
 kind_told (Braced u) b t is same = ap kind_begun (first_byte open_brace b (u ++ close_brace ∷ []) t same)
 kind_told (Quoted u) b t is same = ap kind_begun (first_byte quote b (u ++ quote ∷ []) t same)
@@ -70,7 +70,7 @@ no_links (l ∷ ls) none =
     let three = (or_parts (list_any joins front) (list_any joins (hash ∷ rest)) (sym (list_any-append joins front (hash ∷ rest)) ∙ two)).1 in
     absurd (false≢true (sym three))
 
--- a value whose bytes are these has one part, of these bytes
+-- a value with these bytes has one part, with the same bytes
 abbrev IsAlone : Text → Value → Type 0
 IsAlone bytes v = (parts_of v ≡ v.first ∷ []) × (part_bytes v.first ≡ bytes)
 
@@ -83,7 +83,7 @@ alone bytes v same none =
       sym (append-nil (part_bytes v.first)) ∙ sym (ap (λ (ls : List Link). part_bytes v.first ++ flat_map link_bytes ls) links) ∙ same,
     )
 
--- where no `#` is found, the part of the kind that the first byte tells is the only one
+-- if no `#` is found, the part of the kind that the first byte determines is the only part
 pub only_one : (bytes : Text) (b : ℕ) (found : Option ℕ) (part : Part) → IsFirstByte joins bytes found → is_some found ≡ false → Some b ≡ slice_get bytes 0
     → ((p : Part) → part_kind p ≡ kind_begun b → part_bytes p ≡ bytes → part ≡ p)
     → (v : Value) → IsValue name_limit v → value_bytes v ≡ bytes → parts_of v ≡ part ∷ []

@@ -1,4 +1,4 @@
--- A text is clean exactly where the search for a command goes to its end.
+-- A text is clean if and only if the search for a command reaches its end.
 use Rattle.std.proofs.Common.{◌≡◌, zero, suc, [], ◌∷◌, length, refl, ap, arith, inl, inr}
 use Rattle.std.proofs.lemmas.List.{drop_all}
 use Rattle.std.proofs.lemmas.Bool.{cases_Bool}

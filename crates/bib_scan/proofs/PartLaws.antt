@@ -1,4 +1,4 @@
--- Names and parts: what is read is one, and one that is written is read again.
+-- Names and parts: what is read is a name or a part, and a name or part that is written is read again.
 use Rattle.std.proofs.Common.{◌≡◌, ℕ, suc, ◌<◌, ◌≤◌, true, false, eqb, [], ◌∷◌, ◌++◌, length, take, refl, sym, ap, subst, ◌∙◌, arith, append_assoc, inl, inr, Ok}
 use Rattle.std.proofs.lemmas.Bool.{eqb-true, ne_eqb, and_parts, and_from, ltb-true, leb-true, lt-ltb, le-leb, not-true, not_from_false, both_ways, cond-true}
 use Rattle.std.proofs.lemmas.List.{length-append}
@@ -38,7 +38,7 @@ pub name_from : (limit : ℕ) (t : Text) → Name limit t → is_name_within lim
 unfolding is_name_within
 name_from limit t n = and_from _ _ (and_from _ _ (and_from _ _ (lt-ltb _ _ n.some) (le-leb _ _ n.short)) n.first) (list_all-from_AllPass is_name_byte t n.bytes)
 
--- a type name is a name, all of whose bytes are of type names
+-- a type name is a name in which all bytes are bytes of type names
 pub type_name_parts : (t : Text) → is_type_name t ≡ true → (is_name_within name_limit t ≡ true) × AllPass is_type_byte t
 type_name_parts t is = let parts = and_parts _ _ is in (parts.0, AllPass-from_list_all is_type_byte t parts.1)
 
@@ -96,7 +96,7 @@ name_again limit u r is ends = rw (begins_from limit u r is) (limited_name_again
 
 -- ---- parts
 
--- what may stand after a part
+-- the texts that may follow a part
 pub record AfterPart (r : Text) : Type 0 where
   pub name : does_not_begin_with is_name_byte r ≡ true
   pub digit : does_not_begin_with is_ascii_digit r ≡ true
@@ -137,7 +137,7 @@ part_ok limit (b ∷ t) x is =
       ]
     ]
 
--- what a part leaves is no longer than what it was read from
+-- the text after a part is not longer than the text from which the part was read
 pub part_len : (limit : ℕ) (t : Text) (p : Part × Text) → read_part limit t ≡ Ok p → length p.1 ≤ length t
 part_len limit t p is = omega (arith, ap (length {A = ℕ}) (part_ok limit t p is).0, length-append (part_bytes p.0) p.1)
 

@@ -1,4 +1,4 @@
--- Where a text is not taken apart, it is not read as one value.
+-- A text that is not taken apart into parts is not read as one value.
 use Rattle.std.proofs.Common.{◌≡◌, ℕ, zero, suc, ◌+◌, ◌-◌, ◌≤◌, List, [], ◌∷◌, ◌++◌, length, refl, ap, subst, arith, Option, None, Some, Ok, Err}
 use Rattle.std.proofs.lemmas.List.{length-append}
 use Rattle.bib_spec.specs.Fault.{ExpectedCommaOrClose}
@@ -13,12 +13,12 @@ use Rattle.bib_scan.proofs.PartLaws.{part_len}
 use Rattle.bib_scan.proofs.StopLaws.{fault_before}
 use Rattle.bib_scan.proofs.TakenApart.{link_found}
 
--- what is read after a part, and that no text is left out
+-- a text that is refused after a part is refused as the rest of one value, with the same fault
 abbrev RefusedAfter : ℕ → ℕ → ℕ → Halt → Type 0
 RefusedAfter limit total n h =
     (m : ℕ) (t : Text) → length t ≤ n → length t ≤ m → unless_end (read_link t >>= read_parts limit total n) t ≡ Err h → (read_links limit m t >>= nothing_after) ≡ Err h
 
--- a part and what follows it, where links are read for so many turns
+-- a part and the text after it, if links are read for `turns` turns
 refused_part : (limit total n : ℕ) (turns : Part × Text → ℕ) (t : Text) (h : Halt) (read : Read Part) → read_part limit t ≡ read → RefusedAfter limit total n h → length t ≤ n → ((p : Part × Text) → length p.1 ≤ length t → length p.1 ≤ turns p) → (read >>= λ first. unless_end (read_link first.1 >>= read_parts limit total n) first.1 >>= λ later. Ok (part_span first.0 (total - length t) (total - length first.1) ∷ later)) ≡ Err h → ((read >>= λ p. read_links limit (turns p) p.1) >>= nothing_after) ≡ Err h
 refused_part limit total n turns t h (Err k) read after ln room is =
     let same : k ≡ h = err_is {A = List PartSpan} k h (Err k) refl is in
@@ -32,7 +32,7 @@ refused_parts : (limit total n : ℕ) (turns : Part × Text → ℕ) (t : Text) 
 unfolding read_parts
 refused_parts limit total n turns t h after ln room is = refused_part limit total n turns t h (read_part limit t) refl after ln room is
 
--- a link and what follows it
+-- a link and the text after it
 refused_link : (limit total n m b : ℕ) (t : Text) (h : Halt) (o : Option Text) → past_hash (after_run is_space (b ∷ t)) ≡ o → RefusedAfter limit total n h → length t ≤ n → length t ≤ m → (go_on (Err (expected ExpectedCommaOrClose (after_run is_space (b ∷ t)))) Ok o >>= read_parts limit total (suc n)) ≡ Err h → (go_on (Ok (b ∷ t)) (λ u. read_part limit u >>= λ p. read_links limit m p.1) o >>= nothing_after) ≡ Err h
 refused_link limit total n m b t h None o_is after ln lm is =
     let same : expected ExpectedCommaOrClose (after_run is_space (b ∷ t)) ≡ h = err_is {A = List PartSpan} (expected ExpectedCommaOrClose (after_run is_space (b ∷ t))) h _ refl is in

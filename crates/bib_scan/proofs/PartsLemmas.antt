@@ -9,7 +9,7 @@ use Rattle.bib_scan.specs.declared.parts.PartSpan.{PartSpan}
 abbrev pub with_spans : List PartSpan → Result (List PartSpan) Halt → Result (List PartSpan) Halt
 with_spans spans read = read >>= λ later. Ok (spans ++ later)
 
--- The parts of t are these, and then those of next.
+-- The parts of `t` are these, and then the parts of `next`.
 pub record PartsOn (limit : ℕ) (t next : Text) (spans : List PartSpan) : Type 0 where
   pub shorter : length next ≤ length t
   pub read : (n : ℕ) × (length next < n) × (read_all_parts limit t ≡ with_spans spans (read_parts limit (length t) n next))
@@ -25,7 +25,7 @@ with_spans-append u v (Err h) = refl
 pub parts_start : (limit : ℕ) (t : Text) → PartsOn limit t t []
 parts_start limit t = record { shorter = omega arith; read = (length t + 1, omega arith, sym (with_spans-nil _)) }
 
--- the span of the part at the front of next
+-- the span of the part at the front of `next`
 abbrev pub span_here : Text → Text → Text → Part → PartSpan
 span_here t next rest p = part_span p (length t - length next) (length t - length rest)
 
@@ -47,7 +47,7 @@ nothing_there : (more : Result (List PartSpan) Halt) (t : Text) → length t ≡
 nothing_there more [] none = refl
 nothing_there more (b ∷ t) none = absurd (omega arith)
 
--- the parts of t are these, and then, if the text does not end, those of rest
+-- the parts of `t` are these, and then, if the text does not end, the parts of `rest`
 after_part : (limit : ℕ) (t next rest : Text) (spans : List PartSpan) (p : Part) → PartsOn limit t next spans → read_part limit next ≡ Ok (p, rest) → (n : ℕ) × (length next ≤ n) × (read_all_parts limit t ≡ with_spans (spans ++ span_here t next rest p ∷ []) (unless_end (read_link rest >>= read_parts limit (length t) n) rest))
 after_part limit t next rest spans p on is =
     let room : length next < on.read.0 = on.read.1 in

@@ -1,4 +1,4 @@
--- Of any kind of text: where it goes wrong, and what is wrong there.
+-- For every kind of text: where it goes wrong, and what is wrong there.
 use Rattle.std.proofs.Common.{◌≡◌, ℕ, ◌+◌, ◌-◌, ◌<◌, ◌≤◌, [], ◌∷◌, ◌++◌, length, take, drop, refl, sym, ap, subst, ◌∙◌, arith, append_assoc, inl, inr, ◌⊎◌}
 use Rattle.std.proofs.lemmas.List.{length-append, take-append-drop, take_at, take-take}
 use Rattle.bib_spec.specs.Text.{Text}
@@ -34,13 +34,13 @@ front_more t u c v split =
 no_earlier : (IsSuch : Text → Type 0) (t : Text) (p q : ℕ) → FailsAt IsSuch t p → FailsAt IsSuch t q → p < q → ⊥
 no_earlier IsSuch t p q first second less = first.stuck (omega (arith, second.within)) (viable_take IsSuch (p + 1) q t (omega arith) second.viable)
 
--- a text goes wrong at one place
+-- a text goes wrong at one place at most
 pub one_place : (IsSuch : Text → Type 0) (t : Text) (p q : ℕ) → FailsAt IsSuch t p → FailsAt IsSuch t q → p ≡ q
 one_place IsSuch t p q first second = omega (arith, no_earlier IsSuch t p q first second, no_earlier IsSuch t q p second first)
 
 -- ---- the one kind
 
--- X holds and then P, or it does not and then Q
+-- X is true and so is P, or X is not true and Q is
 abbrev Way : Type 0 → Type 0 → Type 0 → Type 0
 Way X P Q = (X × P) ⊎ ((X → ⊥) × Q)
 

@@ -1,5 +1,5 @@
--- Of files and values: each text that is not one goes wrong at one place, one thing is wrong there, and a text that is cut
--- has ended too early at most.
+-- For files and values: a text of another kind goes wrong at one place, with exactly one fault; and a text of this kind
+-- that is cut either is of this kind or has ended too early.
 use Rattle.std.proofs.Common.{◌≡◌, ℕ, ◌+◌, ◌-◌, ◌<◌, List, ◌++◌, length, take, drop, refl, sym, subst, arith, inl, inr, ◌⊎◌, Result, Ok, Err}
 use Rattle.std.proofs.lemmas.List.{take-append-drop}
 use Rattle.bib_spec.specs.Bytes.{name_limit}
@@ -16,7 +16,8 @@ use Rattle.bib_scan.proofs.PlaceLaws.{one_place, one_fault, viable_front}
 use Rattle.bib_scan.proofs.KindLaws.{file_fault}
 use Rattle.bib_scan.proofs.WholeValueLaws.{whole_value, failing_value, value_fault}
 
--- a reader of this kind of text: what it gives is such a text, and what it refuses goes wrong where it stops, and so
+-- a reader of this kind of text: a text that it reads is such a text, and a text that it refuses goes wrong where it stops,
+-- with that fault
 module _ {A : Type 0} (IsSuch : TextKind) (read : Text → Result A Halt) (sound : (t : Text) (x : A) → read t ≡ Ok x → IsSuch name_limit t) (wrong : (t : Text) (h : Halt) → read t ≡ Err h → FailsAt (IsSuch name_limit) t (length t - length h.rest)) (kind : (t : Text) (h : Halt) → read t ≡ Err h → IsFaultAt IsSuch t (length t - length h.rest) h.fault) where
   such_or : (t : Text) (m : Result A Halt) → read t ≡ m → IsSuch name_limit t ⊎ ((h : Halt) × (read t ≡ Err h))
   such_or t (Ok x) is = inl (sound t x is)

@@ -1,4 +1,4 @@
--- One item more: what was read stands in whatever the file says.
+-- One more item: what was read is an item of the file's reading.
 use Rattle.std.proofs.Common.{◌≡◌, ℕ, ◌-◌, ◌<◌, List, [], ◌∷◌, ◌++◌, length, get_or, slice_get, take, drop, refl, sym, ap, subst, ◌∙◌, arith, append_assoc, inl, inr, true, Option, Some, Result, Ok}
 use Rattle.std.proofs.lemmas.List.{length-append, take_at, drop_at}
 use Rattle.std.proofs.lemmas.Option.{slice_get-get_or, slice_get_within, same_Some, get_or_from_slice_get}
@@ -35,7 +35,7 @@ all_here file rest spans on none db reads =
     let same : (places_of db).items ≡ spans = ok_same (places_of db).items spans (read_all_commands name_limit file) (reading_again name_limit file db reads).0 (commands_end name_limit file rest spans on none) in
     sym (length-places db) ∙ ap (length {A = Span}) same
 
--- the item at the front of rest, where reading stands in the file
+-- the item at the front of `rest`, and how far the file was read
 module _ (file rest after : Text) (spans : List Span) (notes : List Note) (on : CommandsOn name_limit file rest spans) (noted : NotedOn file rest spans notes)
     (some : 0 < length rest) (read : read_command name_limit rest ≡ Ok after) where
   here : IsTreeOf name_limit rest after
@@ -54,7 +54,7 @@ module _ (file rest after : Text) (spans : List Span) (notes : List Note) (on : 
       let noted_so : n ≡ read_note rest = is ∙ ap (note_from (length rest)) head in
       noted_so ∙ ap read_note here.2 ∙ note_again here.0 after here.1 here.3 ∙ same_note here.0 u here.1 good (sym body_here ∙ sym body_is ∙ sym same)
 
-  -- after it
+  -- after that item
   module _ (next : Text) (s : Span) (shorter : length after < length rest) (next_is : next ≡ drop (next_command after) after) (s_is : s ≡ span (length file - length rest) (length file - length after)) where
     more : CommandsOn name_limit file next (spans ++ s ∷ [])
     more = subst (λ (x : Span). CommandsOn name_limit file next (spans ++ x ∷ [])) (sym s_is) (commands_more name_limit file rest after next spans on read shorter next_is)

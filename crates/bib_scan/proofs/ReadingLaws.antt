@@ -1,4 +1,4 @@
--- A whole text: the commands that are read are those of a reading.
+-- A whole text: the commands that are read are the items of a reading.
 use Rattle.std.proofs.Common.{◌≡◌, ℕ, zero, suc, ◌+◌, ◌-◌, ◌<◌, ◌≤◌, Bool, true, List, [], ◌∷◌, ◌++◌, length, take, drop, map, refl, sym, ap, ◌∙◌, arith, append_assoc, inl, inr, Result, Ok}
 use Rattle.std.proofs.lemmas.List.{length-append, length-drop, take-append-drop, length-take-le, drop_at, drop-drop}
 use Rattle.std.proofs.lemmas.List.Elements.{All-nil, All-cons, All-head, All-tail}
@@ -27,7 +27,7 @@ stops_take test zero t is = refl
 stops_take test (suc n) [] is = refl
 stops_take test (suc n) (b ∷ t) is = is
 
--- the trail of a tree ends its type name as all that follows does
+-- the trail of a tree ends the tree's type name if the whole text after the tree does
 pub ends_take : (tree : Tree) (n : ℕ) (rest : Text) → EndsName tree rest → EndsName tree (take n rest)
 ends_take tree n rest is = λ e. stops_take is_type_byte n rest (is e)
 
@@ -39,7 +39,7 @@ some_bytes (EntryTree e) = omega arith
 
 -- ---- items
 
--- where the bodies of these items lie, the first of which begins here
+-- where the bodies of these items lie, if the first one begins at `at`
 abbrev pub spans_from : ℕ → List Item → List Span
 spans_from at [] = []
 spans_from at (i ∷ items) = span at (at + length (tree_bytes i.tree)) ∷ spans_from (at + length (item_bytes i)) items
@@ -61,7 +61,7 @@ spans_numbered db n (i ∷ items) is =
 pub spans_all : (db : Reading) → spans_from (length db.front) db.items ≡ (places_of db).items
 spans_all db = ap (λ (m : ℕ). spans_from m db.items) (omega arith) ∙ spans_numbered db 0 db.items refl
 
--- t is these items, and the spans are theirs
+-- `t` is the bytes of these items, and the spans are those of the items
 pub record AreItems (limit : ℕ) (total : ℕ) (t : Text) (spans : List Span) : Type 0 where
   pub items : List Item
   pub are_items : All (IsItem limit) items
@@ -119,7 +119,7 @@ unfolding next_command
 next_within [] = omega arith
 next_within (b ∷ t) = elim (cases_Bool (begins_command (b ∷ t))) [ inl here ↦ omega (arith, next_here (b ∷ t) here) | inr none ↦ omega (arith, next_none b t none, next_within t) ]
 
--- what is read is a reading
+-- a text that is read has a reading
 pub reading_of : (limit : ℕ) (t : Text) (spans : List Span) → read_all_commands limit t ≡ Ok spans → (db : Reading) × ReadsWithin limit t db × (next_command t ≡ length db.front) × (spans ≡ (places_of db).items)
 reading_of limit t spans is =
     let front = take (next_command t) t in
@@ -137,7 +137,7 @@ reading_of limit t spans is =
 
 -- ---- what has a reading is read
 
--- the trail of a comment with what follows it
+-- the trail of a comment, with the text after it
 pub ends_more : (tree : Tree) (trail r : Text) → EndsName tree trail → Next r → EndsName tree (trail ++ r)
 ends_more tree [] r is next comment = elim next [
   | inl none ↦ ap (does_not_begin_with is_type_byte) none
@@ -145,7 +145,7 @@ ends_more tree [] r is next comment = elim next [
 ]
 ends_more tree (b ∷ trail) r is next comment = is comment
 
--- what follows an item's tree: its trail, and then nothing or a command
+-- the text after an item's tree: its trail, and then nothing or a command
 pub items_next : (limit : ℕ) (items : List Item) → All (IsItem limit) items → Next (flat_map item_bytes items)
 items_next limit [] all = inl refl
 items_next limit (i ∷ items) all =
@@ -189,7 +189,7 @@ commands_again limit total (suc n) (i ∷ items) all fits room =
     ∙ ap (λ (p : Span). Ok (p ∷ spans_from (total - length later) items)) (λ j. span (same_at j) (same_end j))
     ∙ ap (λ (m : ℕ). Ok (span at (at + length (tree_bytes i.tree)) ∷ spans_from m items)) same_next
 
--- what has a reading is read, with that reading's layout
+-- a text with a reading is read, with the layout of the reading
 pub reading_again : (limit : ℕ) (t : Text) (db : Reading) → ReadsWithin limit t db → (read_all_commands limit t ≡ Ok (places_of db).items) × (next_command t ≡ length db.front)
 reading_again limit t db r =
     let later : Text = flat_map item_bytes db.items in

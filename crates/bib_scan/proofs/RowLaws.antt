@@ -1,4 +1,4 @@
--- Rows and entries: what is read is one.
+-- Rows and entries: what is read is a row or an entry.
 use Rattle.std.proofs.Common.{◌≡◌, ◌≤◌, ℕ, zero, suc, Bool, true, false, cond, eqb, List, [], ◌∷◌, ◌++◌, length, refl, sym, ap, subst, ◌∙◌, arith, append_assoc, inl, inr, Option, None, Some, Ok, Err}
 use Rattle.std.proofs.lemmas.Bool.{eqb-true}
 use Rattle.std.proofs.lemmas.List.{length-append}
@@ -66,7 +66,7 @@ row_shape r u =
 
 -- ---- rows
 
--- t is the row without its comma, and then rest
+-- `t` is the row without its comma, and then `rest`
 abbrev pub IsRowOf : ℕ → Text → Text → Type 0
 IsRowOf limit t rest = (r : Row) × IsRow limit r × Stands rest × (t ≡ row_inside r rest)
 

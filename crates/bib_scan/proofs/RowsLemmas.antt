@@ -3,7 +3,7 @@ use Rattle.std.proofs.Common.{◌≡◌, ℕ, zero, suc, ◌+◌, ◌-◌, ◌<�
 use Rattle.bib_spec.specs.Text.{Text, after_run, is_space}
 use Rattle.bib_scan.specs.LeftToRight.{Halt, Assigned, read_comma, past_byte, go_on, read_assignment, read_row, read_rows, ◌>>=◌}
 
--- The text after the rows of t is the text after those of rest.
+-- The text after the rows of `t` is the text after the rows of `rest`.
 pub record RowsOn (limit : ℕ) (c : ℕ) (t rest : Text) : Type 0 where
   pub shorter : length rest ≤ length t
   pub read : (n : ℕ) × (length rest < n) × (read_rows limit (length t + 1) c t ≡ read_rows limit n c rest)

@@ -1,4 +1,4 @@
--- Longest fronts of bytes of one class, and readers in a row.
+-- Runs of bytes of one class at the front of a text, and readers one after another.
 use Rattle.std.proofs.Common.{◌≡◌, ℕ, suc, ◌≤◌, Bool, true, false, cond, ltb, [], ◌∷◌, ◌++◌, length, take, drop, refl, sym, subst, arith, inl, inr, ◌⊎◌, Result, Ok, Err}
 use Rattle.std.proofs.lemmas.List.{take-append-drop, take_at, drop_at}
 use Rattle.std.proofs.lemmas.List.Elements.{All-nil, All-cons, All-head, All-tail}
@@ -66,7 +66,7 @@ run_stops test (b ∷ t) =
       | inr fails ↦ subst P (sym (run_none test b t fails)) (not_from_false (test b) fails)
     ]
 
--- what is in front of a byte that stops the run is the run
+-- the bytes of the class before a byte that stops the run are the run
 pub run_len : (test : ℕ → Bool) (u r : Text) → AllPass test u → does_not_begin_with test r ≡ true → prefix_len test (u ++ r) ≡ length u
 run_len test [] [] all end = refl
 run_len test [] (b ∷ r) all end = rw (not-true (test b) end) refl

@@ -1,5 +1,5 @@
--- Where the reading of a file stops: after the opening delimiter of a command. What stands before it is read again
--- whatever follows, and also where names and keys may be longer.
+-- The reading of a file stops after the opening delimiter of a command. The text before that command is read again whatever
+-- follows, even if names and keys may be longer.
 use Rattle.std.proofs.Common.{◌≡◌, ℕ, zero, suc, ◌+◌, ◌-◌, ◌<◌, ◌≤◌, true, false, List, [], ◌∷◌, ◌++◌, length, take, drop, refl, sym, ap, subst, ◌∙◌, arith, append_assoc, append-nil, inl, inr, Result, Ok, Err}
 use Rattle.std.proofs.lemmas.Bool.{eqb-true, and_parts}
 use Rattle.std.proofs.lemmas.List.{length-append, length-drop, take-append-drop, drop_at}
@@ -23,7 +23,7 @@ use Rattle.bib_scan.proofs.ReadingLaws.{not_here, ends_more, ends_take, some_byt
 use Rattle.bib_scan.proofs.LongerNames.{longer_tree, longer_item}
 use Rattle.bib_scan.proofs.MendLaws.{err_is}
 
--- the text after the command of this type, given what follows its opening delimiter
+-- the text after the command of this type, given the text after its opening delimiter
 abbrev pub inside : ℕ → Text → Delimiter → Text → Result Text Halt
 inside limit type_name d s = read_body limit type_name (open_byte d ∷ s)
 

@@ -1,9 +1,9 @@
--- A table is held against a class of bytes at each of the 256 bytes, by computing.
+-- A table is compared with a class of bytes at each of the 256 bytes, by computation.
 use Rattle.std.proofs.Common.{◌≡◌, ℕ, zero, suc, ◌<◌, Bool, true, false, ◌&&◌, not, nat_eq, bit_and, get_or, List, refl, arith, inl, inr}
 use Rattle.std.specs.Bool.{beq}
 use Rattle.std.proofs.lemmas.Bool.{cases_eq}
 
--- the two tests agree below n
+-- the two tests agree on the numbers below n
 unfoldable pub agree_below : (ℕ → Bool) → (ℕ → Bool) → ℕ → Bool
 agree_below f g zero = true
 agree_below f g (suc n) = beq (f n) (g n) && agree_below f g n

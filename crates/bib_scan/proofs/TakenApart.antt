@@ -1,4 +1,4 @@
--- A value that is taken apart: what is found are its parts.
+-- Taking a value apart finds its parts.
 use Rattle.std.proofs.Common.{◌≡◌, ℕ, zero, suc, ◌+◌, ◌-◌, ◌<◌, ◌≤◌, List, [], ◌∷◌, ◌++◌, length, map, get_or, take, drop, refl, sym, ap, subst, ◌∙◌, arith, append_assoc, append-nil, Option, None, Some, Ok, Err}
 use Rattle.std.proofs.lemmas.List.{length-append, length-map, take_at, drop_at}
 use Rattle.std.proofs.lemmas.List.Elements.{All-nil, All-cons}
@@ -84,7 +84,7 @@ parts_ok limit total (suc n) before t spans is whole =
     ok_same spans (part_span p (total - length t) (total - length rest) ∷ later.0) (Ok spans) refl (sym later.2) ∙ (λ i. span i ∷ links.3 i) in
     (p, links.0, ok.1, links.1, ok.0 ∙ ap (λ (w : Text). part_bytes p ++ w) links.2, same)
 
--- what is found is a value, with its parts
+-- the text that was taken apart is a value with these parts
 pub value_found : (t : Text) (spans : List PartSpan) → read_all_parts name_limit t ≡ Ok spans → IsPartsOf t spans
 value_found t spans is =
     let found = parts_ok name_limit (length t) (length t + 1) [] t spans is refl in
@@ -140,7 +140,7 @@ part_at v (suc n) d low =
     let later = links_at (part_bytes v.first) v.links n d (omega arith) in
     record { part = later.part; found = later.found; before = later.before; after = later.after; split = later.split; is = later.is }
 
--- the same of a span that the code keeps
+-- part n of the value lies where the code keeps it
 pub kept_part : (t : Text) (spans : List PartSpan) (n : ℕ) (s : PartSpan) (v : Value) → spans ≡ spans_of v → value_bytes v ≡ t → n < length spans → s ≡ get_or spans n s → PartAt t (parts_of v) n s
 kept_part t spans n s v is whole low here =
     let at = part_at v n s (omega (arith, ap (length {A = PartSpan}) is)) in

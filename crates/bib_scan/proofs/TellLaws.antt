@@ -1,5 +1,5 @@
--- What a reader does where another byte stands in place of the first one that it stopped at, and nothing after it.
--- Each fault is told by some bytes that it passes and some that it stops at.
+-- What a reader does if another byte, and nothing after it, replaces the text at which it stopped. Each fault is known by
+-- some bytes that the reader passes and some at which it stops.
 use Rattle.std.proofs.Common.{◌≡◌, ℕ, ◌+◌, ◌<◌, ◌≤◌, Bool, true, false, cond, [], ◌∷◌, ◌++◌, length, refl, sym, ap, subst, ◌∙◌, arith, append_assoc, append-nil, inl, inr, ◌⊎◌, Ok, Err}
 use Rattle.std.proofs.lemmas.List.{length-append, append_cancel_right}
 use Rattle.std.proofs.lemmas.Bool.{cond-true, cond-false, both_ways}
@@ -23,7 +23,7 @@ Stopped p u d = (k : ReadingFault) × (p (u ++ d ∷ []) ≡ Err (stop k (d ∷ 
 abbrev pub Leaves : {A : Type 0} → (Text → Read A) → A → Text → ℕ → Type 0
 Leaves p a u d = p (u ++ d ∷ []) ≡ Ok (a, d ∷ [])
 
--- the bytes that could stand where this fault stands
+-- the bytes that could be at the place of this fault
 abbrev pub Passes : ReadingFault → ℕ → Type 0
 Passes Unended d = ⊥
 Passes ExpectedName d = d ≡ 120
@@ -33,7 +33,7 @@ Passes ExpectedValue d = d ≡ 34
 Passes UnbalancedBrace d = (d ≡ 34) ⊎ (d ≡ 44)
 Passes KeyTooLong d = ⊥
 
--- the bytes that could not stand there either
+-- the bytes that could not be at the place of this fault either
 abbrev pub Blocks : ReadingFault → ℕ → Type 0
 Blocks Unended d = ⊥
 Blocks ExpectedName d = (d ≡ 49) ⊎ (d ≡ 61) ⊎ (d ≡ 34)
@@ -46,7 +46,7 @@ Blocks KeyTooLong d = ⊥
 abbrev pub Tries : ReadingFault → ℕ → Type 0
 Tries f d = Passes f d ⊎ Blocks f d
 
--- a byte that some fault is told by
+-- a byte by which some fault is known
 pub data IsTried : ℕ → Type 0 where
   the_letter : IsTried 120
   the_digit : IsTried 49
@@ -79,7 +79,7 @@ blocks_tried ExpectedValue d ok = tried 44 d the_comma ok
 blocks_tried UnbalancedBrace d ok = absurd ok
 blocks_tried KeyTooLong d ok = absurd ok
 
--- where a comma or a close is expected, a letter stands only where a digit does too
+-- if a comma or a close is expected, a letter could be there only if a digit could be, too
 abbrev pub AsksDigit : ReadingFault → Type 0
 AsksDigit Unended = ⊥
 AsksDigit ExpectedName = ⊥
@@ -89,7 +89,7 @@ AsksDigit ExpectedValue = ⊥
 AsksDigit UnbalancedBrace = ⊥
 AsksDigit KeyTooLong = ⊥
 
--- the text has ended if that is the fault, and else it has not
+-- the text has ended if and only if the fault is that it has ended
 abbrev pub IsEnd : ReadingFault → Text → Type 0
 IsEnd Unended r = r ≡ []
 IsEnd ExpectedName r = r ≡ [] → ⊥
@@ -102,7 +102,7 @@ IsEnd KeyTooLong r = r ≡ [] → ⊥
 abbrev pub DigitToo : {A : Type 0} → (Text → Read A) → Text → Type 0
 DigitToo p u = Stopped p u 120 ⊎ Past p u 49
 
--- At t the reader stopped with h. G speaks of the bytes that what was read before must be able to see.
+-- At `t` the reader stopped with `h`. G is about the bytes that must be visible to what was read before.
 pub record TellsAt {A : Type 0} (p : Text → Read A) (G : ℕ → Type 0) (t : Text) (h : Halt) : Type 0 where
   pub front : Text
   pub split : t ≡ front ++ h.rest
@@ -115,7 +115,7 @@ pub record TellsAt {A : Type 0} (p : Text → Read A) (G : ℕ → Type 0) (t : 
 abbrev pub Tells : {A : Type 0} → (Text → Read A) → (ℕ → Type 0) → Type 0
 Tells p G = (t : Text) (h : Halt) → p t ≡ Err h → TellsAt p G t h
 
--- What the reader read, it reads too where a byte follows that F allows.
+-- The reader also reads what it read if a byte follows that F allows.
 abbrev pub Keeps : {A : Type 0} → (Text → Read A) → (ℕ → Type 0) → Type 0
 Keeps {A} p F = (t : Text) (a : A) (r u : Text) → p t ≡ Ok (a, r) → t ≡ u ++ r → (d : ℕ) → F d → Leaves p a u d
 
@@ -159,7 +159,7 @@ module _ {A B : Type 0} (p : Text → Read A) (f : A → Text → Read B) where
   stopped_first : (u : Text) (d : ℕ) → Stopped p u d → Stopped Both u d
   stopped_first u d s = (s.0, ap (λ (m : Read A). m >>= λ x. f x.0 x.1) s.1)
 
-  -- where p reads a up to u2 and the text after it, f continues there
+  -- if `p` reads `a` up to `u2` and the text after it, `f` continues there
   goes_on : (a : A) (u1 u2 w : Text) → p (u1 ++ (u2 ++ w)) ≡ Ok (a, u2 ++ w) → Both ((u1 ++ u2) ++ w) ≡ f a (u2 ++ w)
   goes_on a u1 u2 w is = ap Both (append_assoc u1 u2 w) ∙ ap (λ (m : Read A). m >>= λ x. f x.0 x.1) is
 
@@ -172,7 +172,7 @@ module _ {A B : Type 0} (p : Text → Read A) (f : A → Text → Read B) where
   leaves_second : (a : A) (b : B) (u1 u2 : Text) (d : ℕ) → p (u1 ++ (u2 ++ d ∷ [])) ≡ Ok (a, u2 ++ d ∷ []) → Leaves (f a) b u2 d → Leaves Both b (u1 ++ u2) d
   leaves_second a b u1 u2 d is l = goes_on a u1 u2 (d ∷ []) is ∙ l
 
-  -- what p read it reads too where something stands between
+  -- `p` also reads what it read if another text follows `c ∷ v`
   read_again : (t : Text) (a : A) (r : Text) → (l : LocalAt p t (Ok (a, r))) → (c : ℕ) (v s w : Text) → r ≡ (c ∷ v) ++ s → p (l.front ++ ((c ∷ v) ++ w)) ≡ Ok (a, (c ∷ v) ++ w)
   read_again t a r l c v s w is = l.same c (v ++ s) (v ++ w) is
 
@@ -186,7 +186,7 @@ module _ {A B : Type 0} (p : Text → Read A) (f : A → Text → Read B) where
   digit_both local a u1 (inr (inl s)) later = inl (subst (λ (u : Text). Stopped Both u 120) (sym (append-nil u1)) (stopped_first u1 120 s))
   digit_both local a u1 (inr (inr e)) later = inr (subst (λ (u : Text). Past Both u 49) (sym (append-nil u1)) (past_first local u1 49 e))
 
-  -- where the second reader stopped, and the first reads what stands before it with each byte that is tried
+  -- if the second reader stopped, and the first reads the text before it with each byte that is tried
   tell_moved : (G H : ℕ → Type 0) (t : Text) (a : A) (r : Text) (h : Halt) → (l : LocalAt p t (Ok (a, r))) → (m : TellsAt (f a) H r h) → ((d : ℕ) → Tries h.fault d → p (l.front ++ (m.front ++ d ∷ [])) ≡ Ok (a, m.front ++ d ∷ []))
       → (DigitToo (f a) m.front → DigitToo Both (l.front ++ m.front)) → (l.front ++ m.front ≡ [] → (d : ℕ) → Tries h.fault d → G d) → TellsAt Both G t h
   tell_moved G H t a r h l m first digit starts = record {
@@ -225,7 +225,7 @@ module _ {A B : Type 0} (p : Text → Read A) (f : A → Text → Read B) where
         | inr some ↦ tell_later G (λ d. F d × G d) t a r h l m some
       ]
 
-  -- the same where the first reader takes a byte at least
+  -- one reader after another, if the first takes at least one byte
   tell_second_some : (F G : ℕ → Type 0) (t : Text) (a : A) (r : Text) (h : Halt) → length r < length t → p t ≡ Ok (a, r) → LocalAt p t (Ok (a, r)) → ((a : A) → Local (f a)) → Keeps p F → Digits p → TellsAt (f a) F r h → TellsAt Both G t h
   tell_second_some F G t a r h less is l local keeps digits m =
       elim (some_or_none m.front) [
@@ -319,7 +319,8 @@ digits_same p q same digits t a r u is split = go (digits t a r u (sym (same t) 
     go (inr (inl s)) = inr (inl (s.0, same _ ∙ s.1))
     go (inr (inr e)) = inr (inr (ap rest_of (same _) ∙ e))
 
--- a family of readers, of which each is the reader where the text is short
+-- if reader n of a family does the same as the reader on texts of at most n bytes, the law for each of them gives it for
+-- the reader
 pub tell_family : {A : Type 0} (p : Text → Read A) (F : ℕ → Text → Read A) (G : ℕ → Type 0) → ((n : ℕ) (t : Text) → length t ≤ n → p t ≡ F n t) → ((n : ℕ) → Tells (F n) G) → Tells p G
 tell_family p F G same tells t h is =
     let n = length t + 1 in
@@ -357,7 +358,7 @@ digits_family p F same digits t a r u is split = go (digits n t a r u (sym (same
 
 -- ---- a choice by the first byte
 
--- The bytes that are tried fail the test, so that they take the second way.
+-- The bytes that are tried fail the test, so the second reader reads them.
 pub tell_cond : {A : Type 0} (test : Text → Bool) (p q : Text → Read A) (G : ℕ → Type 0) → ((b : ℕ) (t u : Text) → test (b ∷ t) ≡ test (b ∷ u)) → ((d : ℕ) → IsTried d → test (d ∷ []) ≡ false) → ((t : Text) (h : Halt) → test t ≡ true → p t ≡ Err h → (m : TellsAt p G t h) × (m.front ≡ [] → ⊥)) → Tells q G → Tells (λ t. cond (test t) (p t) (q t)) G
 tell_cond {A} test p q G by_first other mp mq t h is = go (test t) refl is
   where

@@ -22,7 +22,7 @@ use Rattle.bib_scan.proofs.MendRows.{resumes_run, resumes_name, resumes_part, x_
 use Rattle.bib_scan.proofs.TellLaws.{Past, Stopped, Leaves, Passes, Blocks, Tries, AsksDigit, IsEnd, DigitToo, TellsAt, Tells, Keeps, TakesDigit, keeps_of, digits_of}
 use Rattle.bib_scan.proofs.TellLaws as tells
 
--- ---- what a fault at the end of front tells
+-- ---- what a fault at the end of `front` shows
 
 pub told : {A : Type 0} (p : Text → Read A) (G : ℕ → Type 0) (t front r : Text) (f : ReadingFault) (h : Halt) → stop f r ≡ h → t ≡ front ++ r → IsEnd f r
     → ((d : ℕ) → Passes f d → Past p front d) → ((d : ℕ) → Blocks f d → Stopped p front d) → (AsksDigit f → DigitToo p front) → (front ≡ [] → (d : ℕ) → Tries f d → G d) → TellsAt p G t h
@@ -258,7 +258,7 @@ tell_part limit G each (b ∷ t) h is =
 pub keeps_part : (limit : ℕ) → Keeps (read_part limit) Breaks
 keeps_part limit = keeps_of (read_part limit) AfterPart Breaks (resumes_part limit) (λ d ok. record { name = not_from_false _ ok.name; digit = not_from_false _ ok.digit })
 
--- what stands after a braced or quoted part does not matter
+-- the text after a braced or quoted part does not matter
 braced_any : (limit : ℕ) (c r : Text) → IsPart limit (Braced c) → read_part limit (part_bytes (Braced c) ++ r) ≡ Ok (Braced c, r)
 unfolding read_part
 braced_any limit c r is =
@@ -274,7 +274,7 @@ quoted_any limit c r is =
 one_digit : is_ascii_digit 49 ≡ true
 one_digit = refl
 
--- the first byte decides that a name is a macro
+-- the first byte determines that a part is a macro name
 macro_first : (limit : ℕ) (u r : Text) → is_name_within limit u ≡ true → read_part limit (u ++ r) ≡ (read_run limit is_name_byte (u ++ r) >>= as_part (λ v. Macro v))
 unfolding read_part is_name_byte
 macro_first limit [] r is = let n = name_parts limit [] is in absurd (omega (arith, n.some))

@@ -18,7 +18,7 @@ use Rattle.bib_scan.proofs.TellParts.{told, told_end, keeps_run, tell_run, tell_
 
 -- ---- the bytes that are tried
 
--- none is white space, or `#`
+-- none of the bytes is white space, or `#`
 pub tried_space : (d : ℕ) → IsTried d → is_space d ≡ false
 unfolding is_space
 tried_space d the_letter = refl

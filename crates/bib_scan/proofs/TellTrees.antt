@@ -24,7 +24,7 @@ use Rattle.bib_scan.proofs.TellRows.{tried_space, tries_space, tell_space, tell_
 
 -- ---- commas and closing delimiters
 
--- a byte that no fault is told by
+-- a byte by which no fault is known
 abbrev pub Untried : ℕ → Type 0
 Untried c = (d : ℕ) → IsTried d → eqb d c ≡ false
 
@@ -135,7 +135,7 @@ tell_rows limit some (suc n) c G untried each =
 pub tell_all_rows : (limit : ℕ) (some : 0 < limit) (c : ℕ) (G : ℕ → Type 0) → Untried c → ((d : ℕ) → Tries ExpectedCommaOrClose d → G d) → Tells (plain (read_all_rows limit c)) G
 tell_all_rows limit some c G untried each = tell_family (plain (read_all_rows limit c)) (λ n t. rows_read limit (suc n) c t) G (all_rows_is limit c) (λ n. tell_rows limit some (suc n) c G untried each)
 
--- ---- what stands between the delimiters
+-- ---- the text between the delimiters
 
 pub tell_definition : (limit : ℕ) (some : 0 < limit) (c : ℕ) → Untried c → Tells (plain (read_definition limit c)) (λ d. Unit {0})
 tell_definition limit some c untried = tell_same (plain (read_definition limit c)) (λ t. plain (read_row limit) t >>= λ r. plain (read_close c) r.1) (λ d. Unit {0}) (definition_is limit c)
@@ -183,7 +183,7 @@ close_moves limit d v h is =
     let here : after_run is_space (c ∷ v) ≡ c ∷ v = skip_space [] (c ∷ v) (All-nil (λ (x : ℕ). is_space x ≡ true)) (not_from_false _ (closes d).ends.no_space) in
     not_ok (tt, v) h (plain (read_all_rows limit c) (c ∷ v)) (ap (plain (read_all_rows limit c)) (sym here) ∙ is) (all_again limit c [] None v (c ∷ v) (closes d) (All-nil (IsRow limit)) tt refl)
 
--- after a key at its end, the rows do not stop at once
+-- after a key that has ended, the reader of rows does not stop at once
 key_moves : (limit : ℕ) (d : Delimiter) (b : ℕ) (v : Text) (h : Halt) → goes_on_key d b ≡ false → space_rows limit (close_byte d) (b ∷ v) ≡ Err h → length h.rest ≤ length v
 key_moves limit d b v h ends is =
     elim (key_end d b ends) [

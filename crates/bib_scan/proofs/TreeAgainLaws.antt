@@ -1,4 +1,4 @@
--- What is written by the grammar is read again: commands.
+-- Bytes that the grammar gives are read again: commands.
 use Rattle.std.proofs.Common.{◌≡◌, ℕ, ◌+◌, ◌<◌, ◌≤◌, Bool, true, false, List, [], ◌∷◌, ◌++◌, length, refl, sym, ap, subst, ◌∙◌, arith, append_assoc, Result, Ok}
 use Rattle.std.proofs.lemmas.Bool.{not_from_false, not-true, cond-true, cond-false, and_left, or_parts, false_from_ne_true}
 use Rattle.std.proofs.lemmas.List.{length-append}
@@ -74,7 +74,7 @@ pub key_stands : (d : Delimiter) (key r : Text) → AllPass (goes_on_key d) key 
 key_stands d [] r all rest = rest refl
 key_stands d (b ∷ key) r all rest = not_from_false _ (key_no_space d b (All-head (λ (y : ℕ). goes_on_key d y ≡ true) b key all))
 
--- how an entry stands in its bytes, with this text after them
+-- an entry's bytes, one after another, with this text after them
 pub record EntryIn (e : Entry) (x : Text) : Type 0 where
   pub stands : Stands (e.key ++ (after_key_bytes e ++ x))
   pub key_ends : does_not_begin_with (goes_on_key e.opening.delimiter) (after_key_bytes e ++ x) ≡ true
@@ -138,7 +138,7 @@ pub type_ends : (s : Text) (d : Delimiter) (x : Text) → IsSpace s → does_not
 type_ends [] d x space = not_from_false _ (type_breaks _ (open_no_name d))
 type_ends (b ∷ s) d x space = not_from_false _ (type_breaks b (space_breaks b (All-head (λ (y : ℕ). is_space y ≡ true) b s space)).name)
 
--- what a command is that has this opening
+-- a command with this opening
 pub record Opened (limit : ℕ) (o : Opening) (t u : Text) (r : Result Text Halt) : Type 0 where
   pub whole : t ≡ 64 ∷ (o.head.space_before_type ++ (o.head.type_name ++ (o.space_before_delimiter ++ (open_byte o.delimiter ∷ u))))
   pub no_comment : same o.head.type_name (codes "comment") ≡ false
@@ -169,7 +169,7 @@ opened_again limit o t u r is opened =
 same_true : (a b : Text) → same a b ≡ true → map to_ascii_lowercase a ≡ map to_ascii_lowercase b
 same_true a b is = (bytes_eq-Decides (map to_ascii_lowercase a) (map to_ascii_lowercase b)).0 is
 
--- a type name is at most one of these words
+-- a text that is one word, folded, is not another word
 same_one : (a b c : Text) → same a b ≡ true → (map to_ascii_lowercase b ≡ map to_ascii_lowercase c → ⊥) → same a c ≡ false
 same_one a b c is differ = false_from_ne_true _ (λ also. differ (sym (same_true a b is) ∙ same_true a c also))
 

@@ -13,6 +13,6 @@ are_name_bytes (b ∷ t) all =
     let parts = and_parts (is_type_byte b) (list_all is_type_byte t) all in
     both_true (and_parts (is_name_byte b) _ parts.0).0 (are_name_bytes t parts.1)
 
--- those that a text begins with
+-- the type name at the front of a text
 pub type_front : (t : Text) → list_all is_type_byte (take_while is_type_byte t) ≡ true
 type_front t = list_all-from_AllPass is_type_byte (take_while is_type_byte t) (run_passes is_type_byte t)

@@ -27,7 +27,7 @@ part_unique limit p q r s ip iq ar as' e =
     let pair : (p, r) ≡ (q, s) = ok_same (p, r) (q, s) (read_part limit (part_bytes p ++ r)) (part_again limit p r ip ar) (ap (read_part limit) e ∙ part_again limit q s iq as') in
     (ap (λ (x : Part × Text). x.0) pair, ap (λ (x : Part × Text). x.1) pair)
 
--- what may stand after a value
+-- the texts that may follow a value
 pub record AfterValue (r : Text) : Type 0 where
   pub part : AfterPart r
   pub no_hash : past_hash (after_run is_space r) ≡ None
@@ -38,7 +38,7 @@ link_shape l u = append_assoc (l.space_before_hash ++ 35 ∷ l.space_after_hash)
 links_shape : (l : Link) (ls : List Link) (r : Text) → flat_map link_bytes (l ∷ ls) ++ r ≡ l.space_before_hash ++ (35 ∷ (l.space_after_hash ++ (part_bytes l.part ++ (flat_map link_bytes ls ++ r))))
 links_shape l ls r = append_assoc (link_bytes l) (flat_map link_bytes ls) r ∙ link_shape l (flat_map link_bytes ls ++ r)
 
--- where a link stands, a value continues
+-- a text that begins with a link continues a value
 no_end : (limit : ℕ) (l : Link) (ls : List Link) (r s : Text) → IsLink limit l → AfterValue r → r ≡ flat_map link_bytes (l ∷ ls) ++ s → ⊥
 no_end limit l ls r s ok after e =
     let u : Text = l.space_after_hash ++ (part_bytes l.part ++ (flat_map link_bytes ls ++ s)) in
@@ -71,7 +71,7 @@ value_unique limit v w r s iv iw ar as' e =
     let two = links_unique limit v.links w.links r s iv.links iw.links ar as' one.1 in
     ((λ i. record { first = one.0 i; links = two.0 i }), two.1)
 
--- what may stand after a row
+-- the texts that may follow a row
 pub record AfterRow (r : Text) : Type 0 where
   pub first : ℕ
   pub others : Text
@@ -112,7 +112,7 @@ comma_close c t u close e =
 rows_shape : (c : ℕ) (r : Row) (rs : List Row) (tail : Option Text) (x : Text) → rows_inside c (r ∷ rs) tail x ≡ 44 ∷ row_inside r (rows_inside c rs tail x)
 rows_shape c r rs tail x = append_assoc (row_bytes r) (flat_map row_bytes rs) _ ∙ row_shape r (rows_inside c rs tail x)
 
--- after the last comma stands no row
+-- no row follows the last comma
 no_row : (limit c : ℕ) (s : Text) (x : Text) (r : Row) (u : Text) → Close c → IsSpace s → IsRow limit r → s ++ c ∷ x ≡ row_inside r u → ⊥
 no_row limit c s x r u close space ok e =
     let named : Text = assignment_inside r.assignment u in

@@ -1,5 +1,5 @@
--- A text that is one value: what is read is one, one that is written is read again, and one that is refused goes wrong
--- where reading stops, with that fault.
+-- Texts that are one value: a text that is read is one value, a value that is written is read again, and a refused text
+-- goes wrong where reading stops, with that fault.
 use Rattle.std.proofs.Common.{◌≡◌, ℕ, ◌-◌, ◌<◌, true, [], ◌∷◌, ◌++◌, length, take, refl, sym, ap, subst, ◌∙◌, arith, append_assoc, append-nil, inl, inr, Result, Ok, Err}
 use Rattle.std.proofs.lemmas.List.{append_cancel_right}
 use Rattle.std.proofs.lemmas.List.Elements.{All-nil, All-push}
@@ -40,7 +40,7 @@ gap_err limit t h is = go (read_value_rest limit t) is
     go (Ok rest) e = absurd (not_ok (tt, after_run is_space rest) h _ e refl)
     go (Err k) e = ap (λ (j : Halt). Err j) (err_is {A = Unit {0} × Text} k h (Err k) refl e)
 
--- where the value and white space end before s
+-- after one value and white space the text ends, or reading stops at `s`
 pub data EndsBefore (s : Text) (m : Result Text Halt) : Type 0 where
   ended : s ≡ [] → m ≡ Ok [] → EndsBefore s m
   at_close : m ≡ Err (expected ExpectedCommaOrClose s) → EndsBefore s m
@@ -81,7 +81,7 @@ none_beyond : (rest x : Text) → nothing_after rest ≡ Ok x → rest ≡ []
 none_beyond [] x is = refl
 none_beyond (b ∷ rest) x is = absurd (not_ok x _ _ refl is)
 
--- what is read as one value is one
+-- a text that is read as one value is one value
 pub whole_value : (limit : ℕ) (t x : Text) → read_whole_value limit t ≡ Ok x → IsValueWithin limit t
 whole_value limit t x is =
     let one = bind_ok (read_value_rest limit t) nothing_after x is in
@@ -89,7 +89,7 @@ whole_value limit t x is =
     let v = value_ok limit t (take (length t - length one.0) t, one.0) (ap (λ (m : Result Text Halt). m >>= valued t) one.1) in
     (v.0, v.1, sym (v.3 ∙ ap (λ (u : Text). u ++ one.0) v.2 ∙ ap (λ (u : Text). value_bytes v.0 ++ u) rest ∙ append-nil (value_bytes v.0)))
 
--- a value is read as one
+-- the bytes of a value are read as one value
 pub whole_value_again : (limit : ℕ) (t : Text) → IsValueWithin limit t → read_whole_value limit t ≡ Ok []
 whole_value_again limit t (v, is, bytes) =
     let read = value_again limit v [] is (record { name = refl; digit = refl }) refl in
@@ -115,7 +115,7 @@ linked limit v s is space =
     ap (λ (u : Text). part_bytes v.first ++ u) more ∙ sym (append_assoc (part_bytes v.first) (flat_map link_bytes v.links) (s ++ (35 ∷ 49 ∷ []))) ∙ sym (append_assoc (value_bytes v) s (35 ∷ 49 ∷ [])) in
     (w, record { first = is.first; links = links }, whole)
 
--- the value and the white space that stand before r
+-- the value and the white space before `r`
 pub record ValueBefore (limit : ℕ) (t r : Text) : Type 0 where
   pub value : Value
   pub is_value : IsValue limit value
@@ -191,7 +191,7 @@ module _ (limit : ℕ) (some : 0 < limit) where
   pub failing_value : (t : Text) (h : Halt) → read_whole_value limit t ≡ Err h → FailsAt (IsValueWithin limit) t (length t - length h.rest)
   failing_value = failing_by (IsValueWithin limit) (read_whole_value limit) (no_value_fault limit) stops_by
 
-  -- ---- what other bytes tell
+  -- ---- what other bytes show
 
   past_value : (u : Text) (d : ℕ) → Past (value_gap limit) u d → IsViable (IsValueWithin limit) (u ++ d ∷ [])
   past_value u d past = go (value_gap limit t) refl past

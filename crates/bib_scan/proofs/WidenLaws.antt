@@ -1,4 +1,4 @@
--- What reading does where names and keys may be one byte longer: it does the same, unless one was too long.
+-- What reading does if names and keys may be one byte longer: it does the same, unless a name or key was too long.
 use Rattle.std.proofs.Common.{◌≡◌, ℕ, ◌+◌, ◌≤◌, Bool, true, false, cond, [], ◌∷◌, ◌++◌, length, refl, sym, ap, subst, ◌∙◌, arith, append_assoc, Ok, Err}
 use Rattle.std.proofs.lemmas.Bool.{cond-true, cond-false}
 use Rattle.std.proofs.lemmas.List.{length-append, append_cancel_right}
@@ -24,7 +24,8 @@ IsLong KeyTooLong = Unit {0}
 abbrev pub IsShort : ReadingFault → Type 0
 IsShort f = IsLong f → ⊥
 
--- q reads what p reads and stops where p stops, but continues past the byte at which a name or key was too long for p
+-- `q` reads what `p` reads and stops where `p` stops, except that it continues past the byte at which a name or key was too
+-- long for `p`
 pub record Widens {A : Type 0} (p q : Text → Read A) : Type 0 where
   pub ok : (t : Text) (x : A × Text) → p t ≡ Ok x → q t ≡ Ok x
   pub same : (t : Text) (h : Halt) → p t ≡ Err h → IsShort h.fault → q t ≡ Err h
@@ -48,7 +49,8 @@ widen_same p q r s first second w = record {
   long = λ t u h c v is long split rest. ap rest_of (second (u ++ c ∷ [])) ∙ w.long t u h c v (sym (first t) ∙ is) long split rest;
 }
 
--- a family of readers, of which each is the reader where the text is short
+-- if readers n of two families do the same as the two readers on texts of at most n bytes, the law for them gives it for
+-- the two
 pub widen_family : {A : Type 0} (p q : Text → Read A) (F G : ℕ → Text → Read A) → ((n : ℕ) (t : Text) → length t ≤ n → p t ≡ F n t) → ((n : ℕ) (t : Text) → length t ≤ n → q t ≡ G n t) → ((n : ℕ) → Widens (F n) (G n)) → Widens p q
 widen_family p q F G first second w = record {
   ok = λ t x is. let n = length t in second n t (omega arith) ∙ (w n).ok t x (sym (first n t (omega arith)) ∙ is);

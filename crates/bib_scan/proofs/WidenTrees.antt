@@ -1,4 +1,4 @@
--- Each reader, where names and keys may be one byte longer.
+-- Each reader, if names and keys may be one byte longer.
 use Rattle.std.proofs.Common.{◌≡◌, ℕ, zero, suc, ◌+◌, ◌-◌, Bool, true, false, cond, eqb, [], ◌∷◌, ◌++◌, refl, sym, ap, subst, ◌∙◌, arith, append-nil, inl, inr, None, Some, Ok, Err}
 use Rattle.std.proofs.lemmas.Bool.{cases_eq}
 use Rattle.std.proofs.lemmas.List.{length-append, append_cancel_right}
@@ -115,7 +115,7 @@ module _ (limit : ℕ) where
   widen_name : Widens (read_name limit) (read_name (suc limit))
   widen_name = widen_cond begins_name (read_run limit is_name_byte) (read_run (suc limit) is_name_byte) (λ t. Err (expected ExpectedName t)) (λ t. Err (expected ExpectedName t)) (λ b t u. refl) (widen_limited is_name_byte) (widen_expected ExpectedName (λ long. long))
 
-  -- a part of which only the make differs
+  -- one reader of content, with `make` as the kind of part
   widen_made : (make : Text → Part) (p q : Text → Read Text) → Local p → Widens p q → Widens (λ t. p t >>= λ x. Ok (make x.0, x.1)) (λ t. q t >>= λ x. Ok (make x.0, x.1))
   widen_made make p q local w = widen_bind p q (λ a u. Ok (make a, u)) (λ a u. Ok (make a, u)) local (λ a. local_ok (make a)) (λ a. local_ok (make a)) w (λ a. widen_ok (make a))
 
@@ -195,7 +195,7 @@ module _ (limit : ℕ) where
   widen_all_rows : (c : ℕ) → Widens (plain (read_all_rows limit c)) (plain (read_all_rows (suc limit) c))
   widen_all_rows c = widen_family (plain (read_all_rows limit c)) (plain (read_all_rows (suc limit) c)) (λ n t. rows_read limit (suc n) c t) (λ n t. rows_read (suc limit) (suc n) c t) (all_rows_is limit c) (all_rows_is (suc limit) c) (λ n. widen_rows (suc n) c)
 
-  -- ---- what stands between the delimiters
+  -- ---- the text between the delimiters
 
   pub widen_definition : (c : ℕ) → Widens (plain (read_definition limit c)) (plain (read_definition (suc limit) c))
   widen_definition c = widen_same (plain (read_definition limit c)) (plain (read_definition (suc limit) c)) _ _ (definition_is limit c) (definition_is (suc limit) c)

@@ -13,10 +13,11 @@ use Rattle.bib_scan.specs.declared.view.Kind.TheVariants as kind
 
 -- ---- fields
 
--- what the assignment at the front of t says, as the field of a row that begins at start, in a body of so many bytes
+-- the assignment at the front of `t` as a field of a row that begins at `start`, in a body of `total` bytes
 abbrev pub field_in : ℕ → ℕ → Text → Assigned → Field
 field_in total start t a = record { name = a.name; value = a.value; start = start; name_at = total - length t; value_at = total - a.value_left }
 
+-- an assignment, read as a field of a row that begins at `start`, in a body of `total` bytes
 abbrev pub read_field : ℕ → ℕ → Text → Read Field
 read_field total start t = read_assignment name_limit t >>= λ x. Ok (field_in total start t x.0, x.1)
 
@@ -37,24 +38,24 @@ first_field kind.Macro total t = result_ok (read_field total (total - length t) 
 first_field kind.Preamble total t = result_ok (read_preamble_field total t)
 first_field kind.Comment total t = None
 
--- what kind of item may have the fields that follow the first: only an entry has more than one
+-- the kind of item that may have the fields after the first one: only an entry has more than one field
 abbrev pub kind_after : Kind → Kind
 kind_after kind.Entry = kind.Entry
 kind_after kind.Macro = kind.Comment
 kind_after kind.Preamble = kind.Comment
 kind_after kind.Comment = kind.Comment
 
--- the first field and those that stand in the text after it
+-- the first field, if there is one, and the fields in the text after it
 abbrev pub first_and_others : Option (Field × Text) → (Text → List Field) → List Field
 first_and_others None others = []
 first_and_others (Some x) others = x.0 ∷ others x.1
 
--- the fields from here on, of which there are at most so many
+-- the fields from here on, at most `n` of them
 unfoldable pub fields_left : ℕ → Kind → ℕ → Text → List Field
 fields_left zero k total t = []
 fields_left (suc n) k total t = first_and_others (first_field k total t) (fields_left n (kind_after k) total)
 
--- as many as there may be
+-- all fields from here on
 abbrev pub all_fields_left : Kind → ℕ → Text → List Field
 all_fields_left k total t = fields_left (length t) k total t
 
@@ -78,7 +79,7 @@ abbrev pub read_opening : Text → Delimiter × Text
 read_opening [] = (Brace, [])
 read_opening (b ∷ t) = (delimiter_of b, after_run is_space t)
 
--- where the fields of an item of this kind begin, from after its key or, where it has none, after its opening
+-- the text from an item's first field on, given the text after its key or, for an item without a key, after its opening
 abbrev pub first_row : Kind → Text → Text
 first_row kind.Entry t = after_run is_space t
 first_row kind.Macro t = t

@@ -14,25 +14,25 @@ OneReading = (file : Text) (db other : Reading) → Reads file db → Reads file
 abbrev pub IsCleanBeforeSign : Text → Type 0
 IsCleanBeforeSign t = (p : ℕ) → p < length t → begins_command (drop p (t ++ at_sign ∷ [])) ≡ false
 
--- what stands after a text does not change whether it is clean: that it ends there, or that an item begins
+-- whether a text is clean does not depend on what follows it: the end of the file, or the next item
 abbrev pub CleanBeforeSign : Type 0
 CleanBeforeSign = (t : Text) → IsClean t ↔ IsCleanBeforeSign t
 
--- a text of this kind, or it goes wrong at a place
+-- each text is of this kind, or goes wrong at a place
 abbrev pub IsSuchOrFails : (Text → Type 0) → Type 0
 IsSuchOrFails IsSuch = (t : Text) → IsSuch t ⊎ ((place : ℕ) × FailsAt IsSuch t place)
 
--- it goes wrong at one place
+-- a text goes wrong at one place at most
 abbrev pub OnePlace : (Text → Type 0) → Type 0
 OnePlace IsSuch = (t : Text) (place other : ℕ) → FailsAt IsSuch t place → FailsAt IsSuch t other → place ≡ other
 
--- where it goes wrong, one thing is wrong
+-- at the place where a text goes wrong, exactly one fault applies
 abbrev pub OneFault : TextKind → Type 0
 OneFault IsSuch =
     (t : Text) (place : ℕ) → FailsAt (IsSuch name_limit) t place
     → (fault : ReadingFault) × IsFaultAt IsSuch t place fault × ((other : ReadingFault) → IsFaultAt IsSuch t place other → other ≡ fault)
 
--- cut anywhere, such a text is such a text or has ended too early
+-- a text of this kind, cut anywhere, is again of this kind or has ended too early
 abbrev pub CutEnds : TextKind → Type 0
 CutEnds IsSuch =
     (t : Text) (n : ℕ) → IsSuch name_limit t
@@ -42,6 +42,6 @@ CutEnds IsSuch =
 abbrev pub both : Reading → Reading → Reading
 both db next = record { front = db.front; items = db.items ++ next.items }
 
--- the text of a file, and after it that of one without a front, say what both say
+-- the text of a file, and after it the text of a file without a front, together have the items of both
 abbrev pub JoinedReadings : Type 0
 JoinedReadings = (file more : Text) (db next : Reading) → Reads file db → Reads more next → next.front ≡ [] → Reads (file ++ more) (both db next)

@@ -16,10 +16,11 @@ pub record Halt : Type 0 where
   pub fault : ReadingFault
   pub rest : Text
 
+-- reading stops at the front of this text, with this fault
 abbrev pub stop : ReadingFault → Text → Halt
 stop f t = record { fault = f; rest = t }
 
--- the text ends, or something else stands where f says
+-- reading stops at the front of this text: the text ends, or `f` is what is wrong there
 abbrev pub expected : ReadingFault → Text → Halt
 expected f [] = stop Unended []
 expected f (b ∷ t) = stop f (b ∷ t)
@@ -29,11 +30,12 @@ abbrev pub Read : Type 0 → Type 0
 Read A = Result (A × Text) Halt
 
 infixl 10 ◌>>=◌
+-- what reading first one thing and then the next gives; it stops where either stops
 abbrev pub ◌>>=◌ : {A B : Type 0} → Result A Halt → (A → Result B Halt) → Result B Halt
 (Ok x) >>= f = f x
 (Err h) >>= f = Err h
 
--- the same with this text in front of what was read
+-- what was read, with this text put in front of it
 abbrev pub with_front : Text → Read Text → Read Text
 with_front front read = read >>= λ x. Ok (front ++ x.0, x.1)
 
@@ -62,7 +64,7 @@ read_quoted depth (b ∷ t) =
     closing zero later = Err (stop UnbalancedBrace (b ∷ t))
     closing (suc d) later = with_front (b ∷ []) later
 
--- a run of at most so many bytes of this class
+-- a run of bytes of this class, at most `limit` of them
 abbrev pub read_run : ℕ → (ℕ → Bool) → Text → Read Text
 read_run limit test t =
     if nat_lt limit (prefix_len test t) then Err (stop KeyTooLong (drop limit t))
@@ -92,16 +94,17 @@ read_part limit (b ∷ t) =
     else if is_name_byte b then (read_run limit is_name_byte (b ∷ t) >>= λ x. Ok (Macro x.0, x.1))
     else Err (stop ExpectedValue (b ∷ t))
 
--- the text after a `#` and white space, where the text begins so
+-- the text after a `#` and white space, if the text begins with a `#`
 abbrev pub past_hash : Text → Option Text
 past_hash [] = None
 past_hash (b ∷ t) = if b == hash then Some (after_run is_space t) else None
 
+-- what `more` gives for the text, if there is one, and else `end`
 abbrev pub go_on : {B : Type 0} → B → (Text → B) → Option Text → B
 go_on end more None = end
 go_on end more (Some u) = more u
 
--- the text after the further parts, of which there are at most so many
+-- the text after the further parts of a value, at most `n` of them
 unfoldable pub read_links : ℕ → ℕ → Text → Result Text Halt
 read_links limit zero t = Ok t
 read_links limit (suc n) t = go_on (Ok t) (λ u. read_part limit u >>= λ p. read_links limit n p.1) (past_hash (after_run is_space t))
@@ -120,7 +123,7 @@ pub record Assigned : Type 0 where
   pub value : Text
   pub value_left : ℕ
 
--- an assignment, and the text after it and white space
+-- an assignment, and the text after it and its white space
 unfoldable pub read_assignment : ℕ → Text → Read Assigned
 read_assignment limit t = do
   named ← read_name limit t
@@ -132,7 +135,7 @@ read_assignment limit t = do
 unfoldable pub read_row : ℕ → Text → Result Text Halt
 read_row limit t = read_assignment limit (after_run is_space t) >>= λ x. Ok x.1
 
--- the text after this byte, where the text begins with it
+-- the text after this byte, if the text begins with it
 abbrev pub past_byte : ℕ → Text → Option Text
 past_byte c [] = None
 past_byte c (b ∷ t) = if b == c then Some t else None
@@ -146,17 +149,17 @@ read_comma (b ∷ t) = if b == comma then Ok t else Err (stop ExpectedCommaOrClo
 abbrev pub read_close : ℕ → Text → Result Text Halt
 read_close c t = go_on (Err (expected ExpectedCommaOrClose t)) Ok (past_byte c t)
 
--- The text after an entry's rows, of which there are fewer than n, and its closing delimiter c.
+-- The text after an entry's rows and its closing delimiter `c`; there are fewer than `n` rows.
 unfoldable pub read_rows : ℕ → ℕ → ℕ → Text → Result Text Halt
 read_rows limit zero c t = Err (expected ExpectedCommaOrClose t)
 read_rows limit (suc n) c t =
     go_on (read_comma t >>= λ u. go_on (read_row limit u >>= λ rest. read_rows limit n c rest) Ok (past_byte c (after_run is_space u))) Ok (past_byte c t)
 
--- enough turns
+-- the text after an entry's rows and its closing delimiter `c`, however many rows there are
 abbrev pub read_all_rows : ℕ → ℕ → Text → Result Text Halt
 read_all_rows limit c t = read_rows limit (length t + 1) c t
 
--- the text after an entry, given what follows its opening delimiter
+-- the text after an entry, given the text after its opening delimiter
 unfoldable pub read_entry : ℕ → Delimiter → Text → Result Text Halt
 read_entry limit d t = do
   key ← read_run limit (goes_on_key d) (after_run is_space t)
@@ -166,15 +169,15 @@ read_entry limit d t = do
 abbrev pub delimiter_of : ℕ → Delimiter
 delimiter_of b = if b == open_brace then Brace else Paren
 
--- the text after a definition, given what follows its opening delimiter
+-- the text after a definition, given the text after its opening delimiter
 abbrev pub read_definition : ℕ → ℕ → Text → Result Text Halt
 read_definition limit c t = read_row limit t >>= read_close c
 
--- the text after a preamble, given what follows its opening delimiter
+-- the text after a preamble, given the text after its opening delimiter
 abbrev pub read_preamble : ℕ → ℕ → Text → Result Text Halt
 read_preamble limit c t = read_value limit (after_run is_space t) >>= λ v. read_close c (after_run is_space v.1)
 
--- the text after the command of this type, given what follows its type name and white space
+-- the text after the command of this type, given the text after its type name and white space
 unfoldable pub read_body : ℕ → Text → Text → Result Text Halt
 read_body limit type_name [] = Err (stop Unended [])
 read_body limit type_name (b ∷ t) =
@@ -192,16 +195,17 @@ read_command limit (b ∷ t) =
     if same type_name (codes "comment") then Ok after
     else read_body limit type_name (after_run is_space after)
 
--- how many bytes stand before the next command
+-- the number of bytes before the next command
 unfoldable pub next_command : Text → ℕ
 next_command [] = 0
 next_command (b ∷ t) = if begins_command (b ∷ t) then 0 else next_command t + 1
 
+-- a body from its first byte to the first byte after it
 abbrev pub span : ℕ → ℕ → Span
 span start end = record { start = start; end = end }
 
--- Where each command begins and ends in a text of so many bytes, of which t is the end, and t is
--- empty or begins with a command. There are fewer than n.
+-- Where each command of `t` begins and ends in a text of `total` bytes that ends with `t`. The text `t` is empty or begins
+-- with a command, and has fewer than `n` commands.
 unfoldable pub read_commands : ℕ → ℕ → ℕ → Text → Result (List Span) Halt
 read_commands limit total zero t = Ok []
 read_commands limit total (suc n) [] = Ok []
@@ -210,11 +214,11 @@ read_commands limit total (suc n) (b ∷ t) = do
   later ← read_commands limit total n (drop (next_command rest) rest)
   Ok (span (total - length (b ∷ t)) (total - length rest) ∷ later)
 
--- the same of a whole text, whose front comes first
+-- where each command of a whole text begins and ends; the front comes before the first
 abbrev pub read_all_commands : ℕ → Text → Result (List Span) Halt
 read_all_commands limit t = read_commands limit (length t) (length t + 1) (drop (next_command t) t)
 
--- the end of a text that is one value: white space after a value still waits for a `#`
+-- the end of a text that is one value; white space after the value is wrong at its end, since a `#` could still follow
 abbrev pub nothing_after : Text → Result Text Halt
 nothing_after [] = Ok []
 nothing_after (b ∷ t) = Err (expected ExpectedCommaOrClose (after_run is_space (b ∷ t)))

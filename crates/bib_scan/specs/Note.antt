@@ -1,4 +1,4 @@
--- What is noted of an item while it is read.
+-- The note that the reader takes of an item.
 use Rattle.std.specs.Prelude.{◌≡◌, Bool, length, find, Option, None}
 use Rattle.std.specs.Option.{option_map_or}
 use Rattle.bib_spec.specs.Bytes.{name_limit}
@@ -19,7 +19,8 @@ crossref_field (CommentTree h) = None
 crossref_field (DefinitionTree d) = None
 crossref_field (PreambleTree p) = None
 
--- what is noted of an item with this tree
+-- the note of an item with this tree: the place of its key, the key's length, and the place of its first row named
+-- `crossref`
 abbrev pub note_of : Tree → Note
 note_of tree = record {
   key_at = key_place tree;
@@ -27,6 +28,6 @@ note_of tree = record {
   key_len = length (key_of tree);
 }
 
--- the note is that of an item with this body
+-- the note is the note of an item with this body
 abbrev pub IsNoteOf : Text → Note → Type 0
 IsNoteOf body note = (tree : Tree) → IsTree name_limit tree → tree_bytes tree ≡ body → note ≡ note_of tree

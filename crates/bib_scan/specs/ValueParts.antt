@@ -11,6 +11,7 @@ use Rattle.bib_scan.specs.declared.parts.PartKind.{PartKind}
 use Rattle.bib_scan.specs.declared.parts.PartKind.TheVariants as kind
 use Rattle.bib_scan.specs.declared.parts.PartSpan.{PartSpan}
 
+-- the part of a link
 abbrev pub link_part : Link → tree.Part
 link_part l = l.part
 
@@ -18,6 +19,7 @@ link_part l = l.part
 abbrev pub parts_of : Value → List tree.Part
 parts_of v = v.first ∷ map link_part v.links
 
+-- the kind of a part of the grammar
 abbrev pub part_kind : tree.Part → PartKind
 part_kind (tree.Braced t) = kind.Braced
 part_kind (tree.Quoted t) = kind.Quoted
@@ -32,7 +34,7 @@ kind_begun b =
     else if is_ascii_digit b then kind.Digits
     else kind.Macro
 
--- where a part lies that stands after this text
+-- where a part lies in the value, after this text
 abbrev pub span_after : Text → tree.Part → PartSpan
 span_after before p = record {
   kind = part_kind p;
@@ -40,7 +42,7 @@ span_after before p = record {
   end = length before + length (part_bytes p);
 }
 
--- where the parts of links lie that stand after this text
+-- where the parts of links lie in the value, after this text
 abbrev pub spans_after : Text → List Link → List PartSpan
 spans_after before [] = []
 spans_after before (l ∷ ls) =
@@ -50,14 +52,15 @@ spans_after before (l ∷ ls) =
 abbrev pub spans_of : Value → List PartSpan
 spans_of v = span_after [] v.first ∷ spans_after (part_bytes v.first) v.links
 
--- the parts of this text lie there: it is one value
+-- the text is one value, and its parts lie at these spans
 abbrev pub IsPartsOf : Text → List PartSpan → Type 0
 IsPartsOf t spans = (v : Value) × IsValue name_limit v × (value_bytes v ≡ t) × (spans ≡ spans_of v)
 
+-- where the part begins
 abbrev pub span_start : PartSpan → ℕ
 span_start s = s.start
 
--- why a text is not taken apart: it is no value, or memory ran out
+-- why a text is not taken apart into parts: it is no value, or memory ran out
 pub data IsValueFault (t : Text) : ℕ → ℕ → Type 0 where
   no_value : (fault : ReadingFault) → (place : ℕ) → FailsAt (IsValueWithin name_limit) t place → IsFaultAt IsValueWithin t place fault
       → IsValueFault t (fault_number fault) place

@@ -27,14 +27,14 @@ field_after start before a = record {
   value_at = length (before ++ a.name ++ a.space_before_equals ++ equals_sign ∷ a.space_before_value);
 }
 
--- the fields of rows with this text before them: each stands after the rows before it
+-- the fields of rows with this text before them; each row comes after the rows before it
 abbrev pub fields_after : Text → List Row → List Field
 fields_after before [] = []
 fields_after before (r ∷ rows) =
     field_after (length before) (before ++ comma ∷ r.space_before_name) r.assignment ∷ fields_after (before ++ row_bytes r) rows
 
--- The fields of an entry are its rows. A macro definition has one, its name and value, and a preamble one with an
--- empty name; they have no row, so each begins at its name, or its value. (btxdoc 2.1, 3)
+-- The fields of an entry are its rows. A macro definition has one field, its name and value. A preamble has one field with
+-- an empty name. These two have no row, so the field begins at the name, or at the value. (btxdoc 2.1, 3)
 abbrev pub fields_of : Tree → List Field
 fields_of (CommentTree h) = []
 fields_of (DefinitionTree d) =
@@ -44,33 +44,35 @@ fields_of (PreambleTree p) =
     record { name = []; value = value_bytes p.value; start = place; name_at = place; value_at = place } ∷ []
 fields_of (EntryTree e) = fields_after (opening_bytes e.opening ++ e.key ++ e.space_after_key) e.rows
 
+-- which of the four kinds the item is
 abbrev pub kind_of : Tree → Kind
 kind_of (CommentTree h) = kind.Comment
 kind_of (DefinitionTree d) = kind.Macro
 kind_of (PreambleTree p) = kind.Preamble
 kind_of (EntryTree e) = kind.Entry
 
+-- the item's at-sign and type name
 abbrev pub head_of : Tree → tree.Head
 head_of (CommentTree h) = h
 head_of (DefinitionTree d) = d.opening.head
 head_of (PreambleTree p) = p.opening.head
 head_of (EntryTree e) = e.opening.head
 
--- the key, which is empty but for entries
+-- the key of an entry, and the empty text for other items
 abbrev pub key_of : Tree → Text
 key_of (CommentTree h) = []
 key_of (DefinitionTree d) = []
 key_of (PreambleTree p) = []
 key_of (EntryTree e) = e.key
 
--- the place of the key, which is 0 but for entries
+-- the place of an entry's key in its body, and 0 for other items
 abbrev pub key_place : Tree → ℕ
 key_place (CommentTree h) = 0
 key_place (DefinitionTree d) = 0
 key_place (PreambleTree p) = 0
 key_place (EntryTree e) = length (opening_bytes e.opening)
 
--- what is seen of an item
+-- what a view shows of an item
 pub record View : Type 0 where
   pub kind : Kind
   pub body : Text
@@ -92,10 +94,10 @@ view_of item = record {
   fields = fields_of item.tree;
 }
 
--- the same view, with another trail
+-- the view with another trail
 abbrev pub with_trail : View → Text → View
 with_trail v trail = record v { trail = trail }
 
--- what is seen of a field of the code
+-- a field of the code, as a field of the definitions
 abbrev pub field_seen : FieldView → Field
 field_seen f = record { name = f.name.now; value = f.value.now; start = f.start; name_at = f.name_at; value_at = f.value_at }

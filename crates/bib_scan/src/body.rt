@@ -21,7 +21,7 @@ use crate::spans::{past_space, split_type_name, text_from};
 use crate::value::split_value;
 use bib_text::{NAME_LIMIT, same_folded};
 
-/// The text after this byte, where the text begins with it.
+/// The text after this byte, if the text begins with it.
 #[inline(always)]
 fn past_byte(byte: u8, text: &[u8]) -> Option<&[u8]>
     ensures read { option_copied result ≡ past_byte byte text.now }
@@ -56,7 +56,7 @@ fn past_close(close: u8, text: &[u8]) -> Result<&[u8], Stop<'_>>
     }
 }
 
-/// How many bytes of a key the text begins with.
+/// The number of bytes of a key at the front of the text.
 pub(crate) fn key_len(delimiter: Delimiter, text: &[u8]) -> usize
     ensures len { result ≡ prefix_len (goes_on_key (delimiter_view delimiter)) text.now }
     ensures within { result ≤ length text.now }
@@ -88,8 +88,8 @@ fn split_key(delimiter: Delimiter, text: &[u8]) -> Result<(&[u8], &[u8]), Stop<'
     Ok(text.split_at(len))
 }
 
-/// The text after an entry's rows and its closing delimiter, and how many bytes are left from the comma of the first row on
-/// that is named `crossref`, or 0 where there is none.
+/// The text after an entry's rows and its closing delimiter, and the number of bytes left from the comma of the first row
+/// named `crossref` on, which is 0 if there is no such row.
 fn past_rows(delimiter: Delimiter, text: &[u8]) -> Result<(&[u8], usize), Stop<'_>>
     ensures read { Gives (λ x. x.0.now) result (read_all_rows name_limit (close_byte (delimiter_view delimiter)) text.now) }
     ensures shorter { IfOk result (λ x. length x.0.now < length text.now) }
@@ -115,7 +115,7 @@ fn past_rows(delimiter: Delimiter, text: &[u8]) -> Result<(&[u8], usize), Stop<'
     }
 }
 
-/// The text after an entry, given what follows its opening delimiter, and what the entry says.
+/// The text after an entry, given the text after its opening delimiter, and what is noted of the entry.
 #[tactic(auto, unfolding(crate::specs::LeftToRight::read_entry))]
 fn past_entry(delimiter: Delimiter, text: &[u8]) -> Result<(&[u8], EntryHead), Stop<'_>>
     ensures read { Gives (λ x. x.0.now) result (read_entry name_limit (delimiter_view delimiter) text.now) }
@@ -135,7 +135,7 @@ fn past_entry(delimiter: Delimiter, text: &[u8]) -> Result<(&[u8], EntryHead), S
     Ok((rest, head))
 }
 
-/// The text after a preamble, given what follows its opening delimiter.
+/// The text after a preamble, given the text after its opening delimiter.
 fn past_preamble(close: u8, text: &[u8]) -> Result<&[u8], Stop<'_>>
     ensures read { Gives (λ x. x.now) result (read_preamble name_limit close text.now) }
     ensures shorter { IfOk result (λ x. length x.now < length text.now) }
@@ -144,7 +144,7 @@ fn past_preamble(close: u8, text: &[u8]) -> Result<&[u8], Stop<'_>>
     past_close(close, past_space(rest))
 }
 
-/// The text after a macro definition, given what follows its opening delimiter.
+/// The text after a macro definition, given the text after its opening delimiter.
 fn past_definition(close: u8, text: &[u8]) -> Result<&[u8], Stop<'_>>
     ensures read { Gives (λ x. x.now) result (read_definition name_limit close text.now) }
     ensures shorter { IfOk result (λ x. length x.now < length text.now) }
@@ -152,8 +152,8 @@ fn past_definition(close: u8, text: &[u8]) -> Result<&[u8], Stop<'_>>
     past_close(close, past_row(text)?)
 }
 
-/// The text after a command of this type, which is no comment, given the text from its opening delimiter on; and what it
-/// says where it is an entry.
+/// The text after a command of this type, which is not `comment`, given the text from its opening delimiter on; and what is
+/// noted of it if it is an entry.
 #[tactic(auto, unfolding(crate::specs::LeftToRight::read_body))]
 fn past_body<'a>(
     type_name: &[u8],
@@ -181,7 +181,7 @@ fn past_body<'a>(
     }
 }
 
-/// The text after the command that begins here, and what the command says where it is an entry.
+/// The text after the command that begins here, and what is noted of it if it is an entry.
 #[tactic(auto, unfolding(crate::specs::LeftToRight::read_command))]
 pub(crate) fn past_command(text: &[u8]) -> Result<(&[u8], Option<EntryHead>), Stop<'_>>
     ensures read { Gives (λ x. x.0.now) result (read_command name_limit text.now) }

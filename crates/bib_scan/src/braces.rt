@@ -1,5 +1,5 @@
-//! The braces of a text, one after the other. It knows bytes alone, and seeks braces in 32 bytes at a time.
-//! It promises the first brace from a place on, and that one call goes on where the call before it ended.
+//! The braces of a text, one after the other. It knows bytes alone, and searches 32 bytes at a time for braces.
+//! It promises the first brace from a place on, and each call continues where the call before it ended.
 
 ghost use Rattle.std.specs.Prelude.{◌≡◌, ◌≢◌, ◌↔◌, ℕ, ◌+◌, ◌<◌, ◌≤◌, length, MatchOption};
 ghost use Rattle.std.specs.Int.{bit_at};
@@ -9,14 +9,14 @@ ghost use Rattle.bib_scan.specs.Braces.{IsBraceAt, IsMarked, IsNextBrace};
 
 use std::simd::prelude::*;
 
-/// The braces up to an end that are still to come: bit k of `bits` stands for the byte at `end - 32 + k`.
+/// The braces before `end` that were found but not yet returned: bit k of `bits` stands for the byte at `end - 32 + k`.
 #[derive(Clone, Copy)]
 pub(crate) struct Marked {
     end: usize,
     bits: u64,
 }
 
-/// A brace, and the braces after it that are known.
+/// A brace, and the braces after it that were already found.
 #[derive(Clone, Copy)]
 pub(crate) struct Brace {
     pub(crate) place: usize,
@@ -24,7 +24,7 @@ pub(crate) struct Brace {
 }
 
 impl Marked {
-    /// What is known before any byte is looked at.
+    /// No brace was found yet, and no byte was read.
     #[inline(always)]
     pub(crate) fn none() -> Marked
         ensures { (t : Text) → IsMarked t 0 result }
@@ -53,7 +53,7 @@ fn lowest(bits: u64) -> usize
     bits.trailing_zeros() as usize
 }
 
-/// The bits without their lowest, which stands at a place.
+/// The bits without the lowest set bit.
 #[inline(always)]
 fn without_lowest(bits: u64, place: usize) -> u64
     requires set { bit_at bits place ≡ 1 }
@@ -63,7 +63,7 @@ fn without_lowest(bits: u64, place: usize) -> u64
     bits & (bits - 1)
 }
 
-/// The place of the first brace from a place on, or the length of the text. It looks at byte after byte.
+/// The place of the first brace from a place on, or the length of the text. It reads byte by byte.
 #[inline(never)]
 fn brace_place(text: &[u8], at: usize) -> usize
     requires { at ≤ length text.now }
@@ -78,7 +78,7 @@ fn brace_place(text: &[u8], at: usize) -> usize
     place
 }
 
-/// The first brace from where nothing is known, for a text that ends soon.
+/// The first brace from a place on, if none was found before, for a text that ends soon.
 #[inline(always)]
 fn next_unmarked(text: &[u8], at: usize) -> Option<Brace>
     requires { at ≤ length text.now }
@@ -97,7 +97,7 @@ fn next_unmarked(text: &[u8], at: usize) -> Option<Brace>
     })
 }
 
-/// The first brace from a place on, where these are known.
+/// The first brace from a place on, if these braces were already found.
 #[inline(always)]
 pub(crate) fn next_brace(text: &[u8], at: usize, marked: Marked) -> Option<Brace>
     requires { IsMarked text.now at marked }

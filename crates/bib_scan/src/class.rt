@@ -11,7 +11,7 @@ const SPACE: u8 = 2;
 
 const TYPE: u8 = 4;
 
-// For each byte a digit, whose low three bits are the flags above.
+// A digit for each byte; the low three bits of the digit are the flags above.
 static CLASSES: [u8; 256] = *b"\
     00000000022002000000000000000000\
     25005050005505555555555555555055\
@@ -26,8 +26,8 @@ const IN_BRACES: u8 = 1;
 
 const IN_PARENS: u8 = 2;
 
-// For each byte a digit, whose low two bits are the flags above: whether it belongs to a key in an item with these
-// delimiters.
+// A digit for each byte; the low two bits of the digit are the flags above: whether the byte belongs to a key in an item
+// with these delimiters.
 static KEYS: [u8; 256] = *b"\
     33333333300330333333333333333333\
     03333333333303333333333333333333\
@@ -46,7 +46,7 @@ pub(crate) fn is_space(byte: u8) -> bool
     CLASSES[byte as usize] & SPACE != 0
 }
 
-/// Whether the byte may stand in a name.
+/// Whether a name may have this byte.
 #[inline(always)]
 pub(crate) fn is_name_byte(byte: u8) -> bool
     ensures { result ≡ is_name_byte byte }
@@ -54,7 +54,7 @@ pub(crate) fn is_name_byte(byte: u8) -> bool
     CLASSES[byte as usize] & NAME != 0
 }
 
-/// Whether the byte may stand in a type name.
+/// Whether a type name may have this byte.
 #[inline(always)]
 pub(crate) fn is_type_byte(byte: u8) -> bool
     ensures { result ≡ is_type_byte byte }
@@ -78,7 +78,7 @@ pub(crate) fn is_key_byte_in_parens(byte: u8) -> bool
     KEYS[byte as usize] & IN_PARENS != 0
 }
 
-/// Whether the byte may stand in a key that an edit writes.
+/// Whether a key that an edit writes may have this byte.
 #[tactic(auto, unfolding(bib_spec::specs::Text::is_new_key_byte))]
 pub(crate) fn is_new_key_byte(byte: u8) -> bool
     ensures { result ≡ is_new_key_byte byte }

@@ -1,4 +1,4 @@
-//! Why a text is not read, and where reading it stopped.
+//! Why a text cannot be read, and where reading stopped.
 
 ghost use Rattle.std.specs.Prelude.{◌≡◌, None, Some, if◌then◌else◌, ◌==◌};
 ghost use Rattle.bib_spec.specs.Fault.{fault_number};
@@ -8,7 +8,7 @@ ghost use Rattle.bib_scan.specs.Code.{fault_of, halt_of};
 use std::alloc::AllocFailed;
 use thiserror::Error;
 
-/// What is wrong at the first byte at which no file continues.
+/// What is wrong at the first byte at which no valid file continues.
 #[derive(Clone, Copy, Debug, PartialEq, Eq)]
 pub(crate) enum Fault {
     Unended,
@@ -45,7 +45,7 @@ pub(crate) struct Stop<'a> {
 }
 
 impl<'a> Stop<'a> {
-    /// The text ends, or something else stands where the fault says.
+    /// Reading stops here: the text ends, or this fault is what is wrong.
     pub fn expected(fault: Fault, rest: &'a [u8]) -> Self
         ensures { halt_of result ≡ expected (fault_of fault) rest.now }
     {
@@ -58,7 +58,7 @@ impl<'a> Stop<'a> {
     }
 }
 
-/// Why nothing was read: want of memory, or a fault of the text.
+/// Why nothing was read: memory ran out, or the text has a fault.
 #[derive(Clone, Copy)]
 pub(crate) enum Refusal<'a> {
     Memory,
@@ -87,7 +87,7 @@ impl<T: Drop> From<AllocFailed<T>> for Refusal<'_> {
     }
 }
 
-/// Why a text is not read: the number of the fault and its place, which is 0 with 10.
+/// Why a text cannot be read: the number of the fault and its place. For 10, out of memory, the place is 0.
 #[derive(Clone, Copy, Debug, PartialEq, Eq, Error)]
 #[error("fault {kind} at {place}")]
 pub struct ReadFault {
@@ -103,7 +103,7 @@ impl ReadFault {
         u16::from(self.kind)
     }
 
-    /// The first byte at which no good bytes continue, from 0; want of memory (10) has none.
+    /// The place of the first byte at which no valid text continues, from 0; out of memory (10) has no place.
     pub fn place(&self) -> Option<usize>
         ensures { result ≡ (if self.now.kind == 10 then None else Some self.now.place) }
     {

@@ -1,4 +1,4 @@
-//! The fields of an item, read one by one.
+//! The fields of an item, read one after another.
 
 ghost use Rattle.std.specs.Prelude.{◌≡◌, ◌<◌, ◌≤◌, length, IfOk, IfSome};
 ghost use Rattle.std.specs.Option.{option_map};
@@ -14,10 +14,9 @@ use crate::value::split_value;
 use crate::view::Kind;
 use std::marker::Model;
 
-/// A field's name, as it stands, and its value's bytes, from the first part's first byte to the last part's
-/// last. The places are in the body, from 0: that of the row's comma, of the name and of the value.
-/// A preamble's field has an empty name, which stands where its value does; outside entries, where no
-/// comma stands, a field starts at its name.
+/// A field's name, as the file has it, and its value's bytes, from the first byte of its first part to the last byte of its
+/// last. The places are in the body, in bytes from 0: of the row's comma, of the name and of the value. A preamble's field
+/// has an empty name at the place of its value. Outside entries there is no comma, and a field starts at its name.
 #[derive(Clone, Copy, Debug, PartialEq, Eq)]
 pub struct FieldView<'a> {
     pub name: &'a [u8],
@@ -27,8 +26,8 @@ pub struct FieldView<'a> {
     pub value_at: usize,
 }
 
-/// The fields of an item in their order: an entry's rows, or the one field of a macro definition or of a
-/// preamble. Each is read from the body when it is asked for, in time of its length, and without memory.
+/// The fields of an item in order: an entry's rows, or the one field of a macro definition or of a preamble. Each is read
+/// from the body when the iterator reaches it, in time linear in its length, and without memory.
 #[derive(Drop)]
 pub struct Fields<'a> {
     kind: Kind,
@@ -85,7 +84,7 @@ impl<'a> Iterator for Fields<'a> {
     }
 }
 
-/// An assignment as the field of a row that begins at start, and the text after it and white space.
+/// An assignment as the field of a row that begins at `start`, and the text after it and its white space.
 #[inline(always)]
 fn split_assigned(
     body_len: usize,
@@ -136,7 +135,7 @@ fn split_preamble(body_len: usize, text: &[u8]) -> Result<(FieldView<'_>, &[u8])
     Ok((field, rest))
 }
 
-/// The field at the front in an item of this kind, and the text after it.
+/// The field at the front of the text, in an item of this kind, and the text after it.
 #[inline(always)]
 fn split_field(kind: Kind, body_len: usize, text: &[u8]) -> Option<(FieldView<'_>, &[u8])>
     requires { length text.now ≤ body_len }

@@ -9,12 +9,13 @@ pub fn one_reading()
     ensures { OneReading }
 {}
 
-/// A text is clean exactly where no command begins in it, read with an at-sign after it.
+/// A text is clean if and only if no command begins in it when an at-sign follows it.
 pub fn clean_before_sign()
     ensures { CleanBeforeSign }
 {}
 
-/// A text is a file, or goes wrong at one place. So is a text one value, or goes wrong at one place.
+/// Each text is a valid file, or goes wrong at one place. In the same way each text is one value, or goes wrong at one
+/// place.
 pub fn one_place()
     ensures file { IsSuchOrFails HasReading }
     ensures value { IsSuchOrFails (IsValueWithin name_limit) }
@@ -22,19 +23,19 @@ pub fn one_place()
     ensures one_in_value { OnePlace (IsValueWithin name_limit) }
 {}
 
-/// Where a file goes wrong, one thing is wrong. So it is of a value.
+/// At the place where a file goes wrong, exactly one fault applies. The same is true of a value.
 pub fn one_fault()
     ensures file { OneFault HasReadingWithin }
     ensures value { OneFault IsValueWithin }
 {}
 
-/// A file that is cut anywhere is a file, or has ended too early. So is a value.
+/// A valid file, cut anywhere, is a valid file or has ended too early. The same is true of a value.
 pub fn cut_ends()
     ensures file { CutEnds HasReadingWithin }
     ensures value { CutEnds IsValueWithin }
 {}
 
-/// A file, and after it another that begins with an item, are one file with the items of both.
+/// A file, and after it a file that begins with an item, are one file with the items of both.
 pub fn joined_readings()
     ensures { JoinedReadings }
 {}

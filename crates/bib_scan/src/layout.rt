@@ -1,4 +1,4 @@
-//! Where everything stands in a file.
+//! The places of the front and the items in a file.
 
 ghost use Rattle.std.specs.Prelude.{◌≡◌};
 
@@ -8,7 +8,7 @@ use crate::view::ItemView;
 use bib_text::Seq;
 use std::marker::Model;
 
-/// Where the body of an item lies: its first byte, and the first one after it.
+/// Where the body of an item lies: its first byte, and the first byte after it.
 #[derive(Clone, Copy, Debug, PartialEq, Eq)]
 pub(crate) struct Span {
     pub start: u32,
@@ -19,7 +19,8 @@ impl Span {
     ghost use Rattle.std.specs.Prelude.{◌≡◌, ◌≤◌, ◌<◌, ◌-◌, ◌^◌};
     ghost use Rattle.bib_scan.specs.LeftToRight.{span};
 
-    /// The span of a body in a text of so many bytes, told by the bytes that are left from its first one on and after it.
+    /// The span of a body in a text of `total` bytes, if `from` bytes are left at the body's first byte and `after` bytes
+    /// after it.
     pub fn of_left(total: usize, from: usize, after: usize) -> Self
         requires short { total < 2 ^ 32 }
         requires from { from ≤ total }
@@ -33,8 +34,8 @@ impl Span {
     }
 }
 
-/// Where the front and the items of a file lie: places in bytes, from 0. Each of its views is a slice of the bytes
-/// that were read, and takes no time that grows with them. It also has what was noted of each item.
+/// Where the front and the items of a file lie: places in bytes, from 0. Each view of it is a slice of the bytes that were
+/// read, and takes constant time. It also has the note of each item.
 #[derive(Drop)]
 pub struct Layout {
     front_len: usize,
@@ -57,7 +58,7 @@ impl Layout {
     ghost use Rattle.bib_scan.specs.Layout.{places_of, placed, trail_end, IsLayoutOf};
     ghost use Rattle.bib_scan.specs.View.{view_of};
 
-    /// The layout of a file whose front is so long, and whose items have their bodies there and these notes.
+    /// The layout of a file with a front of `front_len` bytes, and with item bodies at these spans and these notes.
     pub(crate) fn new(front_len: usize, items: Vec<Span>, notes: Vec<Note>) -> Self
         ensures { result ≡ placed front_len items.items notes.items }
     {
@@ -68,7 +69,7 @@ impl Layout {
         }
     }
 
-    /// How many items the file has.
+    /// The number of items in the file.
     pub fn len(&self) -> usize
         ensures count { result ≡ length self.now.items }
         ensures items { (db : Reading) → self.now ≡ places_of db → result ≡ length db.items }
@@ -84,8 +85,8 @@ impl Layout {
         bytes.split_at(self.front_len).0
     }
 
-    /// The body of item n: from its at-sign to its closing delimiter, of a comment its head alone. It takes no time that
-    /// grows with the item.
+    /// The body of item n, from its at-sign to its closing delimiter; the body of a comment is its head alone. It takes
+    /// constant time.
     pub fn body<'a>(&self, bytes: &'a [u8], n: usize) -> &'a [u8]
         requires layout { IsLayoutOf bytes.now self.now }
         requires n_in_range { n < length self.now.items }
@@ -97,7 +98,7 @@ impl Layout {
             .0
     }
 
-    /// Item n, as slices of the file: the head of its body is read, in time of its length.
+    /// Item n, as slices of the file. It reads the head of the item's body, in time linear in the head's length.
     pub fn item<'a>(&'a self, bytes: &'a [u8], n: usize) -> ItemView<'a>
         requires layout { IsLayoutOf bytes.now self.now }
         requires n_in_range { n < length self.now.items }
@@ -117,7 +118,7 @@ impl Layout {
         }
     }
 
-    /// The trail of item n, up to the next item or to the end of the file. It takes no time that grows with it.
+    /// The trail of item n, up to the next item or to the end of the file. It takes constant time.
     pub fn trail<'a>(&self, bytes: &'a [u8], n: usize) -> &'a [u8]
         requires layout { IsLayoutOf bytes.now self.now }
         requires n_in_range { n < length self.now.items }
@@ -129,7 +130,7 @@ impl Layout {
         text_from(bytes, start).split_at(end - start).0
     }
 
-    /// What was noted of each item, in their order. The memory of the places is given back.
+    /// The notes of the items, in order. The memory of the places is freed.
     pub fn into_notes(self) -> Seq<Note>
         ensures { result ≡ self.notes }
     {

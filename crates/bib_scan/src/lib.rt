@@ -1,5 +1,5 @@
 //! Reads `.bib` files without losing a byte. It knows bytes and the grammar, and not what a field means.
-//! It promises the one reading of a file with its places, or the first byte at which no file continues.
+//! It promises the one reading of a file with its places, or the first byte at which no valid file continues.
 #![tactic(auto)]
 
 mod body;

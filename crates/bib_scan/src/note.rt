@@ -1,4 +1,4 @@
-//! What is noted of an item while it is read, so that its head and its rows need not be read again.
+//! Notes that the reader takes of items, so that heads and rows need not be read again.
 
 ghost use Rattle.std.specs.Prelude.{◌≡◌, ◌≤◌, ◌<◌, ◌^◌, IfSome};
 ghost use Rattle.bib_spec.specs.Bytes.{name_limit};
@@ -7,8 +7,8 @@ ghost use Rattle.bib_scan.specs.NotesLeft.{place_left, note_from};
 use crate::fields::{FieldView, split_row};
 use crate::spans::text_from;
 
-/// What an entry says, told by the bytes that are left in the text: those from its key on, and those from the comma of the
-/// first row on that is named `crossref`, or 0 where there is none. And how many bytes its key has.
+/// What is noted of an entry while the text is read: the number of bytes left from its key on, the length of the key, and
+/// the number of bytes left from the comma of the first row named `crossref` on, which is 0 if there is no such row.
 #[derive(Clone, Copy)]
 pub(crate) struct EntryHead {
     pub key_left: usize,
@@ -16,8 +16,8 @@ pub(crate) struct EntryHead {
     pub crossref_left: usize,
 }
 
-/// What is noted of an entry: the place of its key in its body, in bytes from 0, the key's length, and the place of the comma
-/// of its first row named `crossref`, or 0 where there is none. Of other items all three are 0.
+/// The note of an entry: the place of its key in its body, in bytes from 0; the key's length; and the place of the comma of
+/// its first row named `crossref`, or 0 if there is none. For other items all three are 0.
 #[derive(Clone, Copy, Debug, PartialEq, Eq)]
 pub struct Note {
     pub(crate) key_at: u32,
@@ -31,7 +31,7 @@ impl Note {
     ghost use Rattle.bib_scan.specs.View.{field_seen};
     ghost use Rattle.bib_scan.specs.Note.{crossref_field, note_of};
 
-    /// What is noted of an item that begins a text of so many bytes, where an entry says this.
+    /// The note of an item at the front of a text of `total` bytes, from what was noted of it if it is an entry.
     pub(crate) fn of(total: usize, head: Option<EntryHead>) -> Self
         requires short { total < 2 ^ 32 }
         requires key { IfSome head (λ h. h.key_left ≤ total) }
@@ -53,7 +53,7 @@ impl Note {
         }
     }
 
-    /// The first row named `crossref`, in any case, of the entry with this body, of which this was noted. It takes time in the
+    /// The first row named `crossref`, in any case, of the entry with this body and this note. It takes time linear in the
     /// row's length.
     pub fn crossref(self, body: &[u8]) -> Option<FieldView<'_>>
         ensures { (tree : Tree) → IsTree name_limit tree → tree_bytes tree ≡ body.now → self ≡ note_of tree → option_map field_seen result ≡ crossref_field tree }
@@ -69,7 +69,7 @@ impl Note {
     }
 }
 
-/// The place in a text of so many bytes from which on so many are left, and 0 for none.
+/// The place in a text of `total` bytes from which `left` bytes are left; 0 if `left` is 0.
 fn place_left(total: usize, left: usize) -> usize
     requires { left ≤ total }
     ensures place { result ≡ place_left total left }

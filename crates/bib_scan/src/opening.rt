@@ -1,4 +1,4 @@
-//! Where an at-sign begins an item.
+//! Finding the at-signs that begin items.
 
 ghost use Rattle.std.specs.Prelude.{◌≡◌, ◌↔◌, ◌≤◌, IsTrue, length};
 ghost use Rattle.bib_spec.specs.Text.{is_type_byte, does_not_begin_with};
@@ -32,7 +32,7 @@ impl Delimiter {
         }
     }
 
-    /// Its closing byte.
+    /// The delimiter's closing byte.
     pub fn close(self) -> u8
         ensures { result ≡ close_byte (delimiter_view self) }
     {
@@ -69,7 +69,7 @@ fn begins_command(text: &[u8]) -> bool
     }
 }
 
-/// How many bytes stand before the next command, which may be the whole text.
+/// The number of bytes before the next command; without one, the length of the text.
 pub(crate) fn next_command(text: &[u8]) -> usize
     ensures read { result ≡ next_command text.now }
     ensures within { result ≤ length text.now }

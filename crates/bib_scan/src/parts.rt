@@ -50,7 +50,7 @@ impl PartKind {
         }
     }
 
-    /// The part of this kind that has these bytes.
+    /// The part of this kind with these bytes, which include its delimiters.
     fn part_in(self, bytes: &[u8]) -> Part<'_>
         ensures { (p : tree.Part) → part_kind p ≡ self → part_bytes p ≡ bytes.now → part_view result ≡ p }
     {
@@ -63,7 +63,7 @@ impl PartKind {
     }
 }
 
-/// Where a part lies in the value: its first byte, and the first one after it.
+/// Where a part lies in the value: its first byte, and the first byte after it.
 #[derive(Clone, Copy, Debug, PartialEq, Eq)]
 pub(crate) struct PartSpan {
     pub kind: PartKind,
@@ -71,7 +71,7 @@ pub(crate) struct PartSpan {
     pub end: usize,
 }
 
-/// Where the parts of a value lie in its bytes, which it does not hold.
+/// Where the parts of a value lie in its bytes. It does not hold the bytes themselves.
 #[derive(Drop)]
 pub struct Parts {
     spans: Vec<PartSpan>,
@@ -91,7 +91,7 @@ impl Parts {
     ghost use Rattle.bib_spec.specs.Tree.{Value, IsValue, value_bytes};
     ghost use Rattle.bib_scan.specs.ValueParts.{parts_of, spans_of, span_start, IsPartsOf};
 
-    /// How many parts there are, which is at least 1.
+    /// The number of parts, at least 1.
     pub fn len(&self) -> usize
         ensures count { result ≡ length self.now }
         ensures parts { (v : Value) → self.now ≡ spans_of v → result ≡ length (parts_of v) }
@@ -99,7 +99,7 @@ impl Parts {
         self.spans.len()
     }
 
-    /// The place of part n in the value, from 0: its first byte, which may be a delimiter.
+    /// The place of part n in the value, in bytes from 0: the place of its first byte, which may be a delimiter.
     pub fn place(&self, n: usize) -> usize
         requires { n < length self.now }
         ensures { slice_get (map span_start self.now) n ≡ Some result }
@@ -107,7 +107,7 @@ impl Parts {
         self.spans[n].start
     }
 
-    /// Part n of the value whose bytes these are.
+    /// Part n of the value with these bytes.
     pub fn part<'a>(&self, bytes: &'a [u8], n: usize) -> Part<'a>
         requires value { IsPartsOf bytes.now self.now }
         requires n_in_range { n < length self.now }
@@ -122,7 +122,7 @@ impl Parts {
     }
 }
 
-/// The text between the first and the last byte.
+/// The text without its first and its last byte.
 fn inside(text: &[u8]) -> &[u8]
     ensures { (b c : ℕ) (t : List ℕ) → text.now ≡ b ∷ t ++ c ∷ [] → result.now ≡ t }
 {
@@ -132,9 +132,9 @@ fn inside(text: &[u8]) -> &[u8]
     }
 }
 
-/// The one part of a value in whose bytes no `#` stands. Where one does, there may be more, and the answer is None. It
-/// takes time in the length of the bytes, and no memory. None promises nothing: a caller then takes the value apart, which
-/// costs time alone.
+/// The only part of a value whose bytes have no `#`. If they have one, there may be more parts, and the result is `None`.
+/// It takes time linear in the length of the bytes, and no memory. `None` promises nothing: the caller then takes the value
+/// apart with `read_value`, which costs only time.
 pub fn only_part(bytes: &[u8]) -> Option<Part<'_>>
     ensures { IfSome result (λ part. (v : Value) → IsValue name_limit v → value_bytes v ≡ bytes.now → parts_of v ≡ part_view part ∷ []) }
 {
@@ -146,10 +146,10 @@ pub fn only_part(bytes: &[u8]) -> Option<Part<'_>>
 }
 
 /// The parts of a text that is one value and nothing else. They take memory in proportion to their count.
-/// A text that is no value is refused with a fault of reading (1 to 7), want of memory with 10.
+/// A text that is no value is refused with a fault of reading (1 to 7), and out of memory with 10.
 pub fn read_value(alloc: Global, bytes: &[u8]) -> Result<Parts, ReadFault>
     ensures found { IfOk result (λ parts. IsPartsOf bytes.now parts) }
-    // Only a text that is no value is refused with 1 to 7, at the place where it goes wrong, and told what is wrong there.
+    // only a text that is no value is refused with 1 to 7: at the place where it goes wrong, with what is wrong there
     ensures fault { IfErr result (λ fault. IsValueFault bytes.now fault.kind fault.place) }
 {
     match spans(alloc, bytes) {
@@ -182,7 +182,7 @@ fn spans(alloc: Global, bytes: &[u8]) -> Result<Vec<PartSpan>, Refusal<'_>>
     }
 }
 
-/// The text after `#` and white space, since no value ends here.
+/// The text after `#` and white space; without a `#` the text is refused, since no value ends here.
 fn past_link(text: &[u8]) -> Result<&[u8], Stop<'_>>
     ensures read { Gives (λ x. x.now) result (read_link text.now) }
     ensures shorter { IfOk result (λ x. length x.now < length text.now) }

@@ -14,7 +14,7 @@ use std::marker::Model;
 /// The longest file that is read, in bytes. (dialect)
 pub const FILE_LIMIT: usize = 16_777_216;
 
-/// An item that was read: its body, what was noted of it, and the place in the file where it begins, in bytes from 0.
+/// An item that was read: its body, its note, and its byte offset in the file, from 0.
 #[derive(Clone, Copy)]
 pub struct ItemRead<'a> {
     pub body: &'a [u8],
@@ -22,8 +22,8 @@ pub struct ItemRead<'a> {
     pub start: usize,
 }
 
-/// Reads a file item by item, in one pass over its bytes. It keeps two places and a note an item. Nothing recurses, however
-/// deep braces nest.
+/// Reads a file item by item, in one pass over its bytes. It keeps two places and a note for each item. It does not
+/// recurse, however deep braces nest.
 #[derive(Drop)]
 pub struct Reader<'a> {
     bytes: &'a [u8],
@@ -56,7 +56,7 @@ impl<'a> Reader<'a> {
     ghost use Rattle.bib_scan.specs.Note.{IsNoteOf};
     ghost use Rattle.bib_scan.specs.Progress.{IsItemOf, AreAllOf};
 
-    /// Begins to read a file: its front is read. Refused with 9 at `FILE_LIMIT` where the file is longer.
+    /// Begins to read a file, and reads its front. Refused with 9 at `FILE_LIMIT` if the file is longer.
     pub fn new(alloc: Global, bytes: &'a [u8]) -> Result<Self, ReadFault>
         ensures start { IfOk result (λ reader. (reader.file ≡ bytes.now) × (reader.count ≡ 0) × (reader.left ≤ length bytes.now)) }
         ensures short { OnOk result (length bytes.now ≤ file_limit) }
@@ -78,8 +78,8 @@ impl<'a> Reader<'a> {
         })
     }
 
-    /// Reads the next item, if there is one more, in time of the bytes up to the one after it. Refused with 1 to 7 at the
-    /// first byte at which no file continues, with 10 where memory ran out; the reader then stands where it stood.
+    /// Reads the next item, if there is one, in time linear in the bytes up to the item after it. Refused with 1 to 7 at
+    /// the first byte at which no valid file continues, and with 10 if memory ran out; the reader is then unchanged.
     pub fn next_item(&mut self) -> Result<Option<ItemRead<'a>>, ReadFault>
         ensures file { self.new.file ≡ self.old.file }
         ensures item { IfOk result (λ item. IfSome item (λ read. IsItemOf self.old.file self.old.count read.body.now read.start)) }
@@ -116,7 +116,8 @@ impl<'a> Reader<'a> {
         }))
     }
 
-    /// Reads what is left, and tells where everything stands in the file. Refused as `next_item` is.
+    /// Reads the rest of the file, and returns the places of its front and items. Refused for the same reasons as
+    /// `next_item`.
     pub fn finish(self) -> Result<Layout, ReadFault>
         ensures found { IfOk result (λ layout. IsLayoutOf self.entry.file layout) }
         ensures fault { IfErr result (λ fault. IsReadFault self.entry.file fault.kind fault.place) }
@@ -126,7 +127,7 @@ impl<'a> Reader<'a> {
         Ok(reader.into_layout())
     }
 
-    /// Where everything stands in the file, of which nothing is left to read.
+    /// The places of the front and the items, once the whole file is read.
     fn into_layout(self) -> Layout
         requires { self.left ≡ 0 }
         ensures { IsLayoutOf self.entry.file result }
@@ -135,7 +136,7 @@ impl<'a> Reader<'a> {
     }
 }
 
-/// Keeps where an item lies, and what was noted of it. Where memory is refused, neither is kept.
+/// Keeps an item's span and its note. If memory is refused, neither is kept.
 #[inline(always)]
 fn keep(
     spans: &mut Vec<Span>,

@@ -10,7 +10,7 @@ use crate::fault::Stop;
 use crate::spans::past_space;
 use crate::value::{past_equals, split_name, split_value};
 
-/// A name and a value's bytes, and how long the text is from the value on.
+/// A name and a value's bytes, and the number of bytes left in the text from the value on.
 #[derive(Clone, Copy)]
 pub(crate) struct Assigned<'a> {
     pub name: &'a [u8],
@@ -18,7 +18,7 @@ pub(crate) struct Assigned<'a> {
     pub value_left: usize,
 }
 
-/// An assignment, and the text after it and white space.
+/// An assignment, and the text after it and its white space.
 #[inline(always)]
 #[tactic(auto, unfolding(crate::specs::LeftToRight::read_assignment))]
 pub(crate) fn split_assignment(text: &[u8]) -> Result<(Assigned<'_>, &[u8]), Stop<'_>>
@@ -37,7 +37,7 @@ pub(crate) fn split_assignment(text: &[u8]) -> Result<(Assigned<'_>, &[u8]), Sto
     Ok((assigned, past_space(rest)))
 }
 
-/// The text after a row, given what follows its comma.
+/// The text after a row, given the text after its comma.
 #[tactic(auto, unfolding(crate::specs::LeftToRight::read_row))]
 pub(crate) fn past_row(text: &[u8]) -> Result<&[u8], Stop<'_>>
     ensures read { Gives (λ x. x.now) result (read_row name_limit text.now) }

@@ -1,4 +1,4 @@
-//! Longest fronts of bytes of one class.
+//! Runs of bytes of one class at the front of a text.
 
 ghost use Rattle.std.specs.Prelude.{◌≡◌, ◌≤◌, length, drop};
 ghost use Rattle.std.specs.List.{prefix_len, take_while};
@@ -16,7 +16,7 @@ pub(crate) fn text_from(text: &[u8], n: usize) -> &[u8]
     text.split_at(n).1
 }
 
-/// How much white space the text begins with.
+/// The number of bytes of white space at the front of the text.
 #[inline(always)]
 fn space_len(text: &[u8]) -> usize
     ensures len { result ≡ prefix_len is_space text.now }
@@ -25,7 +25,7 @@ fn space_len(text: &[u8]) -> usize
     text.iter().take_while(|b| is_space(**b)).count()
 }
 
-/// The text after the white space that it begins with.
+/// The text after the white space at its front.
 #[inline(always)]
 pub(crate) fn past_space(text: &[u8]) -> &[u8]
     ensures rest { result.now ≡ drop (prefix_len is_space text.now) text.now }
@@ -34,7 +34,7 @@ pub(crate) fn past_space(text: &[u8]) -> &[u8]
     text_from(text, space_len(text))
 }
 
-/// How many name bytes the text begins with.
+/// The number of name bytes at the front of the text.
 #[inline(always)]
 pub(crate) fn name_len(text: &[u8]) -> usize
     ensures len { result ≡ prefix_len is_name_byte text.now }
@@ -43,7 +43,7 @@ pub(crate) fn name_len(text: &[u8]) -> usize
     text.iter().take_while(|b| is_name_byte(**b)).count()
 }
 
-/// How many digits the text begins with.
+/// The number of digits at the front of the text.
 pub(crate) fn digits_len(text: &[u8]) -> usize
     ensures len { result ≡ prefix_len is_ascii_digit text.now }
     ensures within { result ≤ length text.now }
@@ -51,7 +51,7 @@ pub(crate) fn digits_len(text: &[u8]) -> usize
     text.iter().take_while(|b| b.is_ascii_digit()).count()
 }
 
-/// How many bytes of a type name the text begins with.
+/// The number of bytes of a type name at the front of the text.
 fn type_name_len(text: &[u8]) -> usize
     ensures len { result ≡ prefix_len is_type_byte text.now }
     ensures within { result ≤ length text.now }
@@ -59,7 +59,7 @@ fn type_name_len(text: &[u8]) -> usize
     text.iter().take_while(|b| is_type_byte(**b)).count()
 }
 
-/// The type name that the text begins with, and the text after it.
+/// The type name at the front of the text, and the text after it.
 pub(crate) fn split_type_name(text: &[u8]) -> (&[u8], &[u8])
     ensures front { result.0.now ≡ take_while is_type_byte text.now }
     ensures rest { result.1.now ≡ drop (prefix_len is_type_byte text.now) text.now }

@@ -9,14 +9,14 @@ ghost use Rattle.bib_spec.specs.Tree.{is_no_keyword, is_type};
 use crate::class::{is_name_byte, is_new_key_byte, is_type_byte};
 use bib_text::{NAME_LIMIT, same_folded};
 
-/// Whether each byte may stand in a name.
+/// Whether a name may have each of these bytes.
 fn all_name_bytes(bytes: &[u8]) -> bool
     ensures { result ≡ list_all is_name_byte bytes.now }
 {
     bytes.iter().all(|b| is_name_byte(*b))
 }
 
-/// Whether the text begins with no digit.
+/// Whether the text does not begin with a digit.
 fn begins_with_no_digit(bytes: &[u8]) -> bool
     ensures { result ≡ does_not_begin_with is_ascii_digit bytes.now }
 {
@@ -38,7 +38,7 @@ pub fn is_name(bytes: &[u8]) -> bool
         && all_name_bytes(bytes)
 }
 
-/// Whether some bytes of a type name are a name.
+/// Whether a text of type-name bytes is a name.
 #[tactic(auto, using(crate::proofs::TypeNames::are_name_bytes), unfolding(bib_spec::specs::Text::is_name_within))]
 pub(crate) fn are_type_name(bytes: &[u8]) -> bool
     requires { list_all is_type_byte bytes.now ≡ true }
@@ -47,21 +47,21 @@ pub(crate) fn are_type_name(bytes: &[u8]) -> bool
     !bytes.is_empty() && bytes.len() <= NAME_LIMIT && begins_with_no_digit(bytes)
 }
 
-/// Whether each byte may stand in a type name.
+/// Whether a type name may have each of these bytes.
 fn all_type_bytes(text: &[u8]) -> bool
     ensures { result ≡ list_all is_type_byte text.now }
 {
     text.iter().all(|b| is_type_byte(*b))
 }
 
-/// Whether each byte may stand in a key that an edit writes.
+/// Whether a key that an edit writes may have each of these bytes.
 fn all_new_key_bytes(text: &[u8]) -> bool
     ensures { result ≡ list_all is_new_key_byte text.now }
 {
     text.iter().all(|b| is_new_key_byte(*b))
 }
 
-/// Whether the text is neither `comment` nor `string` nor `preamble`, which no entry has as its type. (btxdoc 2.1)
+/// Whether the text is neither `comment` nor `string` nor `preamble`, the types that no entry has. (btxdoc 2.1)
 fn is_no_keyword(text: &[u8]) -> bool
     ensures { result ≡ is_no_keyword text.now }
 {
@@ -87,8 +87,8 @@ pub fn is_key(bytes: &[u8]) -> bool
     !bytes.is_empty() && bytes.len() <= NAME_LIMIT && all_new_key_bytes(bytes)
 }
 
-/// Whether the braces of the text balance: no front of it closes more than it opens, and the whole closes
-/// all. A backslash protects none. (btxdoc 4; dialect)
+/// Whether the braces of the text match: no front of it closes more braces than it opens, and the whole text closes all. A
+/// backslash does not escape a brace. (btxdoc 4; dialect)
 pub fn is_balanced(bytes: &[u8]) -> bool
     ensures { IsTrue result ↔ IsBalanced bytes.now }
 {

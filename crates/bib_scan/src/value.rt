@@ -24,7 +24,7 @@ pub enum Part<'a> {
     Macro(&'a [u8]),
 }
 
-/// The content of a braced part, whose text begins after its brace, and the text after it.
+/// The content of a braced part, given the text after its opening brace, and the text after the part.
 fn split_braced(text: &[u8]) -> Result<(&[u8], &[u8]), Stop<'_>>
     ensures read { Gives (λ x. (x.0.now, x.1.now)) result (read_braced 0 text.now) }
     ensures shorter { IfOk result (λ x. length x.1.now < length text.now) }
@@ -50,7 +50,7 @@ fn split_braced(text: &[u8]) -> Result<(&[u8], &[u8]), Stop<'_>>
     })
 }
 
-/// The content of a quoted part, whose text begins after its quotation mark, and the text after it.
+/// The content of a quoted part, given the text after its opening quotation mark, and the text after the part.
 fn split_quoted(text: &[u8]) -> Result<(&[u8], &[u8]), Stop<'_>>
     ensures read { Gives (λ x. (x.0.now, x.1.now)) result (read_quoted 0 text.now) }
     ensures shorter { IfOk result (λ x. length x.1.now < length text.now) }
@@ -84,7 +84,7 @@ fn split_quoted(text: &[u8]) -> Result<(&[u8], &[u8]), Stop<'_>>
     })
 }
 
-/// A run of name bytes, which may not be longer than a name, and the text after it.
+/// A run of name bytes, which must not be longer than a name may be, and the text after it.
 #[inline(always)]
 fn split_name_run(text: &[u8]) -> Result<(&[u8], &[u8]), Stop<'_>>
     ensures read { Gives (λ x. (x.0.now, x.1.now)) result (read_run name_limit is_name_byte text.now) }
@@ -163,7 +163,7 @@ pub(crate) fn split_part(text: &[u8]) -> Result<(Part<'_>, &[u8]), Stop<'_>>
     }
 }
 
-/// The text after a `#` and white space, if a `#` comes next, white space aside.
+/// The text after a `#` and white space, if a `#` comes next; white space may come before it.
 #[inline(always)]
 pub(crate) fn past_hash(text: &[u8]) -> Option<&[u8]>
     ensures read { option_copied result ≡ past_hash (after_run is_space text.now) }

@@ -1,4 +1,4 @@
-//! What is seen of an item: its parts, as slices of the file.
+//! A view of an item: its parts, as slices of the file.
 
 ghost use Rattle.std.specs.Prelude.{◌≡◌, ◌≤◌, length};
 ghost use Rattle.bib_spec.specs.Bytes.{name_limit};
@@ -41,7 +41,7 @@ impl Kind {
         }
     }
 
-    /// Which kind of item has the fields after the first: only an entry has more than one.
+    /// The kind of item that may have the fields after the first one: only an entry has more than one field.
     pub(crate) fn after_field(self) -> Self
         ensures { result ≡ kind_after self }
     {
@@ -60,7 +60,7 @@ pub struct ItemView<'a> {
     trail: &'a [u8],
     key: &'a [u8],
     key_at: usize,
-    // after the key, or after the opening of what has none
+    // the bytes after the key, or after the opening of an item without a key
     inside: &'a [u8],
 }
 
@@ -89,8 +89,7 @@ impl<'a> ItemView<'a> {
     ghost use Rattle.bib_scan.specs.View.{view_of, with_trail};
     ghost use Rattle.bib_scan.specs.Note.{note_of};
 
-    /// The view of the item with this body and trail. The body is read up to the key's end, in time of that
-    /// length.
+    /// The view of the item with this body and trail. It reads the body up to the key's end, in time linear in that length.
     pub fn of(body: &'a [u8], trail: &'a [u8]) -> Self
         ensures slices { (result.body ≡ body.now) × (result.trail ≡ trail.now) }
         ensures item { (tree : Tree) → IsTree name_limit tree → tree_bytes tree ≡ body.now → result ≡ view_of (record { tree = tree; trail = trail.now }) }
@@ -120,7 +119,7 @@ impl<'a> ItemView<'a> {
         }
     }
 
-    /// The view of the item with this body and trail, of which this was noted: of an entry, no byte is read.
+    /// The view of the item with this body, trail and note. It reads no byte of an entry.
     pub fn noted(body: &'a [u8], trail: &'a [u8], note: Note) -> Self
         ensures slices { (result.body ≡ body.now) × (result.trail ≡ trail.now) }
         ensures item { (tree : Tree) → IsTree name_limit tree → tree_bytes tree ≡ body.now → note ≡ note_of tree → result ≡ view_of (record { tree = tree; trail = trail.now }) }
@@ -147,7 +146,7 @@ impl<'a> ItemView<'a> {
         self.kind
     }
 
-    /// The item's own bytes, from its at-sign to its closing delimiter; of a comment its head alone.
+    /// The item's own bytes, from its at-sign to its closing delimiter; the body of a comment is its head alone.
     pub fn body(&self) -> &'a [u8]
         ensures { result.now ≡ self.now.body }
     {
@@ -161,31 +160,31 @@ impl<'a> ItemView<'a> {
         self.trail
     }
 
-    /// The word after the at-sign, as it stands. It is read from the body.
+    /// The word after the at-sign, as the file has it. It is read from the body.
     pub fn type_name(&self) -> &'a [u8]
         ensures { result.now ≡ self.now.type_name }
     {
         split_head(self.body).0
     }
 
-    /// An entry's key, as it stands; it is empty for other items, and may be for entries.
+    /// An entry's key, as the file has it. It is empty for other items, and may be empty for an entry.
     pub fn key(&self) -> &'a [u8]
         ensures { result.now ≡ self.now.key }
     {
         self.key
     }
 
-    /// The place of the key in the body, from 0; it is 0 for other items than entries.
+    /// The place of the key in the body, in bytes from 0; it is 0 for all items except entries.
     pub fn key_at(&self) -> usize
         ensures { result ≡ self.now.key_at }
     {
         self.key_at
     }
 
-    /// The item's fields in their order, read as they are asked for.
+    /// The item's fields in order; each is read when the iterator reaches it.
     pub fn fields(&self) -> Fields<'a>
         ensures fields { result ≡ self.now.fields }
-        // A usize counts them.
+        // so that a usize can count the fields
         ensures count { length result < 2 ^ 64 }
     {
         let rows = first_row(self.kind, self.inside);
@@ -222,7 +221,7 @@ fn split_opening(text: &[u8]) -> (Delimiter, &[u8])
     }
 }
 
-/// Where the fields of an item of this kind begin, from after its key or, where it has none, after its opening.
+/// The text from an item's first field on, given the text after its key or, for an item without a key, after its opening.
 fn first_row(kind: Kind, inside: &[u8]) -> &[u8]
     ensures rows { result.now ≡ first_row kind inside.now }
     ensures within { length result.now ≤ length inside.now }

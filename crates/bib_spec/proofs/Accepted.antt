@@ -7,13 +7,13 @@ use Rattle.bib_spec.specs.Text.{Text, same}
 use Rattle.bib_spec.specs.Records.{EntryTexts, target_of, crossref_text, dangling_text}
 use Rattle.bib_spec.proofs.Keys.{option_cases}
 
--- what is there, and not there twice, is there once
+-- a name that occurs, and does not occur twice, occurs once
 pub there_once : (count : ℕ) → (count ≡ 0 → ⊥) → (1 < count → ⊥) → count ≡ 1
 there_once zero missing twice = absurd (missing refl)
 there_once (suc zero) missing twice = refl
 there_once (suc (suc n)) missing twice = absurd (twice (omega arith))
 
--- a dangling crossref's text is among those
+-- a key that is none of the dangling texts is not the text of this dangling crossref
 pub dangling_among : (entries rest : List EntryTexts) (j : ℕ) (entry : EntryTexts) (said : Text) (key : Text) → slice_get rest j ≡ Some entry → target_of entries entry ≡ None → crossref_text entry ≡ Some said →
     list_any (same key) (filter_map (dangling_text entries) rest) ≡ false → same key said ≡ false
 dangling_among entries [] j entry said key at no_target says free = absurd (none-some entry at)

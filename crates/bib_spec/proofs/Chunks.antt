@@ -62,7 +62,7 @@ chunks-lead chunks = lead_chunks [] chunks
 
 -- ---- the chunks of a text and its pieces
 
--- what stands between the pieces is kept
+-- the bytes between the pieces are kept
 abbrev chunks_from : ℕ → List Piece → Text → List Chunk
 chunks_from at [] text = Kept (drop at text) ∷ []
 chunks_from at (p ∷ ps) text = Kept (between at p.place text) ∷ Replaced p.old p.new ∷ chunks_from (end_of p) ps text

@@ -1,4 +1,4 @@
--- Among one more candidates than there are taken keys one is free.
+-- If t keys are taken, one of the first t + 1 candidates is free.
 use Rattle.std.proofs.Common.{◌≡◌, ◌≢◌, ℕ, zero, suc, ◌+◌, ◌-◌, ◌*◌, ◌<◌, ◌≤◌, ◌==◌, nat_lt, true, false, cond, not, ◌||◌, List, [], ◌∷◌, ◌++◌, Option, Some, length, find, filter, reverse, map, ⊎_elim, refl, sym, ◌∙◌, ap, ap₂, subst, arith, eqb-true, le-ltb}
 use Rattle.std.specs.List.{AllByRecursion}
 use Rattle.std.proofs.lemmas.List.{append_cancel_left, map-append, reverse-reverse}
@@ -63,7 +63,7 @@ doubled-grows zero n le = doubled-some n
 doubled-grows (suc k) zero le = absurd (omega (arith, le))
 doubled-grows (suc k) (suc n) le = let less = doubled-grows k n (omega (arith, le)) in omega (arith, less)
 
--- so many lower-case letters write at least this
+-- n lower-case letters write a number of at least 2^n - 1
 pub doubled-written : (cs : Text) → AreLower cs → doubled (length cs) ≤ suc (written cs)
 doubled-written [] h = let le : 1 ≤ 1 = omega arith in le
 doubled-written (c ∷ cs) h = more c (doubled (length cs)) (written cs) h.0.0 (doubled-written cs h.1)
@@ -92,7 +92,7 @@ candidates_apart base n m e =
     let tails : reverse (letters n) ≡ reverse (letters m) = append_cancel_left (folded base) (reverse (letters n)) (reverse (letters m)) (sym (folded-candidate base n) ∙ same-true (candidate base n) (candidate base m) e ∙ folded-candidate base m) in
     sym (written-letters n) ∙ ap written (sym (reverse-reverse (letters n)) ∙ ap reverse tails ∙ reverse-reverse (letters m)) ∙ written-letters m
 
--- Taking out all that are the same as one key.
+-- Taking out all keys that are the same as one key.
 
 abbrev pub others : Text → List Text → List Text
 others key taken = filter (λ t. not (same key t)) taken

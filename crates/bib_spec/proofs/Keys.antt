@@ -1,4 +1,4 @@
--- What two lists of keys give as targets, where some entries get new keys that are no other entry's.
+-- The entries that texts name before and after some entries get new keys that are no other entry's.
 use Rattle.std.proofs.Common.{◌≡◌, ◌≢◌, ℕ, zero, suc, ◌+◌, ◌<◌, true, false, not, List, [], ◌∷◌, Option, Some, None, unwrap_or, option_map, slice_get, ◌⊎◌, inl, inr, ⊎_elim, refl, sym, ◌∙◌, ap, arith, add-zero, zero-add}
 use Rattle.std.proofs.lemmas.Bool.{false_from_ne_true, both_ways, and_parts, and_from, and_right, not_from_false}
 use Rattle.std.proofs.lemmas.Option.{same_Some, none-some}
@@ -12,7 +12,7 @@ pub option_cases : {A : Type 0} (o : Option A) → (o ≡ None) ⊎ ((x : A) × 
 option_cases None = inl refl
 option_cases (Some x) = inr (x, refl)
 
--- entry n has the key `new n`, where it gets one
+-- entry n has the key `new n`, if it gets a new key
 abbrev pub keys_with : (ℕ → Option Text) → ℕ → List Text → List Text
 keys_with new n [] = []
 keys_with new n (key ∷ keys) = unwrap_or (new n) key ∷ keys_with new (suc n) keys
@@ -39,7 +39,7 @@ module _ (new : ℕ → Option Text) (keys : List Text) where
       (option_cases (slice_get keys j))
 
 module _ (new : ℕ → Option Text) (keys : List Text) (fresh : AreFresh new keys) where
-  -- a text that named an entry whose key stays names it still
+  -- a text that named an entry whose key is unchanged still names it
   pub first_kept : (text : Text) (m : ℕ) → first_named text keys ≡ Some m → new m ≡ None → first_named text (keys_with new 0 keys) ≡ Some m
   first_kept text m e stays = first_from text (keys_with new 0 keys) m (record { key = first.key; stands = stands; named = first.named; before = before })
     where
@@ -78,7 +78,7 @@ module _ (new : ℕ → Option Text) (keys : List Text) (fresh : AreFresh new ke
       before : (j : ℕ) (other : Text) → j < m → slice_get (keys_with new 0 keys) j ≡ Some other → is_named key other ≡ false
       before j other lt s = let ne : j ≢ m = omega arith in and_right (not (is_empty other)) (same other key) (fresh.apart m j key other gets ne s)
 
-  -- a text that named none, and is no new key, names none
+  -- a text that named no entry, and is no new key, names no entry
   pub first_none : (text : Text) → first_named text keys ≡ None → ((n : ℕ) (key : Text) → new n ≡ Some key → same key text ≡ false) → first_named text (keys_with new 0 keys) ≡ None
   first_none text e h = none_from text (keys_with new 0 keys) none_at
     where

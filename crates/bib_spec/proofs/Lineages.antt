@@ -1,4 +1,4 @@
--- Lineages, also those that come round again.
+-- Lineages, even if the parents form a ring.
 use Rattle.std.proofs.Common.{◌≡◌, ◌∙◌, ℕ, zero, suc, ◌+◌, ◌-◌, ◌<◌, ◌≤◌, ◌==◌, Bool, true, false, cond, ◌||◌, List, [], ◌∷◌, ◌++◌, Option, Some, None, option_and_then, refl, sym, ap, subst, arith, append-nil, add-one, eqb-true, eq-eqb, ne_eqb, ⊎_elim}
 use Rattle.std.specs.List.{list_any}
 use Rattle.std.specs.Option.{option_map_or}
@@ -10,7 +10,7 @@ use Rattle.bib_spec.proofs.Missing.{bears, are_borne, bears_with, missing_none, 
 
 -- ---- one after another
 
--- the next one, where so many were found
+-- after k steps the lineage continues with the parent of n, and has one step less to go
 pub lineage_more : (parents : ℕ → Option ℕ) (depth k n m : ℕ) → k < depth → parents n ≡ Some m → lineage parents (depth - k) n ≡ m ∷ lineage parents (depth - (k + 1)) m
 lineage_more parents depth k n m lt is =
     let one : depth - k ≡ depth - (k + 1) + 1 = omega (arith, lt) in
@@ -22,7 +22,7 @@ pub lineage_none : (parents : ℕ → Option ℕ) (depth n : ℕ) → parents n 
 lineage_none parents zero n none = refl
 lineage_none parents (suc depth) n none = ap (λ (o : Option ℕ). option_map_or (λ p. p ∷ lineage parents depth p) o []) none
 
--- nor at the depth that was asked for
+-- at the requested depth there is no more either
 pub lineage_done : (parents : ℕ → Option ℕ) (depth k n : ℕ) → depth ≤ k → lineage parents (depth - k) n ≡ []
 lineage_done parents depth k n le =
     let none : depth - k ≡ 0 = omega (arith, le) in ap (λ (d : ℕ). lineage parents d n) none
@@ -45,11 +45,11 @@ module _ (entries : List EntryTexts) where
   abbrev IsClosed : List ℕ → Type 0
   IsClosed visited = (m p : ℕ) → is_visited visited m ≡ true → parent entries m ≡ Some p → is_visited visited p ≡ true
 
-  -- the same but for the parent of n
+  -- the parents of visited entries were visited, except perhaps the parent of n
   abbrev IsClosedBut : ℕ → List ℕ → Type 0
   IsClosedBut n visited = (m p : ℕ) → (m == n) ≡ false → is_visited visited m ≡ true → parent entries m ≡ Some p → is_visited visited p ≡ true
 
-  -- where all was visited there is nothing more
+  -- if the parents of all visited entries were visited, a lineage adds nothing
   nothing_more : (visited : List ℕ) (own : List RecordField) → AreGiven own visited → IsClosed visited → (depth n : ℕ) → is_visited visited n ≡ true
       → with_inherited entries own (lineage (parent entries) depth n) ≡ own
   nothing_more visited own given closed zero n there = refl
@@ -65,7 +65,7 @@ module _ (entries : List EntryTexts) where
           ∙ ap (λ (fields : List RecordField). with_inherited entries fields (lineage (parent entries) depth m)) (append-nil own)
           ∙ later m next
 
-  -- once the parent of n was visited, all is
+  -- once the parent of n was visited too, all parents of visited entries were
   closed_now : (n p : ℕ) (visited : List ℕ) → IsClosedBut n visited → parent entries n ≡ Some p → is_visited visited p ≡ true → IsClosed visited
   closed_now n p visited closed is there m q visits has = ⊎_elim
       (λ same.
@@ -74,7 +74,7 @@ module _ (entries : List EntryTexts) where
       (λ other. closed m q other visits has)
       (cases_Bool (m == n))
 
-  -- with the parent of n the rest is closed but for its own parent
+  -- with the parent of n visited, only the parent of that parent may be missing
   closed_further : (n p : ℕ) (visited : List ℕ) → IsClosedBut n visited → parent entries n ≡ Some p → IsClosedBut p (p ∷ visited)
   closed_further n p visited closed is m q other visits has =
       let before : is_visited visited m ≡ true = ap (λ b. b || is_visited visited m) (sym (other_way m p other)) ∙ visits in
@@ -85,7 +85,7 @@ module _ (entries : List EntryTexts) where
       (λ apart. or_later (p == q) (is_visited visited q) (closed m q apart before has))
       (cases_Bool (m == n))
 
-  -- what the fields of p add is there with the rest
+  -- with what p adds, the fields of all visited entries, p too, are there
   given_further : (own : List RecordField) (p : ℕ) (visited : List ℕ) → AreGiven own visited → AreGiven (own ++ missing own (fields_at entries p)) (p ∷ visited)
   given_further own p visited given m visits = ⊎_elim
       (λ same. subst (λ (k : ℕ). are_borne wider (fields_at entries k) ≡ true) (eqb-true p m same)
@@ -101,11 +101,11 @@ module _ (entries : List EntryTexts) where
       wider : List RecordField
       wider = own ++ missing own its
 
-  -- with what the ancestors from n on give, if there are any
+  -- the fields, with what the ancestors from the entry `o` on add, if there is one
   abbrev with_ancestors : ℕ → List ℕ → List RecordField → Option ℕ → List RecordField
   with_ancestors depth visited own o = with_inherited entries own (option_map_or (λ m. m ∷ ancestors_from (parent entries) depth (m ∷ visited) m) o [])
 
-  -- from m on the lineage gives what the ancestors give
+  -- from m on the lineage gives what the ancestors give, if only the parent of m may not have been visited
   abbrev GivesAlike : ℕ → List ℕ → List RecordField → ℕ → Type 0
   GivesAlike depth visited own m = is_visited visited m ≡ true → AreGiven own visited → IsClosedBut m visited
       → with_inherited entries own (lineage (parent entries) depth m) ≡ with_inherited entries own (ancestors_from (parent entries) depth visited m)

@@ -11,13 +11,13 @@ use Rattle.bib_spec.proofs.Names.{same_of, same-true, true-same}
 abbrev pub bears : List RecordField → Text → Bool
 bears fields name = list_any (λ other. same other.0 name) fields
 
--- the fields have names that these bear
+-- each of the fields has a name that the others have too
 abbrev pub are_borne : List RecordField → List RecordField → Bool
 are_borne own fields = list_all (λ field. bears own field.0) fields
 
 -- ---- names
 
--- names that are the same are borne alike
+-- names that are the same, folded, are both there or both missing
 pub bears_alike : (fields : List RecordField) (a b : Text) → same a b ≡ true → bears fields a ≡ bears fields b
 bears_alike [] a b alike = refl
 bears_alike (field ∷ fields) a b alike =
@@ -35,13 +35,13 @@ missing_found own (x ∷ xs) name = at (bears own name) (bears own x.0) (same x.
     at false true false is alike later = later
     at false false s is alike later = ap (λ c. c || bears (missing own xs) name) is ∙ ap (λ c. s || c) later
 
--- a record with what it inherits bears its own names and those of the others
+-- a record with inherited fields has its own names and the names of the others
 pub bears_with : (own others : List RecordField) (name : Text) → bears (own ++ missing own others) name ≡ (bears own name || bears others name)
 bears_with own others name = list_any-append (λ other. same other.0 name) own (missing own others) ∙ missing_found own others name
 
 -- ---- fields
 
--- of fields that are all borne none is missing
+-- if all names are there, no field is missing
 pub missing_none : (own fields : List RecordField) → are_borne own fields ≡ true → missing own fields ≡ []
 missing_none own [] all = refl
 missing_none own (x ∷ xs) all = at (bears own x.0) all (missing_none own xs)
@@ -50,7 +50,7 @@ missing_none own (x ∷ xs) all = at (bears own x.0) all (missing_none own xs)
     at true all later = later all
     at false all later = absurd (false≢true all)
 
--- what bears more bears them still
+-- more fields still have all these names
 pub borne_more : (own more fields : List RecordField) → ((name : Text) → bears own name ≡ true → bears more name ≡ true) → are_borne own fields ≡ true → are_borne more fields ≡ true
 borne_more own more [] wider all = refl
 borne_more own more (x ∷ xs) wider all =
@@ -64,7 +64,7 @@ or_later false b later = later
 pub or_first : (a b : Bool) → a ≡ true → (a || b) ≡ true
 or_first a b first = ap (λ c. c || b) first
 
--- what bears their names bears them
+-- a list that has every name that these fields have has the name of each of them
 pub borne_by : (fields whole : List RecordField) → ((name : Text) → bears fields name ≡ true → bears whole name ≡ true) → are_borne whole fields ≡ true
 borne_by [] whole wider = refl
 borne_by (x ∷ xs) whole wider = ap₂ (λ (p q : Bool). p && q)

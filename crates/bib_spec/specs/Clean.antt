@@ -1,4 +1,4 @@
--- Where a command begins, and the texts in which none does.
+-- The places where commands begin, and the texts in which no command begins.
 use Rattle.std.specs.Prelude.{ℕ, ◌≡◌, Bool, true, false, ◌&&◌, ◌||◌, ◌==◌, [], ◌∷◌, drop, codes}
 use Rattle.std.specs.List.{take_while}
 use Rattle.bib_spec.specs.Bytes.{at_sign, open_brace, open_paren}

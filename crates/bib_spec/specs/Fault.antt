@@ -1,10 +1,10 @@
--- What is wrong where a text goes wrong, judged by what might have stood there instead. (dialect)
+-- What is wrong where a text goes wrong, by the bytes that could be there instead. (dialect)
 use Rattle.std.specs.Prelude.{ℕ, ◌≡◌, ◌+◌, ◌<◌, ◌≤◌, ◌++◌, ◌∷◌, [], length, take}
 use Rattle.bib_spec.specs.Bytes.{quote, comma, digit_one, equals_sign, letter_x, name_limit, file_limit}
 use Rattle.bib_spec.specs.Text.{Text}
 use Rattle.bib_spec.specs.Reading.{HasReading, HasReadingWithin, IsViable, FailsAt}
 
--- a kind of text, with names and keys of at most so many bytes
+-- a kind of text, given the largest number of bytes in a name or key
 abbrev pub TextKind : Type 1
 TextKind = ℕ → Text → Type 0
 
@@ -48,7 +48,7 @@ pub data IsFaultAt (IsSuch : TextKind) (t : Text) (place : ℕ) : ReadingFault �
   -- the text is inside a quoted part: it could end here, or continue with a comma
   brace : place < length t → (IsOneTooLong IsSuch t place → ⊥) → MayStand IsSuch t place quote → MayStand IsSuch t place comma
       → IsFaultAt IsSuch t place UnbalancedBrace
-  -- neither a quoted part nor an equals sign could stand here, and a letter only where a digit could stand as well
+  -- neither a quoted part nor an equals sign could stand here; a letter could stand here only if a digit could, too
   comma_or_close : place < length t → (IsOneTooLong IsSuch t place → ⊥) → (MayStand IsSuch t place quote → ⊥) → (MayStand IsSuch t place equals_sign → ⊥)
       → (MayStand IsSuch t place letter_x → MayStand IsSuch t place digit_one) → IsFaultAt IsSuch t place ExpectedCommaOrClose
 

@@ -1,14 +1,15 @@
--- The parent of an entry, its parent and so on, as they are found one after another, with no look at those that were met.
+-- The parent of an entry, its parent and so on, one after another, even if one of them was met before.
 use Rattle.std.specs.Prelude.{ℕ, zero, suc, ◌≡◌, List, [], ◌∷◌, Option}
 use Rattle.std.specs.Option.{option_map_or}
 use Rattle.bib_spec.specs.Records.{EntryTexts, parent, default_depth, ancestors, fields_at, with_inherited}
 
--- the parent, its parent and so on, at most `depth` of them; where they come round again, so does the list
+-- the parent, its parent and so on, at most `depth` of them; if the parents form a ring, the list goes round it
 abbrev pub lineage : (ℕ → Option ℕ) → ℕ → ℕ → List ℕ
 lineage parents zero n = []
 lineage parents (suc depth) n = option_map_or (λ m. m ∷ lineage parents depth m) (parents n) []
 
--- An entry inherits the same from its lineage as from its ancestors: one that comes round again has given all that it has.
+-- An entry inherits the same from its lineage as from its ancestors: an entry that is met again has already given all its
+-- fields.
 abbrev pub rings_give_nothing_more : Type 0
 rings_give_nothing_more = (entries : List EntryTexts) (depth n : ℕ) →
     with_inherited entries (fields_at entries n) (lineage (parent entries) depth n) ≡ with_inherited entries (fields_at entries n) (ancestors entries depth n)

@@ -20,16 +20,16 @@ letters (suc n) = next_letters (letters n)
 abbrev pub candidate : Text → ℕ → Text
 candidate base n = base ++ reverse (letters n)
 
--- so many candidates, from the n-th on
+-- `count` candidates, from the n-th on
 abbrev pub candidates : Text → ℕ → ℕ → List Text
 candidates base n zero = []
 candidates base n (suc count) = candidate base n ∷ candidates base (suc n) count
 
--- the key is among these, folded
+-- the key is one of these, folded
 abbrev pub is_taken : List Text → Text → Bool
 is_taken taken key = list_any (same key) taken
 
--- the first candidate that is not taken (one candidate more than there are taken keys is enough)
+-- the first candidate that is not taken (one of the first t + 1 candidates is free if t keys are taken)
 abbrev pub free_key : List Text → Text → Text
 free_key taken base = unwrap_or (find (λ key. not (is_taken taken key)) (candidates base 0 (suc (length taken)))) base
 

@@ -1,4 +1,4 @@
--- Replacing stretches of a text, and the way back. (dialect)
+-- Replacing parts of a text, and the way back. (dialect)
 use Rattle.std.specs.Prelude.{ℕ, ◌≡◌, ◌+◌, ◌-◌, ◌≤◌, List, [], ◌∷◌, ◌++◌, length, take, drop, codes}
 use Rattle.std.specs.List.{AllByRecursion, between}
 use Rattle.bib_spec.specs.Text.{Text}
@@ -20,16 +20,16 @@ pub record Stands (text : Text) (p : Piece) : Type 0 where
   pub inside : end_of p ≤ length text
   pub there : take (length p.old) (drop p.place text) ≡ p.old
 
--- the first piece begins at this place or after it, and each later one where the one before it ends, or after that
+-- the first piece begins at this place or after it, and each later piece at the end of the one before it or after that
 abbrev pub AscendFrom : ℕ → List Piece → Type 0
 AscendFrom at [] = Unit {0}
 AscendFrom at (p ∷ ps) = (at ≤ p.place) × AscendFrom (end_of p) ps
 
--- the pieces stand in order and do not overlap; they may touch
+-- the pieces are in order and do not overlap; they may touch
 abbrev pub IsAscending : List Piece → Type 0
 IsAscending ps = AscendFrom 0 ps
 
--- the pieces stand in order and do not overlap, and the text has each one's old bytes at its place
+-- the pieces are in order and do not overlap, and the text has each piece's old bytes at its place
 pub record Fit (ps : List Piece) (text : Text) : Type 0 where
   pub ascending : IsAscending ps
   pub standing : AllByRecursion (Stands text) ps
@@ -47,20 +47,20 @@ applied ps text = applied_from 0 ps text
 
 -- ---- the way back
 
--- the pieces that lead back, if the piece before them ends at `at` in the old text and at `new_at` in the new
+-- the pieces that lead back, if the piece before these ends at `at` in the old text and at `new_at` in the new
 abbrev pub reversed_from : ℕ → ℕ → List Piece → List Piece
 reversed_from at new_at [] = []
 reversed_from at new_at (p ∷ ps) =
     record { place = new_at + (p.place - at); old = p.new; new = p.old }
     ∷ reversed_from (end_of p) (new_at + (p.place - at) + length p.new) ps
 
--- the pieces that lead back: old and new bytes exchanged, at the places where they stand in the new text
+-- the pieces that lead back: old and new bytes exchanged, each piece at its place in the new text
 abbrev pub reversed : List Piece → List Piece
 reversed ps = reversed_from 0 0 ps
 
 -- ---- chunks
 
--- a stretch of a text that an edit keeps, or one that it replaces: the old bytes, then the new
+-- bytes that an edit keeps, or bytes that it replaces: first the old, then the new
 pub data Chunk : Type 0 where
   Kept : Text → Chunk
   Replaced : Text → Text → Chunk
@@ -109,14 +109,14 @@ chunks_fit = (chunks : List Chunk) → Fit (pieces_of_chunks chunks) (old_of chu
 abbrev pub chunks_lead : Type 0
 chunks_lead = (chunks : List Chunk) → applied (pieces_of_chunks chunks) (old_of chunks) ≡ new_of chunks
 
--- These chunks are the text before the edit and what the pieces make of it after it, and the replaced ones are the pieces: so
+-- The chunks are the text before the edit, and the text that the pieces make of it; the replaced chunks are the pieces. So
 -- all bytes that no piece covers are kept.
 pub record AreChunks (chunks : List Chunk) (ps : List Piece) (text : Text) : Type 0 where
   pub before : old_of chunks ≡ text
   pub afterwards : new_of chunks ≡ applied ps text
   pub replaced : pieces_of_chunks chunks ≡ ps
 
--- whatever pieces fit a text, there are such chunks
+-- if pieces fit a text, there are such chunks
 abbrev pub pieces_are_chunks : Type 0
 pieces_are_chunks = (ps : List Piece) (text : Text) → Fit ps text → (chunks : List Chunk) × AreChunks chunks ps text
 
@@ -128,9 +128,9 @@ EndBy place ps = AllByRecursion (λ p. end_of p ≤ place) ps
 abbrev pub BeginFrom : ℕ → List Piece → Type 0
 BeginFrom place ps = AllByRecursion (λ p. place ≤ p.place) ps
 
--- What stands between two places is kept whole if no piece reaches into it: before the first piece, between two, or after
--- the last. Before it stands what the earlier pieces make of the text before it, and after it what the later pieces make
--- of the text after it.
+-- The bytes between two places are kept whole if no piece reaches into them: before the first piece, between two pieces, or
+-- after the last. Before them is what the earlier pieces make of the text before, and after them what the later pieces make
+-- of the text after.
 abbrev pub kept_between : Type 0
 kept_between = (earlier later : List Piece) (text : Text) (from to : ℕ) → IsAscending earlier → EndBy from earlier → BeginFrom to later → from ≤ to
     → applied (earlier ++ later) text ≡ applied earlier (take from text) ++ between from to text ++ applied_from to later text
@@ -141,13 +141,13 @@ kept_between = (earlier later : List Piece) (text : Text) (from to : ℕ) → Is
 abbrev pub two_entries : Text
 two_entries = codes "@misc{a}\n@misc{b}\n"
 
--- the first is taken out, and put after the second
+-- the pieces that move the first entry after the second
 abbrev pub first_moved_after : List Piece
 first_moved_after =
     record { place = 0; old = codes "@misc{a}"; new = [] }
     ∷ record { place = 18; old = []; new = codes "@misc{a}\n" } ∷ []
 
--- the file afterwards, and the way back
+-- the pieces move the first entry after the second, and these are the pieces that lead back
 pub record IsMovedAndBack (file : Text) (pieces : List Piece) : Type 0 where
   pub afterwards : applied pieces file ≡ codes "\n@misc{b}\n@misc{a}\n"
   pub back : reversed pieces ≡

@@ -1,4 +1,4 @@
--- What it is to read a text as a database, and where a text without a reading goes wrong.
+-- Reading a text as a database, and the place at which a text without a reading goes wrong.
 use Rattle.std.specs.Prelude.{ℕ, ◌≡◌, ◌+◌, ◌<◌, ◌≤◌, List, ◌++◌, length, take, All}
 use Rattle.std.specs.List.{flat_map}
 use Rattle.bib_spec.specs.Bytes.{name_limit}
@@ -29,7 +29,7 @@ pub record IsItem (limit : ℕ) (i : Item) : Type 0 where
   pub tree : IsTree limit i.tree
   pub trail : IsCleanTrail (is_comment i.tree) i.trail
 
--- the database is the file taken apart, with names and keys of at most so many bytes
+-- the database is the file taken apart, with names and keys of at most `limit` bytes
 pub record ReadsWithin (limit : ℕ) (file : Text) (db : Reading) : Type 0 where
   pub bytes : bytes_of db ≡ file
   pub front : IsClean db.front
@@ -39,7 +39,7 @@ pub record ReadsWithin (limit : ℕ) (file : Text) (db : Reading) : Type 0 where
 abbrev pub Reads : Text → Reading → Type 0
 Reads = ReadsWithin name_limit
 
--- the text can be taken apart, with names and keys of at most so many bytes
+-- the text can be taken apart, with names and keys of at most `limit` bytes
 abbrev pub HasReadingWithin : ℕ → Text → Type 0
 HasReadingWithin limit t = (db : Reading) × ReadsWithin limit t db
 
@@ -47,16 +47,16 @@ HasReadingWithin limit t = (db : Reading) × ReadsWithin limit t db
 abbrev pub HasReading : Text → Type 0
 HasReading = HasReadingWithin name_limit
 
--- the text is one value and nothing else, with names of at most so many bytes
+-- the text is one value and nothing else, with names of at most `limit` bytes
 abbrev pub IsValueWithin : ℕ → Text → Type 0
 IsValueWithin limit t = (v : Value) × IsValue limit v × (value_bytes v ≡ t)
 
--- some bytes can follow so that it becomes such a text
+-- the text, with some bytes after it, is such a text
 abbrev pub IsViable : (Text → Type 0) → Text → Type 0
 IsViable IsSuch t = (more : Text) × IsSuch (t ++ more)
 
--- The text is not of this kind, and at the place that becomes certain: what stands before the place can still become such a
--- text, but with the byte at the place it no longer can.
+-- The text is not of this kind, and the place is where that becomes certain: the bytes before the place can still become
+-- such a text; with the byte at the place they no longer can.
 pub record FailsAt (IsSuch : Text → Type 0) (t : Text) (place : ℕ) : Type 0 where
   pub fails : IsSuch t → ⊥
   pub within : place ≤ length t

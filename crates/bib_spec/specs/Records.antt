@@ -96,7 +96,7 @@ is_repeated entries n = option_map_or (λ entry. list_any (is_named entry.key) (
 abbrev pub target_of : List EntryTexts → EntryTexts → Option ℕ
 target_of entries entry = option_and_then (entry_named entries) (crossref_text entry)
 
--- the target of entry n: the entry that its crossref names, wherever it stands in the file (btxdoc 2.1; dialect)
+-- the target of entry n: the entry that its crossref names, wherever that is in the file (btxdoc 2.1; dialect)
 abbrev pub target : List EntryTexts → ℕ → Option ℕ
 target entries n = option_and_then (target_of entries) (slice_get entries n)
 
@@ -104,7 +104,7 @@ target entries n = option_and_then (target_of entries) (slice_get entries n)
 abbrev pub other_than : ℕ → ℕ → Option ℕ
 other_than n m = if m == n then None else Some m
 
--- the parent of entry n: its target, where that is another entry
+-- the parent of entry n: its target, if the target is another entry
 abbrev pub parent : List EntryTexts → ℕ → Option ℕ
 parent entries n = option_and_then (other_than n) (target entries n)
 
@@ -136,11 +136,11 @@ record_field field = (folded field.name, field_text field.raw)
 abbrev pub own_fields : EntryTexts → List RecordField
 own_fields entry = map record_field (filter (λ field. not (has_name crossref field)) (effective entry.fields))
 
--- those of the second list's fields whose names the first list does not have
+-- the fields of the second list whose names the first list does not have
 abbrev pub missing : List RecordField → List RecordField → List RecordField
 missing own fields = filter (λ field. not (list_any (λ other. same other.0 field.0) own)) fields
 
--- the longest chain of parents that can be asked for (dialect)
+-- the greatest depth: the length of the longest chain of parents from which an entry can inherit (dialect)
 abbrev pub depth_limit : ℕ
 depth_limit = 8
 
@@ -148,7 +148,7 @@ depth_limit = 8
 abbrev pub default_depth : ℕ
 default_depth = 1
 
--- a depth that can be asked for
+-- a depth that a caller may choose: 1 to `depth_limit`
 pub record IsDepth (depth : ℕ) : Type 0 where
   pub least : 1 ≤ depth
   pub most : depth ≤ depth_limit
@@ -171,12 +171,12 @@ ancestors entries depth n = ancestors_from (parent entries) depth (n ∷ []) n
 abbrev pub fields_at : List EntryTexts → ℕ → List RecordField
 fields_at entries n = option_map_or own_fields (slice_get entries n) []
 
--- the own fields, and then from each of these entries in turn the fields that are still missing (btxdoc 2.1)
+-- the own fields, then the fields of each of these entries in turn whose names are still missing (btxdoc 2.1)
 abbrev pub with_inherited : List EntryTexts → List RecordField → List ℕ → List RecordField
 with_inherited entries own [] = own
 with_inherited entries own (n ∷ ns) = with_inherited entries (own ++ missing own (fields_at entries n)) ns
 
--- the record of entry n at this depth: its type in lower case, its key as it stands, its own fields and the inherited ones
+-- the record of entry n at this depth: its type in lower case, its key unchanged, its own fields and the inherited ones
 abbrev pub record_of : ℕ → List EntryTexts → ℕ → EntryTexts → Record
 record_of depth entries n entry = record {
   kind_name = folded entry.kind;
@@ -190,11 +190,11 @@ expanded depth entries n = option_map (record_of depth entries n) (slice_get ent
 
 -- ---- cited lists
 
--- the numbers of all entries
+-- the numbers of all entries: 0, 1, and so on
 abbrev pub numbers_of : List EntryTexts → List ℕ
 numbers_of entries = range_with_len 0 (length entries)
 
--- each number once, where it first stands in the list
+-- each number once, at its first place in the list
 abbrev pub once : List ℕ → List ℕ
 once [] = []
 once (n ∷ ns) = n ∷ filter (λ m. not (m == n)) (once ns)

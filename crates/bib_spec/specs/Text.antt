@@ -1,5 +1,5 @@
 -- A text is a list of bytes. Its bytes fall into classes, and names, keys and balanced texts are made of them.
--- (Reading treats all numbers above 127 alike, so no definition here asks whether a number is a byte.)
+-- (Reading treats all numbers above 127 alike, so no definition here requires that a number is a byte.)
 use Rattle.std.specs.Prelude.{ℕ, ◌≡◌, ◌<◌, ◌≤◌, Bool, true, ◌&&◌, ◌||◌, not, ◌==◌, nat_lt, nat_le, List, [], ◌∷◌, length, take, drop, slice_index, count_by, map, codes}
 use Rattle.std.specs.List.{prefix_len, list_all, list_any}
 use Rattle.std.specs.Char.{is_ascii_digit, to_ascii_lowercase}
@@ -35,13 +35,13 @@ abbrev pub does_not_begin_with : (ℕ → Bool) → Text → Bool
 does_not_begin_with test [] = true
 does_not_begin_with test (b ∷ rest) = not (test b)
 
--- the text after as many bytes of this class as it begins with
+-- the text after its first run of bytes of this class; the run may be empty
 abbrev pub after_run : (ℕ → Bool) → Text → Text
 after_run test t = drop (prefix_len test t) t
 
 -- ---- names and keys
 
--- a name of at most so many bytes: name bytes, at least one, and no digit first (dialect)
+-- a name of at most `limit` bytes: it has at least one byte, all are name bytes, and the first is no digit (dialect)
 unfoldable pub is_name_within : ℕ → Text → Bool
 is_name_within limit t = nat_lt 0 (length t) && nat_le (length t) limit && does_not_begin_with is_ascii_digit t && list_all is_name_byte t
 
@@ -63,7 +63,8 @@ is_new_key t = nat_lt 0 (length t) && nat_le (length t) name_limit && list_all i
 abbrev pub folded : Text → Text
 folded t = map to_ascii_lowercase t
 
--- two texts are the same but for the case of ASCII letters (btxhak 5.1 for names of fields and macros; for keys and types: dialect)
+-- two texts are equal if the case of ASCII letters does not count (btxhak 5.1 for names of fields and macros; for keys and
+-- types: dialect)
 abbrev pub same : Text → Text → Bool
 same a b = bytes_eq (folded a) (folded b)
 
@@ -82,6 +83,6 @@ pub record IsBalanced (t : Text) : Type 0 where
   pub never_negative : (n : ℕ) → closed_before t n ≤ opened_before t n
   pub all_closed : closed_before t (length t) ≡ opened_before t (length t)
 
--- a quotation mark stands only inside braces (dialect)
+-- each quotation mark is inside braces (dialect)
 abbrev pub QuotesAreBraced : Text → Type 0
 QuotesAreBraced t = (n : ℕ) → n < length t → slice_index t n ≡ quote → closed_before t n < opened_before t n

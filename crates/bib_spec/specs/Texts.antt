@@ -56,7 +56,7 @@ values_of (DefinitionTree d) = d.assignment.value ∷ []
 values_of (PreambleTree p) = p.value ∷ []
 values_of (EntryTree e) = map (λ row. row.assignment.value) e.rows
 
--- The macros by which an item's values are read, given those before it: in its own definition a macro stands for
+-- The macros by which an item's values are read, given the macros before the item: in its own definition a macro stands for
 -- nothing. (dialect)
 abbrev pub macros_in : Macros → Tree → Macros
 macros_in macros (DefinitionTree d) = updated macros d.assignment.name None
@@ -64,8 +64,8 @@ macros_in macros (CommentTree h) = macros
 macros_in macros (PreambleTree p) = macros
 macros_in macros (EntryTree e) = macros
 
--- The macros after an item, given those before it: a definition replaces an earlier one, or a month, for what
--- follows. (btxhak 5.2)
+-- The macros after an item, given the macros before it: for the items that follow, a definition replaces an earlier one, or
+-- a month. (btxhak 5.2)
 abbrev pub macros_after : Macros → Tree → Macros
 macros_after macros (DefinitionTree d) =
     updated macros d.assignment.name (Some (raw_text (macros_in macros (DefinitionTree d)) d.assignment.value))
@@ -73,7 +73,7 @@ macros_after macros (CommentTree h) = macros
 macros_after macros (PreambleTree p) = macros
 macros_after macros (EntryTree e) = macros
 
--- the macros before item n, given those before the first
+-- the macros before item n, given the macros before the first item
 abbrev pub macros_at : Macros → List Item → ℕ → Macros
 macros_at macros items n = fold (λ m item. macros_after m item.tree) macros (take n items)
 
@@ -81,11 +81,11 @@ macros_at macros items n = fold (λ m item. macros_after m item.tree) macros (ta
 abbrev pub with_macros : Macros → List Item → List (Macros × Item)
 with_macros macros items = scan (λ m item. macros_after m item.tree) (λ m item. (m, item)) macros items
 
--- what a function says of each item under the macros before it, in file order
+-- what the function `say` gives for each item under the macros before it, in file order
 abbrev pub gathered : {X : Type 0} → (Macros → Tree → List X) → Macros → List Item → List X
 gathered say macros items = flat_map (λ p. say p.0 p.1.tree) (with_macros macros items)
 
--- what the name stands for at item n, or at the end of the file where n is the number of items
+-- what the name stands for at item n; at the end of the file, if n is the number of items
 abbrev pub seen : Reading → ℕ → Text → Option Text
 seen db n name = macros_at months db.items n (folded name)
 
@@ -101,7 +101,8 @@ abbrev pub words : Text → List Text
 words [] = [] ∷ []
 words (b ∷ t) = if is_space b then [] ∷ words t else onto_first b (words t)
 
--- each run of white space as one space, and none at the ends (as BibTeX does; once, after the parts are joined: dialect)
+-- each run of white space is made one space, and none is left at the ends (as BibTeX does; once, after the parts are joined:
+-- dialect)
 unfoldable pub field_text : Text → Text
 field_text t = join_with_byte space (filter (λ word. not (is_empty word)) (words t))
 

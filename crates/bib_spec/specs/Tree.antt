@@ -80,7 +80,7 @@ pub data Tree : Type 0 where
 
 -- ---- the bytes of a tree
 
--- a part as it stands in the file, with its braces or quotation marks
+-- the bytes of a part, with its braces or quotation marks
 abbrev pub part_bytes : Part → Text
 part_bytes (Braced t) = open_brace ∷ t ++ close_brace ∷ []
 part_bytes (Quoted t) = quote ∷ t ++ quote ∷ []
@@ -109,7 +109,7 @@ abbrev pub open_byte : Delimiter → ℕ
 open_byte Brace = open_brace
 open_byte Paren = open_paren
 
--- the byte that closes it
+-- the byte that closes an item
 abbrev pub close_byte : Delimiter → ℕ
 close_byte Brace = close_brace
 close_byte Paren = close_paren
@@ -172,13 +172,13 @@ IsPart limit (Quoted t) = IsBalanced t × QuotesAreBraced t
 IsPart limit (Digits t) = (0 < length t) × AllPass is_ascii_digit t
 IsPart limit (Macro t) = IsTrue (is_name_within limit t)
 
--- only white space stands around the `#`, and what follows is a part
+-- only white space is around the `#`, and a part of the grammar follows
 pub record IsLink (limit : ℕ) (l : Link) : Type 0 where
   pub space_before_hash : IsSpace l.space_before_hash
   pub space_after_hash : IsSpace l.space_after_hash
   pub part : IsPart limit l.part
 
--- each of its parts is one
+-- each part of the value is a part of the grammar
 pub record IsValue (limit : ℕ) (v : Value) : Type 0 where
   pub first : IsPart limit v.first
   pub links : All (IsLink limit) v.links
@@ -191,12 +191,12 @@ pub record IsAssignment (limit : ℕ) (a : Assignment) : Type 0 where
   pub value : IsValue limit a.value
   pub space_after : IsSpace a.space_after
 
--- only white space stands between the comma and the assignment
+-- only white space is between the comma and the assignment
 pub record IsRow (limit : ℕ) (r : Row) : Type 0 where
   pub space_before_name : IsSpace r.space_before_name
   pub assignment : IsAssignment limit r.assignment
 
--- only white space stands between the at-sign and the type name
+-- only white space is between the at-sign and the type name
 pub record IsHead (h : Head) : Type 0 where
   pub space_before_type : IsSpace h.space_before_type
   pub type_name : IsTrue (is_type_name h.type_name)
@@ -220,8 +220,8 @@ pub record IsPreamble (limit : ℕ) (p : Preamble) : Type 0 where
   pub value : IsValue limit p.value
   pub space_after : IsSpace p.space_after
 
--- The byte belongs to the key. A key ends before white space and before a comma, and in an item that a brace opens before a
--- closing brace. (dialect)
+-- The byte can continue a key. A key ends before white space and before a comma; in an item that a brace opens, it also ends
+-- before a closing brace. (dialect)
 abbrev pub goes_on_key : Delimiter → ℕ → Bool
 goes_on_key Brace b = not (is_space b || b == comma || b == close_brace)
 goes_on_key Paren b = not (is_space b || b == comma)
@@ -239,7 +239,7 @@ abbrev pub IsLastComma : Option Text → Type 0
 IsLastComma None = ⊤
 IsLastComma (Some space_after) = IsSpace space_after
 
--- an entry: its type name is no keyword, and its key has at most so many bytes
+-- an entry: its type name is no keyword, and its key has at most `limit` bytes
 pub record IsEntry (limit : ℕ) (e : Entry) : Type 0 where
   pub opening : IsOpening e.opening
   pub type_name : IsTrue (is_no_keyword e.opening.head.type_name)
@@ -248,7 +248,7 @@ pub record IsEntry (limit : ℕ) (e : Entry) : Type 0 where
   -- the key is as long as it can be: in an item that a parenthesis opens, a `)` directly after the key would belong to it
   pub key_ends : IsTrue (does_not_begin_with (goes_on_key e.opening.delimiter) (after_key_bytes e))
   pub space_after_key : IsSpace e.space_after_key
-  -- white space beside an empty key stands before it
+  -- white space beside an empty key comes before the key
   pub empty_key : e.key ≡ [] → e.space_after_key ≡ []
   pub rows : All (IsRow limit) e.rows
   pub last_comma : IsLastComma e.last_comma
@@ -258,7 +258,7 @@ pub record IsComment (h : Head) : Type 0 where
   pub head : IsHead h
   pub type_name : IsTrue (same h.type_name (codes "comment"))
 
--- a tree of the grammar, with names and keys of at most so many bytes
+-- a tree of the grammar, with names and keys of at most `limit` bytes
 abbrev pub IsTree : ℕ → Tree → Type 0
 IsTree limit (CommentTree h) = IsComment h
 IsTree limit (DefinitionTree d) = IsDefinition limit d

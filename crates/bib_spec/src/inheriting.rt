@@ -2,8 +2,8 @@
 
 ghost use Rattle.bib_spec.specs.Lineages.{rings_give_nothing_more, parent_alone_at_depth_1};
 
-/// An entry that comes round again among the parents, as in a ring, gives nothing more: who gathers what an entry inherits
-/// need not keep in mind which entries were met.
+/// In a ring of parents an entry that is met again gives nothing more: code that gathers inherited fields need not remember
+/// which entries it has met.
 pub fn a_ring_gives_nothing_more()
     ensures { rings_give_nothing_more }
 {}

@@ -10,7 +10,7 @@ pub fn reversed_pieces_are_the_way_back()
     ensures example { IsMovedAndBack two_entries first_moved_after }
 {}
 
-/// The pieces of a text in chunks fit it, and lead to the text that the chunks are afterwards.
+/// The pieces of chunks fit the old text of the chunks, and lead to their new text.
 pub fn pieces_of_chunks_lead_from_old_to_new()
     ensures fit { chunks_fit }
     ensures new { chunks_lead }

@@ -1,4 +1,4 @@
--- How far a list goes to its last member that passes a test.
+-- The number of elements up to the last one that passes a test.
 use Rattle.std.proofs.Common.{◌≡◌, ℕ, zero, suc, ◌+◌, ◌≤◌, ◌<◌, Bool, true, false, cond, List, [], ◌∷◌, ◌++◌, length, take, get_or, refl, sym, ap, ◌∙◌, arith}
 use Rattle.std.specs.Prelude.{◌||◌, not}
 use Rattle.std.specs.List.{list_any, prefix_len}
@@ -21,13 +21,13 @@ pub up_to_last-snoc-no : {A : Type 0} (p : A → Bool) (xs : List A) (x : A) →
 up_to_last-snoc-no p [] x fails = rw fails refl
 up_to_last-snoc-no p (y ∷ ys) x fails = rw (any-snoc-no p (y ∷ ys) x fails, up_to_last-snoc-no p ys x fails) refl
 
--- of the members before top those from end on are not to be kept
+-- of the elements before `top`, none from `end` on passes the test `keep`
 pub record IsTrimming {A : Type 0} (keep : A → Bool) (xs : List A) (top end : ℕ) : Type 0 where
   pub within : end ≤ top
   pub inside : top ≤ length xs
   pub kept : up_to_last keep (take end xs) ≡ up_to_last keep (take top xs)
 
--- one more is not kept
+-- one more element at the end does not pass
 pub IsTrimming-less : {A : Type 0} (keep : A → Bool) (xs : List A) (top end last : ℕ) (d : A) → end ≡ last + 1 → IsTrimming keep xs top end → keep (get_or xs last d) ≡ false → IsTrimming keep xs top last
 IsTrimming-less keep xs top end last d is trimming fails =
     let more : take end xs ≡ take last xs ++ get_or xs last d ∷ [] = ap (λ n. take n xs) is ∙ take_more xs last d (omega (arith, trimming.within, trimming.inside)) in
@@ -37,11 +37,11 @@ IsTrimming-less keep xs top end last d is trimming fails =
       kept = sym (up_to_last-snoc-no keep (take last xs) (get_or xs last d) fails) ∙ ap (up_to_last keep) (sym more) ∙ trimming.kept;
     }
 
--- none is kept
+-- no element passes
 pub IsTrimming-none : {A : Type 0} (keep : A → Bool) (xs : List A) (top end : ℕ) → end ≡ 0 → IsTrimming keep xs top end → end ≡ up_to_last keep (take top xs)
 IsTrimming-none keep xs top end is trimming = is ∙ sym (ap (λ n. up_to_last keep (take n xs)) is) ∙ trimming.kept
 
--- the last that is kept
+-- the last element that passes was reached
 pub IsTrimming-done : {A : Type 0} (keep : A → Bool) (xs : List A) (top end last : ℕ) (d : A) → end ≡ last + 1 → IsTrimming keep xs top end → keep (get_or xs last d) ≡ true → end ≡ up_to_last keep (take top xs)
 IsTrimming-done keep xs top end last d is trimming passes =
     let more : take end xs ≡ take last xs ++ get_or xs last d ∷ [] = ap (λ n. take n xs) is ∙ take_more xs last d (omega (arith, trimming.within, trimming.inside)) in
@@ -49,18 +49,18 @@ IsTrimming-done keep xs top end last d is trimming passes =
     let whole = ap (up_to_last keep) more ∙ up_to_last-snoc-yes keep (take last xs) (get_or xs last d) passes ∙ ap suc len in
     omega (arith, is, whole, trimming.kept)
 
--- the text up to there
+-- the text up to its last byte outside the class
 pub trimmed_at : (test : ℕ → Bool) (text : List ℕ) (end : ℕ) → end ≡ up_to_last (λ b. not (test b)) (take (length text) text) → take end text ≡ before_run test text
 trimmed_at test text end is =
     let whole : take (length text) text ≡ text = take_all (length text) text (omega arith) in
     ap (λ n. take n text) (is ∙ ap (up_to_last (λ b. not (test b))) whole)
 
--- some member passes
+-- if some element passes, the number is not 0
 any_up : {A : Type 0} (p : A → Bool) (xs : List A) → list_any p xs ≡ true → 0 < up_to_last p xs
 any_up p [] some = absurd (cc)
 any_up p (x ∷ xs) some = rw some (omega arith)
 
--- the first that passes stands no later than the last
+-- the first element that passes is not after the last
 pub prefix_len-le-up_to_last : {A : Type 0} (p : A → Bool) (k : ℕ) (xs : List A) → 0 < up_to_last p (take k xs) → prefix_len (λ x. not (p x)) xs ≤ up_to_last p (take k xs)
 prefix_len-le-up_to_last p zero xs some = absurd (omega arith)
 prefix_len-le-up_to_last p (suc k) [] some = omega arith

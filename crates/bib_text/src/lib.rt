@@ -1,6 +1,6 @@
-//! Lists that own their members, and what holds of any text: names that are the same without regard to case, and texts
-//! without white space at their ends. It knows bytes, and nothing of what they say. It promises the one longest stretch of a
-//! text that neither begins nor ends with white space.
+//! Lists that own their members, and what holds for any text: names that are equal if case does not count, and texts without
+//! white space at their ends. It knows bytes, and nothing about what they mean. It promises the text without the white space
+//! at its front and at its end, and nothing else taken away.
 #![tactic(auto)]
 
 mod names;

@@ -4,13 +4,13 @@ ghost use Rattle.std.specs.Prelude.{◌≡◌, List, length};
 
 use std::marker::Model;
 
-/// A list that owns its members. A contract sees the list, and not where it lies in memory.
+/// A list that owns its members. Contracts speak of the list, and not of its place in memory.
 #[derive(Debug, Drop)]
 pub struct Seq<T> {
     members: Vec<T>,
 }
 
-/// Bytes that are owned.
+/// Owned bytes.
 pub type Text = Seq<u8>;
 
 impl<T> Model for Seq<T> {
@@ -20,14 +20,14 @@ impl<T> Model for Seq<T> {
 }
 
 impl<T> Seq<T> {
-    /// The list of a vector's members. It takes no memory.
+    /// The list of a vector's members. It allocates no memory.
     pub fn from_vec(members: Vec<T>) -> Self
         ensures { result ≡ members.items }
     {
         Seq { members }
     }
 
-    /// The vector again. It takes no memory.
+    /// The members as a vector again. It allocates no memory.
     pub fn into_vec(self) -> Vec<T>
         ensures { result.items ≡ self }
     {

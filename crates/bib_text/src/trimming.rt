@@ -13,7 +13,7 @@ pub fn is_space(byte: u8) -> bool
     matches!(byte, b' ' | b'\t' | b'\n' | b'\r')
 }
 
-/// How much white space the text begins with.
+/// The number of bytes of white space at the front of the text.
 fn space_len(text: &[u8]) -> usize
     ensures len { result ≡ prefix_len is_space text.now }
     ensures within { result ≤ length text.now }
@@ -39,7 +39,7 @@ fn before_space(text: &[u8]) -> &[u8]
     &text[..end]
 }
 
-/// The text without white space at its ends. It takes time in the length of that white space, and no memory.
+/// The text without the white space at its ends. It takes time in the length of that white space, and no memory.
 pub fn trimmed(text: &[u8]) -> &[u8]
     ensures { result.now ≡ trimmed text.now }
 {

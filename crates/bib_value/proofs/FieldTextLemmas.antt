@@ -6,7 +6,7 @@ use Rattle.bib_spec.specs.Bytes.{space}
 use Rattle.bib_spec.specs.Text.{Text, is_space}
 use Rattle.bib_spec.specs.Texts.{is_empty, words, onto_first, field_text}
 
--- What the bytes add to a field text that was begun or not, with white space after it or not.
+-- What the bytes add to a field text, given whether the field text has begun, and whether white space came last.
 abbrev pub more_text : Bool → Bool → Text → Text
 more_text apart begun [] = []
 more_text apart begun (b ∷ t) = if is_space b then more_text true begun t else (if apart && begun then space ∷ b ∷ more_text false true t else b ∷ more_text false true t)
@@ -72,7 +72,7 @@ more_text-all t = (more t).before false
 abbrev pub is_begun : Text → Bool
 is_begun t = not (is_empty t)
 
--- the text is what the bytes before the rest say, with white space after it or not
+-- the text is the field text of the bytes before the rest; `apart` says whether white space came last
 pub record InText (text : Text) (apart : Bool) (rest whole : Text) : Type 0 where
   pub joined : text ++ more_text apart (is_begun text) rest ≡ field_text whole
 

@@ -12,7 +12,7 @@ use Rattle.bib_value.specs.Months.{shown, text_in}
 abbrev pub Names : Type 0
 Names = List (Bor Text × Bor Text)
 
--- the first i names are others
+-- none of the first i names is this one
 pub record NoneBefore (names : Names) (i : ℕ) (name : Text) : Type 0 where
   pub rest : text_in (map shown (drop i names)) name ≡ text_in (map shown names) name
 

@@ -49,7 +49,7 @@ whole-neat (b ∷ t) n =
 pub field_text-neat : (t : Text) → neat true t ≡ true → field_text t ≡ t
 field_text-neat t n = sym (more_text-all t) ∙ whole-neat t n
 
--- a neat text continues as one, byte by byte
+-- a neat text is neat byte by byte
 pub neat_step : (so_far apart : Bool) (b : ℕ) (t : Text) → so_far && neat apart (b ∷ t) ≡ (so_far && can_go_on apart b) && neat (eqb b 32) t
 neat_step so_far apart b t =
     ⊎_elim
@@ -75,12 +75,12 @@ neat_step so_far apart b t =
     other : (b : ℕ) → is_space b ≡ false → eqb b 32 ≡ false
     other b h = ⊎_elim (λ (e : eqb b 32 ≡ true). let both : false ≡ true = sym h ∙ ap is_space (eqb-true b 32 e) ∙ space_is in absurd (cc)) (λ e. e) (cases_Bool (eqb b 32))
 
--- a text begins neat with its first byte
+-- testing the first byte, and then the rest, tests the whole text
 pub neat_begins : (text : Text) → 1 ≤ length text → can_go_on true (get_or text 0 0) && neat (eqb (get_or text 0 0) 32) (drop 1 text) ≡ neat true text
 neat_begins [] within = absurd (omega (arith, within))
 neat_begins (b ∷ t) within = sym (neat_step true true b t)
 
--- one byte more
+-- one more byte
 pub neat_more : (so_far : Bool) (text : Text) (n : ℕ) → 1 ≤ n → n < length text → so_far && neat (eqb (get_or text (n - 1) 0) 32) (drop n text) ≡ neat true text
     → (so_far && can_go_on (eqb (get_or text (n - 1) 0) 32) (get_or text n 0)) && neat (eqb (get_or text (n + 1 - 1) 0) 32) (drop (n + 1) text) ≡ neat true text
 neat_more so_far text n begun within is =
@@ -91,7 +91,7 @@ neat_more so_far text n begun within is =
     ∙ ap (λ (t : Text). so_far && neat apart t) (sym (rest_is text n within))
     ∙ is
 
--- and the last
+-- the last byte
 pub neat_ends : (so_far : Bool) (text : Text) (n : ℕ) → n ≤ length text → length text ≤ n → so_far && neat (eqb (get_or text (n - 1) 0) 32) (drop n text) ≡ neat true text
     → so_far && not (eqb (get_or text (length text - 1) 0) 32) ≡ neat true text
 neat_ends so_far text n within end is =

@@ -32,13 +32,13 @@ said-le m v n p at =
 said-all : (m : Macros) (v : Value) (n : ℕ) → n ≡ length (parts_of v) → said m v n ≡ raw_text m v
 said-all m v n all = ap (λ (k : ℕ). said m v k) all ∙ ap (flat_map (part_text m)) (take-length (parts_of v))
 
--- there are as many parts as the value has, which the bytes say
+-- there are as many parts as in the value with these bytes
 pub parts_counted : (bytes : Text) (spans : List PartSpan) (count : ℕ) → IsPartsOf bytes spans → ((v : Value) → spans ≡ spans_of v → count ≡ length (parts_of v)) → OfValue bytes (λ v. count ≡ length (parts_of v))
 parts_counted bytes spans count is counted v ok same = counted v (is.3 ∙ ap spans_of (one_value is.0 v is.1 ok (is.2 ∙ sym same)))
 
 -- ---- the length
 
--- the length of what the first n parts say, which is not too long
+-- the length of what the first n parts say, if it is not too long
 pub record LenTo (bytes : Text) (m : Macros) (n len : ℕ) : Type 0 where
   pub is : OfValue bytes (λ v. len ≡ length (said m v n))
   pub short : len ≤ raw_limit
@@ -85,7 +85,7 @@ said_to_more bytes m n text t part to = record {
 pub said_to_all : (bytes : Text) (m : Macros) (n : ℕ) (text : Text) → OfValue bytes (λ v. n ≡ length (parts_of v)) → SaidTo bytes m n text → OfValue bytes (λ v. text ≡ raw_text m v)
 said_to_all bytes m n text all to v ok same = to.is v ok same ∙ said-all m v n (all v ok same)
 
--- a text that is measured is no longer than its measure
+-- a text whose measured length is within the limit is not longer than the limit
 pub measured : (bytes : Text) (m : Macros) (text : Text) (len : ℕ) (spans : List PartSpan) → IsPartsOf bytes spans → OfValue bytes (λ v. len ≡ min (length (raw_text m v)) (raw_limit + 1)) → len ≤ raw_limit → OfValue bytes (λ v. text ≡ raw_text m v) → length text ≤ raw_limit
 measured bytes m text len spans is len_is short text_is =
     let e = len_is is.0 is.1 is.2 in

@@ -1,4 +1,4 @@
-//! Why a text is not given.
+//! Faults of texts.
 
 ghost use Rattle.std.specs.Prelude.{◌≡◌, None};
 ghost use Rattle.bib_value.specs.Faults.{fault_number};
@@ -6,7 +6,7 @@ ghost use Rattle.bib_value.specs.Faults.{fault_number};
 use std::alloc::{AllocError, AllocFailed};
 use thiserror::Error;
 
-/// Why a text is not given.
+/// Why the raw text or the field text of a value is refused.
 #[derive(Clone, Copy, Debug, PartialEq, Eq, Error)]
 pub enum ValueFault {
     /// The raw text is longer than 1,048,576 bytes.

@@ -1,5 +1,5 @@
-//! Says what a value says: its raw text by the macros that stand before it, and its field text. It knows macros and
-//! values; it does not know items. It promises the text of the definitions, and none that is longer than the limit.
+//! The texts of a value: its raw text, by the macros defined before it, and its field text. It knows macros and values; it
+//! does not know items. It promises the texts of the definitions, and refuses a text that is longer than the limit.
 #![tactic(auto)]
 
 mod fault;

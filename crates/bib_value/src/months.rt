@@ -1,4 +1,4 @@
-//! The macros that are there from the start.
+//! The months: macros that are defined from the start.
 
 ghost use Rattle.std.specs.Prelude.{◌≡◌, map};
 ghost use Rattle.std.specs.Option.{option_copied};
@@ -24,7 +24,7 @@ const MONTHS: [(&[u8], &[u8]); 12] = [
     (b"dec", b"December"),
 ];
 
-/// The text of the first of these names, with their texts, that is this one.
+/// The text that belongs to this name, folded, in a list of names with their texts: the first one counts.
 fn text_in(names: &[(&'static [u8], &'static [u8])], name: &[u8]) -> Option<&'static [u8]>
     ensures { option_copied result ≡ text_in (map shown names.now) name.now }
 {
@@ -36,7 +36,7 @@ fn text_in(names: &[(&'static [u8], &'static [u8])], name: &[u8]) -> Option<&'st
     None
 }
 
-/// The text of the month that has this name, in any case.
+/// The text of the month with this name, in any case.
 #[tactic(auto, unfolding(bib_spec::specs::Texts::months))]
 pub fn month(name: &[u8]) -> Option<&'static [u8]>
     ensures { option_copied result ≡ months (folded name.now) }

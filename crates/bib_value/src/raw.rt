@@ -18,8 +18,8 @@ use std::alloc::Global;
 /// The longest raw text, in bytes. (dialect)
 pub const RAW_LIMIT: u32 = 1_048_576;
 
-/// What a part says: its content, or what its macro stands for. The macro `own`, which is being defined, gives nothing,
-/// and so does an undefined one.
+/// What a part says: its content, or what its macro stands for. The macro `own`, which is being defined, gives nothing; an
+/// undefined macro gives nothing, too.
 pub fn part_text<'a, M: MacroTable>(part: Part<'a>, macros: &'a M, own: Option<&[u8]>) -> &'a [u8]
     ensures { result.now ≡ part_text (without (option_copied own.entry) (M.macros macros.entry.now)) (part_view part.entry) }
 {
@@ -31,7 +31,7 @@ pub fn part_text<'a, M: MacroTable>(part: Part<'a>, macros: &'a M, own: Option<&
     }
 }
 
-/// What a macro stands for, or nothing.
+/// What a macro stands for, or nothing if it is undefined.
 fn macro_text<'a, M: MacroTable>(name: &[u8], macros: &'a M, own: Option<&[u8]>) -> &'a [u8]
     ensures { result.now ≡ unwrap_or (without (option_copied own.entry) (M.macros macros.entry.now) (folded name.now)) [] }
 {
@@ -44,7 +44,7 @@ fn macro_text<'a, M: MacroTable>(name: &[u8], macros: &'a M, own: Option<&[u8]>)
     }
 }
 
-/// Whether the name is that of the macro being defined.
+/// Whether the name is the name of the macro that is being defined.
 fn is_own(name: &[u8], own: Option<&[u8]>) -> bool
     ensures { result ≡ is_own (option_copied own.entry) (folded name.now) }
 {
@@ -54,8 +54,8 @@ fn is_own(name: &[u8], own: Option<&[u8]>) -> bool
     }
 }
 
-/// The length of a value's raw text, or 1,048,577 where it is longer than that. It takes time in the number of parts
-/// up to there.
+/// The length of a value's raw text, or 1,048,577 if it is longer than 1,048,576 bytes. It takes time linear in the number
+/// of parts up to there.
 pub fn raw_len<M: MacroTable>(parts: &Parts, bytes: &[u8], macros: &M, own: Option<&[u8]>) -> u32
     requires { IsPartsOf bytes.now parts.now }
     ensures len { OfValue bytes.now (λ v. result ≡ min (length (raw_text (without (option_copied own.entry) (M.macros macros.now)) v)) (raw_limit + 1)) }
@@ -72,8 +72,8 @@ pub fn raw_len<M: MacroTable>(parts: &Parts, bytes: &[u8], macros: &M, own: Opti
     len
 }
 
-/// The raw text of a value: what its parts say, joined. It takes memory for the text alone. Where the text is longer
-/// than 1,048,576 bytes, it is refused and not built. (btxdoc 2.1; dialect)
+/// The raw text of a value: what its parts say, joined. It takes memory only for the text. If the text is longer than
+/// 1,048,576 bytes, it is refused and not built. (btxdoc 2.1; dialect)
 pub fn raw_text<M: MacroTable>(
     alloc: Global,
     parts: &Parts,

@@ -1,4 +1,4 @@
-//! White space made one.
+//! Field texts: each run of white space made one space.
 
 ghost use Rattle.std.specs.Prelude.{◌≡◌, true, IsTrue, IfOk, IfErr};
 ghost use Rattle.bib_spec.specs.Text.{is_space};
@@ -18,7 +18,7 @@ fn is_space(byte: u8) -> bool
     matches!(byte, b' ' | b'\t' | b'\n' | b'\r')
 }
 
-/// Whether a neat text can continue with this byte, where a word has to begin if it stands apart. It takes no branch.
+/// Whether a neat text can continue with this byte; if `apart` is true, only with a word. It has no branch.
 #[tactic(auto, unfolding(bib_spec::specs::Text::is_space))]
 fn can_go_on(apart: bool, byte: u8) -> bool
     ensures { result ≡ can_go_on apart byte }
@@ -27,8 +27,8 @@ fn can_go_on(apart: bool, byte: u8) -> bool
     !is_other & !(apart & (byte == b' '))
 }
 
-/// Whether the text is words with one space between each two, and none at its ends: such a text is a field text as it
-/// stands. It takes no memory. Each byte is looked at beside the one before it, so that many are tested at a time.
+/// Whether the text is words with one space between each two, and none at its ends: such a text is its own field text. It
+/// takes no memory. It compares each byte only with the byte before it, so that many bytes are tested at a time.
 pub fn is_neat(text: &[u8]) -> bool
     ensures neat { result ≡ neat true text.now }
     ensures own { IsTrue result → field_text text.now ≡ text.now }
@@ -43,20 +43,20 @@ pub fn is_neat(text: &[u8]) -> bool
     is_so_far & (text[text.len() - 1] != b' ')
 }
 
-/// The text with each run of white space as one space, and none at the ends. It takes memory for the text, and time in
-/// its length. (btxhak; dialect)
+/// The text with each run of white space made one space, and no space at the ends. It takes memory for the text, and time
+/// linear in its length. (btxhak; dialect)
 pub fn field_text(alloc: Global, bytes: &[u8]) -> Result<Text, ValueFault>
     ensures text { IfOk result (λ text. text ≡ field_text bytes.now) }
     ensures only { IfErr result (λ fault. fault ≡ Memory) }
 {
-    // Most texts are field texts as they stand.
+    // most texts are their own field texts
     if is_neat(bytes) {
         return Ok(Seq::from_vec(Vec::from_slice(alloc, bytes)?));
     }
     spaced(alloc, bytes)
 }
 
-/// The same, word by word.
+/// The field text of any text, word by word.
 fn spaced(alloc: Global, bytes: &[u8]) -> Result<Text, ValueFault>
     ensures text { IfOk result (λ text. text ≡ field_text bytes.now) }
     ensures only { IfErr result (λ fault. fault ≡ Memory) }

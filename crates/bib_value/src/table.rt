@@ -14,7 +14,7 @@ use folded_map::FoldedMap;
 use std::alloc::Global;
 use std::marker::Model;
 
-/// What macros stand for, however it is kept.
+/// A table that gives what each macro stands for.
 pub trait MacroTable {
     ghost use Rattle.bib_spec.specs.Texts.{Macros as MacrosOf};
 
@@ -26,7 +26,7 @@ pub trait MacroTable {
         ensures { option_copied result ≡ macros self.now (folded name.now) };
 }
 
-/// A finite table of macros, beside the months. A contract sees the names that were defined, folded, with their texts.
+/// A table of defined macros, in addition to the months. Contracts speak of the defined names, folded, with their texts.
 #[derive(Drop)]
 pub struct Macros {
     defined: FoldedMap<Text>,
@@ -45,7 +45,7 @@ impl Model for Macros {
 }
 
 impl Macros {
-    /// The macros at the head of a file: the months. It takes no memory.
+    /// The macros at the start of a file: the months. It takes no memory.
     pub fn months(alloc: Global) -> Result<Macros, ValueFault>
         ensures months { IfOk result (λ m. macros_of m ≡ months) }
         ensures only { IfErr result (λ fault. fault ≡ Memory) }
@@ -55,7 +55,7 @@ impl Macros {
         })
     }
 
-    /// Lets the name stand for this text from now on.
+    /// Defines the macro: from now on the name stands for this text.
     pub fn define(&mut self, name: &[u8], text: &[u8]) -> Result<(), ValueFault>
         requires name { IsTrue (is_name name.now) }
         requires text { length text.now ≤ raw_limit }
@@ -69,7 +69,7 @@ impl Macros {
         Ok(())
     }
 
-    /// The text that the name stands for: the one that it was given last, else that of the month.
+    /// The text that the name stands for: the text of its last definition, else the text of the month with this name.
     pub fn text(&self, name: &[u8]) -> Option<&[u8]>
         ensures text { option_copied result ≡ macros_of self.now (folded name.now) }
         ensures short { IfSome result (λ text. length text.now ≤ raw_limit) }

@@ -7,10 +7,10 @@ use Rattle.bib_words.specs.declared.commands.Command.{Command}
 abbrev pub number_limit : ℕ
 number_limit = 65535
 
--- A name with as many words as its command takes, and with a number or a depth where it takes one: `cat [F]`, `check F`,
--- `lint F`, `explain FAULT`, `show F KEY` with a depth, `cite F KEY..` with a number, `labels F KEY..`, `json F KEY..` and
--- `names F KEY TEMPLATE` with a depth, `edit F WORD..`, whose words may be left out, `undo F` and `redo F` with a number, `log F`,
--- `forget F`, `newkeys F` and `ris F KEY..` with a depth, `import F`. (dialect)
+-- A name with the number of arguments that its command takes, and with a number or a depth if it takes one: `cat [F]`,
+-- `check F`, `lint F`, `explain FAULT`, `show F KEY` with a depth, `cite F KEY..` with a number, `labels F KEY..`,
+-- `json F KEY..` and `names F KEY TEMPLATE` with a depth, `edit F WORD..`, whose words may be left out, `undo F` and `redo F`
+-- with a number, `log F`, `forget F`, `newkeys F` and `ris F KEY..` with a depth, `import F`. (dialect)
 pub data HasItsWords (c : Command) : Type 0 where
   cat : c.name ≡ codes "cat" → length c.words ≤ 1 → c.n ≡ 0 → c.depth ≡ 0 → HasItsWords c
   check : c.name ≡ codes "check" → length c.words ≡ 1 → c.n ≡ 0 → c.depth ≡ 0 → HasItsWords c
@@ -35,14 +35,14 @@ pub data AddsChange (c : Command) : Type 0 where
   edit : c.name ≡ codes "edit" → AddsChange c
   import : c.name ≡ codes "import" → AddsChange c
 
--- the commands that make a new file of the old
+-- the commands that make a new file from the old one
 pub data MakesFile (c : Command) : Type 0 where
   adds : AddsChange c → MakesFile c
   undo : c.name ≡ codes "undo" → MakesFile c
   redo : c.name ≡ codes "redo" → MakesFile c
 
--- each option that is given is one that the command takes: `--print` where it makes a file, `--new-journal` where it adds a
--- change, `--dropped` for `ris` (dialect)
+-- the command takes each option that is given: `--print` if it makes a file, `--new-journal` if it adds a change,
+-- `--dropped` if it is `ris` (dialect)
 pub record HasItsOptions (c : Command) : Type 0 where
   pub print : c.print ≡ true → MakesFile c
   pub new_journal : c.new_journal ≡ true → AddsChange c
@@ -58,7 +58,7 @@ pub data ReadsJournal (c : Command) : Type 0 where
   makes : MakesFile c → ReadsJournal c
   log : c.name ≡ codes "log" → ReadsJournal c
 
--- The commands that read standard input beside their file. `edit` reads it where no words of an edit follow the file.
+-- The commands that read standard input as well as their file. `edit` reads it if no words of an edit follow the file.
 pub data TakesInput (c : Command) : Type 0 where
   edit : c.name ≡ codes "edit" → length c.words ≡ 1 → TakesInput c
   import : c.name ≡ codes "import" → TakesInput c

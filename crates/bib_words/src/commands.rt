@@ -5,12 +5,12 @@ use bib_text::{Seq, Text};
 /// The greatest number that a command takes.
 const NUMBER_LIMIT: u32 = 65_535;
 
-/// The greatest depth at which a command tells records.
+/// The greatest depth of the records that a command shows.
 const DEPTH_LIMIT: u8 = 8;
 
-/// A command: its name; its positional words in order, the file first where there is one; its number, and the depth of the
-/// records that it tells, each 0 where the command takes none; and of its options whether they were given: `--print`,
-/// `--new-journal` and `--dropped`.
+/// A command: its name; its arguments in order, the file first if there is one; its number, and the depth of the records
+/// that it shows, each 0 if the command takes none; and whether its options `--print`, `--new-journal` and `--dropped` were
+/// given.
 #[derive(Drop)]
 pub struct Command {
     pub name: Text,
@@ -27,7 +27,7 @@ impl Command {
     ghost use Rattle.bib_spec.specs.Records.{depth_limit};
     ghost use Rattle.bib_words.specs.Command.{number_limit, HasItsWords, HasItsOptions, AddsChange, MakesFile, IsCommand, ReadsJournal, TakesInput};
 
-    /// Whether this is the command's name. It takes no memory.
+    /// Whether the command has this name. It takes no memory.
     pub fn is_named(&self, name: &[u8]) -> bool
         ensures { IsTrue result ↔ (self.now.name ≡ name.now) }
     {
@@ -41,7 +41,7 @@ impl Command {
         self.is_named(b"edit") || self.is_named(b"import")
     }
 
-    /// Whether the command makes a new file of the old. It takes no memory.
+    /// Whether the command makes a new file from the old one. It takes no memory.
     pub fn makes_file(&self) -> bool
         ensures { IsTrue result ↔ MakesFile self.now }
     {
@@ -55,7 +55,7 @@ impl Command {
         self.makes_file() || self.is_named(b"log")
     }
 
-    /// Whether the command reads standard input beside its file. It takes no memory.
+    /// Whether the command reads standard input as well as its file. It takes no memory.
     pub fn takes_input(&self) -> bool
         ensures { IsTrue result ↔ TakesInput self.now }
     {
@@ -66,14 +66,15 @@ impl Command {
         }
     }
 
-    /// Whether the program has such a command, with as many words, such a number and depth, and such options. It takes no memory.
+    /// Whether the program has a command with this name, this number of arguments, this number and depth, and these
+    /// options. It takes no memory.
     pub fn is_known(&self) -> bool
         ensures { IsTrue result ↔ IsCommand self.now }
     {
         self.has_its_words() && self.has_its_options()
     }
 
-    /// Whether each option that is given is one that the command takes.
+    /// Whether the command takes each option that is given.
     fn has_its_options(&self) -> bool
         ensures { IsTrue result ↔ HasItsOptions self.now }
     {
@@ -82,7 +83,7 @@ impl Command {
             && (!self.dropped || self.is_named(b"ris"))
     }
 
-    /// Whether the name has as many words as its command takes, and such a number and depth.
+    /// Whether the command takes this number of arguments, this number and this depth.
     fn has_its_words(&self) -> bool
         ensures { IsTrue result ↔ HasItsWords self.now }
     {
@@ -95,7 +96,7 @@ impl Command {
         }
     }
 
-    /// The same of a command whose number and depth are 0.
+    /// Whether the command takes this number of arguments, without a number or a depth.
     fn has_words_alone(&self) -> bool
         requires number { self.now.n ≡ 0 }
         requires depth { self.now.depth ≡ 0 }
@@ -108,7 +109,7 @@ impl Command {
         }
     }
 
-    /// The same of a command whose number and depth are 0 and that has one word.
+    /// Whether the command takes one argument, without a number or a depth.
     fn has_one_word(&self) -> bool
         requires number { self.now.n ≡ 0 }
         requires depth { self.now.depth ≡ 0 }
@@ -124,7 +125,7 @@ impl Command {
             || self.is_named(b"forget")
     }
 
-    /// The same of a command with a number in its range and no depth.
+    /// Whether the command takes this number of arguments and a number, which is in its range, without a depth.
     fn has_words_with_number(&self) -> bool
         requires least { 1 ≤ self.now.n }
         requires most { self.now.n ≤ number_limit }
@@ -138,7 +139,7 @@ impl Command {
         }
     }
 
-    /// The same of a command with a depth in its range and no number.
+    /// Whether the command takes this number of arguments and a depth, which is in its range, without a number.
     fn has_words_with_depth(&self) -> bool
         requires number { self.now.n ≡ 0 }
         requires least { 1 ≤ self.now.depth }

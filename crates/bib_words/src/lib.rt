@@ -1,5 +1,6 @@
-//! The words of a command, read off the command line, and the statuses in which it may end. It knows which commands
-//! there are and how many words each takes, and not what a command does. It promises to tell a command from other words.
+//! A command with its arguments, as the command line gives them, and the exit statuses of the program. It knows which
+//! commands there are and which arguments each takes, and not what a command does. It promises to recognize exactly the
+//! commands of the program.
 #![tactic(auto)]
 
 mod commands;

@@ -1,12 +1,12 @@
 //! How the program ends, as its exit status.
 
-/// The command did what it was asked for.
+/// The command was carried out.
 pub const DONE: u8 = 0;
 
-/// The command refused, and its message says why.
+/// The command was refused, and its message says why.
 pub const REFUSED: u8 = 1;
 
-/// The words of the command line name no command.
+/// The command line is not a command of the program.
 pub const COMMAND_LINE: u8 = 2;
 
 /// A call on a file, on standard input or on standard output failed.

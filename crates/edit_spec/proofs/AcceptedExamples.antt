@@ -1,4 +1,4 @@
--- That the edits of the examples are accepted: no reason refuses them.
+-- The edits of the examples are accepted: no reason refuses them.
 use Rattle.std.proofs.Common.{◌≡◌, ℕ, zero, suc, ◌≤◌, List, [], ◌∷◌, Some, All, codes, ⊎_elim, refl, sym, arith, not-suc-le-zero, le_of_suc-le-suc}
 use Rattle.std.specs.List.{AllPass}
 use Rattle.std.specs.Char.{is_ascii_digit}
@@ -14,7 +14,7 @@ use Rattle.edit_spec.specs.Edits.{SetField, DropField, AddEntry, RemoveEntry, Mo
 use Rattle.bib_spec.specs.Records.{entries_of, parent}
 use Rattle.edit_spec.specs.Examples.{only, one_field, waiting, z, two_lines, named_by_macro, overridden_month, quoting, same_text_twice, swapped, family, author_year}
 
--- no values, so none that is bad
+-- an edit without values has no bad one
 no_values : All (IsValue name_limit) []
 no_values k d lt = absurd (not-suc-le-zero lt)
 
@@ -47,7 +47,7 @@ line_clean zero = refl
 line_clean (suc zero) = refl
 line_clean (suc (suc p)) = refl
 
--- what is left of the files that lose an item
+-- the trails of the items that are left are clean
 abbrev AreClean : List Item → Type 0
 AreClean items = All (λ item. IsCleanTrail (is_comment item.tree) item.trail) items
 

@@ -1,4 +1,4 @@
--- What an edit leaves and replaces is the file, and what it leaves and puts in place is the file of what it makes.
+-- The chunks of an edit have the file as their old text, and the file of the new database as their new text.
 use Rattle.std.proofs.Common.{◌≡◌, ℕ, zero, suc, Bool, true, false, List, [], ◌∷◌, ◌++◌, Option, Some, None, option_and_then, unwrap_or, refl, sym, ◌∙◌, ap, ap₂, subst, append_assoc, append-nil, take, drop, insert, take-append-drop, map, find, scan, slice_get, ⊎_elim}
 use Rattle.std.specs.Option.{option_map_or}
 use Rattle.std.specs.List.{flat_map, concat}
@@ -196,7 +196,7 @@ module _ (become : Entry → Text × List Row) (body : Entry → List Chunk)
 
 -- ---- removals
 
--- what is left of items whose first goes, and of those whose first stays
+-- the remaining items, if the first one is removed, and if it is not
 abbrev found : Text → Item → List Item → Reading
 found front item items = record { front = front ++ item.trail; items = items }
 
@@ -318,7 +318,7 @@ insert-map f xs zero x = refl
 insert-map f [] (suc place) x = refl
 insert-map f (y ∷ ys) (suc place) x = ap (λ l. f y ∷ l) (insert-map f ys place x)
 
--- an insertion of nothing
+-- inserting the empty text does not change the joined texts
 insert-nothing : (xs : List Text) (place : ℕ) → concat (insert xs place []) ≡ concat xs
 insert-nothing xs zero = refl
 insert-nothing [] (suc place) = refl

@@ -28,7 +28,7 @@ trees_of items h k d lt = (h k d lt).tree
 pub clean_reads : (db : Reading) → AreTrees db.items → HasCleanTexts db → Reads (bytes_of db) db
 clean_reads db trees clean = made_reads db clean.front (λ k d lt. record { tree = trees k d lt; trail = clean.trails k d lt })
 
--- an item with another tree, which is a comment where the old one is
+-- an item with another tree, which is a comment if and only if the old one is
 pub item_as : (item : Item) (tree : Tree) → IsItem name_limit item → IsTree name_limit tree → is_comment tree ≡ is_comment item.tree → IsItem name_limit (record item { tree = tree })
 item_as item tree is t e = record { tree = t; trail = subst (λ c. IsCleanTrail c item.trail) (sym e) is.trail }
 

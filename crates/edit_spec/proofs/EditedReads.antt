@@ -1,4 +1,4 @@
--- What every accepted edit makes reads, and its file opens.
+-- What every accepted edit makes is a reading of its bytes, and its file can be opened.
 use Rattle.std.proofs.Common.{◌≡◌, ◌≤◌, is_some, length, ⊎_elim, sym, ◌∙◌, ap, subst}
 use Rattle.bib_spec.specs.Bytes.{file_limit}
 use Rattle.bib_spec.specs.Text.{Text}

@@ -50,7 +50,7 @@ find-with_text name key (field ∷ fields) = ⊎_elim
     ∙ sym (ap (option_map (saying key)) (cond-false (same field.name name) (Some field) (find (has_name name) fields) e)))
     (cases_Bool (same field.name name))
 
--- what the crossref says, once there is one
+-- the crossref's text, if there is a crossref
 pub text-with_text : (key was : Text) (fields : List Field) → option_map (λ field. field_text field.raw) (find (has_name crossref) fields) ≡ Some was →
     option_map (λ field. field_text field.raw) (find (has_name crossref) (with_text crossref key fields)) ≡ Some (field_text key)
 text-with_text key was fields e = ⊎_elim
@@ -78,7 +78,7 @@ filter_comm p q (x ∷ xs) = ⊎_elim
     (cases_Bool (q x)))
     (cases_Bool (p x))
 
--- the fields but the crossref, of which each name counts once
+-- the first field of each name, without the crossref
 abbrev shown : List Field → List Field
 shown fields = filter (λ field. not (has_name crossref field)) (effective fields)
 

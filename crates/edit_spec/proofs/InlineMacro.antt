@@ -1,4 +1,4 @@
--- InlineMacro: the definition goes, each use after it says its text itself, and every text stays.
+-- InlineMacro: the definition is removed, each use after it becomes its text, and every field's text is unchanged.
 use Rattle.std.proofs.Common.{◌≡◌, ℕ, zero, suc, true, false, List, [], ◌∷◌, ◌++◌, Option, Some, None, unwrap_or, length, ⊎_elim, refl, sym, ◌∙◌, ap, count_by, arith}
 use Rattle.std.specs.Str.{bytes_eq}
 use Rattle.std.proofs.lemmas.Bool.{cases_Bool, cond-true, cond-false, false_from_ne_true, false≢true, both_ways, or_parts, or_from, or_cases}

@@ -1,4 +1,4 @@
--- IntroduceMacro: a name that was not in use stands for the text, and every text stays.
+-- IntroduceMacro: a name that was not in use stands for the text, and every text is unchanged.
 use Rattle.std.proofs.Common.{◌≡◌, ℕ, zero, suc, Bool, true, false, cond, ◌||◌, List, [], ◌∷◌, ◌++◌, Option, Some, None, unwrap_or, ⊎_elim, refl, sym, ◌∙◌, ap, ap₂, append-nil}
 use Rattle.std.specs.Str.{bytes_eq}
 use Rattle.std.proofs.lemmas.Bool.{cond-true, cond-false, cond_both, false≢true, both_ways, or_parts, or_cases, cases_Bool}
@@ -23,7 +23,7 @@ module _ (name held : Text) where
   abbrev pub Agree : Macros → Macros → Type 0
   Agree m n = (n (folded name) ≡ Some held) × AgreeOn IsOther (λ x. x) m n
 
-  -- a text in braces or quotes says the same as the name where it is the text
+  -- a part in braces or quotes says the same as the name if its content is the text
   said_alike : (n : Macros) → n (folded name) ≡ Some held → (part : Part) (text : Text) → part_text n part ≡ text →
       part_text n (unwrap_or (cond (bytes_eq text held) (Some (Macro name)) None) part) ≡ text
   said_alike n says part text is = ⊎_elim

@@ -21,7 +21,7 @@ no_key : (o : Option Record) → o ≡ option_map (record_with_key None) o
 no_key None = refl
 no_key (Some r) = refl
 
--- where the entries and the preambles are what they were, all that is read of them is
+-- if the entries and the preambles are unchanged, so is all that is read from them
 pub keeps_entries : (old new : Reading) → entries_of new ≡ entries_of old → preambles_of new ≡ preambles_of old → KeepsEntries no_new_key old new
 keeps_entries old new e p = record {
   count = ap length e;

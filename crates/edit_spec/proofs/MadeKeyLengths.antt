@@ -1,4 +1,4 @@
--- Made keys are keys that an edit may write: as many letters as their length allows are enough for a file.
+-- Made keys are keys that an edit may write: the letters that fit after a base are enough for a file's entries.
 use Rattle.std.proofs.Common.{◌≡◌, ℕ, zero, suc, ◌+◌, ◌≤◌, ◌<◌, nat_lt, nat_le, Bool, true, not, ◌&&◌, List, [], ◌∷◌, Option, Some, None, unwrap_or, length, map, find, filter_map, reverse, slice_get, ⊎_elim, refl, sym, ◌∙◌, ap, subst, ltb-true, lt-ltb, arith}
 use Rattle.std.specs.List.{flat_map, list_all, enumerate_from, cons_option, AllByRecursion}
 use mathlib.Core.List.{reverse-cons}

@@ -1,4 +1,4 @@
--- An entry more, which no other entry's crossref names.
+-- One more entry, which no other entry's crossref names.
 use Rattle.std.proofs.Common.{◌≡◌, ◌||◌, ◌≢◌, ℕ, zero, suc, ◌<◌, ◌≤◌, ◌==◌, false, List, [], ◌∷◌, ◌++◌, Option, Some, None, option_map, insert, map, option_and_then, slice_get, length, ⊎_elim, refl, sym, ◌∙◌, ap, ap₂, arith, eqb-true, eq-eqb, zero-lt-suc, suc-le-suc, not-suc-le-zero, le_of_suc-le-suc}
 use Rattle.std.specs.List.{list_any}
 use Rattle.std.specs.Option.{option_map_or}
@@ -10,7 +10,7 @@ use Rattle.edit_spec.specs.OtherLaws.{number_with_one_more}
 use Rattle.bib_spec.proofs.Names.{both_true}
 use Rattle.bib_spec.proofs.Keys.{option_cases}
 
--- an element's place is one of the list
+-- an element's place is less than the list's length
 pub within : {X : Type 0} (xs : List X) (n : ℕ) (x : X) → slice_get xs n ≡ Some x → n < length xs
 within [] n x e = absurd (none-some x e)
 within (y ∷ ys) zero x e = zero-lt-suc (length ys)

@@ -1,4 +1,4 @@
--- Removing an entry and adding one: the two databases have the same entries but one.
+-- Removing an entry and adding one: the two databases have the same entries except for that one.
 use Rattle.std.proofs.Common.{◌≡◌, ◌≢◌, ℕ, zero, suc, ◌≤◌, ◌==◌, true, false, not, List, [], ◌∷◌, ◌++◌, Some, None, option_map, option_and_then, slice_get, insert, length, take, ⊎_elim, refl, sym, ◌∙◌, ap, subst, arith, add-one, zero-le, suc-le-suc, not-suc-le-zero, le_of_suc-le-suc, ne_eqb}
 use Rattle.std.specs.List.{list_any}
 use Rattle.std.proofs.lemmas.Bool.{cases_Bool, cond-true, cond-false, both_ways, and_parts, and_from, and_right, or_parts, false_from_ne_true}
@@ -17,7 +17,7 @@ use Rattle.bib_spec.proofs.Accepted.{there_once, dangling_among}
 use Rattle.edit_spec.proofs.RenameKey.{only}
 use Rattle.edit_spec.proofs.OneMore.{length-keys, slice_get-insert, slice_get-insert_same, length-insert, keys-insert, more_other, parent_more, expanded_more}
 
--- the entries of `more` are those of `fewer` with one put in at i
+-- the entries of `more` are the entries of `fewer` with one more put in at i
 pub record IsOneMore (i : ℕ) (key : Text) (fewer more : List EntryTexts) : Type 0 where
   pub added : EntryTexts
   pub has_key : added.key ≡ key
@@ -101,7 +101,7 @@ module _ (key : Text) where
 abbrev pub IsUnnamed : Text → List EntryTexts → Type 0
 IsUnnamed key entries = (n : ℕ) (entry : EntryTexts) (text : Text) → slice_get entries n ≡ Some entry → crossref_text entry ≡ Some text → is_named text key ≡ false
 
--- where no crossref names the added entry's key, the others keep what they have
+-- if no crossref names the added entry's key, the other entries keep their records and parents
 keeps_others : (i : ℕ) (key : Text) (fewer more : Reading) → IsOneMore i key (entries_of fewer) (entries_of more) → IsUnnamed key (entries_of fewer) →
     preambles_of more ≡ preambles_of fewer → KeepsOthers (number_with_one_more i) 1 fewer more
 keeps_others i key fewer more one unnamed same_preambles = record {

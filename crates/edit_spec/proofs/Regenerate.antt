@@ -1,4 +1,5 @@
--- RegenerateKeys: the made keys meet what the law of new keys asks, they differ, and making them again changes nothing.
+-- RegenerateKeys: the made keys meet the conditions of the law of new keys, they differ, and making them again changes
+-- nothing.
 use Rattle.std.proofs.Common.{◌≡◌, ◌<◌, ℕ, zero, suc, ◌+◌, Bool, true, false, cond, ◌≤◌, List, [], ◌∷◌, ◌++◌, Option, Some, None, is_some, is_none, unwrap_or, option_and_then, slice_get, length, filter_map, map, reverse, ⊎_elim, refl, sym, ◌∙◌, ap, ap₂, subst, arith, add-one, add-zero, zero-add}
 use Rattle.std.specs.List.{list_all, enumerate_from, cons_option, AllByRecursion}
 use Rattle.std.proofs.lemmas.Bool.{cases_Bool, cond-true, cond-false, false≢true, or_parts, and_from, and_parts}
@@ -35,7 +36,7 @@ free-is taken base = ap (λ o. unwrap_or o base) (free_key_free taken base).is
 free-untaken : (taken : List Text) (base : Text) → is_taken taken (free_key taken base) ≡ false
 free-untaken taken base = ap (is_taken taken) (free-is taken base) ∙ (free_key_free taken base).free
 
--- a made key is taken by none before it
+-- a made key is none of the keys taken before it
 made_untaken : (taken bs : List Text) (n : ℕ) (key : Text) → slice_get (made_keys taken bs) n ≡ Some key → is_taken taken key ≡ false
 made_untaken taken [] n key e = absurd (none-some key e)
 made_untaken taken (base ∷ bs) zero key e = ap (is_taken taken) (sym (same_Some (free_key taken base) key e)) ∙ free-untaken taken base
@@ -50,7 +51,7 @@ made_differ taken (base ∷ bs) (suc n) zero a b p q ne =
     ap (same a) (sym (same_Some (free_key taken base) b q)) ∙ (or_parts (same a (free_key taken base)) (is_taken taken a) (made_untaken (free_key taken base ∷ taken) bs n a p)).0
 made_differ taken (base ∷ bs) (suc n) (suc m) a b p q ne = made_differ (free_key taken base ∷ taken) bs n m a b p q (λ e. ne (ap suc e))
 
--- each is a candidate of its base
+-- each made key is a candidate of its base
 made_from : (taken bs : List Text) (n : ℕ) (key : Text) → slice_get (made_keys taken bs) n ≡ Some key → (base : Text) × (number : ℕ) × (slice_get bs n ≡ Some base) × (key ≡ candidate base number)
 made_from taken [] n key e = absurd (none-some key e)
 made_from taken (base ∷ bs) zero key e = (base, (free_key_free taken base).number, refl, sym (same_Some (free_key taken base) key e) ∙ free-is taken base ∙ (free_key_free taken base).made)
@@ -150,7 +151,7 @@ module _ (key_base : Record → Text) (fit : IsKeyBase key_base) (depth : ℕ) (
       ∙ bases_kept (suc n) rest
       ∙ sym (ap (λ k. map (λ p. key_base (record_of depth entries p.0 p.1)) (enumerate_from k rest)) (add-one n)))
 
-  -- the list stands in the entries from place n on
+  -- the list is the entries from number n on
   abbrev StandsFrom : ℕ → List EntryTexts → Type 0
   StandsFrom n rest = (k : ℕ) (entry : EntryTexts) → slice_get rest k ≡ Some entry → slice_get entries (n + k) ≡ Some entry
 
@@ -230,7 +231,7 @@ module _ (key_base : Record → Text) (fit : IsKeyBase key_base) (db : Reading) 
       ∙ ap (λ keys. let it : Reading = record { front = db.front; items = items_with_keys (slice_get keys) (after key_base fit depth (entries_of db)) 0 (regenerate_keys key_base depth db).items } in it) (new_kept key_base fit depth (entries_of db))
       ∙ ap (λ items. let it : Reading = record { front = db.front; items = items } in it) (items_again key_base fit depth (entries_of db) 0 db.items)
 
-  -- only the limits could refuse the second one, and its result is the first one's
+  -- only the limits could refuse the second edit, and its result is that of the first
   again_accepted : IsAccepted key_base db (RegenerateKeys depth) → (fault : EditFault) → Refuses key_base fault (regenerate_keys key_base depth db) (RegenerateKeys depth) → ⊥
   again_accepted accepted BadKey h = accepted BadKey h
   again_accepted accepted BadName h = accepted BadName h

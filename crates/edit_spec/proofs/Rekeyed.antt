@@ -1,4 +1,4 @@
--- The entries of a database some of whose entries get new keys.
+-- The entries of a database in which some entries get new keys.
 use Rattle.std.proofs.Common.{◌≡◌, ℕ, zero, suc, ◌+◌, false, List, [], ◌∷◌, ◌++◌, Option, Some, None, unwrap_or, option_map, option_and_then, slice_get, length, ⊎_elim, refl, sym, ◌∙◌, ap, ap₂, find, arith, add-zero, zero-add}
 use Rattle.std.specs.Option.{option_map_or}
 use Rattle.std.proofs.Math.Path.{fun_ext}
@@ -12,7 +12,7 @@ use Rattle.edit_spec.specs.Laws.{record_with_key}
 use Rattle.bib_spec.proofs.Keys.{option_cases, keys_with, AreFresh, first_kept, first_new, first_none}
 use Rattle.edit_spec.proofs.Fields.{crossref_to, crossref_to-map, text-with_text, own_fields-crossref_to}
 
--- an entry as it reads after the edit, and all of them
+-- an entry's texts after the edit, and the texts of all entries after it
 abbrev pub entry_with : List EntryTexts → (ℕ → Option Text) → ℕ → EntryTexts → EntryTexts
 entry_with entries new n entry = record entry { key = unwrap_or (new n) entry.key; fields = crossref_to (option_and_then new (target entries n)) entry.fields }
 
@@ -21,7 +21,7 @@ entries_with entries new n [] = []
 entries_with entries new n (entry ∷ rest) = entry_with entries new n entry ∷ entries_with entries new (suc n) rest
 
 module _ (entries : List EntryTexts) (new : ℕ → Option Text) where
-  -- what stands of each tree stays, where it stays of each tree by itself
+  -- the entries of items with new keys are the entries with new keys: one more item at the front, if it is so for the rest
   tree_entries : (m : Macros) (n : ℕ) (tree : Tree) (items : List Item)
       → ((m : Macros) (n : ℕ) → gathered entry_in m (items_with_keys new entries n items) ≡ entries_with entries new n (gathered entry_in m items))
       → entry_in m (tree_with_keys new entries n tree) ++ gathered entry_in (macros_after m (tree_with_keys new entries n tree)) (items_with_keys new entries (next_number n tree) items)

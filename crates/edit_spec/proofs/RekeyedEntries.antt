@@ -1,4 +1,4 @@
--- RenameKey and RegenerateKeys: an entry with a new key, and a crossref that is one, is an entry.
+-- RenameKey and RegenerateKeys: an entry with a new key, and with a new key as its crossref, is an entry of the grammar.
 use Rattle.std.proofs.Common.{◌≡◌, ◌==◌, ℕ, true, List, [], ◌∷◌, Option, Some, None, unwrap_or, option_and_then, All, ⊎_elim, refl, sym, subst}
 use Rattle.std.proofs.lemmas.Bool.{cases_Bool, cond-true, cond-false, and_parts}
 use Rattle.std.proofs.lemmas.Option.{none-some, cond_some}

@@ -1,4 +1,4 @@
--- RenameKey: the new key meets what the law of new keys asks.
+-- RenameKey: the new key meets the conditions of the law of new keys.
 use Rattle.std.proofs.Common.{◌≡◌, ◌≢◌, ℕ, zero, suc, Bool, true, false, not, ◌&&◌, ◌||◌, ◌==◌, nat_lt, nat_le, List, [], ◌∷◌, Some, None, unwrap_or, option_map, slice_get, length, ⊎_elim, refl, sym, ◌∙◌, ap, ap₂, count_by, filter, eqb-true, ne_eqb, arith}
 use Rattle.std.specs.List.{list_any, list_all, join_with_byte}
 use Rattle.std.proofs.lemmas.Bool.{cases_Bool, cond-true, cond-false, false_from_ne_true, true_from_ne_false, both_ways, and_parts, and_cases, or_parts, not-false}
@@ -67,7 +67,7 @@ only text (k ∷ ks) h = ⊎_elim
     after_head e m rest zero key s t = absurd (both_ways (is_named text key) (ap (is_named text) (sym (same_Some k key s)) ∙ e) t)
     after_head e m rest (suc j) key s t = ap suc (rest j key s t)
 
--- what is used of the conditions
+-- the conditions of an accepted edit that the proof uses
 pub record CanRenameKey (from to : Text) (entries : List EntryTexts) : Type 0 where
   pub is_key : is_new_key to ≡ true
   pub once : count_by (is_named from) (keys_of entries) ≡ 1

@@ -1,4 +1,4 @@
--- RenameMacro: every text stays, and after the definition the new name stands for what the old one stood for.
+-- RenameMacro: every text is unchanged, and after the definition the new name stands for what the old name stood for.
 use Rattle.std.proofs.Common.{◌≡◌, ℕ, zero, suc, true, false, cond, ◌||◌, List, [], ◌∷◌, ◌++◌, Option, Some, None, unwrap_or, ⊎_elim, refl, sym, ◌∙◌, ap, ap₂}
 use Rattle.std.specs.Str.{bytes_eq}
 use Rattle.std.proofs.lemmas.Bool.{cases_Bool, cond-true, cond-false, cond_both, false_from_ne_true, false≢true, both_ways, or_parts, or_cases}
@@ -16,7 +16,7 @@ module _ (from to : Text) where
   abbrev pub renamed : Text → Text
   renamed name = changed (name_renamed from to) name
 
-  -- a name is the new one only where it is the old one
+  -- a name becomes the new one only if it is the old one
   abbrev pub IsFree : Text → Type 0
   IsFree name = same name to ≡ true → same name from ≡ true
 
@@ -69,7 +69,7 @@ module _ (from to : Text) where
   pub stays : (m n : Macros) → Agree m n → (name : Text) → IsFree name → (o : Option Text) → Agree (updated m name o) (updated n (renamed name) o)
   stays m n agree name h o = names_stay IsFree renamed m n name o (λ x p. eq-renamed x name p h) agree
 
-  -- at the definition itself, where both tables are one
+  -- at the definition itself, where both tables are the same
   pub begins : (m : Macros) (name : Text) → same name from ≡ true → (o : Option Text) → Agree (updated m name o) (updated m (renamed name) o)
   begins m name h o x p = ⊎_elim
       (λ e. cond-true (bytes_eq (folded (renamed x)) (folded (renamed name))) o (m (folded (renamed x))) (eq-renamed x name p (λ _. h) ∙ e)

@@ -23,7 +23,7 @@ module _ (name : Text) where
   after_defined m d e =
       cond-true (bytes_eq (folded name) (folded d.assignment.name)) (Some (raw_text (macros_in m (DefinitionTree d)) d.assignment.value)) (m (folded name)) (sym (same-is name d.assignment.name) ∙ same_comm name d.assignment.name ∙ e)
 
-  -- as long as no definition of it follows, a name stands for what it stood for
+  -- a name still stands for the same as long as no definition of it follows
   pub undefined : (m : Macros) (items : List Item) (n : ℕ) → is_after name items n ≡ false → macros_at m items n (folded name) ≡ m (folded name)
   undefined m items zero e = refl
   undefined m [] (suc n) e = refl

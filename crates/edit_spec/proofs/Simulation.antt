@@ -31,17 +31,17 @@ InTree P Q (EntryTree e) = Rows P e.rows
 abbrev pub InItems : (Part → Type 0) → (Text → Type 0) → List Item → Type 0
 InItems P Q items = AllByRecursion (λ item. InTree P Q item.tree) items
 
--- the new table gives to each of some names, as it is written anew, what the old one gives to it
+-- for some names: the new table gives to the name, as the edit writes it, what the old table gives to the name
 abbrev pub AgreeOn : (Text → Type 0) → (Text → Text) → Macros → Macros → Type 0
 AgreeOn P new m n = (x : Text) → P x → n (folded (new x)) ≡ m (folded x)
 
--- that stays so where both tables set one name
+-- the tables still agree after both set the same name
 pub names_stay : (P : Text → Type 0) (new : Text → Text) (m n : Macros) (defined : Text) (o : Option Text) →
     ((x : Text) → P x → bytes_eq (folded (new x)) (folded (new defined)) ≡ bytes_eq (folded x) (folded defined)) →
     AgreeOn P new m n → AgreeOn P new (updated m defined o) (updated n (new defined) o)
 names_stay P new m n defined o apart agree x p = ap₂ (λ b v. cond b o v) (apart x p) (agree x p)
 
--- what a name stands for stays where another name is set
+-- setting another name does not change what a name stands for
 pub name_stays : (m : Macros) (name defined : Text) (given o : Option Text) → same defined name ≡ false → m (folded name) ≡ given → updated m defined o (folded name) ≡ given
 name_stays m name defined given o other is =
     cond-false (bytes_eq (folded name) (folded defined)) o (m (folded name)) (sym (same-is name defined) ∙ same_comm name defined ∙ other) ∙ is
@@ -63,7 +63,7 @@ module _ (g : Text → Option Text) (f : Part → Option Part) (P : Part → Typ
     fields_same m n agree (row ∷ rows) h =
         ap₂ ◌∷◌ (ap (λ t. let it : Field = record { name = row.assignment.name; raw = t } in it) (text_same m n agree row.assignment.value h.0)) (fields_same m n agree rows h.1)
 
-    -- at a definition of which `Agree` is known with its name unset and set
+    -- at a definition, if `Agree` holds with its name unset and with it set
     pub define_same : (m n : Macros) (d : Definition) → ((o : Option Text) → Agree (updated m d.assignment.name o) (updated n (changed g d.assignment.name) o)) →
         Parts P d.assignment.value → Agree (macros_after m (DefinitionTree d)) (macros_after n (tree_with g f (DefinitionTree d)))
     define_same m n d agree h =

@@ -61,7 +61,7 @@ entry_regroup o k s r l c = simp append_assoc
 row_regroup : (c n x y v s : Text) → c ++ (n ++ x ++ y ++ v ++ s) ≡ (c ++ (n ++ (x ++ y))) ++ (v ++ s)
 row_regroup c n x y v s = simp append_assoc
 
--- a row is what stands before its value, the value, and what stands after it
+-- a row is the bytes before its value, the value, and the bytes after it
 pub row-parts : (row : Row) → row_bytes row ≡ row_start row ++ (value_bytes row.assignment.value ++ row.assignment.space_after)
 row-parts row = row_regroup (comma ∷ row.space_before_name) row.assignment.name row.assignment.space_before_equals (equals_sign ∷ row.assignment.space_before_value) (value_bytes row.assignment.value) row.assignment.space_after
 
@@ -92,7 +92,7 @@ module _ (name : Text → Text) (part : Part → Part) where
 pub last-read : (b : Bool) (chunks : List Chunk) (t bytes : Text) → read b chunks ≡ bytes → read b (chunks ++ Kept t ∷ []) ≡ bytes ++ t
 last-read b chunks t bytes e = read-append b chunks (Kept t ∷ []) ∙ ap₂ ◌++◌ e (append-nil t)
 
--- an entry with its key, and what stands between that and the end of the rows
+-- an entry with its key, and the bytes between the key and the end of the rows
 pub entry-read : (b : Bool) (key : Chunk) (rows : List Chunk) (e : Entry) (new_key space : Text) (new_rows : List Row) → chunk_text b key ≡ new_key → read b rows ≡ space ++ flat_map row_bytes new_rows →
     read b (entry_chunks key rows e) ≡ entry_bytes (record e { key = new_key; space_after_key = space; rows = new_rows })
 entry-read b key rows e new_key space new_rows k r =

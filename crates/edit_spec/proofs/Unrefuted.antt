@@ -1,4 +1,5 @@
--- What a refusal denies holds where it does not come: values and clean texts can't be refuted and fail to be such.
+-- If a refusal does not apply, what it denies holds: values and clean texts that are not refuted are values and clean
+-- texts.
 use Rattle.std.proofs.Common.{◌≡◌, ℕ, ◌<◌, ◌≤◌, ◌==◌, nat_lt, nat_le, Bool, true, false, ◌&&◌, length, All, ⊎_elim, arith}
 use Rattle.std.specs.List.{list_all}
 use Rattle.std.proofs.lemmas.Bool.{cases_Bool, both_ways, and_parts, true_from_ne_false, leb-true, leb-false, ltb-true, ltb-false, eqb-true, eqb-false}

@@ -1,4 +1,5 @@
--- The items that an edit leaves stand in the new file with their trees, and after their trails that of a neighbour that goes.
+-- The items that an edit leaves are in the new file with their trees; a trail may have the trail of a removed neighbour
+-- after it.
 use Rattle.std.proofs.Common.{◌≡◌, ◌≢◌, ◌||◌, ◌&&◌, ◌==◌, ℕ, zero, suc, ◌+◌, ◌-◌, ◌<◌, ◌≤◌, Bool, true, false, List, [], ◌∷◌, ◌++◌, Option, Some, None, is_some, unwrap_or, not, if◌then◌else◌, option_map, option_and_then, insert, find, map, slice_get, length, take, count_by, ⊎_elim, refl, sym, ◌∙◌, ap, ap₂, subst, arith, append-nil, add-zero, eqb-true, eq-eqb, ne_eqb, zero-lt-suc, suc-le-suc, le_of_suc-le-suc}
 use Rattle.std.specs.List.{list_any}
 use Rattle.std.specs.Option.{option_map_or}
@@ -60,12 +61,12 @@ stands : (items : List Item) (n : ℕ) (changed : Bool) (item new : Item) → sl
     StandsAt items n changed item.tree item.trail
 stands items n changed item new at trail tree = record { item = new; at = at; trail_is = trail; tree_is = tree }
 
--- the same, with what the trail gains, which is nothing
+-- an item that keeps its trail, where the trail gains nothing
 stands_alone : (items : List Item) (n : ℕ) (changed : Bool) (item : Item) (more : Text) → more ≡ [] → StandsAt items n changed item.tree item.trail → StandsAt items n changed item.tree (item.trail ++ more)
 stands_alone items n changed item more e s =
     record { item = s.item; at = s.at; trail_is = s.trail_is ∙ sym (append-nil item.trail) ∙ sym (ap (λ t. item.trail ++ t) e); tree_is = s.tree_is }
 
--- where no item goes, and all keep their numbers
+-- edits that remove no item and keep all numbers
 in_place : (changed : ℕ → Bool) (old new : Reading) → new.front ≡ old.front →
     ((n : ℕ) (item : Item) → slice_get old.items n ≡ Some item → StandsAt new.items n (changed n) item.tree item.trail) → KeepsItems (λ n. false) changed (λ n. n) old new
 in_place changed old new front items = record {
@@ -104,7 +105,7 @@ changed_at test change (first ∷ items) n item at = by_test (λ n at. changed_a
 -- ---- a change of names and parts
 
 module _ (names : Text → Option Text) (parts : Part → Option Part) (test : Part → Bool) (leaves : (part : Part) → test part ≡ false → parts part ≡ None) where
-  -- among items of which all may change
+  -- edits that may change every item
   with_at : (items : List Item) (n : ℕ) (changed : Bool) (item : Item) → slice_get items n ≡ Some item → (changed ≡ false → IsNameLeft names item.tree × (any_part test item.tree ≡ false)) →
       StandsAt (items_with names parts items) n changed item.tree item.trail
   with_at items n changed item at unchanged = record {
@@ -251,7 +252,7 @@ without_by b front first items rest =
 abbrev with_trail : Item → Text → Option Item
 with_trail item trail = let it : Item = record item { trail = trail } in Some it
 
--- what the text before gains, and what each trail gains
+-- what the front gains from a removed item; what each trail gains follows below
 gained_front : (test : Tree → Bool) (front : Text) (items : List Item) → (without_first test front items).front ≡ front ++ gained (is_first test items) items 0
 gained_front test front [] = sym (append-nil front) ∙ ap (λ t. front ++ t) (nothing (zero == zero))
   where
@@ -265,7 +266,7 @@ gained_front test front (first ∷ items) = by_test (test first.tree)
     by_test true = ap (λ t. front ++ t) (sym (cond-true (zero == zero) first.trail [] (eq-eqb zero zero refl)))
     by_test false = sym (append-nil front) ∙ ap (λ t. front ++ t) (sym (cond-false (suc (number_of_first test items) == 0) first.trail [] (suc-zero (number_of_first test items))))
 
--- after its place nothing more is gained
+-- an item that is not the removed one gives its trail to no other
 gained-after : (items : List Item) (i n : ℕ) → (i == n) ≡ false → gained (λ n. i == n) items n ≡ []
 gained-after items i n e = cond-false (i == n) (option_map_or (λ item. item.trail) (slice_get items n) []) [] e
 
@@ -337,7 +338,7 @@ inlined_at name text (first ∷ items) (suc n) item at = by_test (inlined_at nam
         record { item = it.item; at = it.at; trail_is = it.trail_is; tree_is = it.tree_is }
     by_test rest false = record { item = rest.item; at = rest.at; trail_is = rest.trail_is; tree_is = rest.tree_is }
 
--- the definition stands where it stood
+-- the definition keeps its number
 inlined-first : (name text : Text) (items : List Item) → number_of_first (defines name) (with_uses_inlined name text items) ≡ number_of_first (defines name) items
 inlined-first name text [] = refl
 inlined-first name text (first ∷ items) = ⊎_elim
@@ -372,7 +373,7 @@ inlined-trail name text (first ∷ items) (suc n) = by_test (inlined-trail name 
     by_test rest true = ap trail_of (slice_get-map (item_with leaving (use_inlined name text)) items n) ∙ option_map-trail (item_with leaving (use_inlined name text)) (λ item. refl) (slice_get items n)
     by_test rest false = rest
 
--- what goes with the definition is what went before
+-- replacing the uses first does not change which trail the removed definition leaves, and where
 inlined-gained : (name text : Text) (items : List Item) (n : ℕ) →
     gained (is_first (defines name) (with_uses_inlined name text items)) (with_uses_inlined name text items) n ≡ gained (is_first (defines name) items) items n
 inlined-gained name text items n =
@@ -431,7 +432,7 @@ put_in place item db within_items = record {
 
 -- ---- an entry moved
 
--- what is counted is found
+-- an item that is counted is found
 none_counted : (key : Text) (m : Macros) (tree : Tree) (rest : List EntryTexts) → is_entry key tree ≡ false →
     count_by (is_named key) (keys_of (entry_in m tree ++ rest)) ≡ count_by (is_named key) (keys_of rest)
 none_counted key m (EntryTree e) rest h = count-no (is_named key) e.key (keys_of rest) h
@@ -456,7 +457,7 @@ length-removed test front (first ∷ items) found e = by_test (length-removed te
     by_test after true e = refl
     by_test after false e = ap suc (after e)
 
--- the item that is moved, and the place that it goes to
+-- the moved item, and its new place
 pub record IsMove (key : Text) (place : ℕ) (db : Reading) : Type 0 where
   pub moved : Item
   pub found : find (λ item. is_entry key item.tree) db.items ≡ Some moved

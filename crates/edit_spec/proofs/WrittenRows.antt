@@ -1,4 +1,4 @@
--- What an edit writes has the grammar's form: white space, rows, and what stands after a key.
+-- What an edit writes has the grammar's form: white space, rows, and the bytes after a key.
 use Rattle.std.proofs.Common.{◌≡◌, ℕ, ◌≤◌, ◌==◌, nat_lt, nat_le, true, false, not, ◌||◌, ◌&&◌, List, [], ◌∷◌, ◌++◌, Option, Some, None, length, codes, All, refl, sym, ap, true≢false, ne_eqb, arith}
 use Rattle.std.specs.List.{flat_map, list_any, list_all, AllPass, AllByRecursion}
 use Rattle.std.specs.Str.{bytes_eq}

@@ -1,4 +1,4 @@
--- Which stretches of the file each edit replaces. (dialect)
+-- Which bytes of the file each edit keeps, and which it replaces. (dialect)
 use Rattle.std.specs.Prelude.{ℕ, Bool, List, [], ◌∷◌, ◌++◌, Option, Some, None, option_map, option_and_then, take, drop, insert, if◌then◌else◌, find, map, scan, slice_get}
 use Rattle.std.specs.List.{flat_map}
 use Rattle.std.specs.Option.{option_map_or}
@@ -14,12 +14,12 @@ use Rattle.edit_spec.specs.Edits.{NewEntry, Edit, SetField, DropField, AddEntry,
 
 -- ---- trees
 
--- a stretch that a change leaves or replaces; one that gets the bytes that it had counts as replaced
+-- bytes that a change leaves or replaces; bytes that are given again count as replaced
 abbrev pub token : Text → Option Text → Chunk
 token old None = Kept old
 token old (Some new) = Replaced old new
 
--- a part as a stretch that the change leaves or replaces
+-- a part as one chunk, kept or replaced
 abbrev pub part_token : (Part → Option Part) → Part → Chunk
 part_token parts part = token (part_bytes part) (option_map part_bytes (parts part))
 
@@ -44,7 +44,7 @@ row_chunks parts row = Kept (comma ∷ row.space_before_name) ∷ assignment_chu
 abbrev pub after_rows : Entry → Text
 after_rows e = last_comma_bytes e.last_comma ++ close_byte e.opening.delimiter ∷ []
 
--- an entry in chunks, given that of its key and those from there to the end of the rows
+-- an entry in chunks, given the chunk of its key and the chunks from there to the end of the rows
 abbrev pub entry_chunks : Chunk → List Chunk → Entry → List Chunk
 entry_chunks key rows e = Kept (opening_bytes e.opening) ∷ key ∷ (rows ++ Kept (after_rows e) ∷ [])
 
@@ -75,17 +75,17 @@ kept_item item = Kept (item_bytes item)
 abbrev pub kept_items : List Item → List Chunk
 kept_items items = map kept_item items
 
--- an item with its body in these chunks, and then its trail and the items after it, kept
+-- the chunks of an item's body, and then its trail and the items after it, kept
 abbrev pub body_and_rest : List Chunk → Item → List Item → List Chunk
 body_and_rest body item items = body ++ (Kept item.trail ∷ kept_items items)
 
--- the items kept up to the first that passes the test, and from it on as this function says of it and the items after it
+-- the items in chunks: kept up to the first that passes the test, and from there on as this function gives them
 abbrev pub chunks_from_first : (Tree → Bool) → (Item → List Item → List Chunk) → List Item → List Chunk
 chunks_from_first test change [] = []
 chunks_from_first test change (item ∷ items) =
     if test item.tree then change item items else kept_item item ∷ chunks_from_first test change items
 
--- the body of the first item that passes the test goes
+-- the body of the item is removed, and all after it kept
 abbrev pub without_body : Item → List Item → List Chunk
 without_body item items = body_and_rest (Replaced (tree_bytes item.tree) [] ∷ []) item items
 
@@ -104,7 +104,7 @@ entry_as change item items = body_and_rest (entry_body change item.tree) item it
 abbrev pub kept_rows : List Row → List Chunk
 kept_rows rows = map (λ row. Kept (row_bytes row)) rows
 
--- the first row of this name has another value
+-- the rows in chunks, where the first row of this name gets another value
 abbrev pub value_replaced : Text → Value → List Row → List Chunk
 value_replaced name value [] = []
 value_replaced name value (row ∷ rows) =
@@ -112,7 +112,7 @@ value_replaced name value (row ∷ rows) =
     then Kept (row_start row) ∷ Replaced (value_bytes row.assignment.value) (value_bytes value) ∷ Kept row.assignment.space_after ∷ kept_rows rows
     else Kept (row_bytes row) ∷ value_replaced name value rows
 
--- the white space before the rows, and the rows, of which the first of this name has another value or a new one is added
+-- the white space before the rows, and the rows: the first row of this name gets another value, or a new row is added
 abbrev pub field_set : Text → Value → Text → List Row → List Chunk
 field_set name value before [] = Replaced [] (row_start (new_row name value []) ++ value_bytes value) ∷ Kept before ∷ []
 field_set name value before (row ∷ rows) =
@@ -120,7 +120,7 @@ field_set name value before (row ∷ rows) =
     then Kept before ∷ Kept (row_start row) ∷ Replaced (value_bytes row.assignment.value) (value_bytes value) ∷ Kept row.assignment.space_after ∷ kept_rows rows
     else Kept before ∷ Kept (row_start row) ∷ Kept (value_bytes row.assignment.value) ∷ field_set name value row.assignment.space_after rows
 
--- the white space before the rows, and the rows, of which the first of this name goes up to its value's end
+-- the white space before the rows, and the rows: the first row of this name is removed up to its value's end
 abbrev pub field_dropped : Text → Text → List Row → List Chunk
 field_dropped name before [] = Kept before ∷ []
 field_dropped name before (row ∷ rows) =
@@ -130,7 +130,7 @@ field_dropped name before (row ∷ rows) =
 
 -- ---- keys
 
--- the rows in chunks, where the first crossref names the new key of its target, if that gets one
+-- the rows in chunks, where the first crossref names the new key of its target, if the target gets a new key
 abbrev pub crossref_chunks : Option Text → List Row → List Chunk
 crossref_chunks None rows = kept_rows rows
 crossref_chunks (Some key) rows = value_replaced crossref (in_braces key) rows
@@ -145,15 +145,15 @@ tree_key_chunks new entries n other = Kept (tree_bytes other) ∷ []
 abbrev pub item_key_chunks : (ℕ → Option Text) → List EntryTexts → ℕ → Item → List Chunk
 item_key_chunks new entries n item = tree_key_chunks new entries n item.tree ++ Kept item.trail ∷ []
 
--- new keys, and the crossrefs that name their entries
+-- items in chunks, with new keys, and with crossrefs that name the new keys of their targets
 abbrev pub key_chunks : (ℕ → Option Text) → Reading → List Chunk
 key_chunks new db =
     flat_map (λ chunks. chunks) (scan (λ n item. next_number n item.tree) (item_key_chunks new (entries_of db)) 0 db.items)
 
 -- ---- a removal and an insertion
 
--- One list of chunks for each remaining item, where the body of the first that passes the test goes. What is left of the
--- removed item joins the list before it, or stands in `.0` if it was the first.
+-- One list of chunks for each remaining item, where the body of the first item that passes the test is removed. The chunks
+-- of the removed item join the list before it; if it was the first item, they are `.0`.
 abbrev pub groups_without : (Tree → Bool) → List Item → List Chunk × List (List Chunk)
 groups_without test [] = ([], [])
 groups_without test (item ∷ items) =
@@ -166,7 +166,7 @@ groups_without test (item ∷ items) =
 abbrev pub inserted : Item → List Chunk
 inserted item = Replaced [] (item_bytes item) ∷ []
 
--- the entry is taken out, and put in at this position of what remains
+-- the entry is taken out, and put in again at this position among the other items
 abbrev pub moved : Text → ℕ → List Item → Item → List Chunk
 moved key position items item =
     let groups = groups_without (is_entry key) items in
@@ -179,7 +179,7 @@ abbrev pub appended : List NewEntry → List Chunk
 appended [] = []
 appended (new ∷ news) = Replaced [] (flat_map item_bytes (map item_of (new ∷ news))) ∷ []
 
--- the items of the file, in the chunks that the edit leaves and replaces
+-- the items of the file in chunks, as the edit keeps and replaces them
 abbrev pub changed_items : (Record → Text) → Reading → Edit → List Chunk
 changed_items key_base db (SetField key name value) =
     chunks_from_first (is_entry key) (entry_as (λ e. entry_chunks (Kept e.key) (field_set name value e.space_after_key e.rows) e)) db.items
@@ -200,7 +200,7 @@ changed_items key_base db (IntroduceMacro name text) =
 changed_items key_base db (RegenerateKeys depth) = key_chunks (slice_get (new_keys key_base depth (entries_of db))) db
 changed_items key_base db (AddMany news) = kept_items db.items ++ appended news
 
--- the file, in the chunks that the edit leaves and replaces
+-- the file in chunks, as the edit keeps and replaces them
 abbrev pub chunks : (Record → Text) → Reading → Edit → List Chunk
 chunks key_base db e = Kept db.front ∷ changed_items key_base db e
 

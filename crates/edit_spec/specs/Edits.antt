@@ -19,40 +19,40 @@ pub record NewEntry : Type 0 where
   pub key : Text
   pub fields : List (Text × Value)
 
--- What may be asked of a database. A key in it names the first entry that has it, folded.
+-- What a caller may request. A key in an edit names the first entry that has the key, folded.
 pub data Edit : Type 0 where
   -- the field of this entry gets this value: key, field, value
   SetField : Text → Text → Value → Edit
-  -- the field of this entry goes: key, field
+  -- the field of this entry is removed: key, field
   DropField : Text → Text → Edit
-  -- the entry stands before this item
+  -- the entry is added before the item at this position
   AddEntry : ℕ → NewEntry → Edit
-  -- the entry goes
+  -- the entry is removed
   RemoveEntry : Text → Edit
-  -- the entry goes, and then stands before this item of what remains
+  -- the entry is taken out, and put in again before this item of the others
   MoveEntry : Text → ℕ → Edit
-  -- the entry gets another key, and each crossref that names it names it by that: old key, new key
+  -- the entry gets another key, and each crossref that names the entry names it by the new key: old key, new key
   RenameKey : Text → Text → Edit
   -- the macro gets another name, in its definition and in each use: old name, new name
   RenameMacro : Text → Text → Edit
-  -- each use of the macro becomes its text, and its definition goes
+  -- each use of the macro becomes the macro's text, and its definition is removed
   InlineMacro : Text → Edit
-  -- each part that is the text becomes a use of a macro that is defined as it: name, text
+  -- each part that is the text becomes a use of a new macro for that text: name, text
   IntroduceMacro : Text → Text → Edit
   -- all entries get made keys, from their records at this depth
   RegenerateKeys : ℕ → Edit
-  -- the entries stand after the last item, in this order
+  -- the entries are added after the last item, in this order
   AddMany : List NewEntry → Edit
 
--- The value has these bytes, and it is one of the grammar if any value with these bytes is: an edit is asked for with bytes,
--- and whether they are a value is judged with everything else.
+-- The value has these bytes, and it is one of the grammar if any value with these bytes is. A caller gives bytes, and
+-- whether they are a value is decided together with all other reasons to refuse.
 pub record Spells (t : Text) (v : Value) : Type 0 where
   pub bytes : value_bytes v ≡ t
   pub value : IsValueWithin name_limit t → IsValue name_limit v
 
 -- ---- changes of names and parts
 
--- what a change makes of a thing: where it gives nothing new, the thing stays
+-- what a change makes of a thing: if the change gives nothing new, the thing is unchanged
 abbrev pub changed : {X : Type 0} → (X → Option X) → X → X
 changed change x = unwrap_or (change x) x
 
@@ -139,12 +139,13 @@ abbrev pub from_first : (Tree → Bool) → (List Item → List Item) → List I
 from_first test change [] = []
 from_first test change (item ∷ items) = if test item.tree then change (item ∷ items) else item ∷ from_first test change items
 
--- the items, with the tree of the first changed
+-- the items, with the tree of the first one changed
 abbrev pub with_first_tree : (Tree → Tree) → List Item → List Item
 with_first_tree change [] = []
 with_first_tree change (item ∷ items) = record item { tree = change item.tree } ∷ items
 
--- the front and the items without the first that passes the test: its body goes, and its trail joins the text before it
+-- the front and the items without the first item that passes the test: its body is removed, and its trail joins the text
+-- before it
 abbrev pub without_first : (Tree → Bool) → Text → List Item → Reading
 without_first test front [] = record { front = front; items = [] }
 without_first test front (item ∷ items) =
@@ -170,16 +171,16 @@ row_before space row = record row { assignment = record row.assignment { space_a
 abbrev pub row_to : Value → Row → Row
 row_to value row = record row { assignment = record row.assignment { value = value } }
 
--- The white space before the rows, and the rows, after the field is set: the first row of this name has the value; where there
--- is none, a new row stands directly after the last value, or after the key.
+-- The white space before the rows, and the rows, after the field is set: the first row of this name has the value; if there
+-- is none, a new row is put directly after the last value, or after the key.
 abbrev pub with_field : Text → Value → Text → List Row → Text × List Row
 with_field name value before [] = ([], new_row name value before ∷ [])
 with_field name value before (row ∷ rows) =
     let rest = with_field name value row.assignment.space_after rows in
     if same row.assignment.name name then (before, row_to value row ∷ rows) else (before, row_before rest.0 row ∷ rest.1)
 
--- The white space before the rows, and the rows without the first of this name: it goes from its comma to the end of its value,
--- and the white space after it joins that before it.
+-- The white space before the rows, and the rows without the first row of this name: the row is removed from its comma to the
+-- end of its value, and the white space after it joins the white space before it.
 abbrev pub without_field : Text → Text → List Row → Text × List Row
 without_field name before [] = (before, [])
 without_field name before (row ∷ rows) =
@@ -268,7 +269,7 @@ add_many news db = record db { items = db.items ++ map item_of news }
 abbrev pub remove_entry : Text → Reading → Reading
 remove_entry key db = without_first (is_entry key) db.front db.items
 
--- the entry that the key names taken out, and put in at this position of what remains
+-- the entry that the key names is taken out, and put in again at this position of the others
 abbrev pub move_entry : Text → ℕ → Reading → Reading
 move_entry key position db =
     option_map_or (λ item. with_item position (in_line item.tree) (remove_entry key db)) (find (λ item. is_entry key item.tree) db.items) db
@@ -289,14 +290,14 @@ abbrev pub with_crossref : Option Text → List Row → List Row
 with_crossref None rows = rows
 with_crossref (Some key) rows = with_value crossref (in_braces key) rows
 
--- the number of the next entry, after this item
+-- the number of the next entry after this item, if the item's own number as an entry would be n
 abbrev pub next_number : ℕ → Tree → ℕ
 next_number n (EntryTree e) = suc n
 next_number n (CommentTree h) = n
 next_number n (DefinitionTree d) = n
 next_number n (PreambleTree p) = n
 
--- entry n with its new key, if it gets one, and with its crossref naming the new key of its target, if that gets one
+-- entry n with its new key, if it gets one, and with a crossref that names the new key of its target, if the target gets one
 abbrev pub tree_with_keys : (ℕ → Option Text) → List EntryTexts → ℕ → Tree → Tree
 tree_with_keys new entries n (EntryTree e) =
     EntryTree (record e { key = unwrap_or (new n) e.key; rows = with_crossref (option_and_then new (target entries n)) e.rows })
@@ -312,11 +313,11 @@ item_with_keys new entries n item = record item { tree = tree_with_keys new entr
 abbrev pub items_with_keys : (ℕ → Option Text) → List EntryTexts → ℕ → List Item → List Item
 items_with_keys new entries n items = scan (λ n item. next_number n item.tree) (item_with_keys new entries) n items
 
--- all entries with their new keys, given at once: entry n gets the key `new n`, if that is one
+-- all entries with their new keys, given at once: entry n gets the key `new n`, if that is not `None`
 abbrev pub with_keys : (ℕ → Option Text) → Reading → Reading
 with_keys new db = record db { items = items_with_keys new (entries_of db) 0 db.items }
 
--- new keys where one entry alone gets one
+-- the new keys, if only one entry gets a new key
 abbrev pub key_for : Option ℕ → Text → ℕ → Option Text
 key_for None to n = None
 key_for (Some m) to n = if m == n then Some to else None
@@ -342,7 +343,7 @@ use_renamed from to (Braced t) = None
 use_renamed from to (Quoted t) = None
 use_renamed from to (Digits t) = None
 
--- the macro has its new name from its definition on: a use before that means a month, or nothing
+-- the macro has its new name from its definition on: a use before the definition means a month, or nothing
 abbrev pub rename_macro : Text → Text → Reading → Reading
 rename_macro from to db = record db { items = from_first (defines from) (items_with (name_renamed from to) (use_renamed from to)) db.items }
 
@@ -362,7 +363,7 @@ uses_inlined name text (item ∷ items) = item ∷ items_with leaving (use_inlin
 abbrev pub text_of_macro : Text → Reading → Text
 text_of_macro name db = unwrap_or (seen db (length db.items) name) []
 
--- the uses after the definition are replaced, and the definition goes
+-- the uses after the definition are replaced, and the definition is removed
 abbrev pub inline_macro : Text → Reading → Reading
 inline_macro name db =
     without_first (defines name) db.front (from_first (defines name) (uses_inlined name (text_of_macro name db)) db.items)
@@ -387,7 +388,7 @@ part_introduced name text part = if holds text part then Some (Macro name) else 
 abbrev pub introduced : Text → Text → List Item → List Item
 introduced name text items = in_line (DefinitionTree (definition_of name text)) ∷ items_with leaving (part_introduced name text) items
 
--- the definition stands before the first item that has such a part
+-- the definition is put before the first item that has such a part
 abbrev pub introduce_macro : Text → Text → Reading → Reading
 introduce_macro name text db = record db { items = from_first (any_part (holds text)) (introduced name text) db.items }
 
@@ -409,7 +410,7 @@ edited key_base db (AddMany news) = add_many news db
 
 -- ---- what an edit is given
 
--- its new keys
+-- the new keys that the edit gives
 abbrev pub given_keys : Edit → List Text
 given_keys (AddEntry position new) = new.key ∷ []
 given_keys (AddMany news) = map (λ new. new.key) news
@@ -424,7 +425,7 @@ field_names new = map (λ field. field.0) new.fields
 abbrev pub field_values : NewEntry → List Value
 field_values new = map (λ field. field.1) new.fields
 
--- its names of fields and macros, new ones or not
+-- the names of fields and macros in the edit, new ones or not
 abbrev pub given_names : Edit → List Text
 given_names (SetField key name value) = name ∷ []
 given_names (DropField key name) = name ∷ []
@@ -435,13 +436,13 @@ given_names (InlineMacro name) = name ∷ []
 given_names (IntroduceMacro name text) = name ∷ []
 given_names other = []
 
--- its types of entries
+-- the types of entries in the edit
 abbrev pub given_types : Edit → List Text
 given_types (AddEntry position new) = new.kind_name ∷ []
 given_types (AddMany news) = map (λ new. new.kind_name) news
 given_types other = []
 
--- its values; a text that is introduced stands in braces
+-- the values in the edit; a text that gets a name is put in braces
 abbrev pub given_values : Edit → List Value
 given_values (SetField key name value) = value ∷ []
 given_values (AddEntry position new) = field_values new
@@ -483,7 +484,7 @@ pub record HasCleanTexts (db : Reading) : Type 0 where
   pub front : IsClean db.front
   pub trails : All (λ item. IsCleanTrail (is_comment item.tree) item.trail) db.items
 
--- nothing but a closing parenthesis follows the key, so it would belong to the key
+-- only a closing parenthesis follows the key, so it would belong to the key
 abbrev pub ends_in_key : Entry → Bool
 ends_in_key e = bytes_eq (after_key_bytes e) (close_paren ∷ [])
 
@@ -534,7 +535,7 @@ IsPositionTooHigh db (AddEntry position new) = last_position db (AddEntry positi
 IsPositionTooHigh db (MoveEntry key position) = last_position db (MoveEntry key position) < position
 IsPositionTooHigh db other = ⊥
 
--- what the edit addresses is not there; an empty key never is, and a month alone is no definition
+-- what the edit addresses is not there; no entry is found by an empty key, and a month alone is no definition
 abbrev pub IsMissing : Reading → Edit → Type 0
 IsMissing db (SetField key name value) = holders key db ≡ 0
 IsMissing db (DropField key name) = fields_named key name db ≡ 0
@@ -559,8 +560,8 @@ IsAmbiguous db (InlineMacro name) = 1 < definitions name db
 IsAmbiguous db (AddMany news) = list_any (λ new. has_same (field_names new)) news ≡ true
 IsAmbiguous db other = ⊥
 
--- The new key is another entry's, or another new entry's, or the text of a dangling crossref; that last only for a key
--- that is renamed, since an added entry may be what the crossref was waiting for.
+-- The new key is the key of another entry or of another new entry, or the text of a dangling crossref. That last is a reason
+-- only for a key that is renamed, since an added entry may be what the crossref was waiting for.
 abbrev pub IsKeyInUse : Reading → Edit → Type 0
 IsKeyInUse db (AddEntry position new) = list_any (same new.key) (keys_of (entries_of db)) ≡ true
 IsKeyInUse db (AddMany news) =

@@ -1,5 +1,5 @@
--- Small files, and what the definitions say of them, byte by byte; and the least file that goes wrong without each
--- condition of an edit.
+-- Small files, and what the definitions say of them, byte by byte; and for each condition of an edit a small file that would
+-- go wrong without it.
 use Rattle.std.specs.Prelude.{◌≡◌, ℕ, ◌-◌, true, false, List, [], ◌∷◌, ◌++◌, Some, None, unwrap_or, if◌then◌else◌, length, take, drop, slice_get, codes, map, find, bytes_eq}
 use Rattle.std.specs.List.{last_or}
 use Rattle.std.specs.Option.{option_map_or}
@@ -37,6 +37,7 @@ tight name value = record {
   assignment = record { name = name; space_before_equals = []; space_before_value = []; value = value; space_after = [] };
 }
 
+-- `@kind{`, or `@kind(`, without white space
 abbrev pub opened : Delimiter → Text → Opening
 opened delimiter kind = record {
   head = record { space_before_type = []; type_name = kind };
@@ -66,11 +67,13 @@ string name value = record {
   trail = [];
 }
 
+-- the file that has these items and nothing before them
 abbrev pub file : List Item → Reading
 file items = record { front = []; items = items }
 
 -- ---- a key base for the examples
 
+-- the text of the record's field of this name, or the empty text if it has none
 abbrev pub text_of_field : Text → Record → Text
 text_of_field name r = option_map_or (λ f. f.1) (find (λ f. bytes_eq f.0 name) r.fields) []
 
@@ -98,17 +101,19 @@ fields_of depth db n = option_map_or (λ r. r.fields) (expanded depth (entries_o
 abbrev pub file_after : Reading → Edit → Text
 file_after db e = bytes_of (edited author_year db e)
 
+-- the pieces of an edit
 abbrev pub pieces : Reading → Edit → List Piece
 pieces db e = pieces_of author_year db e
 
 -- ---- macros
 
+-- the macro `p` is defined twice, with a use after each definition
 abbrev pub defined_twice : Reading
 defined_twice = file (
     string (codes "p") (only (Braced (codes "A"))) ∷ misc (codes "a") (tight (codes "t") (only (Macro (codes "p"))) ∷ [])
     ∷ string (codes "p") (only (Braced (codes "B"))) ∷ misc (codes "b") (tight (codes "t") (only (Macro (codes "p"))) ∷ []) ∷ [])
 
--- a use sees the last definition before it, and a month where there is none
+-- a use of a macro means the last definition before it; if there is none, it means the month of that name
 pub record MacroIsReadWhereItStands : Type 0 where
   pub bytes : bytes_of defined_twice ≡ codes "@string{p={A}}@misc{a,t=p}@string{p={B}}@misc{b,t=p}"
   pub first : texts_at 1 defined_twice 0 ≡ codes "A" ∷ []
@@ -119,6 +124,7 @@ pub record MacroIsReadWhereItStands : Type 0 where
   pub month : seen defined_twice 0 (codes "MAY") ≡ Some (codes "May")
   pub renamed : Refuses author_year Ambiguous defined_twice (RenameMacro (codes "p") (codes "q"))
 
+-- a definition of `jan` that uses `jan`, and an entry that uses it after that
 abbrev pub overridden_month : Reading
 overridden_month = file (
     record {
@@ -130,7 +136,7 @@ overridden_month = file (
     }
     ∷ misc (codes "a") (spaced (codes "month") (only (Macro (codes "jan"))) ∷ []) ∷ [])
 
--- in its own definition a macro gives nothing, and is renamed there like every use after it
+-- in its own definition a macro gives nothing; renaming the macro changes that use as every later one
 pub record MonthIsOverridden : Type 0 where
   pub bytes : bytes_of overridden_month ≡ codes "@string{jan = jan # { x}}@misc{a, month = jan}"
   pub text : texts_at 1 overridden_month 0 ≡ codes "x" ∷ []
@@ -141,6 +147,7 @@ pub record MonthIsOverridden : Type 0 where
   pub month_alone : Refuses author_year NotFound overridden_month (RenameMacro (codes "feb") (codes "j"))
   pub to_month : Refuses author_year NameInUse overridden_month (RenameMacro (codes "jan") (codes "May"))
 
+-- the macro `m` has a text with a quotation mark in it, and one use, joined to the digit 1
 abbrev pub quoting : Reading
 quoting = file (
     record {
@@ -152,12 +159,13 @@ quoting = file (
     }
     ∷ misc (codes "k") (spaced (codes "t") (both (Macro (codes "m")) (Digits (codes "1"))) ∷ []) ∷ [])
 
+-- the macro `m` uses `x`, and `x` is defined again before `m` is used
 abbrev pub redefined_inside : Reading
 redefined_inside = file (
     string (codes "x") (only (Braced (codes "1"))) ∷ string (codes "m") (only (Macro (codes "x")))
     ∷ string (codes "x") (only (Braced (codes "2"))) ∷ misc (codes "k") (tight (codes "t") (only (Macro (codes "m"))) ∷ []) ∷ [])
 
--- what stands for a use is the text that it gave, and not the parts of its definition
+-- inlining replaces a use by the text that the use gave, not by the parts of the macro's definition
 pub record MacroIsInlinedAsText : Type 0 where
   pub bytes : bytes_of quoting ≡ codes "@string{m = \"a\" # {\"}}@misc{k, t = m # 1}"
   pub inlined : file_after quoting (InlineMacro (codes "m")) ≡ codes "@misc{k, t = {a\"} # 1}"
@@ -166,6 +174,7 @@ pub record MacroIsInlinedAsText : Type 0 where
   pub pieces : pieces redefined_inside (InlineMacro (codes "m")) ≡
       record { place = 14; old = codes "@string{m=x}"; new = [] } ∷ record { place = 50; old = codes "m"; new = codes "{1}" } ∷ []
 
+-- a value with the text `x` twice, once in braces and once in quotation marks
 abbrev pub same_text_twice : Reading
 same_text_twice = file (misc (codes "a") (spaced (codes "t") (both (Braced (codes "x")) (Quoted (codes "x"))) ∷ []) ∷ [])
 
@@ -177,6 +186,7 @@ pub record TextGetsName : Type 0 where
   pub month : Refuses author_year NameInUse same_text_twice (IntroduceMacro (codes "may") (codes "x"))
   pub no_part : Refuses author_year NotFound same_text_twice (IntroduceMacro (codes "m") (codes "y"))
 
+-- a use of `m` before its definition, and one after it
 abbrev pub used_before : Reading
 used_before = file (
     misc (codes "a") (spaced (codes "t") (only (Macro (codes "m"))) ∷ [])
@@ -189,19 +199,21 @@ used_before = file (
     }
     ∷ misc (codes "b") (spaced (codes "t") (only (Macro (codes "m"))) ∷ []) ∷ [])
 
--- a use before the definition means something else, and is left; digits are no text that can get a name
+-- a use before the definition means something else, so it is unchanged; digits are no text that can get a name
 pub record UseBeforeDefinitionIsLeft : Type 0 where
   pub bytes : bytes_of used_before ≡ codes "@misc{a, t = m}@string{m = 1}@misc{b, t = m}"
   pub renamed : file_after used_before (RenameMacro (codes "m") (codes "n")) ≡ codes "@misc{a, t = m}@string{n = 1}@misc{b, t = n}"
   pub digits : Refuses author_year NotFound used_before (IntroduceMacro (codes "k") (codes "1"))
 
+-- `@preamble{value}`
 abbrev pub preamble : Value → Item
 preamble value = record { tree = PreambleTree (record { opening = opened Brace (codes "preamble"); value = value; space_after = [] }); trail = [] }
 
+-- a preamble with two texts joined
 abbrev pub joined_text : Reading
 joined_text = file (preamble (both (Quoted (codes "a")) (Braced (codes " b"))) ∷ [])
 
--- what parts say is joined as it stands; a field's text has one space for each run of white space, and none at its ends
+-- the texts of parts are joined unchanged; a field text has one space for each run of white space, and none at its ends
 pub record TextsAreJoined : Type 0 where
   pub bytes : bytes_of joined_text ≡ codes "@preamble{\"a\" # { b}}"
   pub preamble_text : preambles_of joined_text ≡ codes "a b" ∷ []
@@ -232,7 +244,7 @@ in_parentheses space = file (record {
   trail = [];
 } ∷ [])
 
--- a new field stands after the last value; a dropped one takes its comma along
+-- a new field is put after the last value; a dropped field takes its comma along
 pub record FieldIsSetAndDropped : Type 0 where
   pub bytes : bytes_of one_field ≡ codes "@misc{a, t = 1,}"
   pub set : file_after one_field (SetField (codes "a") (codes "y") (only (Braced (codes "2")))) ≡ codes "@misc{a, t = 1,\n  y = {2},}"
@@ -246,6 +258,7 @@ pub record FieldIsSetAndDropped : Type 0 where
   pub close_in_key : Refuses author_year WouldMerge (in_parentheses []) (DropField (codes "a") (codes "t"))
   pub close_apart : file_after (in_parentheses (codes " ")) (DropField (codes "a") (codes "t")) ≡ codes "@misc(a )"
 
+-- an entry with the field `t` twice, and a second entry with the first one's key, in the other case
 abbrev pub field_and_key_twice : Reading
 field_and_key_twice = file (
     misc (codes "a") (spaced (codes "t") (only (Macro (codes "u"))) ∷ spaced (codes "T") (only (Digits (codes "1"))) ∷ [])
@@ -261,13 +274,15 @@ pub record FirstCounts : Type 0 where
 
 -- ---- entries
 
+-- two entries, each in a line
 abbrev pub two_lines : Reading
 two_lines = file (entry (codes "misc") (codes "a") [] (codes "\n") ∷ entry (codes "misc") (codes "b") [] (codes "\n") ∷ [])
 
+-- `@book{c, title = {T}}`, to be added
 abbrev pub book : NewEntry
 book = record { kind_name = codes "book"; key = codes "c"; fields = (codes "title", only (Braced (codes "T"))) ∷ [] }
 
--- an entry is added in lines of its own; one that is moved leaves its line after
+-- an added entry gets lines of its own; a moved entry leaves behind the end of its old line
 pub record EntriesAreAddedAndMoved : Type 0 where
   pub bytes : bytes_of two_lines ≡ codes "@misc{a}\n@misc{b}\n"
   pub added : file_after two_lines (AddEntry 1 book) ≡ codes "@misc{a}\n@book{c,\n  title = {T}\n}\n@misc{b}\n"
@@ -279,10 +294,11 @@ pub record EntriesAreAddedAndMoved : Type 0 where
   pub taken : Refuses author_year KeyInUse two_lines (RenameKey (codes "a") (codes "B"))
   pub no_key : Refuses author_year BadKey two_lines (RenameKey (codes "a") (codes "b c"))
 
--- `a@foo \n@misc{k}{b`, and `@comment@misc{k}s`
+-- `a@foo \n@misc{k}{b`: without the entry, `@foo {` would begin a command
 abbrev pub address_before : Reading
 address_before = record { front = codes "a@foo \n"; items = entry (codes "misc") (codes "k") [] (codes "{b") ∷ [] }
 
+-- `@comment@misc{k}s`: a comment directly before an entry, and a letter directly after it
 abbrev pub comment_before : Reading
 comment_before = file (
     record { tree = CommentTree (record { space_before_type = []; type_name = codes "comment" }); trail = [] }
@@ -295,6 +311,7 @@ pub record JoinedTextStaysText : Type 0 where
   pub comment : bytes_of comment_before ≡ codes "@comment@misc{k}s"
   pub no_other_name : Refuses author_year WouldMerge comment_before (RemoveEntry (codes "k"))
 
+-- two entries with text before, between and after them
 abbrev pub texts_between : Reading
 texts_between = record { front = codes "abc"; items = entry (codes "misc") (codes "k") [] (codes "s") ∷ entry (codes "misc") (codes "l") [] (codes "t") ∷ [] }
 
@@ -308,12 +325,15 @@ pub record TrailJoinsTextBefore : Type 0 where
 
 -- ---- crossrefs
 
+-- `, title = {t}`
 abbrev pub title : Text → Row
 title t = spaced (codes "title") (only (Braced t))
 
+-- `, crossref = {key}`
 abbrev pub cites : Text → Row
 cites key = spaced (codes "crossref") (only (Braced key))
 
+-- three papers with one parent
 abbrev pub conference : Reading
 conference = file (
     entry (codes "inproceedings") (codes "c1") (title (codes "One") ∷ cites (codes "p") ∷ []) (codes "\n")
@@ -322,10 +342,11 @@ conference = file (
     ∷ entry (codes "proceedings") (codes "p") (title (codes "Proc") ∷ spaced (codes "booktitle") (only (Braced (codes "Proc"))) ∷ spaced (codes "year") (only (Digits (codes "2001"))) ∷ []) (codes "\n")
     ∷ [])
 
+-- a cited list: two entries, a key that no entry has, and the first entry again in the other case
 abbrev pub citations : List Text
 citations = codes "c1" ∷ codes "zz" ∷ codes "c2" ∷ codes "C1" ∷ []
 
--- a parent is listed once enough of its children are, and a child says what it lacks in its parent's words
+-- a parent is listed once enough of its children are, and a child inherits the fields that it lacks
 pub record ParentIsCitedWithChildren : Type 0 where
   pub with_parent : listed (entries_of conference) citations 2 ≡ 0 ∷ 1 ∷ 3 ∷ []
   pub without_parent : listed (entries_of conference) citations 3 ≡ 0 ∷ 1 ∷ []
@@ -333,11 +354,12 @@ pub record ParentIsCitedWithChildren : Type 0 where
   pub fields : fields_of 1 conference 0 ≡ (codes "title", codes "One") ∷ (codes "booktitle", codes "Proc") ∷ (codes "year", codes "2001") ∷ []
   pub removed : Refuses author_year Referred conference (RemoveEntry (codes "p"))
 
+-- four entries: one whose crossref is its own key, one without a crossref, one with a parent, one that dangles
 abbrev pub crossing : Reading
 crossing = file (
     misc (codes "a") (cites (codes "a") ∷ []) ∷ misc (codes "b") [] ∷ misc (codes "c") (cites (codes "B") ∷ []) ∷ misc (codes "d") (cites (codes "q") ∷ []) ∷ [])
 
--- a crossref may name the entry itself, which then is no parent, or none at all
+-- a crossref may name its own entry, which then is no parent, or no entry at all
 pub record CrossrefsFindTargets : Type 0 where
   pub bytes : bytes_of crossing ≡ codes "@misc{a, crossref = {a}}@misc{b}@misc{c, crossref = {B}}@misc{d, crossref = {q}}"
   pub targets : map (target (entries_of crossing)) (0 ∷ 1 ∷ 2 ∷ 3 ∷ []) ≡ Some 0 ∷ None ∷ Some 1 ∷ None ∷ []
@@ -347,18 +369,20 @@ pub record CrossrefsFindTargets : Type 0 where
   pub own : fields_of 1 crossing 0 ≡ []
   pub all : listed (entries_of crossing) (codes "*" ∷ []) 1 ≡ 0 ∷ 1 ∷ 2 ∷ 3 ∷ []
 
+-- a crossref that joins a macro's text and `95`
 abbrev pub named_by_macro : Reading
 named_by_macro = file (
     string (codes "conf") (only (Braced (codes "conf"))) ∷ misc (codes "conf95") []
     ∷ misc (codes "b") (spaced (codes "crossref") (both (Macro (codes "conf")) (Braced (codes "95"))) ∷ []) ∷ [])
 
--- a crossref is what its parts say
+-- a crossref's text is the joined text of its parts, and renaming its target replaces them all
 pub record CrossrefOfPartsIsRenamed : Type 0 where
   pub bytes : bytes_of named_by_macro ≡ codes "@string{conf={conf}}@misc{conf95}@misc{b, crossref = conf # {95}}"
   pub renamed : file_after named_by_macro (RenameKey (codes "conf95") (codes "icc")) ≡ codes "@string{conf={conf}}@misc{icc}@misc{b, crossref = {icc}}"
   pub parent : parent (entries_of (edited author_year named_by_macro (RenameKey (codes "conf95") (codes "icc")))) 1 ≡ Some 0
   pub macro_renamed : file_after named_by_macro (RenameMacro (codes "conf") (codes "c")) ≡ codes "@string{c={conf}}@misc{conf95}@misc{b, crossref = c # {95}}"
 
+-- three entries that are each other's parents in a ring
 abbrev pub ring : Reading
 ring = file (
     misc (codes "c") (tight (codes "crossref") (only (Braced (codes "b"))) ∷ [])
@@ -366,7 +390,7 @@ ring = file (
     ∷ misc (codes "a") (tight (codes "x") (only (Digits (codes "2"))) ∷ tight (codes "y") (only (Digits (codes "3"))) ∷ tight (codes "crossref") (only (Braced (codes "c"))) ∷ [])
     ∷ [])
 
--- a record inherits along the chain of parents, nearest first, and a ring ends it
+-- a record inherits from its parents in turn, nearest first; a ring ends the chain
 pub record RecordInheritsAlongChain : Type 0 where
   pub bytes : bytes_of ring ≡ codes "@misc{c,crossref={b}}@misc{b,x=1,crossref={a}}@misc{a,x=2,y=3,crossref={c}}"
   pub one : fields_of 1 ring 0 ≡ (codes "x", codes "1") ∷ []
@@ -376,15 +400,17 @@ pub record RecordInheritsAlongChain : Type 0 where
 
 -- ---- made keys
 
+-- rows for this author and this year, with more rows after them
 abbrev pub written : Text → Text → List Row → List Row
 written author year more = spaced (codes "author") (only (Braced author)) ∷ spaced (codes "year") (only (Digits year)) ∷ more
 
+-- two entries, each with the key that would be made for the other
 abbrev pub swapped : Reading
 swapped = file (
     entry (codes "misc") (codes "Lam86") (written (codes "Donald E. Knuth") (codes "1984") []) (codes "\n")
     ∷ entry (codes "misc") (codes "Knu84") (written (codes "Leslie Lamport") (codes "1986") (cites (codes "lam86") ∷ [])) (codes "\n") ∷ [])
 
--- all keys change at once, so that two of them can change places
+-- all keys change at once, so two entries can exchange keys
 pub record MadeKeysSwap : Type 0 where
   pub bytes : bytes_of swapped ≡ codes "@misc{Lam86, author = {Donald E. Knuth}, year = 1984}\n@misc{Knu84, author = {Leslie Lamport}, year = 1986, crossref = {lam86}}\n"
   pub made : file_after swapped (RegenerateKeys 1) ≡ codes "@misc{Knu84, author = {Donald E. Knuth}, year = 1984}\n@misc{Lam86, author = {Leslie Lamport}, year = 1986, crossref = {Knu84}}\n"
@@ -392,6 +418,7 @@ pub record MadeKeysSwap : Type 0 where
   pub again : file_after (edited author_year swapped (RegenerateKeys 1)) (RegenerateKeys 1) ≡ file_after swapped (RegenerateKeys 1)
   pub parent : parent (entries_of (edited author_year swapped (RegenerateKeys 1))) 1 ≡ Some 0
 
+-- two entries with the same base for their keys, and a dangling crossref that names one of the candidates
 abbrev pub years : Reading
 years = file (
     misc [] (tight (codes "year") (only (Digits (codes "1999"))) ∷ [])
@@ -399,34 +426,37 @@ years = file (
     ∷ misc (codes "c") (tight (codes "year") (only (Digits (codes "2000"))) ∷ tight (codes "crossref") (only (Braced (codes "anon99A"))) ∷ [])
     ∷ [])
 
--- a made key is no earlier one, and not what a dangling crossref waits for
+-- a made key differs from all keys made before it and from the texts of dangling crossrefs
 pub record MadeKeysDiffer : Type 0 where
   pub bytes : bytes_of years ≡ codes "@misc{,year=1999}@misc{x,year=1999}@misc{c,year=2000,crossref={anon99A}}"
   pub made : file_after years (RegenerateKeys 1) ≡ codes "@misc{anon99,year=1999}@misc{anon99b,year=1999}@misc{anon00,year=2000,crossref={anon99A}}"
   pub free : free_key (keys_of (entries_of years) ++ dangling_texts (entries_of years)) (codes "x") ≡ codes "xa"
 
+-- a chain of two parents, where only the last entry has a year
 abbrev pub chain : Reading
 chain = file (
     misc (codes "p") (tight (codes "crossref") (only (Braced (codes "q"))) ∷ [])
     ∷ misc (codes "q") (tight (codes "crossref") (only (Braced (codes "r"))) ∷ [])
     ∷ misc (codes "r") (tight (codes "year") (only (Digits (codes "1999"))) ∷ []) ∷ [])
 
--- the base of a made key is of the record at the depth that is asked for
+-- the base of a made key comes from the record at the requested depth
 pub record MadeKeysReadTheChain : Type 0 where
   pub bytes : bytes_of chain ≡ codes "@misc{p,crossref={q}}@misc{q,crossref={r}}@misc{r,year=1999}"
   pub one : keys_of (entries_of (edited author_year chain (RegenerateKeys 1))) ≡ codes "anon" ∷ codes "anon99" ∷ codes "anon99a" ∷ []
   pub two : file_after chain (RegenerateKeys 2) ≡ codes "@misc{anon99,crossref={anon99a}}@misc{anon99a,crossref={anon99b}}@misc{anon99b,year=1999}"
 
--- ---- what goes wrong without a condition
+-- ---- what would go wrong without a condition
 
+-- an entry, and another whose crossref `Z` dangles
 abbrev pub waiting : Reading
 waiting = file (misc (codes "a") [] ∷ misc (codes "b") (cites (codes "Z") ∷ []) ∷ [])
 
+-- `@misc{z}`, to be added
 abbrev pub z : NewEntry
 z = record { kind_name = codes "misc"; key = codes "z"; fields = [] }
 
--- an entry gets a parent once its dangling crossref finds one: so a key is not renamed to what it waits for, and the law of
--- an added entry leaves that out
+-- An entry gets a parent once its dangling crossref finds one. So renaming a key to that text is refused, and the law about
+-- an added entry excepts this case.
 pub record DanglingCrossrefFindsKey : Type 0 where
   pub bytes : bytes_of waiting ≡ codes "@misc{a}@misc{b, crossref = {Z}}"
   pub before : parent (entries_of waiting) 1 ≡ None
@@ -434,70 +464,77 @@ pub record DanglingCrossrefFindsKey : Type 0 where
   pub after : parent (entries_of (edited author_year waiting (RenameKey (codes "a") (codes "z")))) 1 ≡ Some 0
   pub added : parent (entries_of (edited author_year waiting (AddEntry 0 z))) 2 ≡ Some 0
 
+-- three entries; the crossref of the third names the second
 abbrev pub three : Reading
 three = file (misc (codes "a") [] ∷ misc (codes "b") [] ∷ misc (codes "c") (cites (codes "b") ∷ []) ∷ [])
 
--- a key that is another entry's takes its children
+-- an entry that got another entry's key would take that entry's children
 pub record KeyInUseTakesChildren : Type 0 where
   pub bytes : bytes_of three ≡ codes "@misc{a}@misc{b}@misc{c, crossref = {b}}"
   pub before : parent (entries_of three) 2 ≡ Some 1
   pub refused : Refuses author_year KeyInUse three (RenameKey (codes "a") (codes "B"))
   pub after : parent (entries_of (edited author_year three (RenameKey (codes "a") (codes "B")))) 2 ≡ Some 0
 
--- a key with white space is not what a crossref says, in which each run of it is one space
+-- no crossref can name a key with two spaces in a row, since a field text has one space for each run of white space
 pub record SpacedKeyLosesChildren : Type 0 where
   pub refused : Refuses author_year BadKey three (RenameKey (codes "b") (codes "x  y"))
   pub after : parent (entries_of (edited author_year three (RenameKey (codes "b") (codes "x  y")))) 2 ≡ None
 
+-- two entries with one key, and a child of the first
 abbrev pub repeated : Reading
 repeated = file (misc (codes "a") [] ∷ misc (codes "A") [] ∷ misc (codes "b") (cites (codes "a") ∷ []) ∷ [])
 
--- without the first entry of a key its children belong to the second
+-- without the first entry of a key, its children would belong to the second
 pub record RepeatedKeyTakesChildren : Type 0 where
   pub bytes : bytes_of repeated ≡ codes "@misc{a}@misc{A}@misc{b, crossref = {a}}"
   pub before : parent (entries_of repeated) 2 ≡ Some 0
   pub refused : Refuses author_year Ambiguous repeated (RemoveEntry (codes "a"))
   pub after : parent (entries_of (edited author_year repeated (RemoveEntry (codes "a")))) 1 ≡ Some 0
 
+-- a parent with one field, and its child
 abbrev pub family : Reading
 family = file (misc (codes "a") (tight (codes "t") (only (Digits (codes "1"))) ∷ []) ∷ misc (codes "b") (cites (codes "a") ∷ []) ∷ [])
 
--- an entry whose parent goes loses what it inherits
+-- an entry whose parent is removed would lose what it inherits
 pub record RemovedParentLeavesChildren : Type 0 where
   pub bytes : bytes_of family ≡ codes "@misc{a,t=1}@misc{b, crossref = {a}}"
   pub before : fields_of 1 family 1 ≡ (codes "t", codes "1") ∷ []
   pub refused : Refuses author_year Referred family (RemoveEntry (codes "a"))
   pub after : fields_of 1 (edited author_year family (RemoveEntry (codes "a"))) 0 ≡ []
 
+-- `@misc{A}`, to be added
 abbrev pub capital_a : NewEntry
 capital_a = record { kind_name = codes "misc"; key = codes "A"; fields = [] }
 
--- an entry that is put before the one with its key takes that one's children
+-- an entry added before another entry with its key would take that entry's children
 pub record AddedKeyTakesChildren : Type 0 where
   pub before : parent (entries_of family) 1 ≡ Some 0
   pub refused : Refuses author_year KeyInUse family (AddEntry 0 capital_a)
   pub after : parent (entries_of (edited author_year family (AddEntry 0 capital_a))) 2 ≡ Some 0
   pub after_fields : fields_of 1 (edited author_year family (AddEntry 0 capital_a)) 2 ≡ []
 
--- a moved entry does not stand at a position that is too high
+-- a position that is too high cannot be reached: no item would be there afterwards
 pub record HighPlaceIsNotReached : Type 0 where
   pub refused : Refuses author_year BadPosition two_lines (MoveEntry (codes "a") 2)
   pub after : slice_get (edited author_year two_lines (MoveEntry (codes "a") 2)).items 2 ≡ None
 
--- a base that reads the key, and one that is no key
+-- a base that reads the entry's key
 abbrev pub key_and_a : Record → Text
 key_and_a r = r.key ++ codes "a"
 
+-- a base that is no key, since it has spaces
 abbrev pub two_words : Record → Text
 two_words r = codes "x  y"
 
+-- a base that is one of made keys
 abbrev pub one_word : Record → Text
 one_word r = codes "x"
 
+-- `@misc{k}`
 abbrev pub one_key : Reading
 one_key = file (misc (codes "k") [] ∷ [])
 
--- made keys change again where their base reads the key, and lose their children where it is no key
+-- if the base reads the key, made keys change again each time; if it is no key, crossrefs to the made key find nothing
 pub record KeyBaseIsNeeded : Type 0 where
   pub once : bytes_of (edited key_and_a one_key (RegenerateKeys 1)) ≡ codes "@misc{ka}"
   pub again : bytes_of (edited key_and_a (edited key_and_a one_key (RegenerateKeys 1)) (RegenerateKeys 1)) ≡ codes "@misc{kaa}"
@@ -505,13 +542,15 @@ pub record KeyBaseIsNeeded : Type 0 where
   pub after : parent (entries_of (edited two_words family (RegenerateKeys 1))) 1 ≡ None
   pub is_there : IsKeyBase one_word
 
+-- a macro that is not used, and a use of an undefined name
 abbrev pub undefined_use : Reading
 undefined_use = file (string (codes "m") (only (Braced (codes "1"))) ∷ misc (codes "k") (tight (codes "t") (only (Macro (codes "n"))) ∷ []) ∷ [])
 
+-- a text, and beside it a use of an undefined name
 abbrev pub use_beside_text : Reading
 use_beside_text = file (misc (codes "k") (tight (codes "t") (only (Braced (codes "x"))) ∷ tight (codes "u") (only (Macro (codes "m"))) ∷ []) ∷ [])
 
--- a use that gave nothing gives a text once its name stands for one
+-- a use that gave nothing would give a text once its name stands for one
 pub record NameInUseGivesText : Type 0 where
   pub bytes : bytes_of undefined_use ≡ codes "@string{m={1}}@misc{k,t=n}"
   pub before : texts_at 1 undefined_use 0 ≡ [] ∷ []
@@ -521,26 +560,27 @@ pub record NameInUseGivesText : Type 0 where
   pub beside_refused : Refuses author_year NameInUse use_beside_text (IntroduceMacro (codes "m") (codes "x"))
   pub beside_after : texts_at 1 (edited author_year use_beside_text (IntroduceMacro (codes "m") (codes "x"))) 0 ≡ codes "x" ∷ codes "x" ∷ []
 
+-- the macro `m` is defined twice, with a use after each definition
 abbrev pub inlined_twice : Reading
 inlined_twice = file (
     string (codes "m") (only (Braced (codes "1"))) ∷ misc (codes "j") (tight (codes "t") (only (Macro (codes "m"))) ∷ [])
     ∷ string (codes "m") (only (Braced (codes "2"))) ∷ misc (codes "k") (tight (codes "t") (only (Macro (codes "m"))) ∷ []) ∷ [])
 
--- a macro that is defined twice has no one text
+-- a macro that is defined twice does not have one text for all its uses
 pub record MacroDefinedTwiceHasTwoTexts : Type 0 where
   pub bytes : bytes_of inlined_twice ≡ codes "@string{m={1}}@misc{j,t=m}@string{m={2}}@misc{k,t=m}"
   pub before : texts_at 1 inlined_twice 0 ≡ codes "1" ∷ []
   pub refused : Refuses author_year Ambiguous inlined_twice (InlineMacro (codes "m"))
   pub after : texts_at 1 (edited author_year inlined_twice (InlineMacro (codes "m"))) 0 ≡ codes "2" ∷ []
 
--- a key may be a star, which by itself cites all entries: so the law of cited lists leaves `*` alone out
+-- A key may be `*`, and a list of that key alone cites all entries. So the law of cited lists excepts that list.
 pub record StarCitesAll : Type 0 where
   pub before : listed (entries_of three) (codes "b" ∷ []) 1 ≡ 1 ∷ []
   pub after : listed (entries_of (edited author_year three (RenameKey (codes "b") (codes "*")))) (codes "*" ∷ []) 1 ≡ 0 ∷ 1 ∷ 2 ∷ []
 
 -- ---- edits that are accepted
 
--- Each law is about edits that are accepted: here is one of each kind.
+-- Each law is about accepted edits: here is one of each kind.
 pub record EditsAreAccepted : Type 0 where
   pub set : IsAccepted author_year one_field (SetField (codes "a") (codes "y") (only (Digits (codes "2"))))
   pub dropped : IsAccepted author_year one_field (DropField (codes "a") (codes "T"))

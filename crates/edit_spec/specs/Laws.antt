@@ -1,4 +1,4 @@
--- What the edits keep: a law is told by what it says of every database and every edit that is accepted.
+-- What the edits keep: each law is about every database and every accepted edit.
 use Rattle.std.specs.Prelude.{◌≡◌, ◌<◌, ◌≢◌, ℕ, suc, Bool, true, false, List, [], Option, Some, None, is_some, unwrap_or, option_map, option_and_then, slice_get, map, length, take}
 use Rattle.std.specs.List.{list_any, list_all}
 use Rattle.bib_spec.specs.Text.{Text, folded, same, IsBalanced}
@@ -13,32 +13,32 @@ use Rattle.edit_spec.specs.EditChunks.{chunks, pieces_of}
 
 -- ---- macros
 
--- item n stands after a definition of the name
+-- item n comes after a definition of the name
 abbrev pub is_after : Text → List Item → ℕ → Bool
 is_after name items n = list_any (λ item. defines name item.tree) (take n items)
 
--- item n passes the test, or stands after an item that does
+-- item n, or an item before it, passes the test
 abbrev pub is_reached : (Tree → Bool) → List Item → ℕ → Bool
 is_reached test items n = list_any (λ item. test item.tree) (take (suc n) items)
 
--- After a definition of the name, and up to the next one, the name stands for what that definition says where it stands.
+-- From a definition of the name to the next one, the name stands for the raw text of that definition's value at its place.
 abbrev pub sees_last_definition : Type 0
 sees_last_definition = (db : Reading) (name : Text) (k n : ℕ) (item : Item) (d : Definition) →
     slice_get db.items k ≡ Some item → item.tree ≡ DefinitionTree d → same d.assignment.name name ≡ true → k < n →
     ((j : ℕ) (other : Item) → k < j → j < n → slice_get db.items j ≡ Some other → defines name other.tree ≡ false) →
     seen db n name ≡ Some (raw_text (macros_in (macros_at months db.items k) (DefinitionTree d)) d.assignment.value)
 
--- Before the first definition of a name it stands for a month, if it is a month's, or else for nothing.
+-- Before the first definition of a name, the name stands for a month's text if it is a month's, and else for nothing.
 abbrev pub sees_months : Type 0
 sees_months = (db : Reading) (name : Text) (n : ℕ) → is_after name db.items n ≡ false → seen db n name ≡ months (folded name)
 
--- what a macro stands for is balanced, so that in braces it is a part
+-- what a macro stands for is balanced, so in braces it is a part
 abbrev pub macros_balance : Type 0
 macros_balance = (file : Text) (db : Reading) → Reads file db → (n : ℕ) (name text : Text) → seen db n name ≡ Some text → IsBalanced text
 
 -- ---- what a renaming keeps
 
--- a record with its key replaced, where there is a new one
+-- a record with its key replaced, if there is a new one
 abbrev pub record_with_key : Option Text → Record → Record
 record_with_key None r = r
 record_with_key (Some key) r = record r { key = key }
@@ -47,7 +47,7 @@ record_with_key (Some key) r = record r { key = key }
 abbrev pub no_new_key : ℕ → Option Text
 no_new_key n = None
 
--- Each entry's record, at every depth, is what it was, but for its new key; each parent and each preamble is what it was.
+-- Each entry's record, at every depth, is unchanged except for its new key; each parent and each preamble is unchanged.
 pub record KeepsEntries (new_key : ℕ → Option Text) (old new : Reading) : Type 0 where
   pub count : length (entries_of new) ≡ length (entries_of old)
   pub records : (depth n : ℕ) → expanded depth (entries_of new) n ≡ option_map (record_with_key (new_key n)) (expanded depth (entries_of old) n)
@@ -65,11 +65,11 @@ KeepsMacros old new = (n : ℕ) (name : Text) → seen new n name ≡ seen old n
 
 -- ---- renaming keys
 
--- a key of a list as its entry is called in the new database; a key that names no entry stays as it is
+-- the key that the entry named by `key` has in the new database; a key that names no entry is unchanged
 abbrev pub renamed_key : List EntryTexts → List EntryTexts → Text → Text
 renamed_key old new key = unwrap_or (option_and_then (slice_get (keys_of new)) (entry_named old key)) key
 
--- a list of keys as their entries are called in the new database
+-- the list of keys that the named entries have in the new database
 abbrev pub renamed_keys : Reading → Reading → List Text → List Text
 renamed_keys old new keys = map (renamed_key (entries_of old) (entries_of new)) keys
 
@@ -77,15 +77,15 @@ renamed_keys old new keys = map (renamed_key (entries_of old) (entries_of new)) 
 abbrev pub FindEntries : Reading → List Text → Type 0
 FindEntries db keys = list_all (λ key. is_some (entry_named (entries_of db) key)) keys ≡ true
 
--- A list of keys that all find entries lists the same entries by their new keys, where neither list is `*` alone; and that
--- lists all entries.
+-- If all keys of a list find entries, the list of their new keys lists the same entries, unless one of the two lists is `*`
+-- alone. The list `*` alone lists all entries, before and after.
 pub record KeepsCitationsByKey (old new : Reading) : Type 0 where
   pub cited : (keys : List Text) (min : ℕ) → FindEntries old keys → cites_all keys ≡ false → cites_all (renamed_keys old new keys) ≡ false
       → listed (entries_of new) (renamed_keys old new keys) min ≡ listed (entries_of old) keys min
   pub unknowns : (keys : List Text) → FindEntries old keys → unknown (entries_of new) (renamed_keys old new keys) ≡ []
   pub all : (keys : List Text) (min : ℕ) → cites_all keys ≡ true → listed (entries_of new) keys min ≡ listed (entries_of old) keys min
 
--- Renaming a key keeps all but that key.
+-- Renaming a key keeps all that the database says, except for that key.
 abbrev pub rename_key_keeps : Type 0
 rename_key_keeps = (key_base : Record → Text) (db : Reading) (from to : Text) → IsAccepted key_base db (RenameKey from to) →
     let new : Reading = edited key_base db (RenameKey from to) in
@@ -95,7 +95,7 @@ rename_key_keeps = (key_base : Record → Text) (db : Reading) (from to : Text) 
 abbrev pub AllDiffer : List Text → Type 0
 AllDiffer keys = (n m : ℕ) (a b : Text) → slice_get keys n ≡ Some a → slice_get keys m ≡ Some b → n ≢ m → same a b ≡ false
 
--- Making all keys anew keeps all but the keys.
+-- Regenerating all keys keeps all that the database says, except for the keys.
 abbrev pub regenerate_keys_keeps : Type 0
 regenerate_keys_keeps = (key_base : Record → Text) → IsKeyBase key_base → (db : Reading) (depth : ℕ) → IsAccepted key_base db (RegenerateKeys depth) →
     let new : Reading = edited key_base db (RegenerateKeys depth) in
@@ -106,7 +106,7 @@ abbrev pub made_keys_differ : Type 0
 made_keys_differ = (key_base : Record → Text) → IsKeyBase key_base → (db : Reading) (depth : ℕ) → IsAccepted key_base db (RegenerateKeys depth) →
     AllDiffer (keys_of (entries_of (edited key_base db (RegenerateKeys depth))))
 
--- Making all keys anew a second time is not refused, and changes nothing.
+-- Regenerating all keys a second time is not refused, and changes nothing.
 abbrev pub regenerating_again_changes_nothing : Type 0
 regenerating_again_changes_nothing = (key_base : Record → Text) → IsKeyBase key_base → (db : Reading) (depth : ℕ) → IsAccepted key_base db (RegenerateKeys depth) →
     let new : Reading = edited key_base db (RegenerateKeys depth) in
@@ -114,39 +114,39 @@ regenerating_again_changes_nothing = (key_base : Record → Text) → IsKeyBase 
 
 -- ---- renaming macros
 
--- After the definition the new name stands for what the old one stood for. A change of case alone changes nothing.
+-- After the definition the new name stands for what the old name stood for. A change of case alone changes no meaning.
 pub record SeesRenamed (from to : Text) (old new : Reading) : Type 0 where
   pub other : (n : ℕ) (name : Text) → same name from ≡ false → same name to ≡ false → seen new n name ≡ seen old n name
   pub before : (n : ℕ) (name : Text) → is_after from old.items n ≡ false → seen new n name ≡ seen old n name
   pub after : (n : ℕ) → is_after from old.items n ≡ true → seen new n to ≡ seen old n from
   pub respelled : same to from ≡ true → (n : ℕ) (name : Text) → seen new n name ≡ seen old n name
 
--- Renaming a macro keeps all that the database says, but for the name.
+-- Renaming a macro keeps all that the database says, except for the name.
 abbrev pub rename_macro_keeps : Type 0
 rename_macro_keeps = (key_base : Record → Text) (db : Reading) (from to : Text) → IsAccepted key_base db (RenameMacro from to) →
     let new : Reading = edited key_base db (RenameMacro from to) in
     KeepsEntries no_new_key db new × KeepsCitations db new × SeesRenamed from to db new
 
--- Before the definition all names stand for what they did. After it, where each item's number is one less, all other names
--- do.
+-- Before the definition all names stand for what they stood for. After it each item's number is one less, and all names
+-- except the macro's stand for what they stood for.
 pub record SeesInlined (name : Text) (old new : Reading) : Type 0 where
   pub before : (n : ℕ) (other : Text) → is_after name old.items n ≡ false → seen new n other ≡ seen old n other
   pub after : (n : ℕ) (other : Text) → is_after name old.items (suc n) ≡ true → same other name ≡ false → seen new n other ≡ seen old (suc n) other
 
--- Writing a macro's text for its uses keeps all that the database says, but for the macro.
+-- Replacing a macro's uses by its text keeps all that the database says, except for the macro.
 abbrev pub inline_macro_keeps : Type 0
 inline_macro_keeps = (key_base : Record → Text) (db : Reading) (name : Text) → IsAccepted key_base db (InlineMacro name) →
     let new : Reading = edited key_base db (InlineMacro name) in
     KeepsEntries no_new_key db new × KeepsCitations db new × SeesInlined name db new
 
--- Before the first item that holds the text all names stand for what they did. From it on, where each item's number is one
--- more, all other names do, and the new name stands for the text.
+-- Before the first item that holds the text all names stand for what they stood for. From that item on each item's number is
+-- one more, the new name stands for the text, and all other names stand for what they stood for.
 pub record SeesIntroduced (name text : Text) (old new : Reading) : Type 0 where
   pub before : (n : ℕ) (other : Text) → is_reached (any_part (holds text)) old.items n ≡ false → seen new n other ≡ seen old n other
   pub after : (n : ℕ) (other : Text) → is_reached (any_part (holds text)) old.items n ≡ true → same other name ≡ false → seen new (suc n) other ≡ seen old n other
   pub introduced : (n : ℕ) → is_reached (any_part (holds text)) old.items n ≡ true → seen new (suc n) name ≡ Some text
 
--- Giving a text a name keeps all that the database says, but for the name.
+-- Giving a text a name keeps all that the database says, except for the name.
 abbrev pub introduce_macro_keeps : Type 0
 introduce_macro_keeps = (key_base : Record → Text) (db : Reading) (name text : Text) → IsAccepted key_base db (IntroduceMacro name text) →
     let new : Reading = edited key_base db (IntroduceMacro name text) in
@@ -154,12 +154,12 @@ introduce_macro_keeps = (key_base : Record → Text) (db : Reading) (name text :
 
 -- ---- pieces
 
--- The chunks of an edit are the file before it, and the file of the database that it makes.
+-- The chunks of an edit have the file as their old text, and the file of the new database as their new text.
 abbrev pub chunks_are_files : Type 0
 chunks_are_files = (key_base : Record → Text) (db : Reading) (e : Edit) →
     (old_of (chunks key_base db e) ≡ bytes_of db) × (new_of (chunks key_base db e) ≡ bytes_of (edited key_base db e))
 
--- The pieces of an edit fit the file, and lead to the file of what the edit makes.
+-- The pieces of an edit fit the file, and lead to the file of the new database.
 abbrev pub pieces_lead_to_edited : Type 0
 pieces_lead_to_edited = (key_base : Record → Text) (db : Reading) (e : Edit) →
     Fit (pieces_of key_base db e) (bytes_of db) × (applied (pieces_of key_base db e) (bytes_of db) ≡ bytes_of (edited key_base db e))

@@ -1,4 +1,4 @@
--- What the edits keep beside what they are asked for: the other entries, and the bytes of the items that they do not touch.
+-- What the edits keep of all that they do not address: the other entries, and the bytes of the items that they do not touch.
 use Rattle.std.specs.Prelude.{◌≡◌, ◌<◌, ◌+◌, ℕ, zero, suc, Bool, true, false, not, ◌&&◌, ◌||◌, ◌==◌, List, ◌++◌, [], ◌∷◌, Option, Some, None, unwrap_or, if◌then◌else◌, bytes_eq, option_map, option_and_then, slice_get, length, take, find}
 use Rattle.std.specs.List.{list_any}
 use Rattle.std.specs.Option.{option_map_or}
@@ -24,26 +24,26 @@ number_with_one_less i zero = zero
 number_with_one_less zero (suc n) = n
 number_with_one_less (suc i) (suc n) = suc (number_with_one_less i n)
 
--- how many entries stand before the item at this position
+-- how many entries come before the item at this position
 abbrev pub entries_before : ℕ → Reading → ℕ
 entries_before position db = length (entries_of (record db { items = take position db.items }))
 
 -- ---- other entries
 
--- The second database has so many entries more. Each entry n of the first is entry `number n` of the second, and has there
--- the record, at every depth, and the parent that it has in the first. The preambles are the same.
+-- Each entry n of the first database is entry `number n` of the second, with the same record at every depth and the same
+-- parent. The second database has `added` entries more than the first, and the same preambles.
 pub record KeepsOthers (number : ℕ → ℕ) (added : ℕ) (fewer more : Reading) : Type 0 where
   pub count : length (entries_of more) ≡ length (entries_of fewer) + added
   pub records : (depth n : ℕ) → n < length (entries_of fewer) → expanded depth (entries_of more) (number n) ≡ expanded depth (entries_of fewer) n
   pub parents : (n : ℕ) → n < length (entries_of fewer) → parent (entries_of more) (number n) ≡ option_map number (parent (entries_of fewer) n)
   pub preambles : preambles_of more ≡ preambles_of fewer
 
--- Removing an entry keeps every other entry's record and parent; the entries after it have numbers that are one less.
+-- Removing an entry keeps every other entry's record and parent; the numbers of the entries after it become one less.
 abbrev pub remove_entry_keeps_others : Type 0
 remove_entry_keeps_others = (key_base : Record → Text) (db : Reading) (key : Text) → IsAccepted key_base db (RemoveEntry key) →
     (i : ℕ) × (entry_named (entries_of db) key ≡ Some i) × KeepsOthers (number_with_one_more i) 1 (edited key_base db (RemoveEntry key)) db
 
--- A dangling crossref waits for the key: its text is that key, folded, so an entry with the key would be its target.
+-- A dangling crossref waits for the key: its text is that key, folded, so an added entry with the key would be its target.
 abbrev pub is_awaited : Reading → Text → Bool
 is_awaited db key = list_any (same key) (dangling_texts (entries_of db))
 
@@ -51,8 +51,8 @@ is_awaited db key = list_any (same key) (dangling_texts (entries_of db))
 abbrev pub NoneAwaited : Reading → Edit → Type 0
 NoneAwaited db e = list_any (is_awaited db) (given_keys e) ≡ false
 
--- Adding an entry that no dangling crossref waits for keeps every old entry's record and parent; the entries after it have
--- numbers that are one more.
+-- Adding an entry that no dangling crossref waits for keeps every old entry's record and parent; the numbers of the entries
+-- after it become one more.
 abbrev pub add_entry_keeps_others : Type 0
 add_entry_keeps_others = (key_base : Record → Text) (db : Reading) (position : ℕ) (new : NewEntry) →
     IsAccepted key_base db (AddEntry position new) → NoneAwaited db (AddEntry position new) →
@@ -74,7 +74,7 @@ add_many_keeps_others = (key_base : Record → Text) (db : Reading) (news : List
 abbrev pub passes : (Tree → Bool) → List Item → ℕ → Bool
 passes test items n = option_map_or (λ item. test item.tree) (slice_get items n) false
 
--- the number of the first item that passes the test; where none does, how many there are
+-- the number of the first item that passes the test; if none does, the number of items
 abbrev pub number_of_first : (Tree → Bool) → List Item → ℕ
 number_of_first test [] = 0
 number_of_first test (item ∷ items) = if test item.tree then 0 else suc (number_of_first test items)
@@ -109,13 +109,13 @@ is_braced text other = false
 abbrev pub is_in_braces : Text → Value → Bool
 is_in_braces text v = is_braced text v.first && length v.links == 0
 
--- the crossref, if there is one, is the key in braces already, where it is to name its target by this key
+-- if the crossref has to name its target by this key, it is already that key in braces
 abbrev pub names_already : Option Text → List Row → Bool
 names_already None rows = true
 names_already (Some key) [] = true
 names_already (Some key) (row ∷ rows) = if same row.assignment.name crossref then is_in_braces key row.assignment.value else names_already (Some key) rows
 
--- entry n has the key that it gets already, and its crossref names its target by the key that this one gets
+-- entry n already has the key that it gets, and its crossref already names its target by the key that the target gets
 abbrev pub has_its_keys : (ℕ → Option Text) → List EntryTexts → ℕ → Tree → Bool
 has_its_keys new entries n (EntryTree e) = bytes_eq (unwrap_or (new n) e.key) e.key && names_already (option_and_then new (target entries n)) e.rows
 has_its_keys new entries n other = true
@@ -146,28 +146,28 @@ new_number db other n = n
 abbrev pub gained : (ℕ → Bool) → List Item → ℕ → Text
 gained gone items n = if gone n then option_map_or (λ item. item.trail) (slice_get items n) [] else []
 
--- an item stands at this number, with this trail, and with this tree if it is not changed
+-- item `n` exists, with this trail, and with this tree unless it is changed
 pub record StandsAt (items : List Item) (n : ℕ) (is_changed : Bool) (old : Tree) (trail : Text) : Type 0 where
   pub item : Item
   pub at : slice_get items n ≡ Some item
   pub trail_is : item.trail ≡ trail
   pub tree_is : is_changed ≡ false → item.tree ≡ old
 
--- Each item that is not taken away stands at its new number, in the old order, with its tree unless that is changed, and with
--- its trail; the trail of an item that goes joins the trail before it, or the front.
+-- Each item that is not removed has its new number, in the old order, with its tree unless the edit changes that, and with
+-- its trail. The trail of a removed item joins the trail before it, or the front.
 pub record KeepsItems (gone changed : ℕ → Bool) (number : ℕ → ℕ) (old new : Reading) : Type 0 where
   pub front : new.front ≡ old.front ++ gained gone old.items 0
   pub items : (n : ℕ) (item : Item) → gone n ≡ false → slice_get old.items n ≡ Some item
       → StandsAt new.items (number n) (changed n) item.tree (item.trail ++ gained gone old.items (suc n))
   pub order : (n m : ℕ) → gone n ≡ false → gone m ≡ false → n < m → m < length old.items → number n < number m
 
--- An edit keeps each item that it neither changes, nor removes, nor moves. Where keys are made, an entry that has its made key
--- already, and whose crossref names its target by the key that this one gets, is not changed.
+-- An edit keeps each item that it neither changes, nor removes, nor moves. If keys are made, an entry is unchanged if it
+-- already has its made key and its crossref already names its target by the target's made key.
 abbrev pub untouched_items_stay : Type 0
 untouched_items_stay = (key_base : Record → Text) (db : Reading) (e : Edit) → IsAccepted key_base db e →
     KeepsItems (is_gone db e) (is_changed key_base db e) (new_number db e) db (edited key_base db e)
 
--- A moved entry keeps its body, and stands in a line of its own.
+-- A moved entry keeps its body, and gets a line of its own.
 abbrev pub moved_entry_stays : Type 0
 moved_entry_stays = (key_base : Record → Text) (db : Reading) (key : Text) (position : ℕ) → IsAccepted key_base db (MoveEntry key position) →
     (item : Item) × (find (λ item. is_entry key item.tree) db.items ≡ Some item) × (slice_get (edited key_base db (MoveEntry key position)).items position ≡ Some (in_line item.tree))

@@ -1,18 +1,18 @@
-//! What the definitions say of small files, and what goes wrong without each condition of an edit.
+//! What the definitions say of small files, and what would go wrong without each condition of an edit.
 
 ghost use Rattle.edit_spec.specs.Examples.{MacroIsReadWhereItStands, MonthIsOverridden, MacroIsInlinedAsText, TextGetsName, UseBeforeDefinitionIsLeft, TextsAreJoined, FieldIsSetAndDropped, FirstCounts, EntriesAreAddedAndMoved, JoinedTextStaysText, TrailJoinsTextBefore, ParentIsCitedWithChildren, CrossrefsFindTargets, CrossrefOfPartsIsRenamed, RecordInheritsAlongChain, MadeKeysSwap, MadeKeysDiffer, MadeKeysReadTheChain, DanglingCrossrefFindsKey, KeyInUseTakesChildren, SpacedKeyLosesChildren, RepeatedKeyTakesChildren, RemovedParentLeavesChildren, AddedKeyTakesChildren, HighPlaceIsNotReached, KeyBaseIsNeeded, NameInUseGivesText, MacroDefinedTwiceHasTwoTexts, StarCitesAll, EditsAreAccepted};
 
-/// A use sees the last definition before it, and a month where there is none.
+/// A use of a macro means the last definition before it; if there is none, it means the month of that name.
 pub fn a_macro_is_read_where_it_stands()
     ensures { MacroIsReadWhereItStands }
 {}
 
-/// In its own definition a macro gives nothing, and is renamed like every use after it.
+/// In its own definition a macro gives nothing; renaming the macro changes that use as every later one.
 pub fn a_month_is_overridden()
     ensures { MonthIsOverridden }
 {}
 
-/// What stands for a use is the text that it gave, and not the parts of its definition.
+/// Inlining replaces a use by the text that the use gave, not by the parts of the macro's definition.
 pub fn a_macro_is_inlined_as_text()
     ensures { MacroIsInlinedAsText }
 {}
@@ -22,17 +22,17 @@ pub fn a_text_gets_a_name()
     ensures { TextGetsName }
 {}
 
-/// A use before the definition means something else, and is left.
+/// A use before the definition means something else, so renaming the macro leaves it unchanged.
 pub fn a_use_before_the_definition_is_left()
     ensures { UseBeforeDefinitionIsLeft }
 {}
 
-/// What parts say is joined as it stands, and a field's text has single spaces.
+/// The texts of parts are joined unchanged, and a field text has single spaces.
 pub fn texts_are_joined()
     ensures { TextsAreJoined }
 {}
 
-/// A new field stands after the last value; a dropped one takes its comma along.
+/// A new field is put after the last value; a dropped field takes its comma along.
 pub fn a_field_is_set_and_dropped()
     ensures { FieldIsSetAndDropped }
 {}
@@ -42,7 +42,7 @@ pub fn the_first_of_a_name_counts()
     ensures { FirstCounts }
 {}
 
-/// An entry is added in lines of its own; one that is moved leaves its line after.
+/// An added entry gets lines of its own; a moved entry leaves behind the end of its old line.
 pub fn entries_are_added_and_moved()
     ensures { EntriesAreAddedAndMoved }
 {}
@@ -57,97 +57,97 @@ pub fn a_trail_joins_the_text_before()
     ensures { TrailJoinsTextBefore }
 {}
 
-/// A parent is listed once enough of its children are, and gives them what they lack.
+/// A parent is listed once enough of its children are, and a child inherits the fields that it lacks.
 pub fn a_parent_is_cited_with_its_children()
     ensures { ParentIsCitedWithChildren }
 {}
 
-/// A crossref may name the entry itself, which then is no parent, or none at all.
+/// A crossref may name its own entry, which then is no parent, or no entry at all.
 pub fn crossrefs_find_targets()
     ensures { CrossrefsFindTargets }
 {}
 
-/// A crossref is what its parts say.
+/// A crossref's text is the joined text of its parts, and renaming its target replaces them all.
 pub fn a_crossref_of_parts_is_renamed()
     ensures { CrossrefOfPartsIsRenamed }
 {}
 
-/// A record inherits along the chain of parents, nearest first, and a ring ends it.
+/// A record inherits from its parents in turn, nearest first; a ring ends the chain.
 pub fn a_record_inherits_along_a_chain()
     ensures { RecordInheritsAlongChain }
 {}
 
-/// All keys change at once, so that two of them can change places.
+/// All keys change at once, so two entries can exchange keys.
 pub fn made_keys_change_places()
     ensures { MadeKeysSwap }
 {}
 
-/// A made key is no earlier one, and not what a dangling crossref waits for.
+/// A made key differs from all keys made before it and from the texts of dangling crossrefs.
 pub fn made_keys_differ()
     ensures { MadeKeysDiffer }
 {}
 
-/// The base of a made key is of the record at the depth that is asked for.
+/// The base of a made key comes from the record at the requested depth.
 pub fn made_keys_read_the_chain()
     ensures { MadeKeysReadTheChain }
 {}
 
-/// Without its condition, a key that is renamed to what a dangling crossref waits for makes it a child.
+/// Without the condition, renaming a key to the text of a dangling crossref would give that crossref's entry a parent.
 pub fn a_dangling_crossref_finds_a_key()
     ensures { DanglingCrossrefFindsKey }
 {}
 
-/// Without its condition, a key that is renamed to another takes that one's children.
+/// Without the condition, an entry that gets another entry's key would take that entry's children.
 pub fn a_key_in_use_takes_children()
     ensures { KeyInUseTakesChildren }
 {}
 
-/// Without its condition, a key with white space is not what its crossrefs say.
+/// Without the condition, an entry could get a key with white space that no crossref can name.
 pub fn a_key_with_spaces_loses_children()
     ensures { SpacedKeyLosesChildren }
 {}
 
-/// Without its condition, the removal of one entry of two with one key gives its children to the other.
+/// Without the condition, removing one of two entries with the same key would give its children to the other.
 pub fn a_repeated_key_takes_children()
     ensures { RepeatedKeyTakesChildren }
 {}
 
-/// Without its condition, the removal of a parent takes what its children inherit.
+/// Without the condition, removing a parent would take from its children what they inherit.
 pub fn a_removed_parent_leaves_children()
     ensures { RemovedParentLeavesChildren }
 {}
 
-/// Without its condition, an entry with a key in use takes the children of the entry that has it.
+/// Without the condition, an added entry with a key in use would take the children of the entry that has the key.
 pub fn an_added_key_takes_children()
     ensures { AddedKeyTakesChildren }
 {}
 
-/// Without its condition, a moved entry does not stand at the place that was asked for.
+/// Without the condition, a moved entry would not be at the requested position.
 pub fn a_high_position_is_not_reached()
     ensures { HighPlaceIsNotReached }
 {}
 
-/// Without the conditions on their base, made keys change again, or lose their children.
+/// Without the conditions on the base, made keys would change again each time, or lose their entries' children.
 pub fn a_key_base_is_needed()
     ensures { KeyBaseIsNeeded }
 {}
 
-/// Without its condition, a new name that is in use gives a text to what gave none.
+/// Without the condition, a new name that is in use would give a text to a use that gave none.
 pub fn a_name_in_use_gives_text()
     ensures { NameInUseGivesText }
 {}
 
-/// Without its condition, inlining a macro that is defined twice gives one text for two.
+/// Without the condition, inlining a macro that is defined twice would replace two texts by one.
 pub fn a_macro_defined_twice_has_two_texts()
     ensures { MacroDefinedTwiceHasTwoTexts }
 {}
 
-/// A key may be `*`, which by itself cites all entries.
+/// A key may be `*`, and a list of that key alone cites all entries.
 pub fn a_star_cites_all()
     ensures { StarCitesAll }
 {}
 
-/// Each edit is accepted somewhere, so that the laws are about something.
+/// Each kind of edit is accepted in some file, so the laws are not empty.
 pub fn edits_are_accepted()
     ensures { EditsAreAccepted }
 {}

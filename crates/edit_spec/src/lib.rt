@@ -1,5 +1,5 @@
-//! What edits make of a `.bib` file and what refuses them, and made keys, in definitions. There is no code here, only
-//! functions that do nothing and carry the laws about the definitions.
+//! What edits make of a `.bib` file, why they are refused, and how keys are made, in definitions. There is no code here,
+//! only functions that do nothing and carry the laws about the definitions.
 #![tactic(auto)]
 
 mod edits;

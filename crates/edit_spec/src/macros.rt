@@ -2,8 +2,8 @@
 
 ghost use Rattle.edit_spec.specs.Laws.{sees_last_definition, sees_months, macros_balance};
 
-/// A macro stands for its last definition before the place, and without one for the month. What it stands for
-/// has braces that balance, so that it is a part once it stands in braces.
+/// A macro stands for its last definition before the place; if there is none, it stands for the month of that name. The
+/// braces of its text match, so the text in braces is a part.
 pub fn a_macro_stands_for_its_last_definition()
     ensures last { sees_last_definition }
     ensures months { sees_months }

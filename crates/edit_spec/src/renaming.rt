@@ -1,9 +1,9 @@
-//! Laws of the edits that rename: all that a database says stays, but for the names.
+//! Laws of the edits that rename: they keep all that a database says, except for the names.
 
 ghost use Rattle.edit_spec.specs.Laws.{rename_key_keeps, rename_macro_keeps, inline_macro_keeps, introduce_macro_keeps, regenerate_keys_keeps, made_keys_differ, regenerating_again_changes_nothing};
 
-/// Renaming a key keeps each record but for that key, each parent, each preamble, what each macro stands for,
-/// and each cited list.
+/// Renaming a key keeps each record except for that key, each parent, each preamble, what each macro stands for, and each
+/// cited list.
 pub fn renaming_a_key_keeps_the_rest()
     ensures { rename_key_keeps }
 {}
@@ -14,8 +14,8 @@ pub fn renaming_a_macro_keeps_the_rest()
     ensures { rename_macro_keeps }
 {}
 
-/// Writing a macro's text for its uses keeps each record, each parent, each preamble, each cited list, and what
-/// each other macro stands for.
+/// Replacing a macro's uses by its text keeps each record, each parent, each preamble, each cited list, and what each
+/// other macro stands for.
 pub fn inlining_a_macro_keeps_the_rest()
     ensures { inline_macro_keeps }
 {}
@@ -26,8 +26,8 @@ pub fn introducing_a_macro_keeps_the_rest()
     ensures { introduce_macro_keeps }
 {}
 
-/// Making all keys anew keeps each record but for its key, each parent, each preamble, what each macro stands
-/// for, and each cited list; the keys differ, and making them again is not refused and changes nothing.
+/// Regenerating all keys keeps each record except for its key, each parent, each preamble, what each macro stands for, and
+/// each cited list. The keys differ. Regenerating them again is not refused, and changes nothing.
 pub fn regenerating_keys_keeps_the_rest()
     ensures keeps { regenerate_keys_keeps }
     ensures differ { made_keys_differ }

@@ -18,7 +18,7 @@ pub tokens_all : (fields : List RecordField) → flat_map field_tokens fields ++
 tokens_all [] = refl
 tokens_all (field ∷ fields) = ap (λ (ts : List Token). key field.0 ∷ string field.1 ∷ ts) (tokens_all fields)
 
--- the fields up to one are those before it, and that field
+-- the fields up to a field are the fields before it, and that field
 take_next : (fields : List RecordField) (i : ℕ) (field : RecordField) → i < length fields → field ≡ get_or fields i field → take (i + 1) fields ≡ take i fields ++ field ∷ []
 take_next fields i field within is = take_more fields i field within ∙ ap (λ (f : RecordField). take i fields ++ f ∷ []) (sym is)
 
@@ -50,12 +50,12 @@ utf8_next fields i field b within at before this =
     ap are_fields_utf8 (take_next fields i field within at) ∙ utf8-append (take i fields) (field ∷ [])
     ∙ ap (λ b. b && are_fields_utf8 (field ∷ [])) before ∙ this
 
--- one more field that is
+-- one more field that is UTF-8
 pub utf8_more : (fields : List RecordField) (i : ℕ) (field : RecordField) → i < length fields → field ≡ get_or fields i field → are_fields_utf8 (take i fields) ≡ true
     → are_fields_utf8 (field ∷ []) ≡ true → are_fields_utf8 (take (i + 1) fields) ≡ true
 utf8_more fields i field within at before this = utf8_next fields i field true within at before this
 
--- where one of the fields is not, all together are not
+-- if one of the fields is not UTF-8, the fields are not
 pub utf8_not : (fields : List RecordField) (i : ℕ) (field : RecordField) → i < length fields → field ≡ get_or fields i field → are_fields_utf8 (take i fields) ≡ true
     → are_fields_utf8 (field ∷ []) ≡ false → are_fields_utf8 fields ≡ false
 utf8_not fields i field within at before this =

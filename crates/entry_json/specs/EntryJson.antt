@@ -9,7 +9,7 @@ use Rattle.bib_spec.specs.Records.{RecordField, Record}
 
 -- ---- values
 
--- the key of a parent, or null where there is none
+-- the key of a parent, or null if there is none
 abbrev pub parent_json : Option Text → Json
 parent_json None = null
 parent_json (Some key) = string key
@@ -35,12 +35,14 @@ entry_json told =
 abbrev pub json_line : Told → Text
 json_line told = print (json_tokens (entry_json told)) ++ codes "\n"
 
--- ---- texts that JSON cannot say
+-- ---- texts that JSON cannot have
 
+-- the parent's key is UTF-8, if there is a parent
 abbrev pub is_parent_utf8 : Option Text → Bool
 is_parent_utf8 None = true
 is_parent_utf8 (Some key) = is_utf8 key
 
+-- the names and the texts of the fields are UTF-8
 abbrev pub are_fields_utf8 : List RecordField → Bool
 are_fields_utf8 [] = true
 are_fields_utf8 (field ∷ fields) = is_utf8 field.0 && (is_utf8 field.1 && are_fields_utf8 fields)

@@ -8,7 +8,7 @@ use thiserror::Error;
 pub enum JsonFault {
     #[error("10 Memory")]
     Memory,
-    /// A text of the entry is not UTF-8, so no string of JSON says it.
+    /// A text of the entry is not UTF-8, so it cannot be a string of JSON.
     #[error("24 NotUtf8")]
     NotUtf8,
 }

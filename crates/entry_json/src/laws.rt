@@ -3,7 +3,7 @@
 ghost use Rattle.entry_json.specs.Laws.{EntriesAreReadBack};
 
 /// A reader of JSON reads the text of an entry as that entry: quotation marks, backslashes and control bytes in its texts
-/// are the same again.
+/// are unchanged.
 pub fn entries_are_read_back()
     ensures { EntriesAreReadBack }
 {}

@@ -1,5 +1,5 @@
-//! Writes entries as JSON. It knows records, and which text of JSON says one; it does not know where records come from. It
-//! promises the text of a record, which a reader of JSON reads as that record, or that a text of it is not UTF-8.
+//! Writes entries as JSON. It knows records and their text in JSON; it does not know where records come from. It promises
+//! the text of a record, which a reader of JSON reads as that record, or that one of the record's texts is not UTF-8.
 #![tactic(auto)]
 
 mod fault;

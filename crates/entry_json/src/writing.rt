@@ -37,7 +37,7 @@ fn write_string(writer: &mut Writer, text: &[u8]) -> Result<(), JsonFault>
     Ok(())
 }
 
-/// Writes a member whose value is a string, and whose name is text.
+/// Writes a member of an object: its name, and its value, which is a string.
 fn write_member(writer: &mut Writer, name: &str, text: &[u8]) -> Result<(), JsonFault>
     ensures before { writer.new.before ≡ writer.old.before }
     ensures text { OnOk result (writer.new.tokens ≡ (writer.old.tokens ++ key name.now ∷ []) ++ string text.now ∷ []) }
@@ -108,8 +108,8 @@ fn write_entry(writer: &mut Writer, rec: &Record, parent: Option<&[u8]>) -> Resu
     Ok(())
 }
 
-/// The text, and after it the line of an entry with this record, whose parent has this key. It takes time in the record's
-/// length, and memory for the line. It is refused where a text of the entry is not UTF-8, or for want of memory.
+/// The text, and after it the line of an entry with this record, whose parent has this key. It takes time linear in the
+/// record's length, and memory for the line. It is refused if a text of the entry is not UTF-8, or if memory runs out.
 pub fn add_line(text: Vec<u8>, rec: &Record, parent: Option<&[u8]>) -> Result<Vec<u8>, JsonFault>
     ensures line { IfOk result (λ lines. lines.items ≡ text.items ++ json_line (rec.now, option_copied parent.entry)) }
     ensures utf8 { OnOk result (is_told_utf8 (rec.now, option_copied parent.entry) ≡ true) }

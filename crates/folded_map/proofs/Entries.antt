@@ -25,7 +25,7 @@ value_at-get {V} m name = along m.entries
 not_longer : (a b : Text) → length b < length a → bytes_eq a b ≡ false
 not_longer a b longer = false_from_ne_true (bytes_eq a b) (λ h. let e = ap (length {A = ℕ}) (eq-true a b h) in absurd (omega (arith, e, longer)))
 
--- what is put in is found, and the rest is found as before
+-- an inserted value is found, and all others are found as before
 pub value_at-insert : {V : Type 0} (es : List (Text × V)) (k : Text) (v : V) (x : Text) → value_at (insert_entry bytes_eq es k v) x ≡ (if bytes_eq x k then Some v else value_at es x)
 value_at-insert [] k v x = refl
 value_at-insert {V} (e ∷ es) k v x = ⊎_elim same (other (value_at-insert es k v x)) (cases_Bool (bytes_eq k e.0))
@@ -51,7 +51,7 @@ value_at-insert {V} (e ∷ es) k v x = ⊎_elim same (other (value_at-insert es 
         swapped false true p q r never = refl
         swapped false false p q r never = refl
 
--- names stay short where only a short one has another value
+-- names are still short if only a short one gets another value
 pub names_stay_short : {V : Type 0} (old new : List (Text × V)) (name : Text) (r : Option V) → length name ≤ name_limit
     → ((x : Text) → value_at new x ≡ (if bytes_eq x name then r else value_at old x))
     → ((x : Text) → name_limit < length x → value_at old x ≡ None)
@@ -59,7 +59,7 @@ pub names_stay_short : {V : Type 0} (old new : List (Text × V)) (name : Text) (
 names_stay_short old new name r is told short x longer =
     told x ∙ cond-false (bytes_eq x name) r (value_at old x) (not_longer x name (omega (arith, is, longer))) ∙ short x longer
 
--- what is changed by a name is found, and the rest is found as before
+-- a replaced value is found, and all others are found as before
 pub value_at-updates : {V S : Type 0} (old new : HashMap Text V S) (t : Text) (w : Option V) → UpdatesBy bytes_eq (λ k. bytes_eq t k) old new w
     → (x : Text) → value_at new.entries x ≡ (if bytes_eq x t then w else value_at old.entries x)
 unfolding KeepsOthers
@@ -82,7 +82,7 @@ value_at-updates {V} {S} old new t w u x = ⊎_elim here there (cases_Bool (byte
         apart : (k : Text) → bytes_eq t k ≡ true → bytes_eq x k ≡ false
         apart k p = false_from_ne_true (bytes_eq x k) (λ h. both_ways (bytes_eq x t) e ((bytes_eq-Decides x t).1 (eq-true x k h ∙ sym (eq-true t k p))))
 
--- where a name has no value, it is as if it were taken away
+-- removing a name without a value changes nothing
 pub value_at-absent : {V : Type 0} (es : List (Text × V)) (t : Text) → value_at es t ≡ None → (x : Text) → value_at es x ≡ (if bytes_eq x t then None else value_at es x)
 value_at-absent es t none x = ⊎_elim
     (λ e. ap (value_at es) (eq-true x t e) ∙ none ∙ sym (cond-true (bytes_eq x t) None (value_at es x) e))

@@ -39,7 +39,7 @@ impl FoldedName {
         FoldedName { bytes, len }
     }
 
-    /// Its bytes.
+    /// The bytes of the folded name.
     pub fn as_slice(&self) -> &[u8]
         ensures { result.now ≡ self.now }
     {

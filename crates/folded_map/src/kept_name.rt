@@ -14,11 +14,11 @@ use std::marker::Model;
 #[derive(Drop)]
 enum Held {
     Short(ShortText),
-    // in a box, so that the place of a short one is small
+    // in a box, so that a short name takes little space
     Long(Box<Vec<u8>>),
 }
 
-/// A name in lower case, as a map keeps it: in 24 bytes, and in no memory of its own where it has at most 22.
+/// A name in lower case, as a map keeps it: in 24 bytes, without memory of its own if the name has at most 22 bytes.
 #[derive(Drop)]
 pub(crate) struct KeptName {
     held: Held,
@@ -50,7 +50,7 @@ impl KeptName {
         })
     }
 
-    /// Its bytes.
+    /// The bytes of the name.
     fn as_slice(&self) -> &[u8]
         ensures { result.now ≡ self.now }
     {

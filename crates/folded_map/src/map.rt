@@ -14,8 +14,8 @@ use std::alloc::{AllocError, AllocFailed, Global};
 use std::marker::Model;
 use std::mem;
 
-/// A value for each of some names of at most 255 bytes. Names are compared without regard to ASCII case.
-/// A contract sees the list of the names, folded, with their values.
+/// A map from names of at most 255 bytes to values. Names are compared without regard to ASCII case. Contracts speak of the
+/// list of the names, folded, with their values.
 #[derive(Drop)]
 pub struct FoldedMap<V> {
     alloc: Global,
@@ -45,19 +45,20 @@ impl<V> FoldedMap<V> {
         }
     }
 
-    /// Where its memory comes from.
+    /// The allocator of the map.
     pub fn allocator(&self) -> Global {
         self.alloc
     }
 
-    /// How many names there are.
+    /// The number of names with a value.
     pub fn len(&self) -> usize
         ensures { result ≡ length self.now }
     {
         self.entries.len()
     }
 
-    /// Makes room for so many names more. The map stays as it is: that there is room then is no promise, and saves time alone.
+    /// Makes room for `additional` more names. The map itself is unchanged. That there is room afterwards is not promised;
+    /// it only saves time.
     pub fn reserve(&mut self, additional: usize) -> Result<(), AllocError>
         ensures { self.new ≡ self.old }
     {
@@ -75,8 +76,7 @@ impl<V> FoldedMap<V> {
         entries.get(&FoldedName::of(name))
     }
 
-    /// Gives the name this value, in the place of the one that it has, which is returned. Where memory is refused, nothing
-    /// changes.
+    /// Gives the name this value, and returns its former value, if it had one. If memory is refused, nothing changes.
     pub fn insert(&mut self, name: &[u8], value: V) -> Result<Option<V>, AllocError>
     where
         V: Drop,
@@ -89,8 +89,8 @@ impl<V> FoldedMap<V> {
         Ok(self.entries.insert(kept, value)?)
     }
 
-    /// Gives the name this value in the place of the one that it has, which is returned. A name without a value is left
-    /// so. It asks for no memory.
+    /// Gives the name this value if it already has a value, and returns the former one. A name without a value stays
+    /// without. It allocates no memory.
     pub fn replace(&mut self, name: &[u8], value: V) -> Option<V>
     where
         V: Drop,
@@ -106,7 +106,7 @@ impl<V> FoldedMap<V> {
         Some(mem::replace(kept, value))
     }
 
-    /// Takes the name away with its value, which is returned. It asks for no memory.
+    /// Removes the name, and returns its value, if it had one. It allocates no memory.
     pub fn remove(&mut self, name: &[u8]) -> Option<V>
         ensures value { result ≡ value_at self.old (folded name.now) }
         ensures rest { IsWithout self.old name.now self.new }

@@ -5,10 +5,10 @@ ghost use Rattle.bib_spec.specs.Text.{folded};
 
 use std::marker::Model;
 
-/// How many bytes a short text has at most.
+/// The greatest length of a short text, in bytes.
 pub const SHORT_LEN: usize = 22;
 
-/// A text of at most 22 bytes. It takes no memory but its place.
+/// A text of at most 22 bytes. It takes no memory except its own 23 bytes.
 #[derive(Drop)]
 pub struct ShortText {
     len: u8,
@@ -27,7 +27,7 @@ impl Model for ShortText {
 }
 
 impl ShortText {
-    /// The text that these bytes are.
+    /// A short text with these bytes.
     pub fn of(text: &[u8]) -> Self
         requires { length text.now ≤ 22 }
         ensures { result ≡ text.now }
@@ -56,7 +56,7 @@ impl ShortText {
         }
     }
 
-    /// Its bytes.
+    /// The bytes of the text.
     pub fn as_slice(&self) -> &[u8]
         ensures { result.now ≡ self.now }
     {

@@ -1,4 +1,4 @@
--- Pieces of the first edit on both sides of what the second touches stay.
+-- Pieces of the first edit before and after what the second edit touches are unchanged.
 use Rattle.std.proofs.Common.{⊎_elim, ◌≡◌, ℕ, ◌+◌, ◌-◌, ◌<◌, ◌≤◌, true, false, nat_le, List, [], ◌∷◌, ◌++◌, length, map, drop, take, refl, sym, subst, ◌∙◌, ap, ap₂, arith, append-nil, append_assoc, length-append, length-drop}
 use Rattle.std.proofs.lemmas.Bool.{cases_Bool, cond-true, cond-false, leb-true, leb-false, lt-leb}
 use Rattle.std.proofs.lemmas.List.{take_at, drop_at}
@@ -34,7 +34,8 @@ on_first : (n : ℕ) (backs : List Piece) (q : Piece) (ons : List Piece) → Beg
 on_first n [] q ons b h = refl
 on_first n (p ∷ backs) q ons b h = lt-leb p.place q.place (omega (arith, b, h))
 
--- members of which some end by a place, and the others begin after it, are these and those in order
+-- if some pieces end at a place or before and the others begin after it, the members in order are the first ones, then the
+-- others
 order_cut : (n : ℕ) (backs later ons others : List Piece) → EndBy n backs → EndBy n ons → BeginsAfter n later → BeginsAfter n others
     → in_order (backs ++ later) (ons ++ others) ≡ in_order backs ons ++ in_order later others
 order_cut n [] later [] others b o l t = refl
@@ -107,7 +108,7 @@ groups_after n (On p ∷ ms) a = apart_from n (alone (On p)) ms a
 
 -- ---- places
 
--- where the groups end in the text before, and in the one in the middle
+-- the places where the groups end in the text before and in the text in the middle
 abbrev last_old : ℕ → ℕ → List Group → ℕ
 last_old at mid [] = at
 last_old at mid (g ∷ gs) = last_old (at + (g.place - mid) + length (group_old g)) (group_end g) gs
@@ -134,7 +135,7 @@ last_inside : (text : Text) (mid : ℕ) (gs : List Group) → AreGroups text mid
 last_inside text mid [] w h = h
 last_inside text mid (g ∷ gs) w h = last_inside text (group_end g) gs w.2 w.1.covers.inside
 
--- what follows the groups is as long before as it is in the middle
+-- the text after the groups is as long in the text before as in the text in the middle
 groups_level : (text : Text) (at mid : ℕ) (gs : List Group) → AreGroups text mid gs → mid ≤ length text
     → last_old at mid gs + (length text - last_mid mid gs) ≡ at + length (glued group_old mid gs text)
 groups_level text at mid [] w h = omega (arith, length-drop mid text)
@@ -149,7 +150,7 @@ groups_level text at mid (g ∷ gs) w h =
       length-between mid g.place text w.0 (omega arith),
     )
 
--- and so is what follows the pieces
+-- the text after the pieces is as long in both texts, too
 pieces_level : (text : Text) (at mid : ℕ) (ps : List Piece) → AscendFrom at ps → AllByRecursion (Stands text) (reversed_from at mid ps) → mid ≤ length text
     → (old_end at ps + (length text - new_end at mid ps) ≡ at + length (applied_from mid (reversed_from at mid ps) text)) × (new_end at mid ps ≤ length text)
 pieces_level text at mid [] a s h = (omega (arith, length-drop mid text), h)
@@ -173,8 +174,8 @@ composed_same at mid more_at more_mid n (g ∷ gs) a h k e =
 
 -- ---- the cut
 
--- Where pieces of both edits end by a place of the text in the middle, and the others begin after it, these and those are
--- composed for themselves.
+-- If pieces of both edits end at a place of the text in the middle or before, and the others begin after it, the two parts
+-- are composed separately.
 pub composed_cut : (text : Text) (at mid n : ℕ) (first later second others : List Piece)
     → AreGroups text mid (groups (in_order (reversed_from at mid first) second)) → AscendFrom at first → AllByRecursion (Stands text) (reversed_from at mid first)
     → mid ≤ length text → mid ≤ n → EndBy n (reversed_from at mid first) → EndBy n second
@@ -211,12 +212,12 @@ pub apart_rest : (ps qs : List Piece) → StandApart (ps ++ qs) [] → StandApar
 apart_rest [] qs s = s
 apart_rest (p ∷ ps) qs s = apart_rest ps qs s.1
 
--- of pieces that stand apart, those that come after others begin after these end
+-- if pieces do not touch, the later ones begin after the end of the earlier ones
 pub apart_after : (at : ℕ) (p : Piece) (ps : List Piece) (q : Piece) (qs : List Piece) → StandApart ((p ∷ ps) ++ q ∷ qs) [] → old_end at (p ∷ ps) < q.place
 apart_after at p [] q qs s = s.0
 apart_after at p (r ∷ ps) q qs s = apart_after (end_of p) r ps q qs s.1
 
--- the composed pieces stand apart
+-- no two composed pieces touch
 composed_apart : (at mid : ℕ) (g : Group) (gs : List Group) → ApartFrom (group_end g) gs → StandApart (composed_from at mid (g ∷ gs)) []
 composed_apart at mid g [] a = (tt, tt)
 composed_apart at mid g (h ∷ gs) a = (omega (arith, a.0), composed_apart (at + (g.place - mid) + length (group_old g)) (group_end g) h gs a.1)
@@ -264,7 +265,7 @@ old_end_grows : (at : ℕ) (ps : List Piece) → AscendFrom at ps → at ≤ old
 old_end_grows at [] a = omega arith
 old_end_grows at (p ∷ ps) a = omega (arith, a.0, old_end_grows (end_of p) ps a.1)
 
--- pieces that ascend end where the last of them does
+-- pieces in order end where the last of them ends
 pub ascending_end : (at : ℕ) (ps : List Piece) → AscendFrom at ps → EndBy (old_end at ps) ps
 ascending_end at [] a = tt
 ascending_end at (p ∷ ps) a = (old_end_grows (end_of p) ps a.1, ascending_end (end_of p) ps a.1)
@@ -308,7 +309,7 @@ cut_between end (p ∷ ps) back part others s e b o m =
 
 -- ---- the law
 
--- what is known of the text that the first edit makes
+-- what the law gives about the text that the first edit makes
 pub record SideStands (text : Text) (front middle : List Piece) : Type 0 where
   pub inside : new_end 0 0 front ≤ length text
   pub standing : AllByRecursion (Stands text) (reversed_from (old_end 0 front) (new_end 0 0 front) middle)
@@ -347,7 +348,7 @@ apart_front (p ∷ (r ∷ ps)) qs s = (s.0, apart_front (r ∷ ps) qs s.1)
 pub fit_part : (ps qs : List Piece) (text : Text) → Fit (ps ++ qs) text → Fit ps text
 fit_part ps qs text f = record { ascending = ascend_front 0 ps qs f.ascending; standing = standing_front text ps qs f.standing }
 
--- these and those, each composed for themselves
+-- the two parts, composed separately
 parted : (front back part others : List Piece) (text : Text) (n : ℕ) → IsAscending (front ++ back) → Fit (reversed (front ++ back)) text → Fit part text
     → CutAt n front back part others
     → composed (front ++ back) (part ++ others) ≡ composed front part ++ composed_at (old_end 0 front) (new_end 0 0 front) back others

@@ -11,12 +11,12 @@ use Rattle.history_spec.proofs.Ordered.{ascend_earlier}
 
 -- ---- the bytes
 
--- the bytes stand in the text from this place on
+-- the text has these bytes from this place on
 pub record Covers (text : Text) (place : ℕ) (covered : Text) : Type 0 where
   pub inside : place + length covered ≤ length text
   pub there : between place (place + length covered) text ≡ covered
 
--- what a piece that stands has from a place within it on
+-- the text has the rest of a piece's old bytes from a place within the piece on
 piece_from : (text : Text) (p : Piece) (at : ℕ) → Stands text p → p.place ≤ at → at ≤ end_of p → drop (at - p.place) p.old ≡ between at (end_of p) text
 piece_from text p at s h k =
     let n : ℕ = at - p.place in
@@ -28,7 +28,7 @@ piece_from text p at s h k =
     ∙ drop-take n m (drop p.place text)
     ∙ ap (take m) (drop-drop n p.place text ∙ ap (λ a. drop a text) here)
 
--- what the bytes with those of a piece say
+-- the bytes of a group and of a piece that joins it are bytes of the text
 pub record CoversMore (text : Text) (place : ℕ) (covered more : Text) (p : Piece) : Type 0 where
   pub covers : Covers text place more
   pub ends : end_of p ≤ place + length more
@@ -75,7 +75,7 @@ ascend_front : (at n : ℕ) (ps rest : List Piece) → AscendFrom at (ps ++ rest
 ascend_front at n [] rest a b = tt
 ascend_front at n (p ∷ ps) rest a b = (b.0, front_alone (end_of p) ps rest a.1)
 
--- what comes after ascends from where it begins
+-- the later pieces are in order from the place where they begin
 pub ascend_rest : (at n : ℕ) (ps rest : List Piece) → AscendFrom at (ps ++ rest) → BeginFrom n rest → AscendFrom n rest
 ascend_rest at n [] [] a b = tt
 ascend_rest at n [] (q ∷ rest) a b = (b.0, a.1)
@@ -111,7 +111,7 @@ standing_moved : (text : Text) (lo hi : ℕ) (ps rest : List Piece) → hi ≤ l
 standing_moved text lo hi [] rest h b e s = tt
 standing_moved text lo hi (p ∷ ps) rest h b e s = (stands_moved text lo hi p h b.0 e.0 s.0, standing_moved text lo hi ps rest h b.1 e.1 s.1)
 
--- the pieces of one side: those of the group, and those after them
+-- the pieces of one side: the pieces of the group, and the pieces after them
 pub record SideGrows (text : Text) (at lo hi : ℕ) (ps rest : List Piece) : Type 0 where
   pub ascending : AscendFrom at (ps ++ rest)
   pub standing : AllByRecursion (Stands text) (ps ++ rest)

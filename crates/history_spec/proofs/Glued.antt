@@ -1,4 +1,5 @@
--- The composed pieces lead from what the pieces back make of the text in the middle to what those on make of it.
+-- The composed pieces lead from the text that the pieces back make of the text in the middle to the text that the pieces on
+-- make.
 use Rattle.std.proofs.Common.{◌≡◌, ℕ, ◌+◌, ◌-◌, ◌≤◌, List, [], ◌∷◌, ◌++◌, length, take, drop, refl, sym, subst, ◌∙◌, ap, ap₂, arith, append-nil}
 use Rattle.std.proofs.lemmas.List.{length-take-le}
 use Rattle.std.specs.List.{between, flat_map}
@@ -16,7 +17,7 @@ use Rattle.history_spec.proofs.Grouped.{AreGroups, are_groups, groups_backs, gro
 
 -- ---- one group
 
--- up to the end of what is covered, the text is what stands before it, and what is covered
+-- the text up to the end of the covered bytes is the text before them, and then the covered bytes
 up_to : (text : Text) (lo : ℕ) (covered : Text) → Covers text lo covered → take (lo + length covered) text ≡ take lo text ++ (covered ++ [])
 up_to text lo covered c =
     let long : lo + length covered - lo ≡ length covered = omega arith in
@@ -40,7 +41,7 @@ group_applied text lo covered ps rest c s b =
 
 -- ---- all groups
 
--- what each group stands for, with what is between the groups
+-- the bytes in the place of each group, with the bytes between the groups
 abbrev pub glued : (Group → Text) → ℕ → List Group → Text → Text
 glued part at [] text = drop at text
 glued part at (g ∷ gs) text = between at g.place text ++ (part g ++ glued part (group_end g) gs text)
@@ -85,7 +86,7 @@ ons_glued text at (g ∷ gs) w =
 
 -- ---- the chunks
 
--- what is between the groups is kept, and each group is replaced
+-- the bytes between the groups are kept, and each group is replaced
 abbrev chunks_of : ℕ → List Group → Text → List Chunk
 chunks_of at [] text = Kept (drop at text) ∷ []
 chunks_of at (g ∷ gs) text = Kept (between at g.place text) ∷ Replaced (group_old g) (group_new g) ∷ chunks_of (group_end g) gs text

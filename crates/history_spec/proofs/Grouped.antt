@@ -1,4 +1,4 @@
--- Groups of members in order: each covers what stands in the text in the middle, and its pieces fit there.
+-- Groups of members in order: each covers bytes of the text in the middle, and its pieces fit there.
 use Rattle.std.proofs.Common.{⊎_elim, ◌≡◌, ℕ, ◌+◌, ◌-◌, ◌<◌, ◌≤◌, nat_le, List, [], ◌∷◌, ◌++◌, length, take, drop, refl, sym, subst, ◌∙◌, ap, arith, append_assoc, length-append}
 use Rattle.std.proofs.lemmas.Bool.{cases_Bool, cond-true, cond-false, leb-true, leb-false}
 use Rattle.std.specs.List.{AllByRecursion, flat_map}
@@ -35,7 +35,7 @@ stand_next : (text : Text) (ps : List Piece) (p : Piece) (rest : List Piece) →
 stand_next text [] p rest s = s.0
 stand_next text (q ∷ ps) p rest s = stand_next text ps p rest s.1
 
--- a member that begins by its end joins the group
+-- a member that begins at the group's end or before joins the group
 pub record Joins (text : Text) (at : ℕ) (g : Group) (ms : List Member) : Type 0 where
   pub grows : Grows text at g ms
   pub some : 0 < length g.backs + length g.ons
@@ -77,7 +77,7 @@ covers_nothing text place h =
     let none : place + 0 - place ≡ 0 = omega arith in
     record { inside = omega arith; there = ap (λ n. take n (drop place text)) none }
 
--- any other begins the next
+-- any other member begins the next group
 begun : (text : Text) (at : ℕ) (g : Group) (m : Member) (ms : List Member) → Grows text at g (m ∷ ms) → group_end g ≤ (piece_of m).place → Joins text (group_end g) (alone m) ms
 begun text at g m ms w h =
     let place : ℕ = (piece_of m).place in
@@ -115,7 +115,7 @@ groups_grow text at g (m ∷ ms) j =
     (j.grows.after, is_group text at g (m ∷ ms) j, groups_grow text (group_end g) (alone m) ms (begun text at g m ms j.grows (omega arith))))
     (cases_Bool (nat_le (piece_of m).place (group_end g)))
 
--- what the groups stand on: members in order, whose sides fit the text
+-- what the groups are made from: members in order, where the pieces of each side fit the text
 groups_stand : (text : Text) (ms : List Member) → OrderedFrom 0 ms → Fit (backs_of ms) text → Fit (ons_of ms) text → AreGroups text 0 (groups ms)
 groups_stand text [] o b n = tt
 groups_stand text (m ∷ ms) o b n =

@@ -118,7 +118,7 @@ files-redo a b r =
 not_empty : (n : ℕ) (files : List Text) → length files ≡ suc n → files ≢ []
 not_empty n files h e = omega (arith, h, ap length e)
 
--- so many undos lead from here to the first file
+-- n undos lead from a history with n past files to the first file
 abbrev ReachesFirst : ℕ → History → Type 0
 ReachesFirst n old = (new : History) × Times n Undoes old new × IsAtFirst (files_of old) new
 
@@ -136,7 +136,7 @@ undo_times (suc n) old h =
     let shorter : length mid.past ≡ n = omega (arith, h, ap length made.past, length_push mid.past mid.present) in
     undo_first n old mid made (undo_times n mid shorter)
 
--- so many redos lead from here to the last file
+-- n redos lead from a history with n future files to the last file
 abbrev ReachesLast : ℕ → History → Type 0
 ReachesLast n old = (new : History) × Times n Redoes old new × IsAtLast (files_of old) new
 

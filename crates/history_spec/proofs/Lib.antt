@@ -1,4 +1,4 @@
--- ---- a stretch of a text
+-- ---- a part of a text
 pub mod Shifts
 -- ---- pieces of two edits in turn
 pub mod Ordered

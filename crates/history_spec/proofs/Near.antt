@@ -1,4 +1,4 @@
--- What is composed after other pieces, and where pieces end.
+-- Pieces composed after other pieces, and where pieces end.
 use Rattle.std.proofs.Common.{⊎_elim, zero, suc, ◌≡◌, ℕ, ◌+◌, ◌-◌, ◌<◌, ◌≤◌, true, false, nat_le, get_or, List, [], ◌∷◌, ◌++◌, length, map, take, drop, refl, sym, subst, ◌∙◌, ap, ap₂, arith, append-nil, append_assoc}
 use Rattle.std.proofs.lemmas.Bool.{cases_Bool, cond-true, cond-false}
 use Rattle.std.proofs.lemmas.List.{take_at, drop_at, take_all, take_more, drop_more}
@@ -33,7 +33,7 @@ groups_later text at [] o w = tt
 groups_later text at (Back p ∷ ms) o w = later_groups text at (alone (Back p)) ms o.0 w
 groups_later text at (On p ∷ ms) o w = later_groups text at (alone (On p)) ms o.0 w
 
--- the groups of what is composed after other pieces
+-- the groups of pieces that are composed after other pieces
 pub are_groups_at : (at mid : ℕ) (first second : List Piece) (middle : Text) → ComposableAt at mid first second middle → AreGroups middle mid (groups (in_order (reversed_from at mid first) second))
 are_groups_at at mid first second middle c =
     groups_later middle mid (in_order (reversed_from at mid first) second) (order_ascends mid (reversed_from at mid first) second (reversed_ascends at mid first) c.second_ascends)

@@ -1,4 +1,4 @@
--- Members in order: those of each side are its pieces, and the places ascend.
+-- Members in order: the members of each side are its pieces, and the places ascend.
 use Rattle.std.proofs.Common.{⊎_elim, ◌≡◌, ℕ, ◌+◌, ◌<◌, ◌≤◌, true, false, nat_le, get_or, List, [], ◌∷◌, map, length, refl, sym, ◌∙◌, ap, arith}
 use Rattle.std.proofs.lemmas.Bool.{cases_Bool, cond-true, cond-false, leb-true, leb-false, true≢false}
 use Rattle.bib_spec.specs.Pieces.{Piece, end_of, AscendFrom, BeginFrom}
@@ -23,7 +23,7 @@ on_there [] ons f h = omega (arith, h)
 on_there (p ∷ backs) [] f h = absurd (true≢false f)
 on_there (p ∷ backs) (q ∷ ons) f h = omega arith
 
--- the place of the first is that of the list's first piece
+-- the place of the first member is the place of the list's first piece
 pub first_is_back : (backs ons : List Piece) (p : Piece) → back_is_first backs ons ≡ true → p ≡ get_or backs 0 p → p.place ≡ first_place (in_order backs ons)
 first_is_back [] ons p t e = absurd (true≢false (sym t))
 first_is_back (q ∷ backs) ons p t e = ap (λ r. r.place) e ∙ sym (ap first_place (next_back q backs ons t))

@@ -1,4 +1,4 @@
--- The groups part the members: each hangs together, and none touches another.
+-- The groups divide the members: the ranges of each group are connected, and no two groups touch.
 use Rattle.std.proofs.Common.{⊎_elim, inl, inr, ◌≡◌, ◌⊎◌, ℕ, ◌+◌, ◌-◌, ◌<◌, ◌≤◌, nat_le, List, [], ◌∷◌, ◌++◌, length, drop, refl, sym, subst, ◌∙◌, ap, arith, length-append, length-drop}
 use Rattle.std.proofs.lemmas.Bool.{cases_Bool, cond-true, cond-false, leb-true, leb-false}
 use Rattle.std.specs.List.{AllByRecursion, between}
@@ -19,7 +19,7 @@ some_last : (n : ℕ) (ps : List Piece) (p : Piece) → CoversByte n p → SomeC
 some_last n [] p c = inl c
 some_last n (q ∷ ps) p c = inr (some_last n ps p c)
 
--- a byte of the group with another member is one of the group or one of the member
+-- a byte of the group with one more member is a byte of the group or a byte of the member
 byte_of : (g : Group) (p : Piece) (n : ℕ) → p.place ≤ group_end g → g.place ≤ n → n < g.place + length (covered_with g p) → (n < group_end g) ⊎ CoversByte n p
 byte_of g p n h from to =
     let long : length (covered_with g p) ≡ length g.covered + (length p.old - (group_end g - p.place)) =

@@ -1,4 +1,4 @@
--- Pieces that fit a stretch of a text fit the text, and make of it what they make of the stretch.
+-- Pieces that fit a part of a text fit the text, and make of it what they make of the part.
 use Rattle.std.proofs.Common.{◌≡◌, ℕ, ◌+◌, ◌-◌, ◌≤◌, List, [], ◌∷◌, ◌++◌, length, take, drop, refl, sym, subst, ◌∙◌, ap, ap₂, arith, append_assoc, length-append, length-drop}
 use Rattle.std.proofs.lemmas.List.{take_at, drop_at, drop-drop, take-append-le, drop-append-le}
 use Rattle.std.specs.List.{AllByRecursion, between}
@@ -7,7 +7,7 @@ use Rattle.bib_spec.specs.Pieces.{Piece, end_of, Stands, AscendFrom, Fit, BeginF
 use Rattle.bib_spec.proofs.PieceLemmas.{drop-place, stands_before, applied_from-begin}
 use Rattle.history_spec.specs.Shifting.{moved_back, all_moved_back, FitAfter}
 
--- from a place of the bytes on, the text is what the bytes are from there, and what follows them
+-- from a place within the part on, the text is the rest of the part, and the text after the part
 drop-after : (before bytes after : Text) (at n : ℕ) → length before ≡ at → n ≤ length bytes → drop (at + n) (before ++ (bytes ++ after)) ≡ drop n bytes ++ after
 drop-after before bytes after at n e h =
     sym (drop-drop n at (before ++ (bytes ++ after)))
@@ -30,7 +30,7 @@ standing-after : (before bytes after : Text) (at : ℕ) (ps : List Piece) → le
 standing-after before bytes after at [] e b s = tt
 standing-after before bytes after at (p ∷ ps) e b s = (stands-after before bytes after at p e b.0 s.0, standing-after before bytes after at ps e b.1 s.1)
 
--- the pieces ascend in the text as they do in the bytes
+-- the pieces are in order in the text as they are in the part
 ascend-after : (at end from : ℕ) (ps : List Piece) → from ≤ at + end → BeginFrom at ps → AscendFrom end (all_moved_back at ps) → AscendFrom from ps
 ascend-after at end from [] h b a = tt
 ascend-after at end from (p ∷ ps) h b a =

@@ -41,7 +41,7 @@ lead_to_pop (s ∷ ss) step file w =
     let rest : LeadTo ss (before step.pieces file) × Leads step.pieces (before step.pieces file) file = lead_to_pop ss step file w.1 in
     ((subst (λ (f : Text). Leads s.pieces (before s.pieces f) f) (first_of-push ss step file) w.0, rest.0), rest.1)
 
--- the file before pieces is the one from which they lead
+-- the file before pieces is the file from which they lead
 pub before-made : (pieces : List Piece) (old new : Text) → Leads pieces old new → before pieces new ≡ old
 before-made pieces old new l = ap (before pieces) (sym l.made) ∙ applied-reversed pieces old l.fit
 
@@ -57,7 +57,7 @@ steps-lead-back pieces old new l = (
 pub leads_from : (pieces : List Piece) (old : Text) → IsOpenable old → IsAllowed pieces old → Leads pieces old (applied pieces old)
 leads_from pieces old f a = record { fit = a.fit; made = refl; old_is_file = f; new_is_file = a.made }
 
--- pieces that lead on, after pieces that lead to where they begin, lead on at once when composed
+-- if pieces lead to the file from which others lead on, the composed pieces lead on at once
 leads_composed : (first second : List Piece) (old middle : Text) → Leads first old middle → IsAllowed second middle
     → Leads (composed first second) old (applied second middle)
 leads_composed first second old middle l a =
@@ -69,7 +69,7 @@ leads_composed first second old middle l a =
       new_is_file = a.made;
     }
 
--- a step that leads on goes after those that lead to where it begins
+-- a step that leads on can be put after the steps that lead to the file where it begins
 lead_to_made : (steps : List Step) (step : Step) (old new : Text) → LeadTo steps old → Leads step.pieces old new → LeadTo (steps ++ step ∷ []) new
 lead_to_made steps step old new w l =
     let back : before step.pieces new ≡ old = before-made step.pieces old new l in
@@ -116,7 +116,7 @@ new_bytes_in at (p ∷ ps) text =
     let rest : Text = applied_from (end_of p) ps text in
     omega (arith, sum_by-cons (λ (q : Piece). length q.new) p ps, new_bytes_in (end_of p) ps text, length-append (g ++ p.new) rest, length-append g p.new)
 
--- pieces that stand in a short text and add little have small numbers
+-- pieces that fit a short text and whose new bytes are few have small numbers
 small_pieces : (ps : List Piece) (text : Text) → length text ≤ number_limit → sum_by (λ p. length p.new) ps ≤ number_limit → AllByRecursion (Stands text) ps
     → AllByRecursion HasSmallNumbers ps
 small_pieces [] text h k s = tt
@@ -172,7 +172,7 @@ is_step step old new label l h =
 
 -- ---- moves
 
--- steps that lead to one file, and a step from there that can be written, with nothing to redo
+-- steps that lead to a file, with one more step from there that can be written, and nothing to redo
 added_is_sound : (steps : List Step) (step : Step) (old : Text) (new : KeptSteps) → LeadTo steps old → Leads step.pieces old new.present → IsLabel step.label
     → AllByRecursion IsStep steps → length steps < change_limit → sum_by step_text_len steps + step_text_len step ≤ step_texts_limit
     → new.past ≡ steps ++ step ∷ [] → new.future ≡ [] → IsSound new

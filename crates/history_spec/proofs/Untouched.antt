@@ -1,4 +1,4 @@
--- Pieces of the first edit that nothing touches are groups of their own, and stay.
+-- Pieces of the first edit that nothing touches are groups of their own, and are unchanged.
 use Rattle.std.proofs.Common.{⊎_elim, ◌≡◌, ℕ, ◌+◌, ◌-◌, ◌<◌, ◌≤◌, true, nat_le, List, [], ◌∷◌, ◌++◌, length, drop, refl, sym, subst, ◌∙◌, ap, arith, append-nil}
 use Rattle.std.proofs.lemmas.Bool.{cases_Bool, cond-false, le-leb, lt-leb}
 use Rattle.std.proofs.lemmas.List.{drop_all}
@@ -59,7 +59,7 @@ groups_only b (m ∷ ms) h =
     ∙ cond-false (nat_le (piece_of m).place (group_end (only b))) (groups_from (with_member (only b) m) ms) (only b ∷ groups_from (alone m) ms)
     (lt-leb (piece_of m).place (group_end (only b)) h)
 
--- the piece of the first edit, turned to lead back
+-- the piece of the first edit, reversed so that it leads back
 abbrev turned : ℕ → ℕ → Piece → Piece
 turned at mid p = record { place = mid + (p.place - at); old = p.new; new = p.old }
 

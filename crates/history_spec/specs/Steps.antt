@@ -10,7 +10,7 @@ use Rattle.history_spec.specs.History.{History, Edits, Amends, Undoes, Redoes}
 
 -- ---- labels
 
--- how long a label can be, in bytes (dialect)
+-- the longest label, in bytes (dialect)
 abbrev pub label_limit : ℕ
 label_limit = 255
 
@@ -23,7 +23,7 @@ pub record IsLabel (label : Text) : Type 0 where
   pub short : length label ≤ label_limit
   pub plain : list_all is_label_byte label ≡ true
 
--- whether it can
+-- whether the text can be the label of a step
 abbrev pub is_label : Text → Bool
 is_label label = nat_le (length label) label_limit && list_all is_label_byte label
 
@@ -33,12 +33,13 @@ label_of text = if is_label text then Some text else None
 
 -- ---- steps
 
--- what one undo takes back: one edit, or several that were made as one; its label, and the pieces that all of it comes to
+-- what one undo takes back: one edit, or several edits made as one step; its label, and the pieces of all its edits
+-- together
 pub record Step : Type 0 where
   pub label : Text
   pub pieces : List Piece
 
--- an edit that was made by itself
+-- a step of one edit without a label
 abbrev pub unlabelled : List Piece → Step
 unlabelled pieces = record { label = []; pieces = pieces }
 
@@ -54,7 +55,7 @@ pub record KeptSteps : Type 0 where
 
 -- ---- the files that steps reach
 
--- the file before these pieces
+-- the file before these pieces were applied
 abbrev pub before : List Piece → Text → Text
 before pieces file = applied (reversed pieces) file
 
@@ -63,17 +64,17 @@ abbrev pub first_of : List Step → Text → Text
 first_of [] file = file
 first_of (step ∷ steps) file = before step.pieces (first_of steps file)
 
--- the files from which the steps lead to this one, from the oldest
+-- the files before each of the steps that lead to this one, from the oldest
 abbrev pub files_before : List Step → Text → List Text
 files_before [] file = []
 files_before (step ∷ steps) file = first_of (step ∷ steps) file ∷ files_before steps file
 
--- the files to which the steps lead from this one, from the next
+-- the files after each of the steps that lead on from this one, from the next
 abbrev pub files_after : List Step → Text → List Text
 files_after [] file = []
 files_after (step ∷ steps) file = applied step.pieces file ∷ files_after steps (applied step.pieces file)
 
--- the files reached from the present by the steps, back and forward
+-- the files that the steps reach from the present file, back and forward
 abbrev pub history_of : KeptSteps → History
 history_of kept = record {
   past = files_before kept.past kept.present;
@@ -96,15 +97,15 @@ pieces_text pieces = decimal (length pieces) ++ line_feed ∷ flat_map piece_tex
 unfoldable pub step_text : Step → Text
 step_text step = step.label ++ line_feed ∷ pieces_text step.pieces
 
--- how long that text is, in bytes
+-- the length of a step's text, in bytes
 unfoldable pub step_text_len : Step → ℕ
 step_text_len step = length (step_text step)
 
--- how many steps can be kept (dialect)
+-- the largest number of steps that can be kept (dialect)
 abbrev pub change_limit : ℕ
 change_limit = 65535
 
--- how long the texts of all steps can be together, in bytes (dialect)
+-- the greatest length of the texts of all steps together, in bytes (dialect)
 abbrev pub step_texts_limit : ℕ
 step_texts_limit = 67174399
 
@@ -112,32 +113,32 @@ step_texts_limit = 67174399
 abbrev pub number_limit : ℕ
 number_limit = 16777216
 
--- after these steps, the text of this one would be too long
+-- with the text of this step after those of the past steps, the texts would be too long together
 abbrev pub IsOverlong : List Step → Step → Type 0
 IsOverlong past step = step_texts_limit < sum_by step_text_len past + step_text_len step
 
--- with this step, the steps that can be undone would be too many, or their texts too long
+-- with this step there would be too many steps to be undone, or their texts would be too long together
 abbrev pub IsFull : KeptSteps → Step → Type 0
 IsFull kept step = (change_limit ≤ length kept.past) ⊎ IsOverlong kept.past step
 
--- no number of the piece is too great to be written
+-- no number of the piece is too great to be written in a journal
 pub record HasSmallNumbers (p : Piece) : Type 0 where
   pub place : p.place ≤ number_limit
   pub old : length p.old ≤ number_limit
   pub new : length p.new ≤ number_limit
 
--- pieces that can be written
+-- pieces that can be written in a journal
 pub record AreWritable (pieces : List Piece) : Type 0 where
   pub ascending : IsAscending pieces
   pub few : length pieces ≤ number_limit
   pub small : AllByRecursion HasSmallNumbers pieces
 
--- a step that can be written
+-- a step that can be written in a journal
 pub record IsStep (step : Step) : Type 0 where
   pub label : IsLabel step.label
   pub pieces : AreWritable step.pieces
 
--- past and future steps that can be written together
+-- past and future steps that can be written together in a journal
 pub record AreSteps (past future : List Step) : Type 0 where
   pub past_steps : AllByRecursion IsStep past
   pub future_steps : AllByRecursion IsStep future
@@ -146,12 +147,12 @@ pub record AreSteps (past future : List Step) : Type 0 where
 
 -- ---- steps that belong to a file
 
--- the pieces fit the file, and lead to a file that opens
+-- the pieces fit the file, and lead to a file that can be opened
 pub record IsAllowed (pieces : List Piece) (file : Text) : Type 0 where
   pub fit : Fit pieces file
   pub made : IsOpenable (applied pieces file)
 
--- the pieces fit the old file and make the new one, and both open
+-- the pieces fit the old file and make the new one, and both can be opened
 pub record Leads (pieces : List Piece) (old new : Text) : Type 0 where
   pub fit : Fit pieces old
   pub made : applied pieces old ≡ new
@@ -168,12 +169,12 @@ abbrev pub LeadOn : List Step → Text → Type 0
 LeadOn [] file = Unit {0}
 LeadOn (step ∷ steps) file = Leads step.pieces file (applied step.pieces file) × LeadOn steps (applied step.pieces file)
 
--- back through the past and on through the future, each step's pieces fit, and each file that is reached opens
+-- back through the past and on through the future, each step's pieces fit, and each file that they reach can be opened
 pub record BelongTo (past future : List Step) (file : Text) : Type 0 where
   pub back : LeadTo past file
   pub on : LeadOn future file
 
--- the present file opens, and the steps belong to it and can be written
+-- the present file can be opened, and the steps belong to it and can be written
 pub record IsSound (kept : KeptSteps) : Type 0 where
   pub present : IsOpenable kept.present
   pub belong : BelongTo kept.past kept.future kept.present
@@ -181,7 +182,7 @@ pub record IsSound (kept : KeptSteps) : Type 0 where
 
 -- ---- moves
 
--- the step is made and moves to the end of the past, and the future is emptied
+-- the step is made and put at the end of the past, and the future is emptied
 pub record Adds (step : Step) (old new : KeptSteps) : Type 0 where
   pub past : new.past ≡ old.past ++ step ∷ []
   pub present : new.present ≡ applied step.pieces old.present
@@ -194,13 +195,13 @@ pub record Joins (front : List Step) (step : Step) (pieces : List Piece) (old ne
   pub present : new.present ≡ applied pieces old.present
   pub future : new.future ≡ old.future
 
--- the last step of the past is taken back and moves to the front of the future
+-- the last step of the past is undone and moves to the front of the future
 pub record GoesBack (step : Step) (old new : KeptSteps) : Type 0 where
   pub past : old.past ≡ new.past ++ step ∷ []
   pub present : new.present ≡ before step.pieces old.present
   pub future : new.future ≡ step ∷ old.future
 
--- the first step of the future is made and moves to the end of the past
+-- the first step of the future is made again and moves to the end of the past
 pub record GoesOn (step : Step) (old new : KeptSteps) : Type 0 where
   pub past : new.past ≡ old.past ++ step ∷ []
   pub present : new.present ≡ applied step.pieces old.present
@@ -208,28 +209,30 @@ pub record GoesOn (step : Step) (old new : KeptSteps) : Type 0 where
 
 -- ---- laws
 
--- A step with a label whose pieces are allowed, where there is room, is an edit of the history, and what is kept stays sound.
+-- If there is room, adding a step with a label and allowed pieces is an edit of the history, and the kept steps are still
+-- sound.
 abbrev pub adding_edits : Type 0
 adding_edits = (step : Step) (old new : KeptSteps) → IsSound old → IsLabel step.label → IsAllowed step.pieces old.present → ¬ IsFull old step
     → Adds step old new → IsSound new × Edits (applied step.pieces old.present) (history_of old) (history_of new)
 
--- Pieces that are allowed and join the last step, where nothing can be redone and there is room, amend the history, and what
--- is kept stays sound.
+-- If there is room and nothing can be redone, allowed pieces that join the last step amend the history, and the kept steps
+-- are still sound.
 abbrev pub joining_amends : Type 0
 joining_amends = (front : List Step) (step : Step) (pieces : List Piece) (old new : KeptSteps) → IsSound old → old.future ≡ [] → IsAllowed pieces old.present
     → ¬ IsOverlong front (with_edit step pieces) → Joins front step pieces old new
     → IsSound new × Amends (applied pieces old.present) (history_of old) (history_of new)
 
--- Going back by a step is an undo of the history, and what is kept stays sound.
+-- Going back by a step is an undo of the history, and the kept steps are still sound.
 abbrev pub going_back_undoes : Type 0
 going_back_undoes = (step : Step) (old new : KeptSteps) → IsSound old
     → GoesBack step old new → IsSound new × Undoes (history_of old) (history_of new)
 
--- Going forward by a step is a redo of the history, and what is kept stays sound.
+-- Going forward by a step is a redo of the history, and the kept steps are still sound.
 abbrev pub going_on_redoes : Type 0
 going_on_redoes = (step : Step) (old new : KeptSteps) → IsSound old
     → GoesOn step old new → IsSound new × Redoes (history_of old) (history_of new)
 
--- Pieces that lead from one file to another can be taken back: the reversed pieces are allowed in the new file, and make the old one.
+-- Pieces that lead from one file to another can be undone: the reversed pieces are allowed in the new file, and make the
+-- old file.
 abbrev pub steps_lead_back : Type 0
 steps_lead_back = (pieces : List Piece) (old new : Text) → Leads pieces old new → IsAllowed (reversed pieces) new × (before pieces new ≡ old)

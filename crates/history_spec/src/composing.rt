@@ -2,8 +2,9 @@
 
 ghost use Rattle.history_spec.specs.Composing.{composed_pieces_fit, composed_pieces_lead, members_are_parted, untouched_pieces_stay, parts_are_composed_in_turn, nothing_changes_nothing, composed_pieces_stand_apart, an_insertion_after_joins, pieces_apart_stay};
 
-/// The composed pieces fit the text before the two edits, and lead to what these make of it in turn. Each is made of pieces
-/// that hang together, and no two touch. A piece of the first that nothing touches stays.
+/// The composed pieces fit the text before the two edits, and lead to what the two edits make of it in turn. Each is made
+/// of pieces that touch each other, and no two composed pieces touch. A piece of the first edit that nothing touches is
+/// unchanged.
 pub fn composed_pieces_are_both_edits()
     ensures fit { composed_pieces_fit }
     ensures lead { composed_pieces_lead }

@@ -2,8 +2,8 @@
 
 ghost use Rattle.history_spec.specs.History.{one_edit, one_amendment, one_undo, one_redo, no_undo, no_redo, amended_edit, undo_after_edit, redo_after_undo, undo_after_redo, undoing_all, redoing_all};
 
-/// An edit leads to one history, and so does another edit of the same step. So does an undo where there is a past, and a
-/// redo where there is a future; elsewhere there is none.
+/// An edit leads to one history, and so does a further edit of the same step. An undo leads to one history if there is a
+/// past, and a redo if there is a future; else there is no undo or redo.
 pub fn each_move_leads_to_one_history()
     ensures edit { one_edit }
     ensures amendment { one_amendment }
@@ -25,7 +25,7 @@ pub fn undo_and_redo_are_opposites()
     ensures undo { undo_after_redo }
 {}
 
-/// As many undos as the past is long lead to the first file, as many redos as the future is long to the last.
+/// As many undos as there are past files lead to the first file, and as many redos as there are future files to the last.
 pub fn the_ends_are_reached()
     ensures first { undoing_all }
     ensures last { redoing_all }

@@ -1,5 +1,5 @@
-//! Histories of a file and the steps that a session keeps, in definitions: what is undone and made again, how the pieces of
-//! several edits are those of one, and what stands for a step in a journal. It knows no edit, only pieces. There is no code
+//! Histories of a file and the steps that a session keeps, in definitions: what undo and redo do, how the pieces of several
+//! edits become the pieces of one, and the text of a step in a journal. It knows no edit, only pieces. There is no code
 //! here, only functions that do nothing and carry the laws about the definitions.
 #![tactic(auto)]
 

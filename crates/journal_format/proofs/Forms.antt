@@ -1,11 +1,11 @@
--- Lines of values: what begins with the line of a good value, and goes wrong after it, does so in one way.
+-- Lines of values: a text that begins with the line of a good value, and goes wrong after it, does so in one way.
 use Rattle.std.proofs.Common.{◌≡◌, ℕ, sym, subst, ◌∙◌, inl, inr}
 use Rattle.bib_spec.specs.Bytes.{line_feed}
 use Rattle.bib_spec.specs.Text.{Text}
 use Rattle.journal_format.specs.Wrong.{IsFreeOf, BeginsWith, HasWrongLine, IsWrongFrom}
 use Rattle.journal_format.proofs.Cuts.{not_free, one_cut}
 
--- the good values' lines are lines, and no two have one
+-- the lines of good values have no line feed, and no two good values have the same line
 pub record AreForms {A : Type 0} (line_of : A → Text) (Good : A → Type 0) : Type 0 where
   pub free : (a : A) → Good a → IsFreeOf line_feed (line_of a)
   pub one : (a b : A) → Good a → Good b → line_of a ≡ line_of b → a ≡ b
@@ -25,7 +25,7 @@ no_wrong_line line_of Good forms text a r left x (inr o) =
     let one = one_cut line_feed o.line o.rest (line_of a) r o.cut.free (forms.free a x.good) (sym o.cut.whole ∙ x.whole) in
     o.other (a, x.good, one.0)
 
--- so it goes wrong after it
+-- so it goes wrong after the good line
 pub wrong_after : {A : Type 0} (line_of : A → Text) (Good : A → Type 0) (Wrong : A → Text → ℕ → Type 0) → AreForms line_of Good → (text : Text) (a : A) (r : Text) (left : ℕ)
     → BeginsWith line_of Good text a r → IsWrongFrom line_of Good Wrong text left → Wrong a r left
 wrong_after {A = A} line_of Good Wrong forms text a r left x (inl w) = absurd (no_wrong_line line_of Good forms text a r left x w)
@@ -39,7 +39,7 @@ one_wrong_line line_of Good text l m (inl u) (inr o) = absurd (not_free line_fee
 one_wrong_line line_of Good text l m (inr o) (inl u) = absurd (not_free line_feed o.line o.rest (subst (IsFreeOf line_feed) o.cut.whole u.free))
 one_wrong_line line_of Good text l m (inr o) (inr p) = o.all ∙ sym p.all
 
--- a text goes wrong in one way, where it does so after each line
+-- a text goes wrong in one way if it goes wrong in one way after each line
 pub one_wrong : {A : Type 0} (line_of : A → Text) (Good : A → Type 0) (Wrong : A → Text → ℕ → Type 0) → AreForms line_of Good
     → ((a : A) (t : Text) (l m : ℕ) → Good a → Wrong a t l → Wrong a t m → l ≡ m)
     → (text : Text) (l m : ℕ) → IsWrongFrom line_of Good Wrong text l → IsWrongFrom line_of Good Wrong text m → l ≡ m

@@ -25,7 +25,7 @@ use Rattle.journal_format.proofs.PieceTexts.{piece_text-is, pieces_text-is, step
 
 -- ---- pieces
 
--- fronts of one length are one front
+-- fronts of the same length are the same front
 same_front : (x u y v : Text) → length x ≡ length u → x ++ y ≡ u ++ v → (x ≡ u) × (y ≡ v)
 same_front [] [] y v len e = (refl, e)
 same_front [] (c ∷ u) y v len e = absurd (omega (arith, len))
@@ -98,7 +98,7 @@ one_wrong_pieces (suc n) from text l m (inr a) (inr b) =
     subst (λ (p : Piece). AreWrongPieces n (end_of p) a.1 m) (sym one.0) (subst (λ (t : Text). AreWrongPieces n (end_of b.0) t m) (sym one.1) b.3) in
     one_wrong_pieces n (end_of a.0) a.1 l m a.3 same
 
--- pieces that stand before a text
+-- pieces with a text after them
 piece_first : (from : ℕ) (p : Piece) (ps : List Piece) (text r : Text) → AscendFrom from (p ∷ ps) → AllByRecursion HasSmallNumbers (p ∷ ps)
     → text ≡ flat_map piece_text (p ∷ ps) ++ r → BeginsWithPiece from text p (flat_map piece_text ps ++ r)
 piece_first from p ps text r ascend small whole = record {
@@ -231,7 +231,7 @@ one_wrong_tail version n text l m (inr a) (inr b) = one_wrong_steps version n te
 abbrev pub tail_of : Version → Contents → Text
 tail_of version c = flat_map (step_text_in version) c.past ++ flat_map (step_text_in version) c.future
 
--- how long they are together
+-- the length of the texts of the steps together
 abbrev tail_len : Version → Contents → ℕ
 tail_len version c = sum_by (λ step. length (step_text_in version step)) c.past + sum_by (λ step. length (step_text_in version step)) c.future
 
@@ -253,7 +253,7 @@ no_wrong_tail version c left says (inr w) =
 
 -- ---- what the first version says can be written
 
--- without a label, the second version has a line feed more for each step
+-- without labels, version 2 has one more line feed for each step
 plain_lens : (steps : List Step) → AllByRecursion (IsStepIn First) steps → sum_by step_text_len steps ≡ sum_by (λ step. length (step_text_in First step)) steps + length steps
 unfolding step_text_len step_text
 plain_lens [] all = refl
@@ -299,7 +299,7 @@ unfolding version_line
 version_free First = free_by_test line_feed (version_line First) refl
 version_free Second = free_by_test line_feed (version_line Second) refl
 
--- the last byte tells which it is
+-- the last byte of the line determines the version
 one_version : (a b : Version) → version_line a ≡ version_line b → a ≡ b
 unfolding version_line
 one_version First First e = refl

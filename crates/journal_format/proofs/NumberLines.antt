@@ -9,7 +9,7 @@ use Rattle.journal_format.specs.Wrong.{IsFreeOf, IsCut, IsLineOf}
 use Rattle.journal_format.proofs.Cuts.{not_free, one_cut}
 use Rattle.journal_format.proofs.Numerals.{decimal_free}
 
--- a good number is the one that the digits say
+-- a good number is the number with these digits
 pub same_number : (digits : Text) (m n : ℕ) → m ≤ number_limit → n ≤ number_limit → digits ≡ decimal m → digits ≡ decimal n → m ≡ n
 same_number digits m n h k d e = decimal_injective m n (omega arith) (omega arith) (sym d ∙ e)
 

@@ -1,4 +1,4 @@
--- The lines that say numbers.
+-- The digits of numbers.
 use Rattle.std.proofs.Common.{◌≡◌, ℕ, ◌+◌, ◌^◌, ◌<◌, ◌≤◌, [], ◌∷◌, ◌++◌, decimal, ◌∙◌, ap, arith, lit<}
 use Rattle.std.proofs.lemmas.Fmt.{decimal_is_IsNumeral, decimal_injective, IsAscii-decimal}
 use Rattle.std.proofs.lemmas.Str.{IsUtf8-from_ascii}
@@ -19,7 +19,7 @@ digits_free byte below (c ∷ ds) all =
     let digit = digit_from_value c all.0 in
     ((λ e. absurd (omega (arith, digit, e))), digits_free byte below ds all.1)
 
--- a number has no byte below its digits
+-- no byte of a number is below the digits
 pub decimal_free : (byte n : ℕ) → byte < 48 → n < 2 ^ 64 → IsFreeOf byte (decimal n)
 decimal_free byte n below small = digits_free byte below (decimal n) (decimal_is_IsNumeral n small).0.1
 

@@ -15,11 +15,11 @@ use Rattle.journal_format.specs.declared.version.Version.TheVariants.{First, Sec
 use Rattle.journal_format.specs.declared.fault.Stop.{Stop}
 use Rattle.journal_format.specs.declared.fault.Stop.TheVariants as stops
 
--- a piece is its line of numbers, and then its bytes
+-- the text of a piece is its line of numbers, and then its bytes
 pub piece_text-is : (p : Piece) (r : Text) → piece_text p ++ r ≡ numbers_line (numbers_of p) ++ line_feed ∷ (p.old ++ (p.new ++ line_feed ∷ r))
 piece_text-is p r = simp append_assoc
 
--- pieces are the line of their number, and then each
+-- the text of pieces is the line of their number, and then each piece
 pub pieces_text-is : (pieces : List Piece) (r : Text) → pieces_text pieces ++ r ≡ decimal (length pieces) ++ line_feed ∷ (flat_map piece_text pieces ++ r)
 unfolding pieces_text
 pieces_text-is pieces r = simp append_assoc
@@ -29,7 +29,7 @@ pub step_text-is : (step : Step) (r : Text) → step_text step ++ r ≡ step.lab
 unfolding step_text
 step_text-is step r = simp append_assoc
 
--- what holds of where reading stops holds in other words too
+-- if P implies Q, and P is true of where reading stops, so is Q
 pub stops_weaker : (P Q : ℕ → Type 0) → ((left : ℕ) → P left → Q left) → (stop : Stop) → StopsWhere P stop → StopsWhere Q stop
 stops_weaker P Q f (stops.Wrong left) p = f left p
 stops_weaker P Q f stops.Memory p = tt
@@ -66,7 +66,7 @@ flat_push f xs x text rest next whole begins =
     whole ∙ ap (λ (t : Text). flat_map f xs ++ t) begins ∙ sym (append_assoc (flat_map f xs) (f x) next)
     ∙ ap (λ (t : Text). t ++ next) (flat_map_more f [] xs x)
 
--- n pieces of so many are read: they stand before the rest, and where that goes wrong, the whole does
+-- `n` of `count` pieces are read: they are before the rest, and if the rest goes wrong, so does the whole
 pub record ArePiecesRead (count n : ℕ) (text : Text) (pieces : List Piece) (from : ℕ) (rest : Text) : Type 0 where
   pub many : length pieces ≡ n
   pub whole : text ≡ flat_map piece_text pieces ++ rest
@@ -111,7 +111,7 @@ pieces_read text count n after pieces from rest b r e =
           ∙ ap (λ (t : Text). decimal (length pieces) ++ line_feed ∷ t) r.whole ∙ sym (pieces_text-is pieces rest);
     }
 
--- one of them is wrong, so they are
+-- if one of the pieces is wrong, the pieces are wrong
 pub pieces_wrong : (text : Text) (count n : ℕ) (after : Text) (pieces : List Piece) (from : ℕ) (rest : Text)
     → BeginsWith decimal IsSmall text count after → ArePiecesRead count n after pieces from rest → n < count
     → (left : ℕ) → IsWrongPiece from rest left → HasWrongPieces text left
@@ -120,7 +120,7 @@ pieces_wrong text count n after pieces from rest b r h left w =
 
 -- ---- a step, read in parts
 
--- a step without a label is its pieces
+-- the text of a step in version 1 is the text of its pieces
 pub plain_step_read : (text : Text) (label : Text) (pieces : List Piece) (rest : Text) → label ≡ [] → BeginsWithPieces text pieces rest
     → BeginsWithStep First text (record { label = label; pieces = pieces }) rest
 plain_step_read text label pieces rest none b = record {
@@ -138,13 +138,13 @@ labelled_step_read text after label word pieces rest same b p =
       whole = b.whole ∙ ap (λ (t : Text). label ++ line_feed ∷ t) p.whole ∙ sym (step_text-is (record { label = label; pieces = pieces }) rest);
     })
 
--- a step whose pieces are wrong is
+-- a step with wrong pieces is wrong
 pub labelled_step_wrong : (text after label : Text) → BeginsWith {A = Text} (λ label. label) IsLabel text label after → (left : ℕ) → HasWrongPieces after left → IsWrongStep Second text left
 labelled_step_wrong text after label b left w = inr (record { value = label; rest = after; begins = b; wrong = w })
 
 -- ---- steps, read one by one
 
--- n steps of so many are read: they stand before the rest, and where that goes wrong, the whole does
+-- `n` of `count` steps are read, and are before the rest
 pub record AreStepsRead (version : Version) (count n : ℕ) (text : Text) (steps : List Step) (rest : Text) : Type 0 where
   pub many : length steps ≡ n
   pub whole : text ≡ flat_map (step_text_in version) steps ++ rest
@@ -161,7 +161,7 @@ one_more_step version count n text steps rest step next r b = record {
   good = all_push (IsStepIn version) steps step r.good b.good;
 }
 
--- what goes wrong after steps goes wrong
+-- a text that goes wrong after steps goes wrong
 pub wrong_after_steps : (version : Version) (steps : List Step) (more : ℕ) (text rest : Text) (left : ℕ)
     → AllByRecursion (IsStepIn version) steps → text ≡ flat_map (step_text_in version) steps ++ rest → AreWrongSteps version more rest left → AreWrongSteps version (length steps + more) text left
 wrong_after_steps version [] more text rest left good whole w =
@@ -181,7 +181,7 @@ wrong_step version count n text steps rest r h left w more =
 
 -- ---- the tail
 
--- past steps stand before what goes wrong
+-- past steps before a text that goes wrong
 pub tail_wrong : (version : Version) (past : List Step) (undos redos : ℕ) (text rest : Text) (left : ℕ)
     → length text ≤ steps_limit version → length past ≡ undos → AllByRecursion (IsStepIn version) past → text ≡ flat_map (step_text_in version) past ++ rest
     → AreWrongSteps version redos rest left → IsWrongTail version (undos + redos) text left
@@ -191,7 +191,7 @@ tail_wrong version past undos redos text rest left short many good whole w =
       wrong = subst (λ (n : ℕ). AreWrongSteps version (n + redos) text left) many (wrong_after_steps version past redos text rest left good whole w);
     })
 
--- nothing should stand after the steps
+-- no text may follow the steps
 pub bytes_left : (version : Version) (future : List Step) (redos : ℕ) (text rest : Text) → length future ≡ redos → AllByRecursion (IsStepIn version) future → text ≡ flat_map (step_text_in version) future ++ rest
     → rest ≢ [] → AreWrongSteps version redos text (length rest)
 bytes_left version future redos text rest many good whole some =

@@ -1,4 +1,4 @@
--- How long a step is as text.
+-- The length of a step as text.
 use Rattle.std.proofs.Common.{◌≡◌, ℕ, ◌+◌, ◌/◌, ◌%◌, ◌^◌, ◌≤◌, ◌<◌, suc, zero, cond, nat_lt, List, [], ◌∷◌, ◌++◌, length, take, get_or, sym, ◌∙◌, ap, arith, rules, decimal, length-append, lit<}
 use Rattle.std.proofs.lemmas.Fmt.{AppendsLastDigit, decimal_from_appends, length-decimal-le}
 use Rattle.std.proofs.lemmas.List.{length_push, take_more, take_all, flat_map_more}

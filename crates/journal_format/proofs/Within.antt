@@ -1,4 +1,4 @@
--- Where a text goes wrong, no more bytes are left than it has.
+-- If a text goes wrong, at most as many bytes are left as it has.
 use Rattle.std.proofs.Common.{◌≡◌, ℕ, ◌+◌, ◌≤◌, zero, suc, ◌∷◌, ◌++◌, length, decimal, arith, ap, inl, inr, length-append}
 use Rattle.bib_spec.specs.Bytes.{line_feed}
 use Rattle.bib_spec.specs.Text.{Text}

@@ -1,4 +1,4 @@
--- Texts of many, written one after another.
+-- Texts of several pieces or steps, written one after another.
 use Rattle.std.proofs.Common.{◌≡◌, ℕ, ◌+◌, ◌<◌, ◌≤◌, List, [], ◌∷◌, ◌++◌, length, take, get_or, decimal, sym, ◌∙◌, ap, reverse}
 use Rattle.std.proofs.lemmas.List.{append_assoc, take_more, take_all, flat_map_more, length-reverse}
 use Rattle.std.specs.List.{flat_map}
@@ -17,20 +17,20 @@ written_more {X = X} f bs out next xs i x h e so more =
 pub written_all : {X : Type 0} (f : X → Text) (bs out : Text) (xs : List X) (i : ℕ) → length xs ≤ i → out ≡ bs ++ flat_map f (take i xs) → out ≡ bs ++ flat_map f xs
 written_all {X = X} f bs out xs i h so = so ∙ ap (λ (ys : List X). bs ++ flat_map f ys) (take_all i xs h)
 
--- pieces are their number in a line, and then each
+-- the text of pieces is their number in a line, and then each piece
 pub pieces_written : (bs out : Text) (pieces : List Piece) (i : ℕ) → length pieces ≤ i → out ≡ (bs ++ (decimal (length pieces) ++ line_feed ∷ [])) ++ flat_map piece_text (take i pieces)
     → out ≡ bs ++ pieces_text pieces
 unfolding pieces_text
 pieces_written bs out pieces i h so =
     written_all piece_text (bs ++ (decimal (length pieces) ++ line_feed ∷ [])) out pieces i h so ∙ simp append_assoc
 
--- a step is its label in a line, and then its pieces
+-- the text of a step is its label in a line, and then its pieces
 pub step_written : (bs a b out : Text) (step : Step) → a ≡ bs ++ step.label → b ≡ a ++ line_feed ∷ [] → out ≡ b ++ pieces_text step.pieces → out ≡ bs ++ step_text step
 unfolding step_text
 step_written bs a b out step label line pieces =
     pieces ∙ ap (λ (t : Text). t ++ pieces_text step.pieces) (line ∙ ap (λ (t : Text). t ++ line_feed ∷ []) label) ∙ simp append_assoc
 
--- head, past and future are the journal
+-- the head, the past steps and the future steps are the journal
 pub journal_written : (digest : Text) (past undone : List Step) (a b d e : Text) → a ≡ []
     → b ≡ a ++ head_text digest (counts (length past) (length undone)) → d ≡ b ++ flat_map step_text past → e ≡ d ++ flat_map step_text (reverse undone)
     → e ≡ journal_text (record { digest = digest; past = past; future = reverse undone })

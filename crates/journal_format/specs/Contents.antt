@@ -1,4 +1,4 @@
--- What a journal says. (dialect)
+-- The contents of a journal. (dialect)
 use Rattle.std.specs.Prelude.{ℕ, ◌≡◌, Bool, true, ◌||◌, ◌&&◌, nat_le, List, length}
 use Rattle.std.specs.List.{list_all}
 use Rattle.std.specs.Char.{is_ascii_digit}

@@ -4,7 +4,7 @@ ghost use Rattle.std.specs.Prelude.{◌≡◌, ◌≤◌, ◌==◌, not, length,
 ghost use Rattle.std.specs.List.{prefix_len};
 ghost use Rattle.journal_format.specs.Wrong.{IsCut, IsFreeOf};
 
-/// How many bytes stand before the first of this kind, or before the end.
+/// The number of bytes before the first byte equal to `byte`; without one, the length of the text.
 fn len_before(byte: u8, text: &[u8]) -> usize
     ensures len { result ≡ prefix_len (λ b. not (b == byte)) text.now }
     ensures within { result ≤ length text.now }

@@ -10,10 +10,10 @@ use crate::cutting::cut;
 use crate::numbers::read_number;
 use crate::version::Version;
 
-/// How many steps can be kept. (dialect)
+/// The largest number of steps that can be kept. (dialect)
 pub const CHANGE_LIMIT: usize = 65_535;
 
-/// The version that the line says, if it says one.
+/// The version that the line names, if it names one.
 fn read_version(line: &[u8]) -> Option<Version>
     ensures some { IfSome result (λ version. IsKnown version × (line.now ≡ version_line version)) }
     ensures none { IfNone result (IsLineOf version_line IsKnown line.now → ⊥) }
@@ -27,7 +27,7 @@ fn read_version(line: &[u8]) -> Option<Version>
     }
 }
 
-/// The version in the first line, and what stands after that line; or how many bytes are left where the text goes wrong.
+/// The version in the first line, and the text after that line; or the number of bytes left where the text goes wrong.
 pub(crate) fn split_version(text: &[u8]) -> Result<(Version, &[u8]), usize>
     ensures read { IfOk result (λ x. BeginsWith version_line IsKnown text.now x.0 x.1.now) }
     ensures wrong { IfErr result (HasWrongLine version_line IsKnown text.now) }
@@ -62,7 +62,7 @@ fn is_digest(line: &[u8]) -> bool
     line.len() == 64 && are_hex_digits(line)
 }
 
-/// The digest in the first line, and what stands after that line; or how many bytes are left where the text goes wrong.
+/// The digest in the first line, and the text after that line; or the number of bytes left where the text goes wrong.
 pub(crate) fn split_digest(text: &[u8]) -> Result<(&[u8], &[u8]), usize>
     ensures read { IfOk result (λ x. BeginsWith (λ digest. digest) IsDigest text.now x.0.now x.1.now) }
     ensures wrong { IfErr result (HasWrongLine (λ digest. digest) IsDigest text.now) }
@@ -74,7 +74,7 @@ pub(crate) fn split_digest(text: &[u8]) -> Result<(&[u8], &[u8]), usize>
     }
 }
 
-/// The two numbers that the line says, parted by a space, if there are no more changes than can be kept.
+/// The two numbers of the line, separated by a space, if there are no more changes than can be kept.
 fn read_counts(line: &[u8]) -> Option<(u64, u64)>
     ensures some { IfSome result (λ x. AreFew (counts x.0 x.1) × (line.now ≡ counts_line (counts x.0 x.1))) }
     ensures none { IfNone result (IsLineOf counts_line AreFew line.now → ⊥) }
@@ -89,8 +89,8 @@ fn read_counts(line: &[u8]) -> Option<(u64, u64)>
     }
 }
 
-/// How many changes can be undone and redone, and what stands after the line that says so; or how many bytes are left
-/// where the text goes wrong.
+/// The numbers of changes that can be undone and redone, and the text after their line; or the number of bytes left where
+/// the text goes wrong.
 pub(crate) fn split_counts(text: &[u8]) -> Result<(u64, u64, &[u8]), usize>
     ensures read { IfOk result (λ x. BeginsWith counts_line AreFew text.now (counts x.0 x.1) x.2.now) }
     ensures wrong { IfErr result (HasWrongLine counts_line AreFew text.now) }

@@ -1,10 +1,10 @@
-//! What a journal says.
+//! The contents of a journal.
 
 use crate::step::Step;
 use bib_text::{Seq, Text};
 use std::marker::Model;
 
-/// What a journal says: the digest of the present file, the past steps from the oldest, and the future steps from the
+/// The contents of a journal: the digest of the present file, the past steps from the oldest, and the future steps from the
 /// next to be redone.
 #[derive(Debug, Drop)]
 pub struct Journal {

@@ -1,4 +1,4 @@
-//! Pieces, as they stand in a journal.
+//! Pieces as text in a journal.
 
 ghost use Rattle.std.specs.Prelude.{ℕ, ◌≡◌, ◌+◌, ◌++◌, ◌∷◌, length, IfSome, IfNone, IfOk, IfErr};
 ghost use Rattle.bib_spec.specs.Bytes.{line_feed};
@@ -13,7 +13,7 @@ use bib_data::Piece;
 use bib_text::{Seq, Text};
 use std::alloc::{AllocError, Global};
 
-/// The three numbers that the line says, parted by spaces, if the first is not below this place.
+/// The three numbers of the line, separated by spaces, if the first is not below the place `from`.
 fn read_numbers(from: u64, line: &[u8]) -> Option<(u64, u64, u64)>
     ensures some { IfSome result (λ x. AreNumbers from (numbers x.0 x.1 x.2) × (line.now ≡ numbers_line (numbers x.0 x.1 x.2))) }
     ensures none { IfNone result (IsLineOf numbers_line (AreNumbers from) line.now → ⊥) }
@@ -30,8 +30,8 @@ fn read_numbers(from: u64, line: &[u8]) -> Option<(u64, u64, u64)>
     }
 }
 
-/// The numbers of a piece that begins at this place or after it, and what stands after their line; or how many bytes
-/// are left where the text goes wrong.
+/// The numbers of a piece whose place is `from` or after it, and the text after their line; or the number of bytes left
+/// where the text goes wrong.
 fn split_numbers(from: u64, text: &[u8]) -> Result<(u64, u64, u64, &[u8]), usize>
     ensures read { IfOk result (λ x. BeginsWith numbers_line (AreNumbers from) text.now (numbers x.0 x.1 x.2) x.3.now) }
     ensures wrong { IfErr result (HasWrongLine numbers_line (AreNumbers from) text.now) }
@@ -45,7 +45,7 @@ fn split_numbers(from: u64, text: &[u8]) -> Result<(u64, u64, u64, &[u8]), usize
     }
 }
 
-/// So many bytes, and what stands after the line feed after them; or how many bytes are left where the text goes
+/// The first `len` bytes, and the text after them and their line feed; or the number of bytes left where the text goes
 /// wrong.
 fn split_bytes(len: usize, text: &[u8]) -> Result<(&[u8], &[u8]), usize>
     ensures read { IfOk result (λ x. (text.now ≡ x.0.now ++ line_feed ∷ x.1.now) × (length x.0.now ≡ len)) }
@@ -68,7 +68,7 @@ pub(crate) fn copied(alloc: Global, bytes: &[u8]) -> Result<Text, AllocError>
     Ok(Seq::from_vec(bytes.to_vec(alloc)?))
 }
 
-/// The first piece, which begins at this place or after it, and what stands after it; or why reading stops.
+/// The first piece, whose place is `from` or after it, and the text after the piece; or why reading stops.
 pub(crate) fn split_piece(alloc: Global, from: u64, text: &[u8]) -> Result<(Piece, &[u8]), Stop>
     ensures read { IfOk result (λ x. BeginsWithPiece from text.now x.0 x.1.now) }
     ensures wrong { IfErr result (StopsWhere (IsWrongPiece from text.now)) }

@@ -1,4 +1,4 @@
-//! Text to contents.
+//! Reading a journal.
 
 ghost use Rattle.std.specs.Prelude.{ℕ, ◌≡◌, ◌+◌, IfOk, IfErr, MatchResult};
 ghost use Rattle.journal_format.specs.Contents.{Contents};
@@ -17,13 +17,13 @@ use crate::version::Version;
 use bib_text::Seq;
 use std::alloc::Global;
 
-/// How long a journal can be, in bytes. (dialect)
+/// The longest journal, in bytes. (dialect)
 pub const JOURNAL_LIMIT: usize = 67_174_486;
 
-/// How long the texts of all steps could be together in version 1, in bytes. (dialect)
+/// The greatest length of the texts of all steps together in version 1, in bytes. (dialect)
 const FIRST_STEP_TEXTS_LIMIT: u64 = 67_108_864;
 
-/// How long the texts of all steps can be together in this version.
+/// The greatest length of the texts of all steps together in this version, in bytes.
 fn steps_limit(version: Version) -> usize
     ensures { result ≡ steps_limit version }
 {
@@ -33,7 +33,7 @@ fn steps_limit(version: Version) -> usize
     }
 }
 
-/// So many past steps, and so many future ones, which are all.
+/// The past steps, `undos` of them, and the future steps, `redos` of them; nothing may follow them.
 fn read_tail(
     alloc: Global,
     version: Version,
@@ -56,7 +56,7 @@ fn read_tail(
     Ok((past, future))
 }
 
-/// The contents, from the line of the counts on.
+/// The contents of a journal, from the line of the counts on.
 fn read_from_counts(
     alloc: Global,
     version: Version,
@@ -75,7 +75,7 @@ fn read_from_counts(
     })
 }
 
-/// The contents, from the line of the digest on.
+/// The contents of a journal, from the line of the digest on.
 fn read_from_digest(alloc: Global, version: Version, text: &[u8]) -> Result<Journal, Stop>
     ensures read { IfOk result (IsFromDigest version text.now) }
     ensures wrong { IfErr result (StopsWhere (IsWrongFromDigest version text.now)) }
@@ -84,7 +84,7 @@ fn read_from_digest(alloc: Global, version: Version, text: &[u8]) -> Result<Jour
     read_from_counts(alloc, version, digest, rest)
 }
 
-/// The contents.
+/// The contents of a journal, or why reading stops.
 fn read_all(alloc: Global, text: &[u8]) -> Result<Journal, Stop>
     ensures read { IfOk result (λ journal. IsJournalOf journal text.now) }
     ensures wrong { IfErr result (StopsWhere (IsWrongJournal text.now)) }
@@ -93,8 +93,8 @@ fn read_all(alloc: Global, text: &[u8]) -> Result<Journal, Stop>
     read_from_digest(alloc, version, rest)
 }
 
-/// What a journal says, of whichever version, or the place at which a text that is no journal goes wrong. It takes time in
-/// the length of the text, and memory for what it says.
+/// The contents of a journal of either version, or the place at which a text that is no journal goes wrong. It takes time
+/// linear in the length of the text, and memory for the contents.
 pub fn read_journal(alloc: Global, text: &[u8]) -> Result<Journal, JournalFault>
     ensures read { IfOk result (λ journal. IsJournalOf journal text.now) }
     ensures refused { IfErr result (λ fault. Refuses fault text.now) }

@@ -4,8 +4,8 @@ use bib_data::Piece;
 use bib_text::{Seq, Text};
 use std::marker::Model;
 
-/// What one undo takes back: one edit, or several that were made as one. Its label, which may be empty, and the pieces that
-/// all of it comes to.
+/// What one undo takes back: one edit, or several edits made as one step. It has a label, which may be empty, and the
+/// pieces of all its edits together.
 #[derive(Debug, Drop)]
 pub struct Step {
     pub label: Text,

@@ -1,4 +1,4 @@
-//! How long steps are as texts.
+//! The lengths of steps as text.
 
 ghost use Rattle.std.specs.Prelude.{◌≡◌, ◌-◌, ◌^◌, ◌≤◌, length, min, sum_by, decimal};
 ghost use Rattle.std.specs.List.{flat_map};
@@ -7,7 +7,7 @@ ghost use Rattle.history_spec.specs.Steps.{piece_text, pieces_text, step_text_le
 use crate::step::Step;
 use bib_data::Piece;
 
-/// How many digits a number has.
+/// The number of digits of a number.
 pub fn decimal_len(n: u64) -> u64
     ensures value { result ≡ length (decimal n) }
     ensures small { result ≤ 20 }
@@ -15,7 +15,7 @@ pub fn decimal_len(n: u64) -> u64
     if n < 10 { 1 } else { 1 + decimal_len(n / 10) }
 }
 
-/// How long a piece is as text, or the greatest number.
+/// The length of a piece as text, in bytes, or the greatest `u64` if it is longer.
 fn piece_text_len(piece: &Piece) -> u64
     ensures { result ≡ min (length (piece_text piece.now)) (2 ^ 64 - 1) }
 {
@@ -25,7 +25,7 @@ fn piece_text_len(piece: &Piece) -> u64
     old_len.saturating_add(new_len).saturating_add(numbers + 4)
 }
 
-/// How long the pieces' own texts are together, or the greatest number.
+/// The length of the texts of the pieces together, in bytes, or the greatest `u64` if it is longer.
 pub fn piece_texts_len(pieces: &[Piece]) -> u64
     ensures { result ≡ min (length (flat_map piece_text pieces.now)) (2 ^ 64 - 1) }
 {
@@ -36,21 +36,21 @@ pub fn piece_texts_len(pieces: &[Piece]) -> u64
     len
 }
 
-/// How long pieces are as text, or the greatest number.
+/// The length of pieces as text, with the line of their number, in bytes, or the greatest `u64` if it is longer.
 fn pieces_text_len(pieces: &[Piece]) -> u64
     ensures { result ≡ min (length (pieces_text pieces.now)) (2 ^ 64 - 1) }
 {
     piece_texts_len(pieces).saturating_add(decimal_len(pieces.len() as u64) + 1)
 }
 
-/// How long a step with this label and these pieces is as text, or the greatest number.
+/// The length of a step with this label and these pieces as text, in bytes, or the greatest `u64` if it is longer.
 pub fn step_text_len(label: &[u8], pieces: &[Piece]) -> u64
     ensures { result ≡ min (step_text_len (record { label = label.now; pieces = pieces.now })) (2 ^ 64 - 1) }
 {
     pieces_text_len(pieces).saturating_add(label.len() as u64 + 1)
 }
 
-/// How long steps are together as texts, or the greatest number.
+/// The length of the texts of steps together, in bytes, or the greatest `u64` if it is longer.
 pub fn step_texts_len(steps: &[Step]) -> u64
     ensures { result ≡ min (sum_by step_text_len steps.now) (2 ^ 64 - 1) }
 {

@@ -1,4 +1,4 @@
-//! Steps, as they stand in a journal.
+//! Steps as text in a journal.
 
 ghost use Rattle.std.specs.Prelude.{ℕ, ◌≡◌, ◌+◌, ◌++◌, length, decimal, IfOk, IfErr};
 ghost use Rattle.std.specs.List.{AllByRecursion, flat_map};
@@ -18,11 +18,10 @@ use bib_data::{Piece, is_label};
 use bib_text::Seq;
 use std::alloc::Global;
 
-/// How long the texts of all steps may be together, in bytes. (dialect)
+/// The greatest length of the texts of all steps together, in bytes. (dialect)
 pub const STEP_TEXTS_LIMIT: u64 = 67_174_399;
 
-/// The number in the first line, and what stands after that line; or how many bytes are left where the text goes
-/// wrong.
+/// The number in the first line, and the text after that line; or the number of bytes left where the text goes wrong.
 fn split_number(text: &[u8]) -> Result<(u64, &[u8]), usize>
     ensures read { IfOk result (λ x. BeginsWith decimal IsSmall text.now x.0 x.1.now) }
     ensures wrong { IfErr result (HasWrongLine decimal IsSmall text.now) }
@@ -36,10 +35,10 @@ fn split_number(text: &[u8]) -> Result<(u64, &[u8]), usize>
     }
 }
 
-/// For so many pieces room is made at once: most steps have one or two.
+/// Room for at most this number of pieces is made at once: most steps have one or two.
 const ROOM: u64 = 4;
 
-/// The number of pieces in the first line, and so many pieces, and what stands after them; or why reading stops.
+/// The pieces after the first line, which has their number, and the text after them; or why reading stops.
 fn split_pieces(alloc: Global, text: &[u8]) -> Result<(Seq<Piece>, &[u8]), Stop>
     ensures read { IfOk result (λ x. BeginsWithPieces text.now x.0 x.1.now) }
     ensures wrong { IfErr result (StopsWhere (HasWrongPieces text.now)) }
@@ -57,7 +56,7 @@ fn split_pieces(alloc: Global, text: &[u8]) -> Result<(Seq<Piece>, &[u8]), Stop>
     Ok((Seq::from_vec(pieces), rest))
 }
 
-/// The label in the first line, and what stands after that line; or how many bytes are left where the text goes wrong.
+/// The label in the first line, and the text after that line; or the number of bytes left where the text goes wrong.
 fn split_label(text: &[u8]) -> Result<(&[u8], &[u8]), usize>
     ensures read { IfOk result (λ x. BeginsWith (λ label. label) IsLabel text.now x.0.now x.1.now) }
     ensures wrong { IfErr result (HasWrongLine (λ label. label) IsLabel text.now) }
@@ -69,7 +68,7 @@ fn split_label(text: &[u8]) -> Result<(&[u8], &[u8]), usize>
     }
 }
 
-/// The first step of a journal of version 1, which has no label, and what stands after it; or why reading stops.
+/// The first step of a journal of version 1, which has no label, and the text after it; or why reading stops.
 fn split_plain_step(alloc: Global, text: &[u8]) -> Result<(Step, &[u8]), Stop>
     ensures read { IfOk result (λ x. BeginsWithStep First text.now x.0 x.1.now) }
     ensures wrong { IfErr result (StopsWhere (IsWrongStep First text.now)) }
@@ -79,7 +78,7 @@ fn split_plain_step(alloc: Global, text: &[u8]) -> Result<(Step, &[u8]), Stop>
     Ok((Step { label, pieces }, rest))
 }
 
-/// The first step of a journal of version 2, and what stands after it; or why reading stops.
+/// The first step of a journal of version 2, and the text after it; or why reading stops.
 fn split_labelled_step(alloc: Global, text: &[u8]) -> Result<(Step, &[u8]), Stop>
     ensures read { IfOk result (λ x. BeginsWithStep Second text.now x.0 x.1.now) }
     ensures wrong { IfErr result (StopsWhere (IsWrongStep Second text.now)) }
@@ -90,7 +89,7 @@ fn split_labelled_step(alloc: Global, text: &[u8]) -> Result<(Step, &[u8]), Stop
     Ok((Step { label, pieces }, rest))
 }
 
-/// The first step of a journal of this version, and what stands after it; or why reading stops.
+/// The first step of a journal of this version, and the text after it; or why reading stops.
 fn split_step(alloc: Global, version: Version, text: &[u8]) -> Result<(Step, &[u8]), Stop>
     ensures read { IfOk result (λ x. BeginsWithStep version text.now x.0 x.1.now) }
     ensures wrong { IfErr result (StopsWhere (IsWrongStep version text.now)) }
@@ -101,7 +100,7 @@ fn split_step(alloc: Global, version: Version, text: &[u8]) -> Result<(Step, &[u
     }
 }
 
-/// So many steps, and what stands after them; or why reading stops, where more steps should stand after them.
+/// The first `count` steps, and the text after them; or why reading stops, however many steps should follow them.
 pub(crate) fn split_steps(
     alloc: Global,
     version: Version,

@@ -1,6 +1,6 @@
 //! The versions of the format.
 
-/// A version of the format. The first has no labels; it is read, and no longer written.
+/// A version of the format. Version 1 has no labels; it is still read, but no longer written.
 #[derive(Clone, Copy)]
 pub(crate) enum Version {
     First,

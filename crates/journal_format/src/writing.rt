@@ -1,4 +1,4 @@
-//! Contents to text.
+//! Writing a journal.
 
 ghost use Rattle.std.specs.Prelude.{◌≡◌, ◌++◌, ◌∷◌, [], reverse, length, decimal, OnOk, IfOk};
 ghost use Rattle.bib_spec.specs.Bytes.{line_feed, space};
@@ -13,7 +13,7 @@ use bib_text::{Seq, Text};
 use itoa::Buffer;
 use std::alloc::{AllocError, Global};
 
-/// Writes a number and this byte.
+/// Writes a number, and the byte `end` after it.
 fn put_number(out: &mut Vec<u8>, n: u64, end: u8) -> Result<(), AllocError>
     ensures { OnOk result (out.new.items ≡ out.old.items ++ (decimal n ++ end ∷ [])) }
 {
@@ -57,7 +57,7 @@ fn put_step(out: &mut Vec<u8>, step: &Step) -> Result<(), AllocError>
     put_pieces(out, step.pieces.as_slice())
 }
 
-/// How long the lines before the steps are at most, the digest aside.
+/// The greatest length of the lines before the steps, without the digest.
 const HEAD_LEN: u64 = 64;
 
 /// Writes the three lines before the steps.
@@ -81,7 +81,7 @@ fn put_steps(out: &mut Vec<u8>, steps: &[Step]) -> Result<(), AllocError>
     Ok(())
 }
 
-/// Writes steps, the last first.
+/// Writes steps, the last one first.
 fn put_steps_back(out: &mut Vec<u8>, steps: &[Step]) -> Result<(), AllocError>
     ensures { OnOk result (out.new.items ≡ out.old.items ++ flat_map step_text (reverse steps.now)) }
 {
@@ -93,8 +93,8 @@ fn put_steps_back(out: &mut Vec<u8>, steps: &[Step]) -> Result<(), AllocError>
     Ok(())
 }
 
-/// The journal, of version 2, of a file that has this digest, with these past steps from the oldest, and these undone steps, the next
-/// to be redone last. It takes time in the length of the text, and memory once, for the text.
+/// The journal, in version 2, of a file with this digest, with these past steps from the oldest, and these undone steps,
+/// the next to be redone last. It takes time linear in the length of the text, and one allocation, for the text.
 pub fn write_journal(
     alloc: Global,
     digest: &[u8],

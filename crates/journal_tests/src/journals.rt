@@ -1,4 +1,4 @@
-//! Journals as texts.
+//! Journals as text.
 
 use bib_data::{Piece, is_label};
 use bib_scan::{Seq, Text};
@@ -6,19 +6,19 @@ use journal_format::{Step, digest, read_journal, write_journal};
 use std::alloc::{AllocError, Global};
 use std::test::Fail;
 
-/// The journal of the file `abc`, from whose end an entry was removed, in version 1.
+/// The journal of the file `abc` after an entry was removed from its end, in version 1.
 const REMOVED: &[u8] =
     b"bibkeep 1\nba7816bf8f01cfea414140de5dae2223b00361a396177a9cb410ff61f20015ad\n1 0\n1\n3 8 0\n@misc{k}\n";
 
-/// The same in version 2, where the step has an empty label.
+/// The journal `REMOVED` in version 2, where the step has an empty label.
 const REMOVED_NOW: &[u8] =
     b"bibkeep 2\nba7816bf8f01cfea414140de5dae2223b00361a396177a9cb410ff61f20015ad\n1 0\n\n1\n3 8 0\n@misc{k}\n";
 
-/// The journal of the file `abc`, from whose end two entries were removed in one step with a label.
+/// The journal of the file `abc` after two entries were removed from its end in one step with a label.
 const CLEARED: &[u8] =
     b"bibkeep 2\nba7816bf8f01cfea414140de5dae2223b00361a396177a9cb410ff61f20015ad\n1 0\nclear\n1\n3 16 0\n@misc{k}@misc{l}\n";
 
-/// The journal of the file `abc`, to which nothing was done.
+/// The journal of the file `abc` before any change.
 const FRESH: &[u8] =
     b"bibkeep 2\nba7816bf8f01cfea414140de5dae2223b00361a396177a9cb410ff61f20015ad\n0 0\n";
 
@@ -54,7 +54,7 @@ fn wrong_at(alloc: Global, bytes: &[u8]) -> Option<usize> {
     }
 }
 
-/// The journal of `REMOVED` with this byte in place of the one at this place.
+/// The journal `REMOVED` with this byte in place of its byte at this place.
 fn changed(alloc: Global, place: usize, byte: u8) -> Result<Vec<u8>, AllocError> {
     let mut bytes = REMOVED.to_vec(alloc)?;
     if place < bytes.len() {
@@ -63,7 +63,7 @@ fn changed(alloc: Global, place: usize, byte: u8) -> Result<Vec<u8>, AllocError>
     Ok(bytes)
 }
 
-/// The bytes, written again from what is read in them.
+/// The bytes of the journal that is written from the contents read from these bytes.
 fn written_again(alloc: Global, bytes: &[u8]) -> Result<Text, Fail> {
     let journal = read_journal(alloc, bytes)?;
     let mut undone = journal.future.into_vec();
@@ -167,7 +167,7 @@ fn forged_journals_go_wrong_at_their_places(rt: HostRuntime) -> Result<(), Fail>
         wrong_at(alloc, changed(alloc, 8, b'3')?.as_slice()),
         Some(0)
     );
-    // version 2, in which the second line after the counts is no number of pieces
+    // version 2; the second line after the counts is no number of pieces
     assert_eq!(rt;
         wrong_at(alloc, changed(alloc, 8, b'2')?.as_slice()),
         Some(81)

@@ -1,4 +1,4 @@
-//! Worked examples of journals as texts, and what no contract says: that the calls succeed with ample memory.
+//! Worked examples of journals as text, and what no contract says: that the calls succeed with enough memory.
 #![tactic(auto)]
 
 #[cfg(test)]
