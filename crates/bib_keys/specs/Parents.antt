@@ -25,11 +25,11 @@ parts_along entries ns = fold (with_parent entries) no_parts ns
 abbrev pub kept_of : {X : Type 0} → List (Option X) → ℕ → Option X
 kept_of known n = slice_index_or known n None
 
--- of each entry the same is kept
+-- the same is kept of each entry
 abbrev pub KeepTheSame : {X : Type 0} → List (Option X) → List (Option X) → Type 0
 KeepTheSame old new = (n : ℕ) → kept_of new n ≡ kept_of old n
 
--- of each of these entries something is kept
+-- something is kept of each of these entries
 abbrev pub AreKnown : {X : Type 0} → List (Option X) → List ℕ → Type 0
 AreKnown known ns = All (λ n. IsSome (kept_of known n)) ns
 

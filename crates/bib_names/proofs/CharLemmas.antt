@@ -160,7 +160,7 @@ run_stops p (x ∷ xs) none = go (p x) refl (run_stops p xs none)
     go false e later = e
     go true e later = let n : 1 + prefix_len p xs ≡ suc (prefix_len p xs) = omega arith in ap (λ m. p (get_or (x ∷ xs) m 0)) n ∙ later
 
--- so many bytes after a plain byte go on with it
+-- the `count` bytes after a plain byte continue it
 record IsTail (text : Text) (place count : ℕ) : Type 0 where
   plain : is_plain (get_or text place 0) ≡ true
   on : (k : ℕ) → k < count → goes_on (get_or text (place + 1 + k) 0) ≡ true

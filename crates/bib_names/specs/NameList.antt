@@ -5,17 +5,18 @@ use Rattle.bib_spec.specs.Text.{Text, is_space, same}
 use Rattle.bib_names.specs.Places.{is_level, places, between}
 use Rattle.bib_trim.specs.Trimming.{trimmed}
 
--- the word `and`, folded, stands at the place, with white space on both sides (btxhak 5.3)
+-- the word `and`, folded, is at the place, with white space on both sides (btxhak 5.3)
 abbrev pub is_and : Text → ℕ → Bool
 is_and text place =
     nat_lt 0 place && is_space (slice_index text (place - 1))
     && same (take 3 (drop place text)) (codes "and")
     && is_space (slice_index text (place + 3))
 
--- a list is cut there: at each such word at depth 0, two of which may share white space (btxhak 5.3)
+-- a list is cut at this place: a word `and` is there, at depth 0; two such words may share white space (btxhak 5.3)
 abbrev pub is_cut : Text → ℕ → Bool
 is_cut text place = is_level text place && is_and text place
 
+-- the places of the words `and` at which a list is cut
 abbrev pub cuts : Text → List ℕ
 cuts text = places (is_cut text) text
 

@@ -10,7 +10,7 @@ use Rattle.bib_script.specs.Script.{Said, said, nothing_said, said_first, said_b
 abbrev pub before : List Request → List ℕ → Said → Said
 before requests lines rest = said (requests ++ rest.requests) (lines ++ rest.lines) rest.bad_line
 
--- what the script says: so much, and what the rest says, after so many lines
+-- the script says these requests on these lines, and then what the rest says, after its first `number` lines
 abbrev pub SaysOn : Said → List Request → List ℕ → ℕ → Text → Type 0
 SaysOn all requests lines number rest = before requests lines (said_by (suc number) (lines_of rest)) ≡ all
 

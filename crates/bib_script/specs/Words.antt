@@ -20,7 +20,7 @@ spaced (word ∷ words) = word ++ flat_map (λ next. space ∷ next) words
 abbrev pub continues : ℕ → Bool
 continues b = nat_le 128 b && nat_lt b 192
 
--- how much of a text is kept where at most so many bytes are: no character is cut
+-- how many bytes of a text are kept if at most `most` may be: as many as cut no character
 unfoldable pub kept_len : ℕ → Text → ℕ
 kept_len zero text = zero
 kept_len (suc most) text = if continues (slice_index_or text (suc most) 0) then kept_len most text else suc most

@@ -15,7 +15,7 @@ kept_more F xs n d y out all step within told =
     ∙ ap (λ made. out ++ made) (sym (ap F (drop-cons xs n d within) ∙ step _))
     ∙ told
 
--- one of which nothing is made
+-- one item that gives nothing
 pub passed : {A B : Type 0} (F : List A → B) (xs : List A) (n : ℕ) (d : A) (all : B)
     → ((rest : List A) → F (get_or xs n d ∷ rest) ≡ F rest) → n < length xs → F (drop n xs) ≡ all → F (drop (n + 1) xs) ≡ all
 passed F xs n d all step within told = ap (λ k. F (drop k xs)) (add-one n) ∙ sym (ap F (drop-cons xs n d within) ∙ step _) ∙ told

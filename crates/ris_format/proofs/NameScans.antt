@@ -157,7 +157,7 @@ pieces-comma x y alone level =
 abbrev and_at : Bool → Text → Bool
 and_at s t = s && same (take 3 t) (codes "and") && is_space (get_or t 3 0)
 
--- no cut stands in the text, where white space stands before it or not, and so many braces open and close
+-- no cut is in the text, with white space before it or not, if `opened` braces open and `closed` braces close before the text
 abbrev pub free : Bool → ℕ → ℕ → Text → Bool
 free s o c [] = true
 free s o c (b ∷ t) = not (o == c && and_at s (b ∷ t)) && free (is_space b) (o + one 123 b) (c + one 125 b) t

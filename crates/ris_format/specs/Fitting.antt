@@ -17,7 +17,7 @@ has_own_text f = bytes_eq (field_text f.1) f.1
 abbrev pub is_spaced : Record → Bool
 is_spaced entry = list_all has_own_text entry.fields && not (list_any is_space entry.key)
 
--- the RIS record of such a record is well formed
+-- the RIS record of a record with such texts and such a key is well formed
 abbrev pub SpacedRecordsFit : Type 0
 SpacedRecordsFit = (entry : Record) → is_spaced entry ≡ true → is_well_formed (ris entry) ≡ true
 

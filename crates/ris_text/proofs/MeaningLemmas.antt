@@ -78,7 +78,7 @@ count-cons p ps b is = sum_by-cons (λ (q : Paragraph). if is_other q.head.class
 abbrev pub other_count : List Paragraph → ℕ
 other_count ps = count_by (λ p. is_other p.head.class) ps
 
--- one paragraph more, before lines of which the rest is known
+-- one paragraph more, before lines whose rest is known
 paragraph_told : (end : ℕ) (p : Paragraph) (ps : List Paragraph) (after : List Line) (i : Inside) (class : Class) → p.head.class ≡ class → is_inner class ≡ true
     → continuation after ≡ map (λ line. line.text) p.more → told_inner end after ≡ paragraphs_told ps i → told_inner end (p.head ∷ after) ≡ paragraphs_told (p ∷ ps) i
 paragraph_told end p ps after i Begin is inside_it texts rest = absurd (cc)
