@@ -49,7 +49,7 @@ use Rattle.bib_run.specs.StoredRuns.{edits_asked, stored, OpensSession, Asks, Ac
 
 -- ---- names
 
--- the names of the commands of which a run is a session
+-- the names of the commands whose runs are sessions
 abbrev reads_name : Text → Bool
 reads_name name = (((bytes_eq name (codes "edit") || bytes_eq name (codes "undo")) || bytes_eq name (codes "redo")) || bytes_eq name (codes "log")) || bytes_eq name (codes "import")
 
@@ -60,7 +60,7 @@ reader-named command (OpensSession.redo e) = ap reads_name e
 reader-named command (OpensSession.log e) = ap reads_name e
 reader-named command (OpensSession.import e) = ap reads_name e
 
--- a command of another name does not
+-- no run of a command of another name is a session
 no_reader : (command : Command) (name : Text) → OpensSession command → command.name ≡ name → reads_name name ≡ false → ⊥
 no_reader command name reads e other = false≢true (sym other ∙ ap reads_name (sym e) ∙ reader-named command reads)
 
