@@ -13,7 +13,7 @@ use Rattle.bib_keys.specs.declared.parents.Parents.{Parents}
 abbrev pub label_fields : List EntryTexts → ℕ → Fields
 label_fields entries n = chosen label_names (fields_at entries n)
 
--- these parts, and what entry n gives where nothing is given yet
+-- these parts, and from entry n each part that is still missing
 abbrev pub with_parent : List EntryTexts → LabelParts → ℕ → LabelParts
 with_parent entries parts n = parts_with parts (parts_of (label_fields entries n))
 

@@ -9,7 +9,7 @@ use std::alloc::{AllocError, Global};
 
 /// Keys that are taken, compared without regard to ASCII case; and for each base how many of its candidates are known
 /// to be taken. A key that is taken stays taken: the first free candidate of a base is never an earlier one than
-/// before, so many keys of one base are made in time linear in their number.
+/// before. This makes many keys of one base in time linear in their number.
 #[derive(Drop)]
 pub(crate) struct TakenKeys {
     pub(crate) alloc: Global,

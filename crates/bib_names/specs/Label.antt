@@ -34,11 +34,11 @@ balances text =
     closed_before text (length text) == opened_before text (length text)
     && list_all (λ n. nat_le (closed_before text n) (opened_before text n)) (range_with_len 0 (length text))
 
--- the names of a list, none where its braces do not balance
+-- the names of a list, none if its braces do not balance
 abbrev pub listed_names : Text → List Text
 listed_names text = if balances text then names_of text else []
 
--- the names of the author; if there are none, those of the editor
+-- the names of the author; if there are none, the names of the editor
 abbrev pub names_in : Fields → List Text
 names_in fields =
     let authors = listed_names (text_in fields (codes "author")) in
@@ -58,7 +58,7 @@ initials_template = record { front = []; groups = group Von Initials (Some []) �
 abbrev pub last_template : Pattern
 last_template = record { front = []; groups = group Last Words None ∷ [] }
 
--- the print of a name, nothing where the name is refused
+-- the print of a name, nothing if the name is refused
 abbrev pub print_of : Pattern → Text → Text
 print_of t name = if balances name then option_map_or (printed t) (parts_of name) [] else []
 

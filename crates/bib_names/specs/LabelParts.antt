@@ -52,7 +52,7 @@ base_from parts = or_anon (letters_from parts) ++ unwrap_or parts.year []
 
 -- ---- what is inherited
 
--- the parts where no field gives anything
+-- the parts if no field gives anything
 abbrev pub no_parts : LabelParts
 no_parts = record { author = None; editor = None; key = None; year = None }
 

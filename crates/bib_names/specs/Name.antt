@@ -30,19 +30,19 @@ is_free word = not (word.sep == hyphen)
 abbrev pub hyphened_start : List NameWord → ℕ
 hyphened_start words = up_to_last is_free words - 1
 
--- the parts where von is the words from s on up to e, with First before it and Last after it
+-- the parts if von is the words from s on up to e, First the words before them and Last the words after them
 abbrev pub cut_at : ℕ → ℕ → List NameWord → Name
 cut_at s e words = record { first = take s words; von = drop s (take e words); last = drop e words; jr = [] }
 
--- `First von Last`: von is all from the first von word to the last, the final word aside (btxhak 5.4); without a von
--- word, Last is the final word and those that hyphens join to it (BibTeX 0.99)
+-- `First von Last`: von is all words from the first von word to the last, if the final word is left out (btxhak 5.4). Without a
+-- von word, Last is the final word and the words that hyphens join to it (BibTeX 0.99).
 abbrev pub without_comma : List NameWord → Name
 without_comma words =
     if von_end words == 0 then cut_at (hyphened_start words) (hyphened_start words) words
     else cut_at (von_start words) (von_end words) words
 
--- `von Last, Jr, First`, given the words of these pieces: von runs from the front to the last von word, the final word
--- aside (btxhak 5.4)
+-- `von Last, Jr, First`, from the words of these pieces: von is all words of the first piece up to its last von word, if the final
+-- word is left out (btxhak 5.4)
 abbrev pub with_commas : List NameWord → List NameWord → List NameWord → Name
 with_commas words jr first =
     record { first = first; von = take (von_end words) words; last = drop (von_end words) words; jr = jr }

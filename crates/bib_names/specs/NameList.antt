@@ -20,8 +20,8 @@ is_cut text place = is_level text place && is_and text place
 abbrev pub cuts : Text → List ℕ
 cuts text = places (is_cut text) text
 
--- The names of a list: what stands between the cuts, without white space at the ends. They may be empty; a list of
--- white space alone has none. (btxhak 5.3; dialect)
+-- The names of a list: the texts between its words `and`, without white space at their ends. A name may be empty; a list of white
+-- space alone has no names. (btxhak 5.3; dialect)
 abbrev pub names_of : Text → List Text
 names_of text =
     if list_all is_space text then []

@@ -36,14 +36,14 @@ first_initial chars = option_map_or initial_in (find gives_initial chars) []
 abbrev pub initial : Text → Text
 initial word = first_initial (text_chars word)
 
--- ---- words and what stands between them
+-- ---- words and what is between them
 
 -- what is printed of a word: all of it, or its initial
 abbrev pub shown : Form → Text → Text
 shown Words word = word
 shown Initials word = initial word
 
--- the period after an initial; nothing after a whole word, or where a word has no initial (dialect)
+-- the period after an initial; nothing after a whole word, or if a word has no initial (dialect)
 abbrev pub dot : Form → Text → Text
 dot Words shown = []
 dot Initials shown = if length shown == 0 then [] else period ∷ []
@@ -87,7 +87,7 @@ finished out =
     else if is_short front then out
     else front ++ space ∷ []
 
--- what a group prints of the words of its part: nothing where there is none (btxhak 5.4)
+-- what a group prints of the words of its part: nothing if the part has no word (btxhak 5.4)
 abbrev pub printed_group : Group → List NameWord → Text
 printed_group g [] = []
 printed_group g (word ∷ more) = finished (printed_words g g.pre (word ∷ more) ++ g.post)

@@ -9,7 +9,7 @@ use Rattle.bib_names.specs.declared.name.Name.{Name}
 use Rattle.bib_names.specs.declared.template.Part.TheVariants.{Von, Last}
 use Rattle.bib_names.specs.declared.template.Form.TheVariants.{Initials, Words}
 
--- the words of von, and those of Last
+-- the words of von, and the words of Last
 abbrev pub Surname : Type 0
 Surname = List NameWord × List NameWord
 

@@ -64,6 +64,6 @@ group_after_letters pre letters = option_and_then (group_after_between pre lette
 abbrev pub group_after : Text → Text → Option (Group × Text)
 group_after pre rest = option_and_then (group_after_letters pre) (letters_at rest)
 
--- the group whose opening brace stands before the text, and the text after the group
+-- the group whose opening brace is before the text, and the text after the group
 abbrev pub group_at : Text → Option (Group × Text)
 group_at inside = group_after (take_while is_ornament inside) (after_run is_ornament inside)

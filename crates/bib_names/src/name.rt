@@ -197,7 +197,7 @@ pub(crate) fn parts_of(alloc: Global, text: &[u8]) -> Result<Option<Name<'_>>, A
 /// `von Last, Jr, First`, where a von word is one whose case is lower. The time is linear in the name's length.
 ///
 /// A name whose braces do not balance is refused as 22. Another name is refused as 21 if it has more than two commas at
-/// depth 0, without those at its end. All other names are refused only for want of memory.
+/// depth 0, not counting those at its end. All other names are refused only for want of memory.
 pub fn split_name(alloc: Global, text: &[u8]) -> Result<Name<'_>, NameFault>
     ensures parts { IfOk result (λ name. parts_of text.now ≡ Some name) }
     ensures balanced { OnOk result (IsBalanced text.now) }

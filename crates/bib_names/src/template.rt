@@ -170,7 +170,7 @@ fn split_between(text: &[u8]) -> Option<(Option<&[u8]>, &[u8])>
     Some((Some(between), after))
 }
 
-/// The group whose opening brace stands before the text, and the text after the group; none if there is no group.
+/// The group whose opening brace is before the text, and the text after the group; none if there is no group.
 fn split_group(text: &[u8]) -> Option<(GroupText<'_>, &[u8])>
     ensures found { IfSome result (λ r. group_at text.now ≡ Some (r.0, r.1.now)) }
     ensures none { IfNone result (group_at text.now ≡ None) }

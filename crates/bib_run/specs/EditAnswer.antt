@@ -77,8 +77,8 @@ pub record HasEdited (requests : List Request) (message : ℕ → Option Session
 abbrev pub HasEditedBy : Text → SessionState → Answer → Type 0
 HasEditedBy script = HasEdited (said_of script).requests (stop_line (said_of script))
 
--- `edit F`: the requests of the script in order, up to the first line that is refused or asks for nothing; a step that is open
--- then is ended
+-- `edit F`: the requests of the script are done in order, up to the first line that is refused or is no request; a step that is
+-- still open then is ended
 abbrev pub IsEditAnswer : Bool → Text → Option Text → Text → Answer → Type 0
 IsEditAnswer new_journal file journal input = AnswersSession new_journal (AnswersInput HasEditedBy input) file journal
 
@@ -88,7 +88,7 @@ IsEditAnswer new_journal file journal input = AnswersSession new_journal (Answer
 abbrev pub bad_words_line : Text
 bad_words_line = codes "bibkeep: 71 BadScript\n"
 
--- what is said of a fault, if there is one
+-- the message of a fault, if there is one
 abbrev pub fault_message : ℕ → Option SessionFault → Option Text
 fault_message done fault = option_map fault_line fault
 

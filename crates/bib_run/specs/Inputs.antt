@@ -1,4 +1,4 @@
--- The answers of commands that open a session, and of those that read standard input too. (dialect)
+-- The answers of commands that open a session, and of commands that read standard input too. (dialect)
 use Rattle.std.specs.Prelude.{◌≡◌, ◌<◌, ◌≤◌, Bool, [], length, Option}
 use Rattle.bib_spec.specs.Bytes.{file_limit}
 use Rattle.bib_spec.specs.Text.{Text}

@@ -44,7 +44,7 @@ pub record IsStoredRun (command : Command) (input : Text) (old new : OnDisk) : T
   pub answers : IsAnswer command old.file old.journal input answer
   pub stores : new ≡ stored old answer.outcome
 
--- ---- what is asked for
+-- ---- requests of a command
 
 -- a run of the command is a session: it opens the file and its journal, and leaves both
 pub data OpensSession (c : Command) : Type 0 where
@@ -54,8 +54,8 @@ pub data OpensSession (c : Command) : Type 0 where
   log : c.name ≡ codes "log" → OpensSession c
   import : c.name ≡ codes "import" → OpensSession c
 
--- What `edit` asks for: the requests of its script; or, if words follow the file, the step of one edit that they say, and nothing
--- if they say none.
+-- The requests of `edit`: the requests of its script; or, if words follow the file, a step of the one edit that they say, and no
+-- request if they say no edit.
 abbrev pub edits_asked : Command → Text → List Request
 edits_asked command input = if length command.words == 1 then (said_of input).requests else unwrap_or (asked_by_words (key_words command)) []
 

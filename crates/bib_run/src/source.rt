@@ -24,7 +24,7 @@ impl From<AllocError> for SourceFault {
     }
 }
 
-/// How many bytes one call asks for at most.
+/// One call reads at most this many bytes.
 const CHUNK: usize = 65_536;
 
 /// Reads to the end of the source, or until it gave `most` bytes. It makes an interrupted call again.

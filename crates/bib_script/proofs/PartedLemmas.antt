@@ -10,11 +10,11 @@ use Rattle.bib_spec.specs.Text.{Text}
 use Rattle.bib_spec.specs.Texts.{onto_first}
 use Rattle.bib_script.specs.Parting.{parted, without_return, as_lines}
 
--- how many bytes stand before the first of this kind, or before the end
+-- how many bytes are before the first of this kind, or before the end
 abbrev pub len_before : ℕ → Text → ℕ
 len_before byte t = prefix_len (λ b. not (b == byte)) t
 
--- the byte is the first, or stands after the first
+-- the byte is the first, or comes after the first
 at_once : (byte b : ℕ) (t : Text) → (b == byte) ≡ true → (len_before byte (b ∷ t) ≡ 0) × (parted byte (b ∷ t) ≡ [] ∷ parted byte t)
 at_once byte b t is = (rw is refl, rw is refl)
 

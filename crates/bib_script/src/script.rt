@@ -40,7 +40,7 @@ fn said(requests: Vec<Request>, lines: Vec<usize>, bad_line: Option<usize>) -> S
     }
 }
 
-/// What a line asks for, if it asks for something.
+/// The request of a line, if the line is one.
 fn request_on(alloc: Global, line: &[u8]) -> Result<Option<Request>, AllocError>
     ensures { IfOk result (λ asked. asked ≡ request_of (words_of line.now)) }
 {

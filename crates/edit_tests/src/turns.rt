@@ -102,7 +102,7 @@ pub fn requests_of(alloc: Global, turn: &Turn) -> Result<Seq<Request>, AllocErro
     }
 }
 
-/// What a turn asks for.
+/// The requests of a turn, and how many times they are made.
 pub fn asked_of(alloc: Global, turn: &Turn) -> Result<Asked, AllocError> {
     Ok(Asked {
         times: times_of(turn),

@@ -113,7 +113,7 @@ written_fields kind fields =
     written_names fields
     ++ (written_titles kind fields ++ (written_numbers fields ++ (written_publishers kind fields ++ written_notes fields)))
 
--- ---- reading: these fields from lines whose values are field texts, with an empty text where one is not there
+-- ---- reading: these fields from lines whose values are field texts; a field that is not there has an empty text
 
 -- author, editor and title
 abbrev pub read_names : List RisLine → Fields

@@ -9,7 +9,7 @@ use crate::text::copy;
 use ris_text::{RisLine, write_line};
 use std::alloc::{AllocError, Global};
 
-/// A form in which lines are kept: each line is one or more members of a list.
+/// A form in which lines are kept: each line becomes members of a list.
 pub(crate) trait Kept: Drop {
     /// The members that a line is kept as.
     ghost kept: { Line → List Self };

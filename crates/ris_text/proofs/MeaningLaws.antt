@@ -125,7 +125,7 @@ with_more end line lines untagged i = record {
   ending = i.ending;
 }
 
--- a line with a tag that may stand inside a record
+-- a line with a tag that may be inside a record
 with_paragraph : (end : ℕ) (line : Line) (lines : List Line) → is_inner line.class ≡ true → Inner end lines → Inner end (line ∷ lines)
 with_paragraph end line lines is i =
     let p : Paragraph = record { head = line; more = i.front } in
