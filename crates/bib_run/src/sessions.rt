@@ -15,8 +15,8 @@ use bib_store::Paged;
 use bib_words::status;
 use std::alloc::{AllocError, Global};
 
-/// Opens the file with its journal. With `--new-journal` it opens the file without an unfit journal, as a file without
-/// steps, and makes a copy of the file for that.
+/// Opens the file with its journal. With `--new-journal` it makes a copy of the file, and leaves out a journal that is
+/// unfit: the session has no steps then.
 pub fn open_with(
     alloc: Global,
     file: Vec<u8>,

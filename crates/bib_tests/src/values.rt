@@ -28,7 +28,7 @@ fn says(
     Ok(said.as_slice() == text)
 }
 
-/// The macros, with this name for this text from now on.
+/// Defines a macro as this text, if the name and the text are allowed.
 fn define(macros: &mut Macros, name: &[u8], text: &[u8]) -> Result<(), ValueFault> {
     if is_name(name) && text.len() <= 1_048_576 {
         macros.define(name, text)?;
