@@ -34,14 +34,8 @@ pub fn text_in<'a>(fields: &'a [(Text, Text)], name: &[u8]) -> &'a [u8]
 pub fn label_names(alloc: Global) -> Result<Seq<&'static [u8]>, AllocError>
     ensures { IfOk result (λ names. map (λ n. n.now) names ≡ label_names) }
 {
-    Ok(Seq::from_vec(Vec::from_slice(alloc, &names_read())?))
-}
-
-/// The same names.
-fn names_read() -> [&'static [u8]; 4]
-    ensures { map (λ n. n.now) result ≡ label_names }
-{
-    [b"author", b"editor", b"key", b"year"]
+    let names: [&[u8]; 4] = [b"author", b"editor", b"key", b"year"];
+    Ok(Seq::from_vec(Vec::from_slice(alloc, &names)?))
 }
 
 /// Whether the braces of the text balance.
