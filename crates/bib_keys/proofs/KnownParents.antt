@@ -17,7 +17,7 @@ kept_put {X} P old mid n x same room it kept k = put (eqb_tells k n)
         (subst (λ (o : Option X). IfSome o (P n)) (sym (get_or-set_same mid n (Some x) None room)) it)
     put (inr other) = subst (λ (o : Option X). IfSome o (P k)) (sym (get_or-set_other mid n k (Some x) None other.1 ∙ same k)) (kept k)
 
--- what is told of what is kept holds of it
+-- a value computed from what is kept has each property that such a value must have
 pub kept_told : {X Y : Type 0} (f : X → Y) (kept : Option X) (told what : Y) → Some told ≡ option_map f kept → IfSome kept (λ x. f x ≡ what) → told ≡ what
 kept_told f None told what is holds = absurd (none-some told (sym is))
 kept_told f (Some x) told what is holds = same_Some told (f x) is ∙ holds

@@ -39,7 +39,8 @@ base-at depth entries n entry at =
 
 -- ---- the walk over the bases
 
--- these keys are made, and those of the bases from number n on are made of what is taken; before all of them these first keys were
+-- These keys are made. The keys for the bases from number n on are made with what is taken now; before the first key was made,
+-- these first keys were taken.
 pub record AreMadeTo (first bases : List Text) (n : ℕ) (t : TakenKeys) (keys : List Text) : Type 0 where
   pub taken : List Text
   pub are : AreTaken taken t

@@ -22,7 +22,7 @@ use Rattle.bib_keys.specs.declared.taken_keys.TakenKeys.{TakenKeys}
 
 -- ---- case
 
--- what is taken is told by the folded text alone
+-- whether a text is taken depends on its folded text alone
 taken_of : (keys : List Text) (a b : Text) → folded a ≡ folded b → is_taken keys a ≡ is_taken keys b
 taken_of [] a b e = refl
 taken_of (key ∷ keys) a b e = ap₂ ◌||◌ (same_of a key b key e refl) (taken_of keys a b e)
@@ -94,7 +94,7 @@ tried-free keys key base n tried is =
 
 -- ---- many keys
 
--- as many keys, which are the same
+-- another list of keys, of the same length, in which the same texts are taken
 same-taken : (keys others : List Text) (t : TakenKeys) → AreTaken keys t → ((name : Text) → is_taken keys name ≡ is_taken others name) → length keys ≡ length others → AreTaken others t
 same-taken keys others t are among long = record {
   taken = λ name short. are.taken name short ∙ among name;
@@ -102,7 +102,7 @@ same-taken keys others t are among long = record {
   count = are.count ∙ long;
 }
 
--- all of these are taken but for some
+-- all of these keys are taken, except those in `rest`
 pub record AreTakenBut (rest keys : List Text) (t : TakenKeys) : Type 0 where
   pub done : List Text
   pub are : AreTaken done t

@@ -2,7 +2,7 @@
 use Rattle.std.proofs.Common.{◌≡◌, ℕ, zero, suc, ◌+◌, ◌<◌, List, [], ◌∷◌, Some, slice_get, get_or, drop, length, refl, sym, ◌∙◌, ap, arith, add-one}
 use Rattle.std.proofs.lemmas.Option.{same_Some, slice_get_read}
 
--- what stands at a place, and what after it
+-- the item at a place, and the items after it
 pub next-of : {X : Type 0} (xs : List X) (i : ℕ) → i < length xs → (x : X) × (slice_get xs i ≡ Some x) × (drop i xs ≡ x ∷ drop (i + 1) xs)
 next-of xs i lt =
     let found = at xs i lt in
@@ -13,7 +13,7 @@ next-of xs i lt =
     at (x ∷ xs) zero lt = (x, refl, refl)
     at (x ∷ xs) (suc i) lt = at xs i (omega (arith, lt))
 
--- the same of what was read there
+-- the item that was read at a place, and the items after it
 pub next-read : {X : Type 0} (xs : List X) (i : ℕ) (x : X) → i < length xs → x ≡ get_or xs i x → drop i xs ≡ x ∷ drop (i + 1) xs
 next-read xs i x lt is =
     let next = next-of xs i lt in

@@ -13,7 +13,7 @@ use Rattle.bib_keys.specs.declared.parents.Parents.{Parents}
 abbrev pub label_fields : List EntryTexts → ℕ → Fields
 label_fields entries n = chosen label_names (fields_at entries n)
 
--- these parts, and what entry n gives where nothing is given yet
+-- these parts, and from entry n each part that is still missing
 abbrev pub with_parent : List EntryTexts → LabelParts → ℕ → LabelParts
 with_parent entries parts n = parts_with parts (parts_of (label_fields entries n))
 
@@ -25,11 +25,11 @@ parts_along entries ns = fold (with_parent entries) no_parts ns
 abbrev pub kept_of : {X : Type 0} → List (Option X) → ℕ → Option X
 kept_of known n = slice_index_or known n None
 
--- of each entry the same is kept
+-- the same is kept of each entry
 abbrev pub KeepTheSame : {X : Type 0} → List (Option X) → List (Option X) → Type 0
 KeepTheSame old new = (n : ℕ) → kept_of new n ≡ kept_of old n
 
--- of each of these entries something is kept
+-- something is kept of each of these entries
 abbrev pub AreKnown : {X : Type 0} → List (Option X) → List ℕ → Type 0
 AreKnown known ns = All (λ n. IsSome (kept_of known n)) ns
 

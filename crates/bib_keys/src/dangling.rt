@@ -8,7 +8,7 @@ ghost use Rattle.bib_keys.specs.Dangling.{dangling_at};
 
 use bib_store::{Database, ItemList};
 
-/// The text of the crossref of entry `n`, if that names no entry.
+/// The text of the crossref of entry `n`, if the crossref names no entry.
 pub(crate) fn dangling_text<L: ItemList>(db: &Database<L>, n: usize) -> Option<&[u8]>
     requires { IsEntryNumber db.now n }
     ensures { OfReading db.now (λ r. option_copied result ≡ dangling_at (entries_of r) n) }

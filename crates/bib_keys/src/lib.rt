@@ -1,6 +1,6 @@
-//! Makes label bases and keys for the entries of a file, and finds keys that are free in it. It knows what entries inherit,
-//! the keys that a file has and those that its dangling crossrefs wait for; it knows no edits, and changes nothing. It
-//! promises the bases and the keys of the definitions, or the one refusal, which is want of memory.
+//! Makes label bases and keys for the entries of a file, and finds keys that are free in it. It knows what entries
+//! inherit, the keys that a file has, and the keys that its dangling crossrefs name; it knows no edits, and changes
+//! nothing. It promises the bases and the keys of the definitions, or the one refusal, which is want of memory.
 #![tactic(auto)]
 
 mod dangling;

@@ -40,7 +40,7 @@ fn base_of<L: ItemList>(
     key_letters(alloc, label_base.as_slice())
 }
 
-/// The key that is made for entry `n`, the first candidate of its base that is not taken, which then is.
+/// The key that is made for entry `n`: the first candidate of its base that is not taken. The key is taken then.
 fn make_key<L: ItemList>(
     alloc: Global,
     db: &Database<L>,
@@ -65,7 +65,7 @@ fn make_key<L: ItemList>(
     taken.take_free(base.as_slice())
 }
 
-/// Puts the key that was made, if it was, after the others.
+/// Adds the key, if one was made.
 fn push_made(keys: &mut Vec<Text>, made: Result<Text, AllocError>) -> Result<(), AllocError>
     ensures pushed { OnOk result (IsOkAnd made (λ key. keys.new.items ≡ keys.old.items ++ key ∷ [])) }
 {
@@ -73,9 +73,10 @@ fn push_made(keys: &mut Vec<Text>, made: Result<Text, AllocError>) -> Result<(),
     Ok(())
 }
 
-/// The made keys of all entries: for each in turn the first candidate of its base that is neither an earlier entry's made
-/// key nor the text of a dangling crossref; its base is that of its record at this depth. It takes time in the number of
-/// entries, once for each parent that is looked at, and in their bytes, and memory for the keys and for what parents give.
+/// The made keys of all entries: for each in turn the first candidate of its base that is neither an earlier entry's
+/// made key nor the text of a dangling crossref. The base of an entry is the base of its record at this depth. It takes
+/// time in the number of entries, once for each parent that is read, and in their bytes, and memory for the keys and
+/// for what parents give.
 pub fn made_keys<L: ItemList>(
     alloc: Global,
     db: &Database<L>,
@@ -100,7 +101,7 @@ pub fn made_keys<L: ItemList>(
     Ok(Seq::from_vec(keys))
 }
 
-/// What no free key is: the keys of the file, these others, and the texts of dangling crossrefs.
+/// The keys that no free key may be: the keys of the file, these others, and the texts of dangling crossrefs.
 fn taken_in<L: ItemList>(
     alloc: Global,
     db: &Database<L>,
@@ -116,9 +117,9 @@ fn taken_in<L: ItemList>(
     Ok(taken)
 }
 
-/// The first of a base, the base with `a`, .. with `z`, with `aa` and so on that is, without regard to ASCII case, no key
-/// of the file, no text of a dangling crossref, and none of these. It takes time in the number of entries and of the
-/// taken keys, and memory for them. The one refusal is want of memory.
+/// A free key: the base, or the base with `a`, .. `z`, `aa` and so on, the first of them that is, without regard to
+/// ASCII case, no key of the file, no text of a dangling crossref, and no key in `taken`. It takes time in the number
+/// of entries and of the taken keys, and memory for them. The one refusal is want of memory.
 pub fn free_key<L: ItemList>(
     alloc: Global,
     db: &Database<L>,
@@ -132,8 +133,8 @@ pub fn free_key<L: ItemList>(
     known.take_free(base)
 }
 
-/// A free key for each of these bases in turn, as `free_key` finds one, which then is taken too. It takes time in the
-/// number of entries, of taken keys and of bases, also where all bases are the same, and memory for the keys. The one
+/// A free key for each of these bases in turn, as `free_key` finds it; the key is taken then. It takes time in the
+/// number of entries, of taken keys and of bases, even if all bases are the same, and memory for the keys. The one
 /// refusal is want of memory.
 pub fn free_keys<L: ItemList>(
     alloc: Global,

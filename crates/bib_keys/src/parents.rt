@@ -12,13 +12,13 @@ use bib_scan::Text;
 use bib_store::{Database, ItemList};
 use std::alloc::{AllocError, Global};
 
-/// What the own fields of parents give to the labels of their descendants, by the parents' numbers, as far as it was asked
-/// for. So the fields of a parent are read once, however many descendants it has, at whatever depth, and in whatever order
-/// they stand.
+/// What the own fields of parents give to the labels of their descendants, by the parents' numbers, for all parents
+/// that were needed so far. So the fields of a parent are read once, however many descendants it has, at whatever
+/// depth, and in whatever order.
 #[derive(Drop)]
 pub struct Parents {
     known: Vec<Option<Box<LabelParts>>>,
-    // the parent of the entry that was asked for last, the parent's parent and so on
+    // the parent of the last entry whose label base was made, the parent's parent and so on
     line: Vec<usize>,
 }
 
@@ -53,7 +53,7 @@ fn parts_of<L: ItemList>(
     }
 }
 
-/// The label base of these fields, and of what is inherited.
+/// The label base from these fields and the inherited parts.
 fn base_with(
     alloc: Global,
     fields: &[(Text, Text)],
@@ -87,7 +87,7 @@ impl Parents {
         }
     }
 
-    /// What entry `n` gives, where that is known.
+    /// What entry `n` gives, if it is known.
     fn parts(&self, n: usize) -> Option<&LabelParts>
         ensures { option_copied result ≡ option_map (λ kept. kept.value) (kept_of self.now.known.items n) }
     {
@@ -97,7 +97,7 @@ impl Parents {
         }
     }
 
-    /// Gets to know what entry `n` gives. Where it is known already, no field is read. What is refused keeps what is known.
+    /// Finds what entry `n` gives. If it is known already, no field is read. A refusal keeps what is known.
     fn learn<L: ItemList>(
         &mut self,
         alloc: Global,
@@ -122,8 +122,7 @@ impl Parents {
         Ok(())
     }
 
-    /// Finds from which entries entry `n` inherits at this depth, and gets to know what they give. What is refused keeps
-    /// what is known.
+    /// Finds from which entries entry `n` inherits at this depth, and what they give. A refusal keeps what is known.
     fn find_line<L: ItemList>(
         &mut self,
         alloc: Global,
@@ -167,10 +166,10 @@ impl Parents {
         inherited
     }
 
-    /// The label base of entry `n`, which is that of its record at this depth. It gathers no other fields than those of these
-    /// names, which are all that labels are made of. It takes time in their bytes, and in those of each entry from which it
-    /// inherits where that is asked for first; memory for the letters and digits that parents give, and a word for each
-    /// entry up to the last parent. The one refusal is want of memory.
+    /// The label base of entry `n`, which is the label base of its record at this depth. It gathers only the fields of
+    /// these names, from which all labels are made. It takes time in the bytes of these fields, and in the bytes of
+    /// each ancestor that is read for the first time; memory for the letters and digits that parents give, and a word
+    /// for each entry up to the last parent. The one refusal is want of memory.
     pub fn label_base<L: ItemList>(
         &mut self,
         alloc: Global,

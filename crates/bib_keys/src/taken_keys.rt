@@ -7,9 +7,9 @@ use bib_store::{Database, ItemList};
 use folded_map::FoldedMap;
 use std::alloc::{AllocError, Global};
 
-/// Keys that are taken, compared without regard to ASCII case, and of each base how many candidates are known to be. What
-/// is taken stays so: the free candidate of a base is never an earlier one than before, so that many keys of one base are
-/// made in time of their number.
+/// Keys that are taken, compared without regard to ASCII case; and for each base how many of its candidates are known
+/// to be taken. A key that is taken stays taken: the first free candidate of a base is never an earlier one than
+/// before. This makes many keys of one base in time linear in their number.
 #[derive(Drop)]
 pub(crate) struct TakenKeys {
     pub(crate) alloc: Global,
@@ -41,7 +41,7 @@ impl TakenKeys {
         }
     }
 
-    /// Takes this key. One that is longer than a key may be is no candidate, and only counts.
+    /// Takes this key. A key that is longer than a key may be is no candidate; it only counts.
     pub(crate) fn add(&mut self, key: &[u8]) -> Result<(), AllocError>
         requires { self.old.count + 1 < 2 ^ 64 }
         ensures taken { OnOk result ((keys : List Bytes) → AreTaken keys self.old → AreTaken (key.now ∷ keys) self.new) }
@@ -64,7 +64,8 @@ impl TakenKeys {
         }
     }
 
-    /// The first candidate of the base that is not taken, where those before number `from` are, and its number.
+    /// The first candidate of the base that is not taken, and its number, if all candidates before number `from` are
+    /// taken.
     fn first_free(&self, base: &[u8], from: usize) -> Result<(Text, usize), AllocError>
         requires short { length base.now ≤ base_limit }
         requires count { self.now.count + 1 < 2 ^ 64 }
@@ -81,11 +82,12 @@ impl TakenKeys {
             }
             n += 1;
         }
-        // It does not come to this: of one more candidates than there are taken keys one is free.
+        // Never reached: if there is one candidate more than there are taken keys, a candidate is free.
         Ok((candidate(self.alloc, base, 0)?, 0))
     }
 
-    /// Notes that so many candidates of the base are taken. Of one it is not noted: to try that one again takes less.
+    /// Notes that the first `n` candidates of the base are taken. A single one is not noted: to try it again is
+    /// cheaper.
     fn note(&mut self, base: &[u8], n: usize) -> Result<(), AllocError>
         requires { length base.now ≤ base_limit }
         ensures taken { OnOk result ((keys : List Bytes) → AreTaken keys self.old → AreTried keys base.now n → AreTaken keys self.new) }
@@ -103,7 +105,7 @@ impl TakenKeys {
         }
     }
 
-    /// Takes the key that is candidate `n` of the base, where those before it are taken.
+    /// Takes the key that is candidate `n` of the base, if all candidates before it are taken.
     fn take(&mut self, base: &[u8], n: usize, key: &[u8]) -> Result<(), AllocError>
         requires short { length base.now ≤ base_limit }
         requires count { self.old.count + 1 < 2 ^ 64 }

@@ -1,4 +1,4 @@
--- Where text characters begin and end, and what is told of those from a place on.
+-- Where text characters begin and end, and which text characters follow a place.
 use Rattle.std.proofs.Common.{◌≡◌, ℕ, zero, suc, ◌+◌, ◌-◌, ◌≤◌, ◌<◌, inl, inr, Bool, true, false, cond, eqb, [], ◌∷◌, ◌++◌, length, take, drop, get_or, refl, sym, ap, ◌∙◌, arith, add-one, add-zero, below_more, subst}
 use Rattle.std.specs.Prelude.{◌&&◌, ◌||◌, not, nat_lt, count_by}
 use Rattle.std.specs.List.{prefix_len, slice_range, list_any, range_with_len}
@@ -135,7 +135,7 @@ brace_past text place fresh brace = (
 
 -- ---- what is passed with a text character
 
--- it begins at the place, none begins in it, and none goes on after it
+-- a text character begins at the place, no other begins in it, and it does not go on after its end
 pub record IsPassed (text : Text) (place end : ℕ) : Type 0 where
   pub begins : begins_char text place ≡ true
   pub inside : (p : ℕ) → place + 1 ≤ p → p < end → begins_char text p ≡ false
@@ -160,7 +160,7 @@ run_stops p (x ∷ xs) none = go (p x) refl (run_stops p xs none)
     go false e later = e
     go true e later = let n : 1 + prefix_len p xs ≡ suc (prefix_len p xs) = omega arith in ap (λ m. p (get_or (x ∷ xs) m 0)) n ∙ later
 
--- so many bytes after a plain byte go on with it
+-- the `count` bytes after a plain byte continue it
 record IsTail (text : Text) (place count : ℕ) : Type 0 where
   plain : is_plain (get_or text place 0) ≡ true
   on : (k : ℕ) → k < count → goes_on (get_or text (place + 1 + k) 0) ≡ true

@@ -24,7 +24,7 @@ level_after text place lt level is =
     let closed = closed_more text place lt ∙ ap (λ b. closed_before text place + one_if 125 b) is in
     eq-eqb (opened_before text (place + 1)) (closed_before text (place + 1)) (omega (arith, opened, closed, here))
 
--- no comma stands between start and place
+-- no comma is between start and place
 pub record NoCommaYet (text : Text) (start place : ℕ) : Type 0 where
   pub same : commas_from text place ≡ commas_from text start
 

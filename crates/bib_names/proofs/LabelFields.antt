@@ -10,7 +10,7 @@ use Rattle.bib_spec.specs.Text.{Text, same}
 use Rattle.bib_spec.specs.Records.{RecordField}
 use Rattle.bib_names.specs.Label.{Fields, text_in, listed_names, letters_of_names, or_anon, last_two, label_base, label_names}
 
--- those of the fields that have one of these names
+-- the fields that have one of these names
 abbrev pub chosen : List Text → Fields → Fields
 chosen names fields = filter (λ field. list_any (same field.0) names) fields
 

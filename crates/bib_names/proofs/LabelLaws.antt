@@ -17,7 +17,7 @@ use Rattle.bib_names.specs.Label.{count_of, label_of, label_at}
 up : (letter : ℕ) (more : Text) → letter < 122 → next_letters (letter ∷ more) ≡ (letter + 1) ∷ more
 up letter more low = ap (λ b. cond b (97 ∷ next_letters more) ((letter + 1) ∷ more)) (ne_eqb letter 122 (λ e. omega arith))
 
--- so many numbers share the letters after the last one
+-- the letters of a number, the last one first: one for its rest by 26, then the letters of its quotient
 letters_at : (q r : ℕ) → r < 26 → letters (26 * q + r + 1) ≡ (97 + r) ∷ letters q
 letters_at zero zero lt = refl
 letters_at (suc q) zero lt =

@@ -11,7 +11,7 @@ use Rattle.bib_spec.specs.MadeKeys.{base_limit, IsKeyBase}
 use Rattle.bib_names.specs.Label.{or_anon, key_letters, key_base, label_base}
 use Rattle.bib_names.proofs.BoolLemmas.{both}
 
--- a letter or digit stands above the space
+-- a letter or digit is greater than the space
 alphanumeric-high : (b : ℕ) → is_ascii_alphanumeric b ≡ true → 32 < b
 alphanumeric-high b h =
     elim (leb 48 b) as (λ x. leb 48 b ≡ x → 32 < b) [

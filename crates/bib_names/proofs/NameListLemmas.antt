@@ -1,4 +1,4 @@
--- What is told of a list of names after some of its places.
+-- The names of a list that are found after some of its places are passed.
 use Rattle.std.proofs.Common.{◌≡◌, ℕ, ◌+◌, ◌-◌, ◌≤◌, ◌<◌, true, false, cond, eqb, List, [], ◌∷◌, ◌++◌, length, take, drop, get_or, refl, sym, ap, ◌∙◌, arith, map, append_assoc, ◌≢◌, lit<}
 use Rattle.std.specs.Prelude.{codes}
 use Rattle.std.specs.List.{slice_range, list_all}
@@ -45,7 +45,7 @@ and_apart (a ∷ b ∷ c ∷ rest) h =
     let r = both (eqb (to_ascii_lowercase c) 100) _ q.1 in
     (letter_apart a 97 (lit< tt) p.0, letter_apart b 110 (lit< tt) q.0, letter_apart c 100 (lit< tt) r.0)
 
--- a byte that is white space stands in the text
+-- a byte that is white space is in the text
 space_within : (text : Text) (place : ℕ) → is_space (get_or text place 0) ≡ true → place < length text
 unfolding is_space
 space_within text place h =

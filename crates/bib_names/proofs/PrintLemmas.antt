@@ -24,7 +24,7 @@ last_is words n within = by_end (eqb (n + 2) (length words)) refl
         let more = eqb-false (n + 2) (length words) e in
         ne_eqb (length (drop (n + 2) words)) 0 (λ none. absurd (omega (arith, length-drop (n + 2) words, none, within, more)))
 
--- a word, and what stands between it and the next
+-- a word, and what is between it and the next
 pub word_then : (g : Group) (out out1 out2 : Text) (words : List NameWord) (n : ℕ) (word next : NameWord) (text : Text) (last : Bool) → n + 1 < length words
     → word ≡ get_or words n word → next ≡ get_or words (n + 1) next → text ≡ shown g.form word.text → out1 ≡ out ++ text → last ≡ eqb (n + 2) (length words)
     → out2 ≡ joined g out1 text next.sep last → printed_words g out2 (drop (n + 1) words) ≡ printed_words g out (drop n words)

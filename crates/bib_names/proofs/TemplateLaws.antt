@@ -203,7 +203,7 @@ letters_stop : (part : Part) (form : Form) (t : Text) → does_not_begin_with is
 letters_stop part Initials t = ap not (letter_no_ornament part)
 letters_stop part Words t = ap not (letter_no_ornament part)
 
--- after the letters stands no letter
+-- no letter follows the letters of a group
 ornament_after : (post t : Text) → list_all is_ornament post ≡ true → does_not_begin_with is_ascii_alphabetic (post ++ 125 ∷ t) ≡ true
 ornament_after [] t all = refl
 ornament_after (x ∷ xs) t all = ap not (ornament_no_letter x (both (is_ornament x) (list_all is_ornament xs) all).0)
@@ -333,7 +333,7 @@ read_more bytes front groups inside g after far is =
     some_same : (p q : Group × Text) → Some p ≡ Some q → p ≡ q
     some_same p q e = cc
 
--- no group stands where one must
+-- a brace opens where a group must be, and there is no group
 pub read_stuck : (bytes front : Text) (groups : List Group) (inside : Text) → IsReadSoFar bytes front groups (123 ∷ inside) → group_at inside ≡ None → (t : Pattern) → IsTemplate t → bytes ≡ spelling t → ⊥
 read_stuck bytes front groups inside far none t is e =
     let told = far.only t is e in

@@ -1,4 +1,4 @@
--- What is told of the words of a piece after some of its places.
+-- The words of a piece that are found after some of its places are passed.
 use Rattle.std.proofs.Common.{◌≡◌, ℕ, suc, ◌+◌, ◌-◌, ◌≤◌, ◌<◌, true, false, cond, eqb, List, [], ◌∷◌, ◌++◌, length, get_or, refl, sym, ap, ◌∙◌, arith, map, append_assoc, add-one, append-nil, below_more}
 use Rattle.std.proofs.lemmas.Bool.{ne_eqb}
 use Rattle.std.proofs.Math.Bool.{and-false}
@@ -9,7 +9,7 @@ use Rattle.bib_names.specs.Places.{places_from, stretch}
 use Rattle.bib_names.specs.Words.{NameWord, is_gap, begins_word, word_end, run_start, kept_separator, sep_before, word_at, words_of}
 use Rattle.bib_names.proofs.PlaceLemmas.{places_here, places_past, places_none, places_skip_to, run_to, run_to_end}
 
--- no word, or a part of one, stands between start and place, and those before are told
+-- no gap is between start and place, so at most the front of one word is there, and all words before it are found
 pub record AreWordsSoFar (at : ℕ) (text : Text) (words : List NameWord) (start before place : ℕ) : Type 0 where
   pub within : start ≤ place
   pub front : (eqb start 0 || is_gap text (start - 1)) ≡ true

@@ -4,9 +4,11 @@ use Rattle.bib_spec.specs.Text.{Text}
 use Rattle.bib_names.specs.Places.{is_level, places_from}
 use Rattle.bib_names.specs.Name.{is_comma}
 
+-- the places of the commas at depth 0, from a place on
 abbrev pub commas_from : Text → ℕ → List ℕ
 commas_from text start = places_from (is_comma text) start (length text - start)
 
+-- this is the place of the first comma at depth 0 from `start` on
 pub record IsFirstComma (text : Text) (start place : ℕ) : Type 0 where
   pub after : start ≤ place
   pub within : place < length text

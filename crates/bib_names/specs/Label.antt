@@ -28,17 +28,17 @@ Fields = List RecordField
 abbrev pub text_in : Fields → Text → Text
 text_in fields name = option_map_or (λ field. field.1) (find (λ field. bytes_eq field.0 name) fields) []
 
--- `IsBalanced`, as a test
+-- the braces of the text balance: `IsBalanced` as a test that computes (btxdoc 4)
 abbrev pub balances : Text → Bool
 balances text =
     closed_before text (length text) == opened_before text (length text)
     && list_all (λ n. nat_le (closed_before text n) (opened_before text n)) (range_with_len 0 (length text))
 
--- the names of a list, none where its braces do not balance
+-- the names of a list, none if its braces do not balance
 abbrev pub listed_names : Text → List Text
 listed_names text = if balances text then names_of text else []
 
--- those of the author, and where there are none those of the editor
+-- the names of the author; if there are none, the names of the editor
 abbrev pub names_in : Fields → List Text
 names_in fields =
     let authors = listed_names (text_in fields (codes "author")) in
@@ -46,6 +46,7 @@ names_in fields =
 
 -- ---- the letters of a label
 
+-- the group that prints one part of a name, with no text around it
 abbrev pub group : Part → Form → Option Text → Group
 group part form between = record { pre = []; part = part; form = form; between = between; post = []; trail = [] }
 
@@ -57,10 +58,11 @@ initials_template = record { front = []; groups = group Von Initials (Some []) �
 abbrev pub last_template : Pattern
 last_template = record { front = []; groups = group Last Words None ∷ [] }
 
--- the print of a name, nothing where the name is refused
+-- the print of a name, nothing if the name is refused
 abbrev pub print_of : Pattern → Text → Text
 print_of t name = if balances name then option_map_or (printed t) (parts_of name) [] else []
 
+-- the initials of von and Last of each name, joined
 abbrev pub initials_of : List Text → Text
 initials_of names = flat_map (print_of initials_template) names
 
@@ -68,7 +70,7 @@ initials_of names = flat_map (print_of initials_template) names
 abbrev pub first_three : Text → Text
 first_three text = flat_map (λ char. char) (take 3 (text_chars text))
 
--- of one name: the initials, or where these are fewer than two text characters the first three of Last
+-- the letters of one name: its initials; if these are fewer than two text characters, the first three of Last
 abbrev pub letters_of_one : Text → Text
 letters_of_one name =
     let initials = print_of initials_template name in
@@ -78,19 +80,21 @@ letters_of_one name =
 abbrev pub ends_with_others : List Text → Bool
 ends_with_others names = bytes_eq (slice_index_or names (length names - 1) []) (codes "others")
 
--- of two to four names: the initials of each, and `+` for a last name `others`; of more: those of three, and `+`
+-- The letters of two names or more. Up to four names: the initials of each, and `+` for a last name `others`. More names: the
+-- initials of the first three, and `+`.
 abbrev pub letters_of_many : List Text → Text
 letters_of_many names =
     if nat_lt 4 (length names) then initials_of (take 3 names) ++ codes "+"
     else if ends_with_others names then initials_of (take (length names - 1) names) ++ codes "+"
     else initials_of names
 
--- of no names: the first three text characters of the field `key`
+-- the letters of names; if there are none, the first three text characters of the field `key`
 abbrev pub letters_of_names : List Text → Text → Text
 letters_of_names [] key = first_three key
 letters_of_names (name ∷ []) key = letters_of_one name
 letters_of_names (name ∷ next ∷ more) key = letters_of_many (name ∷ next ∷ more)
 
+-- the letters of a record's label, before the digits of its year
 abbrev pub letters_of_fields : Fields → Text
 letters_of_fields fields = letters_of_names (names_in fields) (text_in fields (codes "key"))
 
@@ -100,9 +104,11 @@ label_names = codes "author" ∷ codes "editor" ∷ codes "key" ∷ codes "year"
 
 -- ---- labels and made keys
 
+-- the text, or `anon` if it is empty
 abbrev pub or_anon : Text → Text
 or_anon text = if length text == 0 then codes "anon" else text
 
+-- the last two digits, or all if there are fewer
 abbrev pub last_two : Text → Text
 last_two digits = drop (length digits - 2) digits
 
@@ -110,20 +116,20 @@ last_two digits = drop (length digits - 2) digits
 abbrev pub label_base : Fields → Text
 label_base fields = or_anon (letters_of_fields fields) ++ last_two (filter is_ascii_digit (text_in fields (codes "year")))
 
--- the letters and digits of a label base, or `anon`, cut to that length
+-- the letters and digits of a label base, or `anon`, cut to the length that the base of a made key may have
 abbrev pub key_letters : Text → Text
 key_letters base = take base_limit (or_anon (filter is_ascii_alphanumeric base))
 
--- those of the label base
+-- the base of a record's made key, from its label base
 abbrev pub key_base : Fields → Text
 key_base fields = key_letters (label_base fields)
 
--- how often a base stands among these, byte for byte
+-- how many of these bases are the same as this one, byte for byte
 abbrev pub count_of : Text → List Text → ℕ
 count_of base bases = count_by (bytes_eq base) bases
 
--- the label of a base that stands so often in the list, and so often earlier: where it stands more than once, letters
--- after it, a for the first of them, b for the second and so on
+-- The label of a base that is `count` times in the list, `earlier` times of them before this record: the base, and if it is
+-- there more than once letters after it, a for the first time, b for the second and so on.
 abbrev pub label_of : Text → ℕ → ℕ → Text
 label_of base count earlier = if nat_lt 1 count then candidate base (suc earlier) else base
 

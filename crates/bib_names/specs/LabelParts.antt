@@ -32,8 +32,8 @@ has_field fields name = list_any (λ other. same other.0 name) fields
 abbrev pub given : {X : Type 0} → (Text → X) → Fields → Text → Option X
 given give fields name = if has_field fields name then Some (give (text_in fields name)) else None
 
--- Where there are such fields: the letters of author and editor, if they list names, the first three characters of `key`, and
--- the digits of the year.
+-- What fields give, each part if there is such a field: the letters of author and of editor, if they list names; the first three
+-- characters of `key`; the digits of the year.
 abbrev pub parts_of : Fields → LabelParts
 parts_of fields = record {
   author = given letters_in fields (codes "author");
@@ -52,11 +52,11 @@ base_from parts = or_anon (letters_from parts) ++ unwrap_or parts.year []
 
 -- ---- what is inherited
 
--- nothing is given
+-- the parts if no field gives anything
 abbrev pub no_parts : LabelParts
 no_parts = record { author = None; editor = None; key = None; year = None }
 
--- what is given, and what the others give where nothing is
+-- the parts of `own`, and for each that `own` lacks the inherited one
 abbrev pub parts_with : LabelParts → LabelParts → LabelParts
 parts_with own inherited = record {
   author = option_or own.author inherited.author;

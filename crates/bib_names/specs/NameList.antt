@@ -5,22 +5,23 @@ use Rattle.bib_spec.specs.Text.{Text, is_space, same}
 use Rattle.bib_names.specs.Places.{is_level, places, between}
 use Rattle.bib_text.specs.Trimming.{trimmed}
 
--- the word `and`, folded, stands at the place, with white space on both sides (btxhak 5.3)
+-- the word `and`, folded, is at the place, with white space on both sides (btxhak 5.3)
 abbrev pub is_and : Text → ℕ → Bool
 is_and text place =
     nat_lt 0 place && is_space (slice_index text (place - 1))
     && same (take 3 (drop place text)) (codes "and")
     && is_space (slice_index text (place + 3))
 
--- a list is cut there: at each such word at depth 0, two of which may share white space (btxhak 5.3)
+-- a list is cut at this place: a word `and` is there, at depth 0; two such words may share white space (btxhak 5.3)
 abbrev pub is_cut : Text → ℕ → Bool
 is_cut text place = is_level text place && is_and text place
 
+-- the places of the words `and` at which a list is cut
 abbrev pub cuts : Text → List ℕ
 cuts text = places (is_cut text) text
 
--- The names of a list: what stands between the cuts, without white space at the ends. They may be empty; a list of
--- white space alone has none. (btxhak 5.3; dialect)
+-- The names of a list: the texts between its words `and`, without white space at their ends. A name may be empty; a list of white
+-- space alone has no names. (btxhak 5.3; dialect)
 abbrev pub names_of : Text → List Text
 names_of text =
     if list_all is_space text then []

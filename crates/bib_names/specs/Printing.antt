@@ -28,21 +28,22 @@ gives_initial (byte ∷ rest) = byte == open_brace || is_ascii_alphabetic byte |
 abbrev pub initial_in : Text → Text
 initial_in char = if is_ascii_alphabetic (slice_index char 0) then take 1 char else char
 
--- that of the first of these that gives one, and nothing if none does
+-- the initial of the first of these characters that gives one; empty if none does
 abbrev pub first_initial : List Text → Text
 first_initial chars = option_map_or initial_in (find gives_initial chars) []
 
+-- the initial of a word, from its text characters
 abbrev pub initial : Text → Text
 initial word = first_initial (text_chars word)
 
--- ---- words and what stands between them
+-- ---- words and what is between them
 
 -- what is printed of a word: all of it, or its initial
 abbrev pub shown : Form → Text → Text
 shown Words word = word
 shown Initials word = initial word
 
--- after an initial a period, and after a word that has none nothing (dialect)
+-- the period after an initial; nothing after a whole word, or if a word has no initial (dialect)
 abbrev pub dot : Form → Text → Text
 dot Words shown = []
 dot Initials shown = if length shown == 0 then [] else period ∷ []
@@ -57,13 +58,13 @@ abbrev pub joint : Text → ℕ → Bool → ℕ
 joint out sep is_last =
     if sep == hyphen || sep == tie then sep else if is_last || is_short out then tie else space
 
--- the output so far, a period where one is due, and only then that byte (dialect)
+-- the output so far, its period, and then the byte before the next word, for which the period counts too (dialect)
 abbrev pub tied : Form → Text → Text → ℕ → Bool → Text
 tied form out shown sep is_last =
     let dotted = out ++ dot form shown in dotted ++ joint dotted sep is_last ∷ []
 
--- the output so far, whose end is what is shown of a word, and what stands between that word and the next: the text
--- between words where the template gives it (btxhak 5.4)
+-- The output so far, which ends with a word or its initial, and what is printed between that word and the next: the text between
+-- words if the template gives it (btxhak 5.4), else a period and one byte (dialect).
 abbrev pub joined : Group → Text → Text → ℕ → Bool → Text
 joined g out shown sep is_last = option_map_or (λ between. out ++ between) g.between (tied g.form out shown sep is_last)
 
@@ -77,7 +78,7 @@ printed_words g out (word ∷ next ∷ more) =
 
 -- ---- groups
 
--- of two ties at the end one is dropped; one tie after an output that is not short becomes a space (dialect)
+-- the output of a group: of two ties at its end one is dropped; a single tie becomes a space, unless the output is short (dialect)
 abbrev pub finished : Text → Text
 finished out =
     let front = take (length out - 1) out in
@@ -86,18 +87,19 @@ finished out =
     else if is_short front then out
     else front ++ space ∷ []
 
--- what a group prints of the words of its part: nothing where there is none (btxhak 5.4)
+-- what a group prints of the words of its part: nothing if the part has no word (btxhak 5.4)
 abbrev pub printed_group : Group → List NameWord → Text
 printed_group g [] = []
 printed_group g (word ∷ more) = finished (printed_words g g.pre (word ∷ more) ++ g.post)
 
+-- the words of one part of a name
 abbrev pub part_of : Name → Part → List NameWord
 part_of name First = name.first
 part_of name Von = name.von
 part_of name Last = name.last
 part_of name Jr = name.jr
 
--- the print of a group, and the text after it as it stands
+-- the print of a group, and the text after the group unchanged
 abbrev pub printed_with_trail : Name → Group → Text
 printed_with_trail name g = printed_group g (part_of name g.part) ++ g.trail
 

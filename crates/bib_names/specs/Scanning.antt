@@ -7,7 +7,7 @@ use Rattle.bib_names.specs.Marks.{goes_on}
 use Rattle.bib_names.specs.Places.{is_level, places_from}
 use Rattle.bib_names.specs.Special.{begins_special, next_level, is_plain, is_joined, begins_char, going_on, char_end}
 
--- so many braces open and close before the place
+-- before the place `opened` braces open and `closed` braces close
 pub record AreBraces (text : Text) (place opened closed : ℕ) : Type 0 where
   pub opening : opened ≡ opened_before text place
   pub closing : closed ≡ closed_before text place
@@ -31,7 +31,8 @@ pub record IsSpecial (text : Text) (place end : ℕ) : Type 0 where
 
 -- ---- text characters
 
--- the text character at a place: a special one, one of a plain byte, or one byte that goes on with none
+-- The text character at the place ends here: it is a special character, a plain byte with the bytes that continue it, or a
+-- continuing byte by itself, which continues nothing.
 pub record IsChar (text : Text) (place end : ℕ) : Type 0 where
   pub after : place < end
   pub within : end ≤ length text
@@ -39,7 +40,7 @@ pub record IsChar (text : Text) (place end : ℕ) : Type 0 where
       ⊎ ((begins_special text place ≡ false) × (is_plain (slice_index text place) ≡ true) × (end ≡ place + 1 + going_on text (place + 1)))
       ⊎ ((begins_special text place ≡ false) × (is_plain (slice_index text place) ≡ false) × (goes_on (slice_index text place) ≡ true) × (end ≡ place + 1))
 
--- a brace stands there that begins no special character
+-- a brace is there that begins no special character
 pub record IsBareBrace (text : Text) (place : ℕ) : Type 0 where
   pub special : begins_special text place ≡ false
   pub plain : is_plain (slice_index text place) ≡ false
@@ -56,6 +57,7 @@ pub record IsCharPlace (text : Text) (place opened closed : ℕ) : Type 0 where
   pub braces : AreBraces text place opened closed
   pub fresh : IsFresh text place
 
+-- the text characters that begin at these places
 abbrev pub chars_at : Text → List ℕ → List Text
 chars_at text places = map (λ place. slice_range text place (char_end text place)) places
 

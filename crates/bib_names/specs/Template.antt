@@ -16,11 +16,11 @@ pub record Pattern : Type 0 where
   pub front : Text
   pub groups : List Group
 
--- what may stand outside of groups, and between words
+-- a byte that a template may have outside of groups, and between words (dialect)
 abbrev pub is_no_brace : ℕ → Bool
 is_no_brace byte = not (is_brace byte)
 
--- what may stand before and after the letters of a group (dialect)
+-- a byte that a group may have before and after its letters: no brace and no letter (dialect)
 abbrev pub is_ornament : ℕ → Bool
 is_ornament byte = is_no_brace byte && not (is_ascii_alphabetic byte)
 
@@ -36,14 +36,16 @@ abbrev pub letters_of : Part → Form → Text
 letters_of part Initials = letter_of part ∷ []
 letters_of part Words = letter_of part ∷ letter_of part ∷ []
 
+-- the text between words as a template has it: in braces, or nothing if it is not given (btxhak 5.4)
 abbrev pub between_bytes : Option Text → Text
 between_bytes None = []
 between_bytes (Some between) = open_brace ∷ between ++ close_brace ∷ []
 
--- what stands after the opening brace of a group `{pre letters{between}post}`, and the text after it (btxhak 5.4)
+-- the bytes of a group `{pre letters{between}post}` after its opening brace, and the text after the group (btxhak 5.4)
 abbrev pub group_inside : Group → Text
 group_inside g = g.pre ++ (letters_of g.part g.form ++ (between_bytes g.between ++ (g.post ++ (close_brace ∷ g.trail))))
 
+-- the bytes of a group, and the text after it
 abbrev pub group_bytes : Group → Text
 group_bytes g = open_brace ∷ group_inside g
 
@@ -51,11 +53,12 @@ group_bytes g = open_brace ∷ group_inside g
 abbrev pub spelling : Pattern → Text
 spelling t = t.front ++ flat_map group_bytes t.groups
 
+-- the text between words, if it is given, has no brace (dialect)
 abbrev pub is_between : Option Text → Bool
 is_between None = true
 is_between (Some between) = list_all is_no_brace between
 
--- no brace and no letter stands beside the letters, no brace between words and none after the group (dialect)
+-- a group of the grammar: no brace and no letter beside its letters, no brace between words, none in the text after it (dialect)
 pub record IsGroup (g : Group) : Type 0 where
   pub pre : list_all is_ornament g.pre ≡ true
   pub between : is_between g.between ≡ true

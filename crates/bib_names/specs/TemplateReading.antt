@@ -24,11 +24,12 @@ part_named letter =
     else if letter == 106 then Some Jr
     else None
 
--- the form of a letter that stands before the text, and the text after a second one
+-- the form of a part whose letter is before the text: words if the same letter follows, else initials; and the text after it
 abbrev pub form_at : Part → ℕ → Text → Part × Form × Text
 form_at part letter [] = (part, Initials, [])
 form_at part letter (next ∷ after) = if next == letter then (part, Words, after) else (part, Initials, next ∷ after)
 
+-- the part and the form that the letters at the front name, and the text after them; none if no letter names a part
 abbrev pub letters_at : Text → Option (Part × Form × Text)
 letters_at [] = None
 letters_at (letter ∷ rest) = option_map (λ part. form_at part letter rest) (part_named letter)
@@ -38,28 +39,31 @@ abbrev pub between_inside : Text → Option (Option Text × Text)
 between_inside inside =
     option_map (λ after. (Some (take_while is_no_brace inside), after)) (after_byte close_brace (after_run is_no_brace inside))
 
+-- the text between words, if it is given, and the text after it; none if no brace closes it
 abbrev pub between_at : Text → Option (Option Text × Text)
 between_at [] = Some (None, [])
 between_at (first ∷ rest) = if first == open_brace then between_inside rest else Some (None, first ∷ rest)
 
--- the group that ends with this text after `post`, if a brace closes it, and the text after that
+-- the group that has these parts, and the text after it; none if no brace closes it
 abbrev pub group_closed : Text → Part → Form → Option Text → Text → Text → Option (Group × Text)
 group_closed pre part form between post rest =
     option_map
     (λ after. (record { pre = pre; part = part; form = form; between = between; post = post; trail = take_while is_no_brace after }, after_run is_no_brace after))
     (after_byte close_brace rest)
 
--- the same with what stands before: the letters, the ornament at the front, and nothing but that brace
+-- the group, and the text after it, given the text before its letters, the letters, and the text between words with what follows
 abbrev pub group_after_between : Text → Part × Form × Text → Option Text × Text → Option (Group × Text)
 group_after_between pre letters between =
     group_closed pre letters.0 letters.1 between.0 (take_while is_ornament between.1) (after_run is_ornament between.1)
 
+-- the group, and the text after it, given the text before its letters, and the letters with what follows
 abbrev pub group_after_letters : Text → Part × Form × Text → Option (Group × Text)
 group_after_letters pre letters = option_and_then (group_after_between pre letters) (between_at letters.2)
 
+-- the group, and the text after it, given the text before its letters and what follows
 abbrev pub group_after : Text → Text → Option (Group × Text)
 group_after pre rest = option_and_then (group_after_letters pre) (letters_at rest)
 
--- the group whose opening brace stands before the text, and the text after the group
+-- the group whose opening brace is before the text, and the text after the group
 abbrev pub group_at : Text → Option (Group × Text)
 group_at inside = group_after (take_while is_ornament inside) (after_run is_ornament inside)

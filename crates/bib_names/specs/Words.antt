@@ -6,13 +6,13 @@ use Rattle.bib_spec.specs.Text.{Text, is_space}
 use Rattle.bib_names.specs.Marks.{is_separator}
 use Rattle.bib_names.specs.Places.{is_level, places, Stretch}
 
--- a word, the separator before it, and its place
+-- a word of a name: the separator before it, its place in the name, and its bytes
 pub record NameWord : Type 0 where
   pub sep : ℕ
   pub at : ℕ
   pub text : Text
 
--- a separator stands at the place, at depth 0
+-- a separator is at the place, at depth 0
 abbrev pub is_gap : Text → ℕ → Bool
 is_gap text place = is_level text place && is_separator (slice_index text place)
 
@@ -20,7 +20,7 @@ is_gap text place = is_level text place && is_separator (slice_index text place)
 abbrev pub begins_word : Text → ℕ → Bool
 begins_word text place = not (is_gap text place) && (place == 0 || is_gap text (place - 1))
 
--- where it ends: at the first gap, or at the end
+-- where the word at the place ends: at the first gap, or at the end of the piece
 abbrev pub word_end : Text → ℕ → ℕ
 word_end text place =
     place + prefix_len (λ p. not (is_gap text p)) (range_with_len place (length text - place))
@@ -34,7 +34,7 @@ run_start text (suc place) = if is_gap text place then run_start text place else
 abbrev pub kept_separator : ℕ → ℕ
 kept_separator byte = if is_space byte then space else byte
 
--- the first byte of that run; a space before the first word of a piece (BibTeX 0.99)
+-- the separator of the word at the place: the first byte of the gaps before it; a space for the first word of a piece (BibTeX 0.99)
 abbrev pub sep_before : Text → ℕ → ℕ
 sep_before text place =
     let start = run_start text place in

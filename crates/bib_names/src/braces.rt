@@ -11,7 +11,7 @@ pub(crate) struct Braces {
 }
 
 impl Braces {
-    /// Those of no bytes.
+    /// The braces of no bytes.
     pub fn none() -> Self
         ensures opened { result.opened ≡ 0 }
         ensures closed { result.closed ≡ 0 }
@@ -29,7 +29,7 @@ impl Braces {
         self.opened == self.closed
     }
 
-    /// Those with one more byte seen.
+    /// The braces with one more byte seen.
     pub fn and(self, byte: u8) -> Self
         requires opened { self.opened + 1 < 2 ^ 64 }
         requires closed { self.closed + 1 < 2 ^ 64 }
@@ -49,7 +49,7 @@ impl Braces {
         }
     }
 
-    /// Those with these bytes seen too.
+    /// The braces with these bytes seen too.
     pub fn over(self, text: &[u8]) -> Self
         requires opened { self.opened + length text.now < 2 ^ 64 }
         requires closed { self.closed + length text.now < 2 ^ 64 }
@@ -63,7 +63,7 @@ impl Braces {
     }
 }
 
-/// How often a byte stands in the text.
+/// How often the text has this byte.
 fn count(text: &[u8], byte: u8) -> usize
     ensures count { result ≡ count_by (λ b. b == byte) text.now }
     ensures within { result ≤ length text.now }

@@ -32,7 +32,7 @@ impl NameFault {
         }
     }
 
-    /// None: these faults speak of the whole text handed in.
+    /// None: these faults are about the whole text.
     pub fn place(&self) -> Option<usize>
         ensures { result ≡ None }
     {

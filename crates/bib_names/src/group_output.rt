@@ -9,11 +9,11 @@ use crate::special::char_count;
 use std::alloc::{AllocError, Global};
 use std::marker::Model;
 
-/// How many text characters an output has that is not short. (dialect)
+/// An output that has at least this many text characters is not short. (dialect)
 const ENOUGH: usize = 3;
 
-/// What a group has printed so far. Each joint at depth 0 is a text character, whatever is put after it, so that an
-/// output with three of them is known not to be short.
+/// What a group has printed so far. Each byte between two words at depth 0 is a text character, whatever follows it, so
+/// an output with three such bytes is not short.
 #[derive(Drop)]
 pub(crate) struct Output {
     bytes: Vec<u8>,
@@ -33,7 +33,7 @@ impl Model for Output {
 }
 
 impl Output {
-    /// That of no words.
+    /// The output of no words.
     #[tactic(auto, using(crate::proofs::OutputLemmas::no_output))]
     pub fn none(alloc: Global) -> Self
         ensures { result ≡ [] }
@@ -66,8 +66,8 @@ impl Output {
         Ok(())
     }
 
-    /// Whether it has fewer than three text characters. Of words that balance, its bytes are walked over three times at
-    /// most, however many joints there are.
+    /// Whether it has fewer than three text characters. If the words balance, all calls together read the bytes of the
+    /// output three times at most, however many words there are.
     #[tactic(auto, using(crate::proofs::OutputLemmas::known_long))]
     pub fn is_short(&self) -> bool
         ensures { result ≡ is_short self.now }

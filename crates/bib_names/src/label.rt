@@ -17,8 +17,8 @@ use bib_data::Record;
 use bib_scan::{Seq, Text};
 use std::alloc::{AllocError, Global};
 
-/// The text of the first field of exactly this name, empty if there is none: a record has its names in lower case. It
-/// takes time in the number of fields, and no memory.
+/// The text of the first field of exactly this name, empty if there is none: the names in a record are in lower case.
+/// It takes time in the number of fields, and no memory.
 pub fn text_in<'a>(fields: &'a [(Text, Text)], name: &[u8]) -> &'a [u8]
     ensures { result.now ≡ text_in fields.now name.now }
 {
@@ -30,28 +30,22 @@ pub fn text_in<'a>(fields: &'a [(Text, Text)], name: &[u8]) -> &'a [u8]
     b""
 }
 
-/// The names of the fields that labels and made keys are made of: whoever gathers fields for them needs no others.
+/// The names of the fields that labels and made keys are made of: to make them, a caller needs no other fields.
 pub fn label_names(alloc: Global) -> Result<Seq<&'static [u8]>, AllocError>
     ensures { IfOk result (λ names. map (λ n. n.now) names ≡ label_names) }
 {
-    Ok(Seq::from_vec(Vec::from_slice(alloc, &names_read())?))
+    let names: [&[u8]; 4] = [b"author", b"editor", b"key", b"year"];
+    Ok(Seq::from_vec(Vec::from_slice(alloc, &names)?))
 }
 
-/// The same names.
-fn names_read() -> [&'static [u8]; 4]
-    ensures { map (λ n. n.now) result ≡ label_names }
-{
-    [b"author", b"editor", b"key", b"year"]
-}
-
-/// Whether the braces of the text balance, as a test that a definition computes.
+/// Whether the braces of the text balance.
 pub(crate) fn balances(text: &[u8]) -> bool
     ensures { result ≡ balances text.now }
 {
     is_balanced(text)
 }
 
-/// The names of a list, none where its braces do not balance.
+/// The names of a list, none if its braces do not balance.
 pub(crate) fn listed_names(alloc: Global, text: &[u8]) -> Result<Seq<&[u8]>, AllocError>
     ensures { IfOk result (λ names. map (λ n. n.now) names ≡ listed_names text.now) }
 {
@@ -96,7 +90,7 @@ fn last_printed(alloc: Global, surname: &Surname<'_>) -> Result<Vec<u8>, AllocEr
     printed_group(alloc, &last, surname.last())
 }
 
-/// The print of a name by `{v{}}{l{}}`, empty where the name is refused.
+/// The print of a name by `{v{}}{l{}}`, empty if the name is refused.
 fn print_of_initials(alloc: Global, name: &[u8]) -> Result<Vec<u8>, AllocError>
     ensures { IfOk result (λ t. t.items ≡ print_of initials_template name.now) }
 {
@@ -183,7 +177,7 @@ pub(crate) fn letters_of_many(alloc: Global, names: &[&[u8]]) -> Result<Text, Al
     Ok(Seq::from_vec(out))
 }
 
-/// The text, or `anon` where it is empty.
+/// The text, or `anon` if it is empty.
 pub(crate) fn or_anon(alloc: Global, text: Vec<u8>) -> Result<Vec<u8>, AllocError>
     ensures { IfOk result (λ t. t.items ≡ or_anon text.items) }
 {
@@ -204,7 +198,7 @@ pub(crate) fn digits_of(alloc: Global, text: &[u8]) -> Result<Vec<u8>, AllocErro
         .collect(alloc)
 }
 
-/// The last two bytes of a text, or fewer.
+/// The last two bytes of a text, or all if there are fewer.
 pub(crate) fn last_two(text: &[u8]) -> &[u8]
     ensures { result.now ≡ last_two text.now }
 {

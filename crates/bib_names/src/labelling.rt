@@ -27,7 +27,7 @@ pub(crate) fn letters(alloc: Global, number: usize) -> Result<Vec<u8>, AllocErro
     Ok(letters)
 }
 
-/// The label of a base that stands so often in the list, and so often earlier.
+/// The label of a base that is `count` times in the list, `earlier` times of them before this record.
 fn label_of(alloc: Global, base: &[u8], count: usize, earlier: usize) -> Result<Text, AllocError>
     requires { earlier + 1 < 2 ^ 64 }
     ensures { IfOk result (λ label. label ≡ label_of base.now count earlier) }
@@ -39,7 +39,7 @@ fn label_of(alloc: Global, base: &[u8], count: usize, earlier: usize) -> Result<
     Ok(Seq::from_vec(label))
 }
 
-/// Puts the label of one more base after the others, given how often each base stands in the list and earlier.
+/// Adds the label of the next base, given how often each base is in the list, and how often before this one.
 fn push_label<'a>(
     alloc: Global,
     labels: &mut Vec<Text>,
@@ -57,8 +57,8 @@ fn push_label<'a>(
     Ok(())
 }
 
-/// The labels of records with these bases, as `labels` gives them: whoever has many records needs to keep no more of each
-/// than its base. It takes time in the lengths of the bases.
+/// The labels of records with these bases, as `labels` gives them: a caller who has many records needs to keep only the
+/// base of each. It takes time in the lengths of the bases.
 pub fn labels_of(alloc: Global, bases: &[Text]) -> Result<Seq<Text>, AllocError>
     ensures { IfOk result (λ labels. labels ≡ labels_of bases.now) }
 {
@@ -82,8 +82,9 @@ fn bases_of(alloc: Global, records: &[Record]) -> Result<Vec<Text>, AllocError>
     Ok(bases)
 }
 
-/// The labels of records, in their order: where a base stands more than once, byte for byte, a, b, .. z, aa, ab, .. are
-/// added in list order. It takes time in the lengths of the records and their number. The one refusal is want of memory.
+/// The labels of records, in their order: if a base is there more than once, byte for byte, a, b, .. z, aa, ab, .. are
+/// added in list order. It takes time in the lengths of the records and their number. The one refusal is want of
+/// memory.
 pub fn labels(alloc: Global, records: &[Record]) -> Result<Seq<Text>, NameFault>
     ensures labels { IfOk result (λ labels. labels ≡ labels_of (map (λ r. label_base r.fields) records.now)) }
     ensures memory { IfErr result (λ fault. fault ≡ NameFault.Memory) }

@@ -30,9 +30,9 @@ fn letters_of(alloc: Global, base: &[u8]) -> Result<Vec<u8>, AllocError>
     Ok(out)
 }
 
-/// The base of the made key of a record that has this label base: the letters and digits of that, or `anon`, cut to 40
-/// bytes. It is a key that an edit may write. It takes time in the length of the label base. The one refusal is want of
-/// memory. (dialect)
+/// The base of the made key of a record that has this label base: the letters and digits of the label base, or `anon`,
+/// cut to 40 bytes. It is a key that an edit may write. It takes time in the length of the label base. The one refusal
+/// is want of memory. (dialect)
 pub fn key_letters(alloc: Global, label_base: &[u8]) -> Result<Text, AllocError>
     ensures letters { IfOk result (λ t. t ≡ key_letters label_base.now) }
     ensures is_key { IfOk result (λ t. is_new_key t ≡ true) }
@@ -42,7 +42,7 @@ pub fn key_letters(alloc: Global, label_base: &[u8]) -> Result<Text, AllocError>
 }
 
 /// The base of a record's made key: the letters and digits of its label base, cut to 40 bytes. It is a key that an edit
-/// may write, and the citation key has no part in it. The one refusal is want of memory.
+/// may write, and it does not depend on the citation key. The one refusal is want of memory.
 pub fn key_base(alloc: Global, entry: &Record) -> Result<Text, NameFault>
     ensures base { IfOk result (λ t. t ≡ key_base entry.now.fields) }
     ensures is_key { IfOk result (λ t. is_new_key t ≡ true) }
@@ -53,8 +53,8 @@ pub fn key_base(alloc: Global, entry: &Record) -> Result<Text, NameFault>
     Ok(key_letters(alloc, base.as_slice())?)
 }
 
-/// The key that is candidate `n` of a base: the base, and after it no letters for 0, then a, b, .. z, aa, ab, .. It takes
-/// time logarithmic in the number.
+/// The key that is candidate `n` of a base: the base, and after it no letters for 0, then a, b, .. z, aa, ab, .. It
+/// takes time logarithmic in the number.
 pub fn candidate(alloc: Global, base: &[u8], n: usize) -> Result<Text, AllocError>
     ensures { IfOk result (λ key. key ≡ candidate base.now n) }
 {
@@ -65,7 +65,7 @@ pub fn candidate(alloc: Global, base: &[u8], n: usize) -> Result<Text, AllocErro
     Ok(Seq::from_vec(key))
 }
 
-/// Made keys have a base: it does not depend on the citation key, and it is a short key.
+/// The base of a made key does not depend on the citation key, and it is a short key.
 pub fn key_bases_are_keys()
     ensures { IsKeyBase (λ r. key_base r.fields) }
 {}

@@ -24,7 +24,7 @@ pub struct Name<'a> {
     pub jr: Seq<Word<'a>>,
 }
 
-/// Whether a comma stands at the place, at depth 0.
+/// Whether a comma is at the place, at depth 0.
 fn is_comma(text: &[u8], place: usize, braces: Braces) -> bool
     requires within { place < length text.now }
     requires braces { (braces.opened == braces.closed) ≡ is_level text.now place }
@@ -50,7 +50,7 @@ pub(crate) fn comma_from(text: &[u8], start: usize) -> Option<usize>
     None
 }
 
-/// How many words there are up to the last von word, the final word aside.
+/// How many words there are up to the last von word, if the final word is left out.
 pub(crate) fn von_end(words: &[Word<'_>]) -> usize
     ensures end { result ≡ von_end words.now }
     ensures within { result ≤ length words.now }
@@ -62,7 +62,7 @@ pub(crate) fn von_end(words: &[Word<'_>]) -> usize
     end
 }
 
-/// How many words stand before the first von word.
+/// How many words are before the first von word.
 pub(crate) fn von_start(words: &[Word<'_>]) -> usize
     ensures start { result ≡ von_start words.now }
     ensures within { result ≤ length words.now }
@@ -70,7 +70,7 @@ pub(crate) fn von_start(words: &[Word<'_>]) -> usize
     words.iter().take_while(|word| !word.is_von()).count()
 }
 
-/// How many words stand before the last that no hyphen joins to the one before it.
+/// How many words are before the last word that no hyphen joins to the one before it.
 pub(crate) fn hyphened_start(words: &[Word<'_>]) -> usize
     ensures start { result ≡ hyphened_start words.now }
     ensures within { result ≤ length words.now }
@@ -82,7 +82,7 @@ pub(crate) fn hyphened_start(words: &[Word<'_>]) -> usize
     end.saturating_sub(1)
 }
 
-/// The parts where von is the words from `start` up to `end`.
+/// The parts if von is the words from `start` up to `end`.
 fn cut_at(
     alloc: Global,
     mut words: Vec<Word<'_>>,
@@ -141,7 +141,7 @@ fn of_one_piece(alloc: Global, bare: &[u8]) -> Result<Name<'_>, AllocError>
     without_comma(alloc, words(alloc, bare, 0)?)
 }
 
-/// The parts of a name of two pieces, whose comma stands here.
+/// The parts of a name of two pieces, with its comma at this place.
 fn of_two_pieces(alloc: Global, bare: &[u8], one: usize) -> Result<Name<'_>, AllocError>
     requires { one < length bare.now }
     ensures { IfOk result (λ name. name ≡ with_commas (words_of (stretch 0 (slice_range bare.now 0 one))) [] (words_of (stretch (one + 1) (drop (one + 1) bare.now)))) }
@@ -151,7 +151,7 @@ fn of_two_pieces(alloc: Global, bare: &[u8], one: usize) -> Result<Name<'_>, All
     with_commas(words_before, Vec::new(alloc), first)
 }
 
-/// The parts of a name of three pieces, whose commas stand here.
+/// The parts of a name of three pieces, with its commas at these places.
 fn of_three_pieces(
     alloc: Global,
     bare: &[u8],
@@ -168,7 +168,7 @@ fn of_three_pieces(
     with_commas(words_before, jr, first)
 }
 
-/// The parts of a name without what is dropped at its end, none if it has more than two commas.
+/// The parts of a name that ends with no separator and no comma; none if it has more than two commas.
 fn parts_of_bare(alloc: Global, bare: &[u8]) -> Result<Option<Name<'_>>, AllocError>
     ensures parts { IfOk result (λ parts. parts ≡ parts_of_bare bare.now) }
     ensures few { OnErr result (length (commas bare.now) ≤ 2) }
@@ -196,8 +196,8 @@ pub(crate) fn parts_of(alloc: Global, text: &[u8]) -> Result<Option<Name<'_>>, A
 /// The parts of a name (btxhak 5.4), each a list of words: `First von Last`, `von Last, First` or
 /// `von Last, Jr, First`, where a von word is one whose case is lower. The time is linear in the name's length.
 ///
-/// A name whose braces do not balance is refused as 22; else one that has more than two commas at depth 0, those at its
-/// end aside, as 21; else the one refusal is want of memory.
+/// A name whose braces do not balance is refused as 22. Another name is refused as 21 if it has more than two commas at
+/// depth 0, not counting those at its end. All other names are refused only for want of memory.
 pub fn split_name(alloc: Global, text: &[u8]) -> Result<Name<'_>, NameFault>
     ensures parts { IfOk result (λ name. parts_of text.now ≡ Some name) }
     ensures balanced { OnOk result (IsBalanced text.now) }

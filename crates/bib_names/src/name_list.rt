@@ -14,7 +14,7 @@ use bib_scan::{Seq, same_folded};
 use bib_text::{is_space, trimmed};
 use std::alloc::{AllocError, Global};
 
-/// Whether the word `and` stands at the place, between white space.
+/// Whether the word `and` is at the place, between white space.
 #[tactic(auto, unfolding(bib_spec::specs::Text::is_space))]
 fn is_and(text: &[u8], place: usize) -> bool
     requires { place < length text.now }

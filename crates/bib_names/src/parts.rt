@@ -1,4 +1,4 @@
-//! What each field gives to a label, so that what many entries inherit is read once.
+//! What each field gives to a label, so that a field that many entries inherit is read once.
 
 ghost use Rattle.std.specs.Prelude.{◌≡◌, ◌++◌, [], IfOk, IfErr, OnOk, codes, map, unwrap_or};
 ghost use Rattle.std.specs.Option.{option_copied, option_flatten, option_or};
@@ -14,7 +14,7 @@ use bib_scan::{Seq, Text, same_folded};
 use std::alloc::{AllocError, Global};
 use std::marker::Model;
 
-/// What fields give to a label, each part where there is such a field: the letters of author and of editor, if they list
+/// What fields give to a label, each part if there is such a field: the letters of author and of editor, if they list
 /// names; the first three characters of `key`; the last two digits of the year.
 #[derive(Debug, Drop)]
 pub struct LabelParts {
@@ -24,8 +24,7 @@ pub struct LabelParts {
     pub year: Option<Text>,
 }
 
-/// What an entry inherits for its label, each part from the nearest of its ancestors that gives it. A contract sees the
-/// parts.
+/// What an entry inherits for its label, each part from the nearest ancestor that gives it. A contract sees the parts.
 #[derive(Drop)]
 pub struct Inherited<'a> {
     author: Option<&'a Option<Text>>,
@@ -47,7 +46,7 @@ impl<'a> Inherited<'a> {
     ghost use Rattle.std.specs.Prelude.{◌≡◌};
     ghost use Rattle.bib_names.specs.LabelParts.{no_parts, parts_with};
 
-    /// Nothing. It takes no memory.
+    /// Nothing is inherited. It takes no memory.
     pub fn none() -> Self
         ensures { result ≡ no_parts }
     {
@@ -59,7 +58,7 @@ impl<'a> Inherited<'a> {
         }
     }
 
-    /// This, and what the next ancestor gives where nothing is given yet. It takes no memory.
+    /// These parts, and from the next ancestor each part that is still missing. It takes no memory.
     pub fn with(self, parts: &'a LabelParts) -> Self
         ensures { result ≡ parts_with self.entry parts.now }
     {
@@ -100,7 +99,7 @@ fn letters_in(alloc: Global, text: &[u8]) -> Result<Option<Text>, AllocError>
     letters_if_any(alloc, names.as_slice())
 }
 
-/// The last two digits of a year, or fewer.
+/// The last two digits of a year, or all if there are fewer.
 fn year_digits(alloc: Global, text: &[u8]) -> Result<Text, AllocError>
     ensures { IfOk result (λ digits. digits ≡ year_digits text.now) }
 {
@@ -138,7 +137,7 @@ fn letters_given(
     }
 }
 
-/// The first three characters of `key`, if there is one.
+/// The first three characters of `key`, if there is such a field.
 fn key_given(alloc: Global, fields: &[(Text, Text)]) -> Result<Option<Text>, AllocError>
     ensures { IfOk result (λ key. key ≡ given first_three fields.now (codes "key")) }
 {
@@ -149,7 +148,7 @@ fn key_given(alloc: Global, fields: &[(Text, Text)]) -> Result<Option<Text>, All
     }
 }
 
-/// The last two digits of the year, if there is one.
+/// The last two digits of the year, if there is such a field.
 fn year_given(alloc: Global, fields: &[(Text, Text)]) -> Result<Option<Text>, AllocError>
     ensures { IfOk result (λ year. year ≡ given year_digits fields.now (codes "year")) }
 {
@@ -160,8 +159,8 @@ fn year_given(alloc: Global, fields: &[(Text, Text)]) -> Result<Option<Text>, Al
     }
 }
 
-/// What fields give to a label. It takes time in the lengths of the fields, and memory for the names of author and of
-/// editor, which are both read. The one refusal is want of memory.
+/// What fields give to a label. It takes time in the lengths of the fields, and memory for the names of author and
+/// editor, since it reads both. The one refusal is want of memory.
 pub fn label_parts(alloc: Global, fields: &[(Text, Text)]) -> Result<LabelParts, NameFault>
     ensures parts { IfOk result (λ parts. parts ≡ parts_of fields.now) }
     ensures memory { IfErr result (λ fault. fault ≡ NameFault.Memory) }
@@ -187,7 +186,7 @@ fn inherited_letters(
     }
 }
 
-/// The letters of the names in a field, or what is inherited where there is no such field.
+/// The letters of the names in a field, or the inherited letters if there is no such field.
 fn letters_or(
     alloc: Global,
     fields: &[(Text, Text)],
@@ -202,7 +201,7 @@ fn letters_or(
     }
 }
 
-/// What is inherited, or nothing.
+/// The inherited text, or nothing.
 fn or_empty<'a>(inherited: Option<&'a Text>) -> &'a [u8]
     ensures { result.now ≡ unwrap_or (option_copied inherited.entry) [] }
 {
@@ -212,7 +211,7 @@ fn or_empty<'a>(inherited: Option<&'a Text>) -> &'a [u8]
     }
 }
 
-/// The first three characters of `key`, or what is inherited where there is no such field.
+/// The first three characters of `key`, or the inherited ones if there is no such field.
 fn key_or(
     alloc: Global,
     fields: &[(Text, Text)],
@@ -226,7 +225,7 @@ fn key_or(
     }
 }
 
-/// Adds the digits of the year, or those inherited where there is no such field.
+/// Adds the digits of the year, or the inherited ones if there is no such field.
 fn add_year(
     alloc: Global,
     out: &mut Vec<u8>,
@@ -274,16 +273,16 @@ fn base_with(
     Ok(Seq::from_vec(out))
 }
 
-/// The label base of a record with these fields, what it inherits among them.
+/// The label base of a record with these fields, inherited ones too.
 pub(crate) fn base_of(alloc: Global, fields: &[(Text, Text)]) -> Result<Text, AllocError>
     ensures { IfOk result (λ base. base ≡ label_base fields.now) }
 {
     base_with(alloc, fields, &Inherited::none())
 }
 
-/// The label base of a record that has these fields of its own, and inherits others, of which it needs no more than what
-/// they give to a label. So what many entries inherit is read once. It takes time in the lengths of these fields and of the
-/// letters that are given. The one refusal is want of memory.
+/// The label base of a record from its own fields and from the parts that it inherits. So a field that many entries
+/// inherit is read once. It takes time in the lengths of the own fields and of the inherited parts. The one refusal is
+/// want of memory.
 pub fn label_base_with(
     alloc: Global,
     fields: &[(Text, Text)],

@@ -23,7 +23,7 @@ fn shown(form: Form, word: &[u8]) -> &[u8]
     }
 }
 
-/// What stands after what is shown of a word, before a tie.
+/// What is printed after a word or its initial, before a tie.
 fn dot(form: Form, shown: &[u8]) -> &[u8]
     ensures { result.now ≡ dot form shown.now }
 {
@@ -54,7 +54,7 @@ fn joint(out: &Output, sep: u8, is_last: bool) -> u8
     }
 }
 
-/// Adds what stands between a word and the next, where the template says nothing else.
+/// Adds what is between a word and the next if the template gives no text between words.
 #[tactic(auto, using(crate::proofs::OutputLemmas::joint_plain))]
 fn push_tie(
     out: &mut Output,
@@ -70,7 +70,7 @@ fn push_tie(
     out.push_joint(joint)
 }
 
-/// Adds what stands between a word and the next.
+/// Adds what is between a word and the next.
 fn push_between(
     out: &mut Output,
     group: &Group,
@@ -106,7 +106,7 @@ pub(crate) fn finished(mut out: Vec<u8>) -> Result<Vec<u8>, AllocError>
     Ok(out)
 }
 
-/// Adds what is shown of the word at this place, and what stands between it and the next.
+/// Adds word `n` or its initial, and what is between it and the next.
 fn push_word(
     out: &mut Output,
     group: &Group,
@@ -126,7 +126,7 @@ fn push_word(
     Ok(())
 }
 
-/// The words of a group, after what stands before them.
+/// The words of a group, after the text before them.
 fn printed_words(alloc: Global, group: &Group, words: &[Word<'_>]) -> Result<Vec<u8>, AllocError>
     ensures { IfOk result (λ r. r.items ≡ printed_words group.now group.now.pre words.now) }
 {
@@ -203,9 +203,9 @@ pub(crate) fn printed(
 }
 
 impl Template {
-    /// The print of a name: the text outside of groups as it stands, and for each group whose part has a word its
-    /// words or their initials, with what stands before, between and after them (btxhak 5.4). Ties, spaces and initials
-    /// follow this project's own rules. The one refusal is want of memory.
+    /// The print of a name: the text outside of groups unchanged, and for each group whose part has a word its words or
+    /// their initials, with the texts before, between and after them (btxhak 5.4). Ties, spaces and initials follow
+    /// this project's own rules. The one refusal is want of memory.
     pub fn print(&self, name: &Name<'_>) -> Result<Text, NameFault>
         ensures printed { IfOk result (λ text. text ≡ printed self.now name.now) }
         ensures memory { IfErr result (λ fault. fault ≡ NameFault.Memory) }

@@ -35,7 +35,7 @@ fn group_end(text: &[u8], place: usize) -> Option<usize>
     None
 }
 
-/// Whether a brace and a backslash stand at the place.
+/// Whether an opening brace is at the place, and a backslash after it.
 fn is_opening(text: &[u8], place: usize) -> bool
     requires { place < length text.now }
     ensures { result ≡ is_opening text.now place }
@@ -43,7 +43,7 @@ fn is_opening(text: &[u8], place: usize) -> bool
     text[place] == b'{' && text.len() - place > 1 && text[place + 1] == b'\\'
 }
 
-/// Whether they stand there at depth 0.
+/// Whether an opening brace is at the place, at depth 0, and a backslash after it.
 fn is_level_opening(text: &[u8], place: usize, braces: Braces) -> bool
     requires within { place < length text.now }
     requires braces { (braces.opened == braces.closed) ≡ is_level text.now place }
@@ -74,7 +74,7 @@ fn going_on_len(text: &[u8]) -> usize
     text.iter().take_while(|b| goes_on(**b)).count()
 }
 
-/// The place after the bytes that go on from this place.
+/// The place after the bytes that continue a character from this place on.
 fn going_on_end(text: &[u8], place: usize) -> usize
     requires { place ≤ length text.now }
     ensures end { result ≡ place + going_on text.now place }
@@ -83,7 +83,7 @@ fn going_on_end(text: &[u8], place: usize) -> usize
     place + going_on_len(text.split_at(place).1)
 }
 
-/// The end of the text character that begins at the place, where no earlier one goes on; none at a brace.
+/// The end of the text character that begins at the place, if no earlier one reaches it; none at a brace.
 fn char_end(text: &[u8], place: usize, braces: Braces) -> Option<usize>
     requires within { place < length text.now }
     requires braces { (braces.opened == braces.closed) ≡ is_level text.now place }
@@ -103,7 +103,7 @@ fn char_end(text: &[u8], place: usize, braces: Braces) -> Option<usize>
     }
 }
 
-/// The text characters of a text that are left, from the front. They take no memory.
+/// The text characters of a text that are still to come, from the front. They take no memory.
 #[derive(Drop)]
 pub(crate) struct Chars<'a> {
     text: &'a [u8],
@@ -123,7 +123,7 @@ impl<'a> Model for Chars<'a> {
 }
 
 impl<'a> Chars<'a> {
-    /// Those of a text.
+    /// The text characters of a text.
     pub fn of(text: &'a [u8]) -> Self
         ensures { result ≡ text_chars text.now }
     {

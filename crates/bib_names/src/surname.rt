@@ -19,8 +19,8 @@ use crate::word::{Word, words};
 use std::alloc::{AllocError, Global};
 use std::marker::Model;
 
-/// The words of von and of Last of a name. Its other words are not kept apart, and those after a comma are not read. A
-/// contract sees the words of von, and those of Last.
+/// The words of von and of Last of a name. Its other words are not kept apart, and words after a comma are not read. A
+/// contract sees the words of von and the words of Last.
 #[derive(Drop)]
 pub(crate) struct Surname<'a> {
     words: Vec<Word<'a>>,
@@ -57,7 +57,7 @@ impl<'a> Surname<'a> {
     }
 }
 
-/// That of a name without a comma, whose words these are.
+/// The surname of a name without a comma that has these words.
 fn without_comma(words: Vec<Word<'_>>) -> Surname<'_>
     ensures { result ≡ surname_of (without_comma words.entry.items) }
 {
@@ -74,7 +74,7 @@ fn without_comma(words: Vec<Word<'_>>) -> Surname<'_>
     Surname { words, start, end }
 }
 
-/// That of a name whose words before its first comma are these.
+/// The surname of a name that has these words before its first comma.
 fn with_commas(words: Vec<Word<'_>>) -> Surname<'_>
     ensures { (jr first : List NameWord) → result ≡ surname_of (with_commas words.entry.items jr first) }
 {
@@ -86,7 +86,7 @@ fn with_commas(words: Vec<Word<'_>>) -> Surname<'_>
     }
 }
 
-/// Whether a name has more than two commas, the first of which stands here.
+/// Whether a name whose first comma is at this place has more than two commas.
 fn has_too_many_commas(bare: &[u8], one: usize) -> bool
     requires { IsFirstComma bare.now 0 one }
     ensures many { result ≡ true → 2 < length (commas bare.now) }
@@ -98,7 +98,7 @@ fn has_too_many_commas(bare: &[u8], one: usize) -> bool
     }
 }
 
-/// That of a name without what is dropped at its end, none if it has more than two commas.
+/// The surname of a name that ends with no separator and no comma; none if it has more than two commas.
 fn surname_of_bare(alloc: Global, bare: &[u8]) -> Result<Option<Surname<'_>>, AllocError>
     ensures { IfOk result (λ surname. surname ≡ option_map surname_of (parts_of_bare bare.now)) }
 {
@@ -111,7 +111,7 @@ fn surname_of_bare(alloc: Global, bare: &[u8]) -> Result<Option<Surname<'_>>, Al
     Ok(Some(with_commas(words(alloc, bare.split_at(one).0, 0)?)))
 }
 
-/// That of a name, none where the name is refused: its braces do not balance, or it has more than two commas.
+/// The surname of a name; none if the name is refused: its braces do not balance, or it has more than two commas.
 pub(crate) fn surname_in(alloc: Global, name: &[u8]) -> Result<Option<Surname<'_>>, AllocError>
     ensures { IfOk result (λ surname. surname ≡ surname_in name.now) }
 {
@@ -121,7 +121,7 @@ pub(crate) fn surname_in(alloc: Global, name: &[u8]) -> Result<Option<Surname<'_
     surname_of_bare(alloc, without_end(name))
 }
 
-/// The initials of words, as a group prints them that has nothing between them.
+/// The initials of words, as a group prints them whose text between words is empty.
 pub(crate) fn initials(alloc: Global, words: &[Word<'_>]) -> Result<Vec<u8>, AllocError>
     ensures { IfOk result (λ r. (part : Part) → r.items ≡ printed_group (group part Initials (Some [])) words.now) }
 {

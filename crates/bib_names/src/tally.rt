@@ -1,4 +1,4 @@
-//! How often texts stand in a list.
+//! How often texts are in a list.
 
 ghost use Rattle.std.specs.Prelude.{◌≡◌, ◌≤◌, ◌<◌, ◌+◌, ◌^◌, ℕ, List, IfOk, OnOk, length, if◌then◌else◌};
 ghost use Rattle.std.specs.Str.{bytes_eq};
@@ -46,7 +46,7 @@ impl<'a> Tally<'a> {
         Ok(before)
     }
 
-    /// How often each text stands among these.
+    /// How often each text is among these.
     pub fn of(alloc: Global, texts: &'a [Text]) -> Result<Self, AllocError>
         ensures { IfOk result (λ tally. (text : List ℕ) → times tally.counts text ≡ count_of text texts.now) }
     {

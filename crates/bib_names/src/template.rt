@@ -54,7 +54,7 @@ impl Model for Template {
     ghost view = { λ t. record { front = t.front; groups = t.groups } };
 }
 
-/// A group as it stands in a template's bytes.
+/// A group as a template's bytes have it.
 #[derive(Drop)]
 struct GroupText<'a> {
     pre: &'a [u8],
@@ -81,7 +81,7 @@ fn is_no_brace(byte: u8) -> bool
     !(byte == b'{' || byte == b'}')
 }
 
-/// Whether the byte may stand before and after the letters of a group.
+/// Whether a group may have the byte before and after its letters.
 fn is_ornament(byte: u8) -> bool
     ensures { result ≡ is_ornament byte }
 {
@@ -170,7 +170,7 @@ fn split_between(text: &[u8]) -> Option<(Option<&[u8]>, &[u8])>
     Some((Some(between), after))
 }
 
-/// The group whose opening brace stands before the text, and the text after the group; none if there is no group.
+/// The group whose opening brace is before the text, and the text after the group; none if there is no group.
 fn split_group(text: &[u8]) -> Option<(GroupText<'_>, &[u8])>
     ensures found { IfSome result (λ r. group_at text.now ≡ Some (r.0, r.1.now)) }
     ensures none { IfNone result (group_at text.now ≡ None) }
@@ -222,7 +222,7 @@ fn owned_group(alloc: Global, group: &GroupText<'_>) -> Result<Group, AllocError
     })
 }
 
-/// Puts a copy of the group after the others.
+/// Adds a copy of the group after the others.
 fn push_group(
     alloc: Global,
     groups: &mut Vec<Group>,
@@ -239,10 +239,10 @@ impl Template {
     ghost use Rattle.bib_names.specs.Template.{Pattern, IsTemplate, spelling};
 
     /// The template that the bytes spell: text, and groups `{pre letters post}` or `{pre letters{between}post}`, where
-    /// the letters are one of `f ff v vv l ll j jj` (btxhak 5.4). Beside the letters stands no letter and no brace, and
-    /// between words and outside of groups no brace (dialect). The time is linear in the bytes' length.
+    /// the letters are one of `f ff v vv l ll j jj` (btxhak 5.4). Beside the letters there is no letter and no brace,
+    /// and between words and outside of groups no brace (dialect). The time is linear in the length of the bytes.
     ///
-    /// Bytes that spell no template are refused as 23, and a template for want of memory alone.
+    /// Bytes that spell no template are refused as 23. A template is refused only for want of memory.
     pub fn read(alloc: Global, bytes: &[u8]) -> Result<Template, NameFault>
         ensures found { IfOk result (λ t. IsTemplate t × (bytes.now ≡ spelling t)) }
         ensures refused { result ≡ Err NameFault.BadTemplate → (t : Pattern) → IsTemplate t → bytes.now ≡ spelling t → ⊥ }

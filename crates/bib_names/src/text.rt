@@ -1,4 +1,4 @@
-//! Classes of bytes, plain tests of texts, and names without what is dropped at their ends.
+//! Classes of bytes, plain tests of texts, and names without the separators and commas at their ends.
 
 ghost use Rattle.std.specs.Prelude.{◌≡◌, ◌↔◌, ◌≤◌, ◌||◌, ◌==◌, IsTrue, not, length, drop, take};
 ghost use Rattle.std.specs.List.{prefix_len, list_all};
@@ -8,7 +8,7 @@ ghost use Rattle.bib_names.specs.Name.{without_end};
 
 use bib_text::is_space;
 
-/// Whether the byte stands between words. (btxhak 5.4)
+/// Whether the byte separates words. (btxhak 5.4)
 pub(crate) fn is_separator(byte: u8) -> bool
     ensures { result ≡ is_separator byte }
 {
@@ -54,7 +54,7 @@ pub(crate) fn is_balanced(text: &[u8]) -> bool
     depth == 0
 }
 
-/// The text of a name without what is dropped at its end.
+/// The text of a name without the separators and commas at its end.
 pub(crate) fn without_end(text: &[u8]) -> &[u8]
     ensures { result.now ≡ without_end text.now }
 {

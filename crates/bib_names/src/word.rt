@@ -12,8 +12,8 @@ use bib_text::is_space;
 use std::alloc::{AllocError, Global};
 use std::marker::Model;
 
-/// A word of a name: the first byte of the separators before it, with white space as a space; its place in the text
-/// handed in, in bytes from 0; and its bytes. The first word between commas has a space before it.
+/// A word of a name: the first byte of the separators before it, with white space as a space; its place in the name, in
+/// bytes from 0; and its bytes. The first word, and the first after each comma, has a space as its separator.
 #[derive(Debug, Drop)]
 pub struct Word<'a> {
     pub sep: u8,
@@ -30,7 +30,7 @@ impl<'a> Model for Word<'a> {
 }
 
 impl Word<'_> {
-    /// Whether it is a von word, but for the final one.
+    /// Whether it is a von word, if it is not the final word.
     pub(crate) fn is_von(&self) -> bool
         ensures { result ≡ is_von self.now }
     {
@@ -45,7 +45,7 @@ impl Word<'_> {
     }
 }
 
-/// Whether a separator stands at the place, at depth 0.
+/// Whether a separator is at the place, at depth 0.
 fn is_gap(piece: &[u8], place: usize, braces: Braces) -> bool
     requires within { place < length piece.now }
     requires braces { (braces.opened == braces.closed) ≡ is_level piece.now place }

@@ -29,7 +29,7 @@ use Rattle.bib_ris.specs.Drafts.{bases_of, AreDraftsOf, AreSaidBy}
 
 -- ---- drafts
 
--- of one record more: its entry, and the base of its key where its ID cannot be one
+-- the drafts with one more record: its entry, and the base of its key if its ID cannot be a key
 pub drafts-more : (records : List Record) (entry : Record) (d e : Drafts) → AreDraftsOf records d → are_balanced entry ≡ true
     → e.entries.items ≡ d.entries.items ++ entry_of entry ∷ [] → e.bases.items ≡ d.bases.items ++ bases_of (entry ∷ [])
     → AllByRecursion (λ base. length base ≤ base_limit) (bases_of (entry ∷ [])) → AreDraftsOf (records ++ entry ∷ []) e
@@ -79,7 +79,7 @@ said-all text rest d skipped so ends = record {
 
 -- ---- faults
 
--- where what is left goes wrong, the text does
+-- if what is left goes wrong, the text goes wrong
 pub fault-left : (text : Text) (records : List RisRecord) (rest : Rest) (fault : RisFault) → IsLeft text records rest
     → (fault ≡ text_fault.Memory) ⊎ (rest.says ≡ Err fault) → RefusesImport (unread fault) text
 fault-left text records rest text_fault.Memory left why = tt
@@ -93,7 +93,7 @@ fault-left text records rest (text_fault.EmptyType place) left (inr wrong) = ((�
 all_of : (xs ys : List RisRecord) → list_all are_balanced (records_of (xs ++ ys)) ≡ (list_all are_balanced (records_of xs) && list_all are_balanced (records_of ys))
 all_of xs ys = ap (list_all are_balanced) (map-append back xs ys) ∙ list_all-append are_balanced (records_of xs) (records_of ys)
 
--- of some records one is not balanced
+-- if one record has a text that is not balanced, not all records are balanced
 one-unbalanced : (before : List RisRecord) (r : RisRecord) (after : List RisRecord) → are_balanced (back r) ≡ false
     → list_all are_balanced (records_of ((before ++ r ∷ []) ++ after)) ≡ false
 one-unbalanced before r after unbalanced =
@@ -115,7 +115,8 @@ said-unbalanced text rest after d r others so says unbalanced ends = record {
 
 -- ---- what is left, read to its end
 
--- the later rest is what the first one leaves: where it says something the first one does, and where it goes wrong that does
+-- the later rest is what the first rest leaves: if the later one says something, so does the first; if it goes wrong, so does the
+-- first
 pub record LeadsTo (first later : Rest) : Type 0 where
   pub ends : (said : RisFile) → later.says ≡ Ok said → (whole : RisFile) × (first.says ≡ Ok whole)
   pub wrong : (fault : RisFault) → later.says ≡ Err fault → first.says ≡ Err fault

@@ -6,7 +6,7 @@ use Rattle.bib_store.specs.Choosing.{with_chosen}
 use Rattle.ris_format.specs.Mapping.{ris_names, ris}
 use Rattle.ris_format.proofs.RisFields.{ris_sought}
 
--- the RIS record of what was gathered is that of the record of which it was chosen
+-- the record of the chosen fields alone has the same RIS record as the whole record
 pub ris_gathered : (o : Option Record) (gathered : Record) → option_map (with_chosen ris_names) o ≡ Some gathered → (entry : Record) × ((o ≡ Some entry) × (ris gathered ≡ ris entry))
 ris_gathered None gathered is = absurd (none-some gathered is)
 ris_gathered (Some entry) gathered is = (entry, (refl, ap ris (sym (same_Some (with_chosen ris_names entry) gathered is)) ∙ ris_sought entry))

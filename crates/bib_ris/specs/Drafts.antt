@@ -12,11 +12,11 @@ use Rattle.ris_text.specs.Reading.{Reads}
 use Rattle.bib_ris.specs.declared.drafts.Drafts.{Drafts}
 use Rattle.bib_ris.specs.Import.{records_of}
 
--- the bases of the keys of records whose ID cannot be one
+-- the bases of the keys that are made for records whose ID cannot be a key
 abbrev pub bases_of : List Record → List Text
 bases_of records = map made_base (filter (λ r. not (is_new_key r.key)) records)
 
--- the drafts of these records, of which all texts are balanced
+-- the drafts of these records; each text of the records is balanced
 pub record AreDraftsOf (records : List Record) (d : Drafts) : Type 0 where
   pub entries : d.entries.items ≡ map entry_of records
   pub bases : d.bases.items ≡ bases_of records
@@ -34,7 +34,7 @@ pub record AreSaidBy (text : Text) (d : Drafts) (count : ℕ) : Type 0 where
 abbrev pub usable_keys : List NewEntry → List Text
 usable_keys entries = filter is_new_key (map (λ e. e.key) entries)
 
--- the entries that need a key get these in turn
+-- the entries, where those that need a key get these keys in turn
 abbrev pub with_keys : List Text → List NewEntry → List NewEntry
 with_keys [] entries = entries
 with_keys (key ∷ keys) [] = []

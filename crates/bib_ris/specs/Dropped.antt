@@ -5,7 +5,7 @@ use Rattle.bib_spec.specs.Text.{Text}
 use Rattle.bib_spec.specs.Records.{EntryTexts, Record, expanded}
 use Rattle.ris_format.specs.Mapping.{dropped}
 
--- a key, a tab, and the name of a field, a line
+-- a line with a key, a tab, and the name of a field
 abbrev pub dropped_line : Text → Text → Text
 dropped_line key name = key ++ (codes "\t" ++ (name ++ codes "\n"))
 

@@ -8,25 +8,26 @@ use Rattle.ris_format.specs.declared.fault.MappingFault.TheVariants as mapping_f
 use Rattle.bib_ris.specs.declared.fault.ImportFault.{ImportFault}
 use Rattle.bib_ris.specs.declared.fault.ImportFault.TheVariants.{Unread, UnbalancedText, Memory}
 
+-- the number that users see of a fault
 abbrev pub fault_number : ImportFault → ℕ
 fault_number (Unread fault) = text.fault_number fault
 fault_number UnbalancedText = 64
 fault_number Memory = 10
 
--- where a text is not read; nothing else has a place
+-- the place in a text that is not read; no other fault has a place
 abbrev pub fault_place : ImportFault → Option ℕ
 fault_place (Unread fault) = text.fault_place fault
 fault_place UnbalancedText = None
 fault_place Memory = None
 
--- what a text that is not read is to an import
+-- a fault of reading, as a fault of an import
 abbrev pub unread : RisFault → ImportFault
 unread text_fault.Memory = Memory
 unread (text_fault.NoStart place) = Unread (text_fault.NoStart place)
 unread (text_fault.NoEnd place) = Unread (text_fault.NoEnd place)
 unread (text_fault.EmptyType place) = Unread (text_fault.EmptyType place)
 
--- what a record that is no entry is to an import
+-- a fault of mapping, as a fault of an import
 abbrev pub unmapped : MappingFault → ImportFault
 unmapped mapping_fault.UnbalancedText = UnbalancedText
 unmapped mapping_fault.Memory = Memory

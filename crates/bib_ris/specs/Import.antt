@@ -25,11 +25,12 @@ use Rattle.bib_ris.specs.declared.importing.Additions.{Additions}
 abbrev pub usable_ids : List Record → List Text
 usable_ids records = filter is_new_key (map (λ r. r.key) records)
 
+-- the record with this key in place of its own
 abbrev pub with_key : Record → Text → Record
 with_key r key = record r { key = key }
 
--- A record whose ID can be a key keeps it. Each other gets, in turn, the first candidate of its base that is not taken, which
--- then is taken too.
+-- The records with their keys. A record whose ID can be a key keeps it. Each other record gets, in turn, the first candidate of
+-- its base that is not taken, and this key is taken too from then on.
 abbrev pub keyed : List Text → List Record → List Record
 keyed taken [] = []
 keyed taken (r ∷ records) =

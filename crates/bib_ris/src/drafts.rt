@@ -23,8 +23,8 @@ use ris_format::{MappingFault, from_ris, into_entry};
 use ris_text::{RisFault, RisRecord, Unread};
 use std::alloc::{AllocError, Global};
 
-/// Records as entries, of which each has the ID of its record for a key; and the bases of the keys that are to be made for
-/// those whose ID cannot be one.
+/// Records as entries, each with the ID of its record as its key; and the bases of the keys that are still to be made,
+/// for records whose ID cannot be a key.
 #[derive(Drop)]
 pub(crate) struct Drafts {
     pub entries: Vec<NewEntry>,
@@ -42,7 +42,7 @@ fn base_of(alloc: Global, entry: &Record) -> Result<Text, AllocError>
     }
 }
 
-/// Reads what is left of a text to its end, and keeps nothing of it.
+/// Reads a text to its end, and keeps nothing.
 fn read_on(alloc: Global, rest: Unread<'_>) -> Result<(), RisFault>
     ensures said { OnOk result ((said : RisFile) × (rest.entry.says ≡ Ok said)) }
     ensures refused { IfErr result (λ fault. (fault ≡ TextMemory) ⊎ (rest.entry.says ≡ Err fault)) }
@@ -58,7 +58,7 @@ fn read_on(alloc: Global, rest: Unread<'_>) -> Result<(), RisFault>
 }
 
 impl Drafts {
-    /// Of no records.
+    /// The drafts of no records.
     fn none(alloc: Global) -> Drafts
         ensures { AreDraftsOf [] result }
     {
@@ -68,7 +68,7 @@ impl Drafts {
         }
     }
 
-    /// Adds the base of the key that is made for a record, where its ID cannot be one.
+    /// Adds the base of the key that is to be made for a record, if the record's ID cannot be a key.
     fn add_base(&mut self, alloc: Global, entry: &Record) -> Result<(), AllocError>
         ensures bases { OnOk result (self.new.bases.items ≡ self.old.bases.items ++ bases_of (entry.now ∷ [])) }
         ensures short { OnOk result (AllByRecursion (λ base. length base ≤ base_limit) (bases_of (entry.now ∷ []))) }
@@ -80,8 +80,8 @@ impl Drafts {
         Ok(())
     }
 
-    /// Adds what a RIS record says, and answers whether its texts are balanced: where one is not, the drafts are of no more
-    /// use.
+    /// Adds the draft of a RIS record, and answers whether its texts are balanced. If one is not, the drafts are
+    /// useless.
     fn add(&mut self, alloc: Global, ris: &RisRecord) -> Result<bool, ImportFault>
         ensures added { IfOk result (λ balanced. balanced ≡ true → (records : List EntryRecord) → AreDraftsOf records self.old → AreDraftsOf (records ++ back ris.now ∷ []) self.new) }
         ensures unbalanced { IfOk result (λ balanced. balanced ≡ false → are_balanced (back ris.now) ≡ false) }
@@ -99,8 +99,9 @@ impl Drafts {
         }
     }
 
-    /// Of the records that a RIS text says, with how many of its lines are skipped. Each record is let go once its draft is
-    /// made, before the next one is read. A fault of reading comes before a text that is not balanced, wherever it stands.
+    /// The drafts of the records that a RIS text says, and how many lines of the text are skipped. Each record is
+    /// dropped once its draft is made, before the next record is read. A fault of reading is reported even if a record
+    /// before it has a text that is not balanced.
     pub fn of(alloc: Global, text: &[u8]) -> Result<(Drafts, u64), ImportFault>
         ensures drafts { IfOk result (λ r. AreSaidBy text.now r.0 r.1) }
         ensures refused { IfErr result (λ fault. RefusesImport fault text.now) }
@@ -166,7 +167,7 @@ fn give_key(entries: &mut Vec<NewEntry>, n: usize, left: &mut Vec<Text>)
     }
 }
 
-/// The entries, of which those that need a key have these in turn.
+/// The entries, where those that need a key get these keys in turn.
 pub(crate) fn with_keys(entries: Vec<NewEntry>, keys: Seq<Text>) -> Seq<NewEntry>
     ensures { result ≡ with_keys keys entries.items }
 {

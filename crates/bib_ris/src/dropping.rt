@@ -13,7 +13,7 @@ use bib_store::{Database, ItemList, Record};
 use ris_format::{MappingFault, to_ris};
 use std::alloc::{AllocError, Global};
 
-/// Adds a key, a tab, and the name of a field, a line.
+/// Adds a line with a key, a tab, and the name of a field.
 fn add_name(text: &mut Vec<u8>, key: &[u8], name: &[u8]) -> Result<(), AllocError>
     ensures { OnOk result (text.new.items ≡ text.old.items ++ dropped_line key.now name.now) }
 {
@@ -62,9 +62,9 @@ fn add_entry<L: ItemList>(
     add_record(alloc, text, &expanded.rec)
 }
 
-/// A line for each field that the RIS text of these entries leaves out: the key of its entry, a tab, and its name. Each entry
-/// is taken with what it inherits at this depth. It takes time in the lengths of the entries, and memory for the lines. The
-/// one refusal is want of memory.
+/// A line for each field that the RIS text of these entries leaves out: the key of the entry, a tab, and the name of
+/// the field. Each entry has the fields that it inherits at this depth. It takes time in the lengths of the entries,
+/// and memory for the lines. The one refusal is want of memory.
 pub fn entries_dropped<L: ItemList>(
     alloc: Global,
     db: &Database<L>,

@@ -14,8 +14,8 @@ use bib_store::{Database, ItemList};
 use ris_format::{MappingFault, given_records_fit, ris_names, write_entry};
 use std::alloc::Global;
 
-/// Puts the RIS text of entry `n`, with what it inherits at this depth, after a text. Of its fields those with these names
-/// are gathered.
+/// Adds the RIS text of entry `n`, with what it inherits at this depth, to a text. Only its fields with these names are
+/// gathered.
 fn add_entry<L: ItemList>(
     alloc: Global,
     text: &mut Vec<u8>,
@@ -39,8 +39,8 @@ fn add_entry<L: ItemList>(
     Ok(())
 }
 
-/// The RIS text of these entries, each with what it inherits at this depth, in this order. What RIS has no place for is left
-/// out. It takes time in the lengths of the entries, and memory for the text. The one refusal is want of memory.
+/// The RIS text of these entries, each with what it inherits at this depth, in this order. What RIS has no place for is
+/// left out. It takes time in the lengths of the entries, and memory for the text. The one refusal is want of memory.
 pub fn entries_ris<L: ItemList>(
     alloc: Global,
     db: &Database<L>,

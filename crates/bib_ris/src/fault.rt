@@ -34,7 +34,8 @@ impl ImportFault {
         }
     }
 
-    /// Where the text is not read, the first byte of the line that is wrong, or the text's length where it ends too early.
+    /// If the text is not read: the first byte of the line that is wrong, or the text's length if the text ends too
+    /// early.
     pub fn place(&self) -> Option<usize>
         ensures { result ≡ fault_place self.now }
     {

@@ -25,8 +25,8 @@ pub struct Additions {
     pub skipped: u64,
 }
 
-/// The keys that are made for drafts: a free one of each base in turn, which is no key of another draft. Neither these nor
-/// the file's keys are looked at where no key is to be made.
+/// The keys that are made for drafts: for each base in turn a free key that is no key of another draft. If no key is to
+/// be made, the keys of the drafts and of the file are not read.
 fn keys_of<L: ItemList>(
     alloc: Global,
     db: &Database<L>,
@@ -47,7 +47,7 @@ fn keys_of<L: ItemList>(
     }
 }
 
-/// The entries of the records of which these are the drafts.
+/// The entries that a file gets from these drafts of records.
 fn imported<L: ItemList>(
     alloc: Global,
     db: &Database<L>,
@@ -66,12 +66,12 @@ fn imported<L: ItemList>(
     Ok(with_keys(drafts.entries, keys))
 }
 
-/// What a RIS text adds to an open file. A record whose ID can be a key keeps it; each other gets a free key of its made
-/// key, which is no ID of the text and no key that was made before. It takes time in the lengths of the text and of the
-/// file's keys, and memory for the entries: of the text no more than one record is kept at a time.
+/// What a RIS text adds to an open file. A record whose ID can be a key keeps it. Each other record gets a free key
+/// from its made base, which is no ID of the text and no key that was made before. It takes time in the lengths of the
+/// text and of the file's keys, and memory for the entries; RIS records are read one at a time.
 ///
-/// A text that is not read is refused as 61 to 63, with its place; else one of which a record has a text whose braces do
-/// not balance as 64; else the one refusal is want of memory.
+/// A text that is not read is refused as 61 to 63, with the place. Another text is refused as 64 if a record has a
+/// field whose braces do not balance. All other texts are refused only for want of memory.
 pub fn import<L: ItemList>(
     alloc: Global,
     db: &Database<L>,

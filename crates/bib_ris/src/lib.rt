@@ -1,6 +1,6 @@
-//! What stands between RIS and an open file. It knows which entries of a file become which RIS records, and which entries
-//! with which keys RIS records add to it; it does not know the lines of RIS, edits, nor commands. It promises the RIS
-//! text of entries, the fields that it leaves out, and the entries of a RIS text.
+//! RIS records of an open file, both ways. It knows which entries of a file become which RIS records, and which entries
+//! with which keys RIS records add to the file; it does not know the lines of RIS, edits, nor commands. It promises the
+//! RIS text of entries, the fields that RIS leaves out, and the entries of a RIS text.
 #![tactic(auto)]
 
 mod drafts;

@@ -11,7 +11,7 @@ use Rattle.bib_run.specs.Runs.{HasAnswer, HasJournal, HasInput, ReadsInput, TapV
 use Rattle.bib_run.specs.Transfers.{ReadsUpTo, WritesPrefix}
 use Rattle.bib_run.proofs.WholeFile.{source_bytes, IsAnswer-front, IsAnswer-input_front}
 
--- the input, of which so much was read
+-- the input whose front was read
 pub record IsInputFrom (command : Command) (old new : TapView) (v : Text) : Type 0 where
   pub bytes : Text
   pub has : HasInput command old new bytes
@@ -23,7 +23,7 @@ input_bytes command old new v (front named reads sound) =
     record { bytes = from.bytes; has = read named (record { read = from.has; sound = sound }); start = from.front }
 input_bytes command old new v (nothing named same none) = record { bytes = []; has = unread named same refl; start = sym none }
 
--- stands for a tap of which nothing is asked
+-- a tap on which nothing depends, in place of one that is not there
 pub no_tap : TapView
 no_tap = record { bytes = None; failed = false }
 

@@ -66,7 +66,7 @@ use Rattle.bib_run.specs.Shown.{shown}
 use Rattle.bib_run.specs.OneAnswer.{one_answer}
 use Rattle.bib_run.proofs.StoredRuns.{not_unopened, not_unfit, not_refused_with, not_one, opened-is}
 
--- at most one answer is such
+-- at most one answer has the property
 abbrev One : (Answer → Type 0) → Type 0
 One P = (a b : Answer) → P a → P b → a ≡ b
 

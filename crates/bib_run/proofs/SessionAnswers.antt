@@ -12,7 +12,7 @@ use Rattle.bib_answers.specs.Outcome.{answer_of}
 use Rattle.bib_run.specs.Sessions as why
 use Rattle.bib_run.specs.Sessions.{IsUnopenedAnswer, bad_journal_line, mismatch_line}
 
--- the answer tells why, whatever the file and its journal are of which this is the fault
+-- the answer says why no session is opened, for every file and journal with this fault
 abbrev pub Tells : SessionFault → Answer → Type 0
 Tells fault answer = (file : Text) (journal : Option Text) → RefusesOpen fault file journal → IsUnopenedAnswer file journal answer
 

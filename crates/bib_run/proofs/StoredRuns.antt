@@ -49,7 +49,7 @@ use Rattle.bib_run.specs.StoredRuns.{edits_asked, stored, OpensSession, Asks, Ac
 
 -- ---- names
 
--- the names of the commands of which a run is a session
+-- the names of the commands whose runs are sessions
 abbrev reads_name : Text → Bool
 reads_name name = (((bytes_eq name (codes "edit") || bytes_eq name (codes "undo")) || bytes_eq name (codes "redo")) || bytes_eq name (codes "log")) || bytes_eq name (codes "import")
 
@@ -60,7 +60,7 @@ reader-named command (OpensSession.redo e) = ap reads_name e
 reader-named command (OpensSession.log e) = ap reads_name e
 reader-named command (OpensSession.import e) = ap reads_name e
 
--- a command of another name does not
+-- no run of a command of another name is a session
 no_reader : (command : Command) (name : Text) → OpensSession command → command.name ≡ name → reads_name name ≡ false → ⊥
 no_reader command name reads e other = false≢true (sym other ∙ ap reads_name (sym e) ∙ reader-named command reads)
 
@@ -84,7 +84,7 @@ is_scripted request.End = true
 is_scripted request.Undo = false
 is_scripted request.Redo = false
 
--- if anything is asked for, then such a request
+-- the request, if there is one, is an edit, or begins or ends a step
 abbrev IsScripted : Option Request → Type 0
 IsScripted asked = (r : Request) → asked ≡ Some r → is_scripted r ≡ true
 
@@ -215,7 +215,7 @@ not_refused_with true file journal opened message opens (IsUnopened.file _ kind 
 abbrev IsSession : Command → Text → KeptSteps → OnDisk → Type 0
 IsSession command input kept new = (accepted : List Request) × (one : IsOneSession (ended accepted) kept new) × Accepts command input accepted kept one.closed
 
--- what a session was asked for and accepts, if what it keeps then opens from the new disk
+-- the run is a session of these requests, if the steps that the session keeps open from the new disk
 as_session : (command : Command) (input : Text) (kept : KeptSteps) (new : OnDisk) (requests : List Request) (done : ℕ) (fault : Option SessionFault) (reached : SessionState)
     → Asks command kept.present input requests → fault ≢ Some Memory → Performs requests done fault (idle kept) reached → Opens new.file new.journal reached.steps
     → IsSession command input kept new
@@ -235,13 +235,13 @@ nothing_told e = none-some Memory e
 same_disk : (kept : KeptSteps) (old new : OnDisk) → new ≡ old → Opens old.file old.journal kept → Opens new.file new.journal kept
 same_disk kept old new is opens = subst (λ (p : OnDisk). Opens p.file p.journal kept) (sym is) opens
 
--- nothing is asked for, and nothing stored
+-- there is no request, and nothing is stored
 asks_nothing : (command : Command) (input : Text) (kept : KeptSteps) (old new : OnDisk) → Asks command kept.present input [] → Opens old.file old.journal kept → new ≡ old
     → IsSession command input kept new
 asks_nothing command input kept old new asks opens is =
     as_session command input kept new [] 0 None (idle kept) asks nothing_told (nothing_done kept) (same_disk kept old new is opens)
 
--- what a session leaves that was asked for these requests is stored
+-- what a session leaves after these requests is stored
 leave_session : (command : Command) (input : Text) (kept : KeptSteps) (old new : OnDisk) (requests : List Request) (done : ℕ) (fault : Option SessionFault) (reached : SessionState)
     (saved : Saved) (changes : ℕ) (message : Option Text) → Opens old.file old.journal kept → Asks command kept.present input requests → fault ≢ Some Memory
     → Performs requests done fault (idle kept) reached → Saves reached.steps saved → (changes ≡ 0 → reached.steps ≡ kept) → new ≡ stored old (outcome_left changes message saved)
@@ -279,13 +279,13 @@ not_one n other =
     (λ (h : (n == 1) ≡ false). h)
     (cases_Bool (n == 1))
 
--- what a script asks for
+-- the requests of a script
 script_asks : (command : Command) (present input : Text) → command.name ≡ codes "edit" → length command.words ≡ 1 → Asks command present input (said_of input).requests
 script_asks command present input named lone =
     let is : edits_asked command input ≡ (said_of input).requests = cond-true (length command.words == 1) (said_of input).requests (unwrap_or (asked_by_words (key_words command)) []) (ap (λ n. n == 1) lone) in
     subst (λ (rs : List Request). Asks command present input rs) is (Asks.edits named)
 
--- what words ask for
+-- the requests of words
 words_ask : (command : Command) (present input : Text) (asked : Option (List Request)) → command.name ≡ codes "edit" → length command.words ≢ 1
     → asked_by_words (key_words command) ≡ asked → Asks command present input (unwrap_or asked [])
 words_ask command present input asked named more said =

@@ -37,14 +37,14 @@ use Rattle.bib_run.specs.Turns.{IsTurnAnswer}
 use Rattle.bib_run.specs.Log as logging
 use Rattle.bib_run.specs.Log.{IsLogAnswer, IsForgetAnswer}
 
--- what was read up to the limit is that much of all that there was
+-- what was read up to the limit is the first `most` bytes of all that there was
 pub take-read : (most : ℕ) (v rest : Text) → length v ≤ most → (length v ≢ most → rest ≡ []) → take most (v ++ rest) ≡ v
 take-read most v rest within whole = elim (cases_eq (length v) most) [
   | inl e ↦ subst (λ n. take n (v ++ rest) ≡ v) e (take-append_seam v rest)
   | inr n ↦ rw (whole n, append-nil v) (take_all most v within)
 ]
 
--- the bytes of a source, of which these were read
+-- the bytes of a source whose first `most` bytes are these, which were read
 pub record IsReadFrom (most : ℕ) (before after : Option Text) (v : Text) : Type 0 where
   pub bytes : Text
   pub has : HasBytes most before after bytes

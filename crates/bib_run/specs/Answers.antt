@@ -24,7 +24,7 @@ use Rattle.bib_run.specs.Turns.{IsTurnAnswer}
 use Rattle.bib_run.specs.Log.{IsLogAnswer, IsForgetAnswer}
 use Rattle.bib_run.specs.Shown.{shown}
 
--- the first word: the name of the file, or for `explain` a fault
+-- the first word: the name of the file, or for `explain` the fault
 abbrev pub first_word : Command → Text
 first_word command = slice_index_or command.words 0 []
 
@@ -32,7 +32,7 @@ first_word command = slice_index_or command.words 0 []
 abbrev pub key_word : Command → Text
 key_word command = slice_index_or command.words 1 []
 
--- the word after that
+-- the second word after the file
 abbrev pub template_word : Command → Text
 template_word command = slice_index_or command.words 2 []
 
@@ -40,7 +40,7 @@ template_word command = slice_index_or command.words 2 []
 abbrev pub key_words : Command → List Text
 key_words command = drop 1 command.words
 
--- what the command answers to what a file says
+-- the command has this answer, as a function of what its file says
 pub data IsAnswerTo (command : Command) : (Reading → Answer) → Type 0 where
   check : command.name ≡ codes "check" → IsAnswerTo command check_answer
   show : command.name ≡ codes "show" → IsAnswerTo command (show_answer command.depth (key_word command))
@@ -51,7 +51,7 @@ pub data IsAnswerTo (command : Command) : (Reading → Answer) → Type 0 where
   ris : command.name ≡ codes "ris" → IsAnswerTo command (ris_answer command.dropped command.depth (key_words command))
   names : command.name ≡ codes "names" → (pattern : Option Pattern) → Spells (template_word command) pattern → IsAnswerTo command (names_answer command.depth (key_word command) pattern)
 
--- the answer of a command to a file, and to its journal and its input where it reads them, if what is new is stored
+-- the answer of a command to a file, and to its journal and its input if it reads them, when what is new is to be stored
 pub data IsStoredAnswer (command : Command) (file : Text) (journal : Option Text) (input : Text) (answer : Answer) : Type 0 where
   cat : command.name ≡ codes "cat" → IsCatAnswer file answer → IsStoredAnswer command file journal input answer
   of_reading : (answers : Reading → Answer) → IsAnswerTo command answers → AnswersFile answers file answer → IsStoredAnswer command file journal input answer
@@ -66,7 +66,7 @@ pub data IsStoredAnswer (command : Command) (file : Text) (journal : Option Text
   import : command.name ≡ codes "import" → IsImportAnswer command.new_journal file journal input answer → IsStoredAnswer command file journal input answer
   forget : command.name ≡ codes "forget" → IsForgetAnswer file answer → IsStoredAnswer command file journal input answer
 
--- the answer of a command to a file, and to its journal and its input where it reads them
+-- the answer of a command to a file, and to its journal and its input if it reads them; with `--print` the new file is its output
 pub record IsAnswer (command : Command) (file : Text) (journal : Option Text) (input : Text) (answer : Answer) : Type 0 where
   pub stored : Answer
   pub answers : IsStoredAnswer command file journal input stored

@@ -19,29 +19,29 @@ use Rattle.bib_answers.specs.Outcome.{answer_of}
 use Rattle.bib_run.specs.Sessions.{fault_line, outcome_left}
 use Rattle.bib_run.specs.Inputs.{AnswersSession, AnswersInput}
 
--- `bibkeep: line L: N Name`, a line
+-- the line `bibkeep: line L: N Name`
 abbrev pub script_line : ℕ → ℕ → Text → Text
 script_line line number name =
     codes "bibkeep: line " ++ (decimal line ++ (codes ": " ++ (decimal number ++ (codes " " ++ (name ++ codes "\n")))))
 
--- the line of a script, and the fault of its request
+-- the message of a refused request: its line in the script, and the fault
 abbrev pub refused_line : ℕ → SessionFault → Text
 refused_line line fault = script_line line (fault_number fault) (session_fault_name (fault_number fault))
 
--- the line of a script that asks for nothing
+-- the message of a line of a script that is no request
 abbrev pub bad_line : ℕ → Text
 bad_line line = script_line line 71 (codes "BadScript")
 
--- Why a script stopped after so many requests, if it did: the next one is refused, or else a line says none.
+-- Why a script stopped after its first `done` requests, if it did: the next request is refused, or a line is no request.
 abbrev pub stop_line : Said → ℕ → Option SessionFault → Option Text
 stop_line said done (Some fault) = Some (refused_line (slice_index_or said.lines done 0) fault)
 stop_line said done None = option_map bad_line said.bad_line
 
--- `applied N`, a line
+-- the line `applied N`
 abbrev pub applied_line : ℕ → Text
 applied_line done = codes "applied " ++ (decimal done ++ codes "\n")
 
--- an edit is a change; the begin and the end of a step are none
+-- how many changes a request is: an edit is one; the begin and the end of a step are none
 abbrev pub changes_of : Request → ℕ
 changes_of (request.Edit edit) = 1
 changes_of other = 0
@@ -52,15 +52,15 @@ edits_in requests = sum_by changes_of requests
 
 -- ---- answers
 
--- the answer where so many of the requests were done, this is said of what stopped them, if anything did, and this file and journal
--- are left
+-- The answer after the first `done` requests: the message says what stopped them, if anything did, and `saved` is the file and the
+-- journal that they leave.
 abbrev pub edited_answer : List Request → ℕ → Option Text → Saved → Answer
 edited_answer requests done message saved =
     let made = edits_in (take done requests) in
     record { output = applied_line made; outcome = outcome_left made message saved }
 
--- the answer of a session that was opened so to requests: they are done in order, up to the first that is refused, and `message` is
--- what is said where so many were done and the next has this fault
+-- The answer to requests of a session that was opened in this state: they are done in order, up to the first that is refused.
+-- `message` gives what is said, from how many were done and the fault of the next one.
 pub record HasEdited (requests : List Request) (message : ℕ → Option SessionFault → Option Text) (opened : SessionState) (answer : Answer) : Type 0 where
   pub done : ℕ
   pub fault : Option SessionFault
@@ -73,30 +73,30 @@ pub record HasEdited (requests : List Request) (message : ℕ → Option Session
 
 -- ---- `edit F`
 
--- the answer to a script
+-- the answer of a session to a script
 abbrev pub HasEditedBy : Text → SessionState → Answer → Type 0
 HasEditedBy script = HasEdited (said_of script).requests (stop_line (said_of script))
 
--- `edit F`: the requests of the script in order, up to the first line that is refused or asks for nothing; a step that is open
--- then is ended
+-- `edit F`: the requests of the script are done in order, up to the first line that is refused or is no request; a step that is
+-- still open then is ended
 abbrev pub IsEditAnswer : Bool → Text → Option Text → Text → Answer → Type 0
 IsEditAnswer new_journal file journal input = AnswersSession new_journal (AnswersInput HasEditedBy input) file journal
 
 -- ---- `edit F WORD..`
 
--- the words say no edit
+-- the message of words that say no edit
 abbrev pub bad_words_line : Text
 bad_words_line = codes "bibkeep: 71 BadScript\n"
 
--- what is said of a fault, if there is one
+-- the message of a fault, if there is one
 abbrev pub fault_message : ℕ → Option SessionFault → Option Text
 fault_message done fault = option_map fault_line fault
 
--- the answer to the words of one edit: a step of that edit is made, whose label they are; or they say none
+-- the answer of a session to the words of one edit: the edit is made as a step with the words as its label; or they say no edit
 pub data HasEditedByWords (words : List Text) (opened : SessionState) (answer : Answer) : Type 0 where
   said : (requests : List Request) → asked_by_words words ≡ Some requests → HasEdited requests fault_message opened answer → HasEditedByWords words opened answer
   bad : asked_by_words words ≡ None → answer ≡ answer_of (applied_line 0) bad_words_line 1 → HasEditedByWords words opened answer
 
--- `edit F WORD..`
+-- `edit F WORD..`: the one edit that the words say
 abbrev pub IsWordsAnswer : Bool → List Text → Text → Option Text → Answer → Type 0
 IsWordsAnswer new_journal words = AnswersSession new_journal (HasEditedByWords words)

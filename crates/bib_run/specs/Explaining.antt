@@ -5,11 +5,11 @@ use Rattle.fault_pages.specs.Heads.{Head, asked}
 use Rattle.bib_answers.specs.declared.answers.Answer.{Answer}
 use Rattle.bib_answers.specs.Outcome.{answer_of}
 
--- the number and the name, a line, and an empty one
+-- a line with the number and the name of a fault, and an empty line
 abbrev pub head_lines : Head → Text
 head_lines head = head.0 ++ (codes " " ++ (head.1 ++ codes "\n\n"))
 
--- no fault has the number or name
+-- the message of a word that is no fault's number or name
 abbrev pub no_such_fault_line : Text
 no_such_fault_line = codes "bibkeep: 13 NoSuchFault\n"
 

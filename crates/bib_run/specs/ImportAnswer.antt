@@ -23,18 +23,18 @@ use Rattle.bib_run.specs.Inputs.{AnswersSession, AnswersInput}
 
 -- ---- messages
 
--- `added N skipped M`, a line: how many entries were added, and how many lines of the text were skipped
+-- the line `added N skipped M`: how many entries were added, and how many lines of the text were skipped
 abbrev pub added_line : ℕ → ℕ → Text
 added_line added skipped = codes "added " ++ (decimal added ++ (codes " skipped " ++ (decimal skipped ++ codes "\n")))
 
--- why a RIS text is not read, a line
+-- a line that says why a RIS text is not read
 abbrev pub unread_line : RisFault → Text
 unread_line (ris_fault.NoStart place) = placed_line 61 (codes "NoStart") place
 unread_line (ris_fault.NoEnd place) = placed_line 62 (codes "NoEnd") place
 unread_line (ris_fault.EmptyType place) = placed_line 63 (codes "EmptyType") place
 unread_line ris_fault.Memory = codes "bibkeep: 10 Memory\n"
 
--- why a RIS text gives no entries, a line
+-- a line that says why a RIS text gives no entries
 abbrev pub import_fault_line : ImportFault → Text
 import_fault_line (import_fault.Unread fault) = unread_line fault
 import_fault_line import_fault.UnbalancedText = codes "bibkeep: 64 UnbalancedText\n"
@@ -42,17 +42,17 @@ import_fault_line import_fault.Memory = codes "bibkeep: 10 Memory\n"
 
 -- ---- answers
 
--- the answer where so many entries were added, and this file and journal are left
+-- the answer when `added` entries were added, `skipped` lines were skipped, and `saved` is the file and the journal
 abbrev pub added_answer : ℕ → ℕ → Saved → Answer
 added_answer added skipped saved = record { output = added_line added skipped; outcome = outcome_left 1 None saved }
 
--- The entries are added all at once, which is one step; or why they cannot be.
+-- The answer of a session to entries: they are added all at once, as one step; or why they cannot be added.
 pub data HasAdded (a : Additions) (opened : SessionState) (answer : Answer) : Type 0 where
   added : (closed : SessionState) (saved : Saved) → MakesEdit (AddMany a.entries) opened closed → Saves closed.steps saved → answer ≡ added_answer (length a.entries) a.skipped saved
       → HasAdded a opened answer
   refused : (fault : SessionFault) → fault ≢ Memory → RefusesEdit fault (AddMany a.entries) opened → answer ≡ answer_of [] (fault_line fault) 1 → HasAdded a opened answer
 
--- the answer to a RIS text of a session that was opened with these steps: its entries are added, or why it gives none
+-- the answer of a session to a RIS text: its entries are added, or why it gives no entries
 pub data HasImported (text : Text) (opened : SessionState) (answer : Answer) : Type 0 where
   read : (a : Additions) → AreAdditions opened.steps.present text a → HasAdded a opened answer → HasImported text opened answer
   unread : (fault : ImportFault) → fault ≢ import_fault.Memory → RefusesImport fault text → answer ≡ answer_of [] (import_fault_line fault) 1 → HasImported text opened answer

@@ -1,4 +1,4 @@
--- The answers of commands that open a session, and of those that read standard input too. (dialect)
+-- The answers of commands that open a session, and of commands that read standard input too. (dialect)
 use Rattle.std.specs.Prelude.{◌≡◌, ◌<◌, ◌≤◌, Bool, [], length, Option}
 use Rattle.bib_spec.specs.Bytes.{file_limit}
 use Rattle.bib_spec.specs.Text.{Text}
@@ -8,7 +8,7 @@ use Rattle.bib_answers.specs.Messages.{refusal_line}
 use Rattle.bib_answers.specs.Outcome.{answer_of}
 use Rattle.bib_run.specs.Sessions.{IsUnopenedAnswer, OpensWith, judged_journal}
 
--- the answer of a session that is opened; or, with nothing done, why the file and its journal cannot be opened
+-- the answer of the session that is opened; or, with nothing done, why the file and its journal cannot be opened
 pub data AnswersSession (new_journal : Bool) (answers : SessionState → Answer → Type 0) (file : Text) (journal : Option Text) (answer : Answer) : Type 0 where
   answered : (opened : SessionState) → OpensWith new_journal file journal opened → answers opened answer → AnswersSession new_journal answers file journal answer
   unopened : IsUnopenedAnswer file (judged_journal new_journal journal) answer → AnswersSession new_journal answers file journal answer

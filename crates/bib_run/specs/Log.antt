@@ -18,21 +18,21 @@ use Rattle.bib_answers.specs.Outcome.{answer_of}
 abbrev pub old_len : List Piece → ℕ
 old_len pieces = sum_by (λ p. length p.old) pieces
 
--- how many bytes they put in
+-- how many bytes pieces put in
 abbrev pub new_len : List Piece → ℕ
 new_len pieces = sum_by (λ p. length p.new) pieces
 
--- a space and the label; nothing for the empty one
+-- a space and the label, or nothing if the label is empty
 abbrev pub label_part : Text → Text
 label_part [] = []
 label_part (b ∷ label) = codes " " ++ (b ∷ label)
 
--- the word, and how many pieces, old bytes and new bytes there are
+-- the word, and how many pieces there are, how many bytes they take away, and how many they put in
 abbrev pub counts_part : Text → List Piece → Text
 counts_part word pieces =
     word ++ (codes " " ++ (decimal (length pieces) ++ (codes " " ++ (decimal (old_len pieces) ++ (codes " " ++ decimal (new_len pieces))))))
 
--- the word, how many pieces, old bytes and new bytes the step has, and its label, a line
+-- the line of a step: the word, how many pieces it has, how many bytes it takes away and puts in, and its label
 abbrev pub step_line : Text → Step → Text
 step_line word step = counts_part word step.pieces ++ (label_part step.label ++ codes "\n")
 
@@ -40,16 +40,16 @@ step_line word step = counts_part word step.pieces ++ (label_part step.label ++ 
 abbrev pub log_text : KeptSteps → Text
 log_text kept = flat_map (step_line (codes "done")) kept.past ++ flat_map (step_line (codes "undone")) kept.future
 
--- `log F`
+-- `log F`: the steps that the journal keeps
 pub data IsLogAnswer (file : Text) (journal : Option Text) (answer : Answer) : Type 0 where
   listed : (opened : KeptSteps) → Opens file journal opened → answer ≡ answer_of (log_text opened) [] 0 → IsLogAnswer file journal answer
   unopened : IsUnopenedAnswer file journal answer → IsLogAnswer file journal answer
 
--- a new journal is all that is left
+-- the outcome of a run that leaves a new journal and nothing else
 abbrev pub journal_left : Text → Outcome
 journal_left journal = record { file = None; journal = Some journal; message = []; status = 0 }
 
--- `forget F`: the journal of the file, to which nothing was done
+-- `forget F`: a new journal, with no steps
 pub data IsForgetAnswer (file : Text) (answer : Answer) : Type 0 where
   forgot : (saved : Saved) → IsOpenable file → Saves (started file) saved → answer ≡ record { output = []; outcome = journal_left saved.journal }
       → IsForgetAnswer file answer

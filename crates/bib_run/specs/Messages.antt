@@ -1,4 +1,4 @@
--- What a run says where a call on its sources or its output failed.
+-- What a run says if a call on its sources or its output failed.
 use Rattle.std.specs.Prelude.{codes}
 use Rattle.bib_spec.specs.Text.{Text}
 

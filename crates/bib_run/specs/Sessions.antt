@@ -1,4 +1,4 @@
--- A session over a file and its journal: why none is opened, and what is left. (dialect)
+-- A session over a file and its journal: why none is opened, and what a session leaves. (dialect)
 use Rattle.std.specs.Prelude.{ℕ, Bool, true, false, ◌≡◌, ◌≢◌, ◌==◌, if◌then◌else◌, [], ◌++◌, Option, Some, None, codes}
 use Rattle.std.specs.Fmt.{decimal}
 use Rattle.bib_spec.specs.Text.{Text}
@@ -20,27 +20,28 @@ use Rattle.bib_answers.specs.Outcome.{answer_of}
 
 -- ---- messages
 
--- `bibkeep: 53 BadJournal at P`, a line
+-- the line `bibkeep: 53 BadJournal at P`
 abbrev pub bad_journal_line : ℕ → Text
 bad_journal_line place = codes "bibkeep: 53 BadJournal at " ++ (decimal place ++ codes "\n")
 
--- the journal does not fit the file
+-- the message of a journal that does not fit its file
 abbrev pub mismatch_line : Text
 mismatch_line = codes "bibkeep: 54 JournalMismatch\n"
 
--- `bibkeep: N Name`, a line
+-- the line `bibkeep: N Name`
 abbrev pub fault_line : SessionFault → Text
 fault_line fault = codes "bibkeep: " ++ (decimal (fault_number fault) ++ (codes " " ++ (session_fault_name (fault_number fault) ++ codes "\n")))
 
 -- ---- opening
 
--- why the file and its journal open no session, and what is said of it
+-- The file and its journal open no session, and the message says why: the file is at fault, or the journal is no journal, or the
+-- journal does not fit the file.
 pub data IsUnopened (file : Text) : Option Text → Text → Type 0 where
   file : (journal : Option Text) (kind place : ℕ) → kind ≢ 10 → IsOpenFault file kind place → IsUnopened file journal (refusal_line kind place)
   journal : (text : Text) (place : ℕ) → IsOpenable file → IsNoJournal text place → IsUnopened file (Some text) (bad_journal_line place)
   mismatch : (text : Text) → IsMismatch file text → IsUnopened file (Some text) mismatch_line
 
--- the answer to them: nothing is output, and the message says why
+-- the answer when no session is opened: no output, and the message says why
 pub record IsUnopenedAnswer (file : Text) (journal : Option Text) (answer : Answer) : Type 0 where
   pub message : Text
   pub why : IsUnopened file journal message
@@ -53,12 +54,12 @@ pub data IsUnfit (file text : Text) : Type 0 where
   none : (place : ℕ) → IsNoJournal text place → IsUnfit file text
   mismatch : IsMismatch file text → IsUnfit file text
 
--- A session is opened with the journal. With `--new-journal` it is opened without one that is unfit: then nothing was done to the file.
+-- A session is opened with the journal. With `--new-journal` an unfit journal is left out: the session has no steps then.
 pub data OpensWith (new_journal : Bool) (file : Text) (journal : Option Text) (opened : SessionState) : Type 0 where
   fitting : IsOpened file journal opened → OpensWith new_journal file journal opened
   begun : (text : Text) → new_journal ≡ true → journal ≡ Some text → IsUnfit file text → IsOpened file None opened → OpensWith new_journal file journal opened
 
--- the journal that can be refused: with `--new-journal` there is none
+-- the journal that can be a reason to open no session: with `--new-journal` no journal can
 abbrev pub judged_journal : Bool → Option Text → Option Text
 judged_journal new_journal given = if new_journal then None else given
 
@@ -70,11 +71,12 @@ is_of_journal other = false
 
 -- ---- leaving
 
--- after a session that stopped before its first change nothing is to be written
+-- the text to be stored: none if the session stopped before its first change
 abbrev pub text_left : ℕ → Text → Option Text
 text_left done text = if done == 0 then None else Some text
 
--- what so many changes leave: the file and its journal; with what is said where the next one was refused
+-- The outcome after `done` changes: the new file and its journal are stored. If something stopped the changes, the message says
+-- what; then nothing is stored if there was no change.
 abbrev pub outcome_left : ℕ → Option Text → Saved → Outcome
 outcome_left done None saved = record { file = Some saved.file; journal = Some saved.journal; message = []; status = 0 }
 outcome_left done (Some message) saved = record { file = text_left done saved.file; journal = text_left done saved.journal; message = message; status = 1 }

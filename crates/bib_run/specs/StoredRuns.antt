@@ -27,25 +27,26 @@ use Rattle.bib_run.specs.Answers.{IsAnswer, key_words}
 
 -- ---- what is stored
 
--- the new one, or the old one where there is none
+-- the new text, or the old one if there is no new text
 abbrev pub or_old : Option Text → Option Text → Option Text
 or_old None old = old
 or_old (Some new) old = Some new
 
--- what stands on the disk once what an outcome leaves is stored
+-- what is on the disk after the outcome of a run is stored
 abbrev pub stored : OnDisk → Outcome → OnDisk
 stored disk outcome = record { file = unwrap_or outcome.file disk.file; journal = or_old outcome.journal disk.journal }
 
--- the command, without `--print`, answers to what is on the disk and to this input, and what the answer leaves is stored
+-- A run of the command without `--print`: it answers to what is on the disk and to this input, and what its answer leaves is
+-- stored.
 pub record IsStoredRun (command : Command) (input : Text) (old new : OnDisk) : Type 0 where
   pub kept : command.print ≡ false
   pub answer : Answer
   pub answers : IsAnswer command old.file old.journal input answer
   pub stores : new ≡ stored old answer.outcome
 
--- ---- what is asked for
+-- ---- requests of a command
 
--- the commands of which a run is a session: it opens the file and its journal, and leaves both
+-- a run of the command is a session: it opens the file and its journal, and leaves both
 pub data OpensSession (c : Command) : Type 0 where
   edit : c.name ≡ codes "edit" → OpensSession c
   undo : c.name ≡ codes "undo" → OpensSession c
@@ -53,13 +54,13 @@ pub data OpensSession (c : Command) : Type 0 where
   log : c.name ≡ codes "log" → OpensSession c
   import : c.name ≡ codes "import" → OpensSession c
 
--- What `edit` asks for: the requests of its script; or, if words follow the file, the step of one edit that they say, and nothing
--- if they say none.
+-- The requests of `edit`: the requests of its script; or, if words follow the file, a step of the one edit that they say, and no
+-- request if they say no edit.
 abbrev pub edits_asked : Command → Text → List Request
 edits_asked command input = if length command.words == 1 then (said_of input).requests else unwrap_or (asked_by_words (key_words command)) []
 
--- What a command asks of a session whose present file is this: the edits of a script or of words; so many undos or redos; the
--- addition of what its input says, all at once. `log` asks for nothing, nor does an input that is too long or is no RIS text.
+-- The requests of a command to a session with this present file: the edits of a script or of words; `n` undos or redos; one
+-- addition of all entries that its input says. `log` requests nothing, nor does a command whose input is too long or no RIS text.
 pub data Asks (command : Command) (present input : Text) : List Request → Type 0 where
   edits : command.name ≡ codes "edit" → Asks command present input (edits_asked command input)
   undos : command.name ≡ codes "undo" → Asks command present input (replicate command.n request.Undo)
@@ -70,8 +71,8 @@ pub data Asks (command : Command) (present input : Text) : List Request → Type
   long_text : command.name ≡ codes "import" → file_limit < length input → Asks command present input []
   nothing : command.name ≡ codes "log" → Asks command present input []
 
--- A session that keeps the first steps is asked for what the command asks for, and accepts these requests: all, or those before
--- the first that is refused. It keeps the second steps then.
+-- A session that keeps the steps `old` gets the requests of the command, and accepts these: all, or those before the first that
+-- is refused. It keeps the steps `new` then.
 pub record Accepts (command : Command) (input : Text) (accepted : List Request) (old new : KeptSteps) : Type 0 where
   pub requests : List Request
   pub asks : Asks command old.present input requests
@@ -85,8 +86,8 @@ pub record Accepts (command : Command) (input : Text) (accepted : List Request) 
 
 -- ---- one run
 
--- A run of such a command is one session that does the requests of the command that are accepted, with the end
--- of a step that is open then: the file and the journal that stand there afterwards open as what that session keeps.
+-- A run of such a command is one session that does the accepted requests of the command, and then ends a step that is still open.
+-- The file and the journal that it leaves open as what that session keeps.
 abbrev pub a_run_is_a_session : Type 0
 a_run_is_a_session = (command : Command) (input : Text) (kept : KeptSteps) (old new : OnDisk) → OpensSession command → Opens old.file old.journal kept
     → IsStoredRun command input old new
@@ -104,15 +105,15 @@ abbrev pub AreStoredRuns : List Call → OnDisk → OnDisk → Type 0
 AreStoredRuns [] old new = new ≡ old
 AreStoredRuns (call ∷ calls) old new = (mid : OnDisk) × OpensSession call.command × IsStoredRun call.command call.input old mid × AreStoredRuns calls mid new
 
--- each run in turn accepts these requests, from the first steps to the second
+-- each run in turn accepts these requests, from the steps `old` to the steps `new`
 abbrev pub AreAccepted : List Call → List (List Request) → KeptSteps → KeptSteps → Type 0
 AreAccepted [] [] old new = new ≡ old
 AreAccepted [] (accepted ∷ others) old new = ⊥
 AreAccepted (call ∷ calls) [] old new = ⊥
 AreAccepted (call ∷ calls) (accepted ∷ others) old new = (mid : KeptSteps) × Accepts call.command call.input accepted old mid × AreAccepted calls others mid new
 
--- Any runs of the program over a file and its journal, whatever each of them was refused, are one session that does the requests
--- that each accepted: so the file that each leaves is that of the history.
+-- Any runs of the program over a file and its journal are one session that does the requests that each run accepted, whatever was
+-- refused. So the file that they leave is the file of the history.
 abbrev pub runs_of_the_program_are_one_session : Type 0
 runs_of_the_program_are_one_session = (calls : List Call) (kept : KeptSteps) (old new : OnDisk) → Opens old.file old.journal kept → AreStoredRuns calls old new
     → (accepted : List (List Request)) × (one : IsOneSession (requests_of accepted) kept new) × AreAccepted calls accepted kept one.closed
@@ -123,16 +124,16 @@ one_undo_leads_to_the_first_file = (calls : List Call) (undo : Command) (input :
     → Opens old.file old.journal first → AreStoredRuns calls old mid → Opens mid.file mid.journal kept
     → undo.name ≡ codes "undo" → length kept.past ≤ undo.n → IsStoredRun undo input mid new → new.file ≡ first_of first.past first.present
 
--- From whatever stands there, one `redo` of at least as many changes as there are to redo leads to the last file of the history.
+-- From any file and journal, one `redo` of at least as many changes as there are to redo leads to the last file of the history.
 abbrev pub one_redo_leads_to_the_last_file : Type 0
 one_redo_leads_to_the_last_file = (redo : Command) (input : Text) (kept : KeptSteps) (mid new : OnDisk) → Opens mid.file mid.journal kept
     → redo.name ≡ codes "redo" → length kept.future ≤ redo.n → IsStoredRun redo input mid new → new.file ≡ last_of kept.future kept.present
 
--- the command is `edit`, and all that it asks for are renamings
+-- the command is `edit`, and all its requests are renamings
 abbrev pub renames : Call → Bool
 renames call = bytes_eq call.command.name (codes "edit") && list_all is_renaming (edits_asked call.command call.input)
 
--- Any runs that ask for renamings alone, whatever each was refused, keep every record but for its key.
+-- Runs that request only renamings keep every record, except its key, whatever was refused.
 abbrev pub runs_of_renamings_keep_every_record : Type 0
 runs_of_renamings_keep_every_record = (calls : List Call) (kept : KeptSteps) (old new : OnDisk) → Opens old.file old.journal kept
     → list_all renames calls ≡ true → AreStoredRuns calls old new → OfReadings old.file new.file KeepsTexts

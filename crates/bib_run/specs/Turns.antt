@@ -8,18 +8,20 @@ use Rattle.bib_journal.specs.Turns.{Turns}
 use Rattle.bib_answers.specs.declared.answers.Answer.{Answer}
 use Rattle.bib_run.specs.Sessions.{IsUnopenedAnswer, fault_line, outcome_left}
 
--- the word and how many changes, a line
+-- a line with the word and the number of changes
 abbrev pub turned_line : Text → ℕ → Text
 turned_line word done = word ++ (codes " " ++ (decimal done ++ codes "\n"))
 
--- the answer where so many changes were taken back or made again, with the fault of the next one, and the file and journal afterwards
+-- The answer after changes were taken back or made again: how many; the fault of the next one, if there was one; and the file and
+-- the journal.
 abbrev pub turned_answer : Text → Turned → Answer
 turned_answer word turned = record {
   output = turned_line word turned.performed.done;
   outcome = outcome_left turned.performed.done (option_map fault_line turned.performed.fault) turned.saved;
 }
 
--- The request is done so many times, up to the first refusal; or, with nothing done, why the file and its journal cannot be opened.
+-- `undo F` and `redo F`: the request is done `n` times, up to the first refusal; or, with nothing done, why the file and its
+-- journal cannot be opened.
 pub data IsTurnAnswer (word : Text) (request : Request) (n : ℕ) (file : Text) (journal : Option Text) (answer : Answer) : Type 0 where
   turned : (turned : Turned) → Turns request n file journal turned → answer ≡ turned_answer word turned → IsTurnAnswer word request n file journal answer
   unopened : IsUnopenedAnswer file journal answer → IsTurnAnswer word request n file journal answer

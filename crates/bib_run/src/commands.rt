@@ -1,4 +1,4 @@
-//! The commands that read more than a file, or answer in another format: of each, what it answers to the bytes of its sources.
+//! The commands that read more than a file, or answer in another format: what each answers to the bytes of its sources.
 
 pub mod edit;
 pub mod explain;

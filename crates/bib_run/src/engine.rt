@@ -32,9 +32,9 @@ use std::alloc::{AllocError, Global};
 use std::io::{Read, Write};
 
 /// Runs a command over its file, its journal, its input and its output. It reads the file to its end or to one byte
-/// past the limit, and keeps it in memory once, beside what the command makes of it; and so its journal, if it has one,
-/// and the input, for the commands that read them. Calls that are interrupted are made again, up to 100 times on each tap.
-/// Memory is refused only before anything is written.
+/// past the limit, and keeps one copy of it in memory, beside what the command makes of it. It does the same with the
+/// journal, if there is one, and the input, for the commands that read them. It makes interrupted calls again, up to
+/// 100 times on each tap. It runs out of memory only before anything is written.
 pub fn run<F: Read, J: Read, I: Read, W: Write>(
     alloc: Global,
     command: &Command,
@@ -48,7 +48,7 @@ pub fn run<F: Read, J: Read, I: Read, W: Write>(
         (taps (view_of F.remaining file.old) (option_map (view_of J.remaining) (held_before journal.entry)) (view_of I.remaining input.old) (view_of W.contents out.old))
         (taps (view_of F.remaining file.new) (option_map (view_of J.remaining) (held_after journal.exit)) (view_of I.remaining input.new) (view_of W.contents out.new)) result }
 
-    // But for those that read their journal a command leaves it alone, and but for those that take input that.
+    // A command that does not read its journal leaves it alone, and one that takes no input leaves the input alone.
     ensures journal { ¬ ReadsJournal command.now → held_after journal.exit ≡ held_before journal.entry }
     ensures input { ¬ TakesInput command.now → input.new ≡ input.old }
 {
@@ -66,7 +66,7 @@ pub fn run<F: Read, J: Read, I: Read, W: Write>(
     }
 }
 
-/// The run of a command. Where there is no journal, the tap that stands for it is not called.
+/// The run of a command. If there is no journal, no call is made on the tap in its place.
 fn perform<F: Read, J: Read, I: Read, W: Write>(
     alloc: Global,
     command: &Command,
@@ -89,7 +89,7 @@ fn perform<F: Read, J: Read, I: Read, W: Write>(
     }
 }
 
-/// The same, up to want of memory, which comes before anything is written and never after a fault.
+/// The run of a command, or want of memory, which comes before anything is written and never after a fault.
 fn try_perform<F: Read, J: Read, I: Read, W: Write>(
     alloc: Global,
     command: &Command,
@@ -144,7 +144,7 @@ fn answer_sources<W: Write>(
     Ok(write_answer(answer, write_fault, out))
 }
 
-/// Writes an answer's output. The outcome is the answer's, or that of a write fault.
+/// Writes an answer's output. The outcome is the answer's, or the outcome of a write fault.
 fn write_answer<W: Write>(answer: Answer, write_fault: Text, out: &mut Tap<W>) -> Outcome
     requires { write_fault ≡ write_fault_line }
     ensures { (command : Command) (file file' : TapView) (journal journal' : Option TapView) (input input' : TapView)
@@ -157,7 +157,7 @@ fn write_answer<W: Write>(answer: Answer, write_fault: Text, out: &mut Tap<W>) -
     answer.outcome
 }
 
-/// What was read of a command's file, of its journal, if it has one and reads it, and of its input, if it reads that.
+/// What was read of a command's file, of its journal if it has one and reads it, and of its input if it takes input.
 #[derive(Drop)]
 struct Sources {
     file: Vec<u8>,
@@ -234,7 +234,7 @@ fn read_journal<J: Read>(
     Ok(Some(bytes))
 }
 
-/// The input of a command, if it reads that.
+/// The input of a command, if it takes input.
 fn read_input<I: Read>(
     alloc: Global,
     command: &Command,
@@ -273,7 +273,7 @@ fn answer_of(
     Ok(shown(alloc, command.print, stored))
 }
 
-/// The answer as a command shows it, with `--print` or without.
+/// The answer as a command gives it, with `--print` or without.
 fn shown(alloc: Global, print: bool, answer: Answer) -> Answer
     ensures { result ≡ shown print answer }
 {
@@ -283,7 +283,7 @@ fn shown(alloc: Global, print: bool, answer: Answer) -> Answer
     answer
 }
 
-/// The new file is the output, if there is one, and nothing is left to be stored.
+/// The new file, if there is one, becomes the output, and nothing is stored.
 fn printed(alloc: Global, answer: Answer) -> Answer
     ensures { result ≡ printed answer }
 {
@@ -299,7 +299,7 @@ fn printed(alloc: Global, answer: Answer) -> Answer
     }
 }
 
-/// The command's answer if what is new is stored.
+/// The command's answer when what is new is to be stored.
 fn stored_answer_of(
     alloc: Global,
     command: &Command,
@@ -371,7 +371,7 @@ fn stored_answer_of(
     unreachable!()
 }
 
-/// What `edit` answers: by the words of one edit, or by a script where there are none.
+/// What `edit` answers: to the words of one edit, or to a script if there are no words.
 fn answer_edits(
     alloc: Global,
     command: &Command,

@@ -1,6 +1,7 @@
 //! Runs a command: reads its file, makes its answer and writes it. It knows what each command answers to which bytes,
 //! over any reader and writer, and neither paths nor options. It promises that output, message and status are a stated
-//! function of the bytes read, where readers and writer tell them, and that no fault of theirs passes for an answer.
+//! function of the bytes read, if readers and writer tell them, and that a fault of a reader or a writer never ends as
+//! an answer.
 #![tactic(auto)]
 
 mod commands;

@@ -1,4 +1,4 @@
-//! What a run says besides its output, a line each.
+//! What a run says besides its output, each on a line of its own.
 
 /// The message of a reader that failed.
 pub const READ_FAULT: &[u8] = b"bibkeep: read fault\n";

@@ -1,4 +1,4 @@
-//! A session over a file and its journal: how it is opened, why none is, and what is left of one.
+//! A session over a file and its journal: how it is opened, why none is opened, and what a session leaves.
 
 ghost use Rattle.std.specs.Prelude.{◌≡◌, true, Option, None, IfOk, IfErr, option_map};
 ghost use Rattle.bib_spec.specs.Text.{Text as FileText};
@@ -15,8 +15,8 @@ use bib_store::Paged;
 use bib_words::status;
 use std::alloc::{AllocError, Global};
 
-/// Opens the file with its journal. With `--new-journal` it is opened as a file to which nothing was done, if the journal is
-/// unfit; a copy of the file is made then.
+/// Opens the file with its journal. With `--new-journal` it makes a copy of the file, and leaves out a journal that is
+/// unfit: the session has no steps then.
 pub fn open_with(
     alloc: Global,
     file: Vec<u8>,
@@ -35,7 +35,7 @@ pub fn open_with(
     }
 }
 
-/// Opens the file as one to which nothing was done, if its journal is at fault.
+/// Opens the file without its journal, as a file without steps, if the journal is at fault.
 fn open_anew(
     alloc: Global,
     file: Vec<u8>,
@@ -60,7 +60,7 @@ fn is_of_journal(fault: SessionFault) -> bool
     }
 }
 
-/// Nothing is output, and the message says why no session is opened; want of memory is no answer.
+/// The answer when no session is opened: no output, and the message says why. Want of memory is no answer.
 pub fn unopened(alloc: Global, fault: SessionFault) -> Result<Answer, AllocError>
     ensures { IfOk result (λ answer. (file : FileText) (journal : Option FileText) → RefusesOpen fault file journal → IsUnopenedAnswer file journal answer) }
 {
@@ -75,7 +75,8 @@ pub fn unopened(alloc: Global, fault: SessionFault) -> Result<Answer, AllocError
     }
 }
 
-/// What so many changes leave: the file and its journal, if there was a change or nothing stopped it.
+/// The outcome after `done` changes: file and journal are stored. If something stopped the changes, the message says
+/// what; then nothing is stored if there was no change.
 pub fn outcome_left(alloc: Global, done: usize, message: Option<Text>, saved: Saved) -> Outcome
     ensures { result ≡ outcome_left done message saved }
 {
@@ -96,7 +97,7 @@ pub fn outcome_left(alloc: Global, done: usize, message: Option<Text>, saved: Sa
     }
 }
 
-/// `bibkeep: 53 BadJournal at P`, a line.
+/// The line `bibkeep: 53 BadJournal at P`.
 fn bad_journal_line(alloc: Global, place: usize) -> Result<Text, AllocError>
     ensures { IfOk result (λ line. line ≡ bad_journal_line place) }
 {
@@ -104,7 +105,7 @@ fn bad_journal_line(alloc: Global, place: usize) -> Result<Text, AllocError>
     Ok(Text::from_vec(line.into_bytes()))
 }
 
-/// `bibkeep: N Name`, a line.
+/// The line `bibkeep: N Name`.
 pub fn fault_line(alloc: Global, fault: SessionFault) -> Result<Text, AllocError>
     ensures { IfOk result (λ line. line ≡ fault_line fault) }
 {
@@ -114,7 +115,7 @@ pub fn fault_line(alloc: Global, fault: SessionFault) -> Result<Text, AllocError
     Ok(Text::from_vec(line.into_bytes()))
 }
 
-/// What is said of a refusal, if there is one.
+/// The message of a refusal, if there is one.
 pub fn message_of(alloc: Global, fault: Option<SessionFault>) -> Result<Option<Text>, AllocError>
     ensures { IfOk result (λ message. message ≡ option_map fault_line fault) }
 {

@@ -7,7 +7,7 @@ ghost use Rattle.bib_run.specs.Transfers.{WritesPrefix};
 use crate::Tap;
 use std::io::Write;
 
-/// Writes until the sink took all bytes, and says whether it did. An interrupted call is made again.
+/// Writes until the sink took all bytes, and says whether it did. It makes an interrupted call again.
 pub fn write_whole<W: Write>(sink: &mut Tap<W>, bytes: &[u8]) -> bool
     ensures written { WritesPrefix (W.contents (tap_inner sink.old)) (W.contents (tap_inner sink.new))
         bytes.now result }

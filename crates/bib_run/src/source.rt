@@ -24,10 +24,10 @@ impl From<AllocError> for SourceFault {
     }
 }
 
-/// How many bytes one call asks for at most.
+/// One call reads at most this many bytes.
 const CHUNK: usize = 65_536;
 
-/// Reads to the end of the source, or until it gave `most` bytes. An interrupted call is made again.
+/// Reads to the end of the source, or until it gave `most` bytes. It makes an interrupted call again.
 pub fn read_up_to<R: Read>(
     alloc: Global,
     source: &mut Tap<R>,

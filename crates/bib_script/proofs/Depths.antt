@@ -12,7 +12,7 @@ use Rattle.bib_data.specs.declared.request.Request.TheVariants as request
 use Rattle.history_spec.specs.Steps.{label_of}
 use Rattle.bib_script.specs.Script.{number_of, fields_of, new_entry, set_of, drop_of, add_of, remove_of, move_of, rename_key_of, rename_macro_of, inline_of, introduce_of, depth_of, regenerate_of, renaming_of, edit_of, group_of, end_of, request_of}
 
--- the edit, if there is one, asks for such a depth
+-- the edit, if there is one, has a depth of 1 to 8, or none
 abbrev Fits : Option Edit → Type 0
 Fits edit = IfSome edit HasDepth
 
@@ -124,7 +124,7 @@ edit-fits (verb ∷ words) =
     (either (bytes_eq verb (codes "remove")) _ _ (remove-fits words)
     (either (bytes_eq verb (codes "move")) _ _ (move-fits words) (renaming-fits verb words)))))
 
--- ---- what a line asks for
+-- ---- the request of a line
 
 abbrev Asks : Option Request → Type 0
 Asks asked = IfSome asked AsksWithDepth
@@ -156,6 +156,6 @@ request-asks (verb ∷ words) =
     either-asks (bytes_eq verb (codes "group")) _ _ (group-asks words)
     (either-asks (bytes_eq verb (codes "end")) _ _ (end-asks words) (edit-asks (edit_of (verb ∷ words)) (edit-fits (verb ∷ words))))
 
--- what a line asks for
+-- the request of a line has a depth of 1 to 8, or none
 pub said-asks : (words : List Text) (asked : Request) → request_of words ≡ Some asked → AsksWithDepth asked
 said-asks words asked is = subst (λ (o : Option Request). IfSome o AsksWithDepth) is (request-asks words)

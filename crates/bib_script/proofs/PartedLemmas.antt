@@ -1,4 +1,4 @@
--- Texts between bytes that part them, cut off one by one.
+-- Texts between bytes that separate them, cut off one by one.
 use Rattle.std.proofs.Common.{◌≡◌, ℕ, suc, ◌+◌, ◌-◌, ◌≤◌, ◌<◌, ◌==◌, not, true, false, List, [], ◌∷◌, ◌++◌, length, take, drop, get_or, map, refl, sym, ◌∙◌, ap, arith, inl, inr}
 use Rattle.std.proofs.lemmas.List.{length-drop, map-append, append_assoc, take_all, take_more}
 use Rattle.std.proofs.lemmas.Bool.{cases_Bool}
@@ -10,18 +10,18 @@ use Rattle.bib_spec.specs.Text.{Text}
 use Rattle.bib_spec.specs.Texts.{onto_first}
 use Rattle.bib_script.specs.Parting.{parted, without_return, as_lines}
 
--- how many bytes stand before the first of this kind, or before the end
+-- how many bytes are before the first of this kind, or before the end
 abbrev pub len_before : ℕ → Text → ℕ
 len_before byte t = prefix_len (λ b. not (b == byte)) t
 
--- the byte is the first, or stands after the first
+-- the byte is the first, or comes after the first
 at_once : (byte b : ℕ) (t : Text) → (b == byte) ≡ true → (len_before byte (b ∷ t) ≡ 0) × (parted byte (b ∷ t) ≡ [] ∷ parted byte t)
 at_once byte b t is = (rw is refl, rw is refl)
 
 later : (byte b : ℕ) (t : Text) → (b == byte) ≡ false → (len_before byte (b ∷ t) ≡ suc (len_before byte t)) × (parted byte (b ∷ t) ≡ onto_first b (parted byte t))
 later byte b t is = (rw is (omega arith), rw is refl)
 
--- a text in which the byte stands: what is before it, and what parts the rest
+-- a text with the byte: the text before it, and what the rest is parted into
 pub parted_before : (byte : ℕ) (t : Text) (b : ℕ) (rest : Text) → drop (len_before byte t) t ≡ b ∷ rest → parted byte t ≡ take (len_before byte t) t ∷ parted byte rest
 parted_before byte [] b rest e = cc
 parted_before byte (c ∷ t) b rest e =
@@ -37,7 +37,7 @@ parted_before byte (c ∷ t) b rest e =
           there.1 ∙ ap (onto_first c) (parted_before byte t b rest after) ∙ ap (λ n. take n (c ∷ t) ∷ parted byte rest) (sym there.0)
     ]
 
--- a text in which the byte does not stand
+-- a text without the byte
 pub parted_last : (byte : ℕ) (t : Text) → drop (len_before byte t) t ≡ [] → parted byte t ≡ take (len_before byte t) t ∷ []
 parted_last byte [] e = refl
 parted_last byte (c ∷ t) e =
@@ -53,7 +53,7 @@ split_front : (t : Text) → 0 < length t → t ≡ get_or t 0 0 ∷ drop 1 t
 split_front [] h = absurd (omega (arith, h))
 split_front (b ∷ t) h = refl
 
--- what a text in which the byte stands is parted into: what is before it, and what parts the rest
+-- what a text with the byte is parted into: the text before it, and what the rest is parted into
 pub parted_more : (byte : ℕ) (t word after : Text) → word ≡ take (len_before byte t) t → after ≡ drop (len_before byte t) t → 1 ≤ length after
     → parted byte t ≡ word ∷ parted byte (take (length after - 1) (drop 1 after))
 parted_more byte t word after front back some =

@@ -10,7 +10,7 @@ use Rattle.bib_script.specs.Script.{Said, said, nothing_said, said_first, said_b
 abbrev pub before : List Request → List ℕ → Said → Said
 before requests lines rest = said (requests ++ rest.requests) (lines ++ rest.lines) rest.bad_line
 
--- what the script says: so much, and what the rest says, after so many lines
+-- the script says these requests on these lines, and then what the rest says, after its first `number` lines
 abbrev pub SaysOn : Said → List Request → List ℕ → ℕ → Text → Type 0
 SaysOn all requests lines number rest = before requests lines (said_by (suc number) (lines_of rest)) ≡ all
 
@@ -25,7 +25,7 @@ asked_says : (number : ℕ) (line : Text) (others : List Text) (asked : Request)
 asked_says number [] others asked some says = absurd (omega (arith, some))
 asked_says number (b ∷ line) others asked some says = rw says refl
 
--- a line that asks for something
+-- a line that is a request
 pub says_asked : (all : Said) (requests requests' : List Request) (lines lines' : List ℕ) (number : ℕ) (text line rest : Text) (asked : Request) → SaysOn all requests lines number text
     → lines_of text ≡ line ∷ lines_of rest → 0 < length line → request_of (words_of line) ≡ Some asked → requests' ≡ requests ++ asked ∷ [] → lines' ≡ lines ++ suc number ∷ []
     → SaysOn all requests' lines' (suc number) rest
@@ -45,7 +45,7 @@ before_nothing : (requests : List Request) (lines : List ℕ) (bad_line : Option
 before_nothing requests lines bad_line =
     ap (λ (es : List Request). said es lines bad_line) (sym (append-nil requests)) ∙ ap (λ (ls : List ℕ). said (requests ++ []) ls bad_line) (sym (append-nil lines))
 
--- a line that says none
+-- a line that is no request
 pub says_none : (all : Said) (requests : List Request) (lines : List ℕ) (number : ℕ) (text line rest : Text) → SaysOn all requests lines number text
     → lines_of text ≡ line ∷ lines_of rest → 0 < length line → request_of (words_of line) ≡ None → said requests lines (Some (suc number)) ≡ all
 says_none all requests lines number text line rest so_far first some says =

@@ -16,6 +16,7 @@ use Rattle.bib_script.specs.Parting.{words_of, lines_of}
 
 -- ---- numbers
 
+-- the number that one more digit makes of a number
 abbrev pub with_digit : ℕ → ℕ → ℕ
 with_digit n digit = n * 10 + (digit - 48)
 
@@ -41,6 +42,7 @@ abbrev pub drop_of : List Text → Option Edit
 drop_of (key ∷ field ∷ []) = Some (DropField key field)
 drop_of _ = None
 
+-- the entry with this type, this key and these fields
 abbrev pub new_entry : Text → Text → List (Text × Text) → NewEntry
 new_entry kind_name key fields = record { kind_name = kind_name; key = key; fields = fields }
 
@@ -132,23 +134,26 @@ request_of (verb ∷ words) =
 
 -- ---- lines
 
--- what a script says: what it asks for, in order, the number of the line of each, counted from 1, and the line that says
--- nothing that can be asked for, at which it ends, if there is one
+-- What a script says: its requests, in order; for each the number of its line, counted from 1; and the number of the line that
+-- is no request, at which reading ends, if there is one.
 pub record Said : Type 0 where
   pub requests : List Request
   pub lines : List ℕ
   pub bad_line : Option ℕ
 
+-- a script says these requests, on these lines, and has this bad line, if any
 abbrev pub said : List Request → List ℕ → Option ℕ → Said
 said requests lines bad_line = record { requests = requests; lines = lines; bad_line = bad_line }
 
+-- a script says no request, and has this bad line, if any
 abbrev pub nothing_said : Option ℕ → Said
 nothing_said bad_line = said [] [] bad_line
 
+-- a script says this request on this line, and then what the rest says
 abbrev pub said_first : ℕ → Request → Said → Said
 said_first line request rest = said (request ∷ rest.requests) (line ∷ rest.lines) rest.bad_line
 
--- what the lines say, where the first has this number; an empty line says nothing
+-- what the lines say, if the first of them has this number; an empty line says nothing
 abbrev pub said_by : ℕ → List Text → Said
 said_by n [] = nothing_said None
 said_by n (line ∷ lines) =

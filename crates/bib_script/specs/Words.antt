@@ -20,12 +20,12 @@ spaced (word ∷ words) = word ++ flat_map (λ next. space ∷ next) words
 abbrev pub continues : ℕ → Bool
 continues b = nat_le 128 b && nat_lt b 192
 
--- how much of a text is kept where at most so many bytes are: no character is cut
+-- the greatest length, up to `most`, to which a text can be shortened without cutting a character
 unfoldable pub kept_len : ℕ → Text → ℕ
 kept_len zero text = zero
 kept_len (suc most) text = if continues (slice_index_or text (suc most) 0) then kept_len most text else suc most
 
--- a byte as a label shows it: a space stands for a control byte of ASCII
+-- a byte as a label shows it: a control byte of ASCII becomes a space
 abbrev pub shown_byte : ℕ → ℕ
 shown_byte b = if is_label_byte b then b else space
 

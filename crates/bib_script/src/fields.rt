@@ -14,7 +14,7 @@ pub(crate) fn copied(alloc: Global, word: &[u8]) -> Result<Text, AllocError>
     Ok(Seq::from_vec(word.to_vec(alloc)?))
 }
 
-/// Puts a field of this name and this value after the others.
+/// Adds a field with this name and this value.
 fn push_field(
     alloc: Global,
     fields: &mut Vec<(Text, Text)>,

@@ -1,6 +1,6 @@
-//! Reads scripts: lines of words, of which each says one edit; and the words of one edit by themselves. It knows the words of
-//! each edit, and not what an edit means or whether it is refused. It promises the edits that the lines or the words say, up to
-//! the first line that says none.
+//! Reads scripts, whose lines say one edit each, in words; and the words of one edit by themselves. It knows the words
+//! of each edit, and not what an edit means or whether it is refused. It promises the edits that the lines or the words
+//! say, up to the first line that says none.
 #![tactic(auto)]
 
 mod fields;

@@ -8,7 +8,7 @@ ghost use Rattle.bib_script.specs.Parting.{words_of, without_return, lines_of};
 use bib_text::Seq;
 use std::alloc::{AllocError, Global};
 
-/// How many bytes stand before the first line feed, or before the end.
+/// How many bytes are before the first line feed, or before the end if there is none.
 fn line_len(text: &[u8]) -> usize
     ensures len { result ≡ prefix_len (λ b. not (b == line_feed)) text.now }
     ensures within { result ≤ length text.now }
@@ -16,7 +16,7 @@ fn line_len(text: &[u8]) -> usize
     text.iter().take_while(|b| **b != b'\n').count()
 }
 
-/// How many bytes stand before the first tab, or before the end.
+/// How many bytes are before the first tab, or before the end if there is none.
 fn word_len(line: &[u8]) -> usize
     ensures len { result ≡ prefix_len (λ b. not (b == tab)) line.now }
     ensures within { result ≤ length line.now }
@@ -24,7 +24,7 @@ fn word_len(line: &[u8]) -> usize
     line.iter().take_while(|b| **b != b'\t').count()
 }
 
-/// The words of a line, parted by tabs.
+/// The words of a line, separated by tabs.
 pub(crate) fn words_of(alloc: Global, line: &[u8]) -> Result<Seq<&[u8]>, AllocError>
     ensures { IfOk result (λ words. map (λ w. w.now) words ≡ words_of line.now) }
 {

@@ -12,8 +12,8 @@ use bib_text::Seq;
 use std::alloc::{AllocError, Global};
 use std::marker::Model;
 
-/// What a script says: what it asks for, in order, the number of the line of each, counted from 1, and the
-/// first line that says no edit, at which it ends, if there is one.
+/// What a script says: its requests, in order; for each the number of its line, counted from 1; and the number of the
+/// first line that is no request, at which reading ends, if there is one.
 #[derive(Debug, Drop)]
 pub struct Script {
     pub requests: Seq<Request>,
@@ -40,14 +40,14 @@ fn said(requests: Vec<Request>, lines: Vec<usize>, bad_line: Option<usize>) -> S
     }
 }
 
-/// What a line asks for, if it asks for something.
+/// The request of a line, if the line is one.
 fn request_on(alloc: Global, line: &[u8]) -> Result<Option<Request>, AllocError>
     ensures { IfOk result (λ asked. asked ≡ request_of (words_of line.now)) }
 {
     request_of(alloc, words_of(alloc, line)?.as_slice())
 }
 
-/// Puts a request after those that are there, and the number of its line after theirs.
+/// Adds a request, and the number of its line.
 fn push_request(
     requests: &mut Vec<Request>,
     lines: &mut Vec<usize>,
@@ -62,10 +62,9 @@ fn push_request(
     Ok(())
 }
 
-/// Reads a script: each line is words parted by tabs, and says an edit, or that a step of several edits begins or ends; an empty line says
-/// nothing and is counted. A
-/// carriage return before a line feed is dropped, and the last line may lack its line feed. It takes time in the
-/// length of the script, and memory for what it asks for. (dialect)
+/// Reads a script: each line is words separated by tabs, and says an edit, or that a step of several edits begins or
+/// ends. An empty line says nothing, but is counted. A carriage return before a line feed is dropped, and the last line
+/// may lack its line feed. It takes time in the length of the script, and memory for the requests. (dialect)
 pub fn read_script(alloc: Global, script: &[u8]) -> Result<Script, AllocError>
     ensures said { IfOk result (λ said. said ≡ said_of script.now) }
     ensures depths { IfOk result (λ said. All AsksWithDepth said.requests) }

@@ -10,8 +10,8 @@ use bib_data::{Edit, Label, Request};
 use bib_text::{Seq, Text};
 use std::alloc::{AllocError, Global};
 
-/// Reads the words of one edit, as a line of a script has them, but each with any bytes. They ask for a step of that edit, whose
-/// label they are. The begin and the end of a step are no edit. (dialect)
+/// Reads the words of one edit, as a line of a script has them, except that a word may have any bytes. They ask for a
+/// step of that edit, with the words as its label. The begin and the end of a step are no edit. (dialect)
 pub fn read_words(alloc: Global, words: &[Text]) -> Result<Option<Seq<Request>>, AllocError>
     ensures said { IfOk result (λ asked. asked ≡ asked_by_words words.now) }
     ensures depths { IfOk result (λ asked. IfSome asked (All AsksWithDepth)) }
@@ -37,7 +37,7 @@ fn step_of(alloc: Global, label: Label, edit: Edit) -> Result<Seq<Request>, Allo
     Ok(Seq::from_vec(requests))
 }
 
-/// The words, lent.
+/// The words as slices.
 fn slices(alloc: Global, words: &[Text]) -> Result<Vec<&[u8]>, AllocError>
     ensures { IfOk result (λ slices. map (λ w. w.now) slices.items ≡ words.now) }
 {

@@ -9,7 +9,7 @@ use crate::numbers::number_of;
 use bib_data::{Edit, Label, NewEntry, Request};
 use std::alloc::{AllocError, Global};
 
-/// How far records reach where a line does not say it: to the parents alone.
+/// The depth of records if a line does not say it: parents only.
 const DEFAULT_DEPTH: u8 = 1;
 
 /// Whether the word is this verb, byte for byte.
@@ -205,7 +205,7 @@ fn renaming_of(alloc: Global, verb: &[u8], words: &[&[u8]]) -> Result<Option<Edi
     }
 }
 
-/// The edit that words say, as those of a line.
+/// The edit that words say, as a line of a script has them.
 pub(crate) fn edit_of(alloc: Global, words: &[&[u8]]) -> Result<Option<Edit>, AllocError>
     ensures { IfOk result (λ edit. edit ≡ edit_of (map (λ w. w.now) words.now)) }
 {
@@ -251,7 +251,7 @@ fn end_of(words: &[&[u8]]) -> Option<Request>
     }
 }
 
-/// The edit that a line's words say, asked for.
+/// The edit that a line's words say, as a request.
 fn edit_asked(alloc: Global, words: &[&[u8]]) -> Result<Option<Request>, AllocError>
     ensures { IfOk result (λ asked. asked ≡ option_map request.Edit (edit_of (map (λ w. w.now) words.now))) }
 {

@@ -5,7 +5,7 @@ use Rattle.std.specs.declared.io.Error.{Error}
 use Rattle.bib_taps.specs.Interruptions.{is_interruption}
 use Rattle.bib_taps.specs.declared.taps.Tap.{Tap}
 
--- how often calls may be interrupted before that counts as a fault (dialect)
+-- calls may be interrupted this often; the next interruption is a fault (dialect)
 abbrev pub interruption_limit : ℕ
 interruption_limit = 100
 
@@ -21,7 +21,7 @@ interruptions t = t.interruptions
 abbrev pub has_failed : {T : Type 0} → Tap T → Bool
 has_failed t = t.failed
 
--- the call left count and fault as they were
+-- the call changed neither count nor fault
 pub record IsQuiet {T : Type 0} (old new : Tap T) : Type 0 where
   pub count : interruptions new ≡ interruptions old
   pub fault : has_failed new ≡ has_failed old
@@ -35,7 +35,7 @@ pub record NotesError {T : Type 0} (old new : Tap T) (e : Error) : Type 0 where
 abbrev pub Notes : {T X : Type 0} → Tap T → Tap T → Result X Error → Type 0
 Notes old new r = MatchResult r (λ _. IsQuiet old new) (NotesError old new)
 
--- a write that was offered so many bytes took some of them: to take none of some is a fault
+-- a write took `taken` of `offered` bytes: it is a fault if it was offered some and took none
 pub record NotesTaken {T : Type 0} (old new : Tap T) (offered taken : ℕ) : Type 0 where
   pub count : interruptions new ≡ interruptions old
   pub fault : has_failed new ≡ (has_failed old || (taken == 0 && nat_lt 0 offered))

@@ -9,7 +9,7 @@ ghost use Rattle.bib_taps.specs.Interruptions.{is_interruption};
 use std::io;
 use std::io::{ErrorKind, Read, Write};
 
-/// How often calls may be interrupted before that counts as a fault.
+/// Calls may be interrupted this often; the next interruption is a fault.
 const INTERRUPTION_LIMIT: u8 = 100;
 
 /// A reader or a writer. It has failed once a call on it gave an error other than `Interrupted`, or its 101st
@@ -25,7 +25,7 @@ impl<T> Tap<T> {
     ghost use Rattle.std.specs.Prelude.{false};
     ghost use Rattle.bib_taps.specs.Taps.{tap_inner, interruptions, has_failed, NotesError};
 
-    /// A tap that was not called yet.
+    /// A tap on which no call was made yet.
     pub fn new(inner: T) -> Self
         ensures inner { tap_inner result ≡ inner }
         ensures count { interruptions result ≡ 0 }
@@ -45,7 +45,7 @@ impl<T> Tap<T> {
         self.failed
     }
 
-    /// The reader or writer again.
+    /// The reader or writer, given back.
     pub fn into_inner(self) -> T
         ensures { result ≡ tap_inner self }
     {

@@ -1,11 +1,11 @@
-//! A flush, which no contract can tell from none.
+//! A flush, since no contract can say whether one was made.
 
 use bib_taps::Tap;
 use std::io;
 use std::io::{ErrorKind, Write};
 use std::test::Fail;
 
-/// Takes nothing, and counts how often it is flushed.
+/// A writer that takes no byte, and counts its flushes.
 #[derive(Drop)]
 struct Shut {
     flushes: u32,

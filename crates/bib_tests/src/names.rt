@@ -20,7 +20,7 @@ fn number<T: Drop>(answer: Result<T, NameFault>) -> u16 {
     }
 }
 
-/// A template, a name, and what is printed of it.
+/// A template, a name, and the print of the name.
 #[derive(Clone, Copy)]
 struct Printed<'a> {
     name: &'a str,
@@ -129,7 +129,7 @@ fn a_list_is_cut_at_each_and(rt: HostRuntime) -> Result<(), Fail> {
     Ok(())
 }
 
-/// Whether these are the words, by what stands before each, its place and its text.
+/// Whether these are the words, by the separator before each, its place and its text.
 fn are_words(words: &[Word<'_>], expected: &[(u8, usize, &[u8])]) -> bool {
     words.len() == expected.len()
         && words.iter().zip(expected).all(|(word, (sep, at, text))| word.sep == *sep
@@ -341,7 +341,7 @@ fn long_list(alloc: Global) -> Result<Vec<u8>, AllocError> {
     Ok(list)
 }
 
-/// Whether the list has so many names, and so many first names and words of von in the last of them.
+/// Whether these are the counts of the names in the list, and of the words of First and of von in the last name.
 fn ends_in(alloc: Global, list: &[u8], counts: (usize, usize, usize)) -> Result<bool, NameFault> {
     let names = split_names(alloc, list)?;
     let Some(last) = names.as_slice().last() else {

@@ -36,14 +36,14 @@ const ACCEPTED: &[(&[u8], usize)] = &[
 ];
 
 const REFUSED: &[(&[u8], u8, usize)] = &[
-    // where no value goes on
+    // faults inside a value
     (b"@misc{a, t = \"x}y\"}", 6, 15),
     (b"@misc{a, t {x}}", 3, 11),
     (b"@misc{a, t = }", 5, 13),
     (b"@misc{a, t = {x}", 1, 16),
     (b"@misc{a, t = 1a}", 4, 14),
     (b"@misc{a, t = \"x\" #}", 5, 18),
-    // where no entry goes on
+    // other faults inside an item
     (b"@misc{a b}", 4, 8),
     (b"@misc{a,,}", 2, 8),
     (b"@misc(a)", 1, 8),
@@ -62,7 +62,7 @@ fn files_are_read_or_refused_at_a_place(rt: HostRuntime) {
     }
 }
 
-/// The texts joined, the middle one so many times.
+/// The front, then the byte `middle` `count` times, then the end.
 fn joined(
     alloc: Global,
     front: &[u8],
@@ -78,7 +78,7 @@ fn joined(
     Ok(text)
 }
 
-/// A file with one byte many times, and what comes of it.
+/// A file with one byte many times, and what reading it gives.
 #[derive(Clone, Copy)]
 struct Long<'a> {
     name: &'a str,
@@ -165,7 +165,7 @@ fn names_keys_and_files_have_limits(rt: HostRuntime) -> Result<(), Fail> {
     Ok(())
 }
 
-/// So many braces that are opened and closed inside one another in a value, and then the end.
+/// What reading gives for a value with braces nested `depth` deep, and then the end.
 fn answer_to_nested(alloc: Global, depth: usize, end: &[u8]) -> Result<Outcome, AllocError> {
     let closing = joined(alloc, b"", b'}', depth, end)?;
     let bytes = joined(alloc, b"@misc{a,t=", b'{', depth, closing.as_slice())?;
@@ -199,7 +199,8 @@ fn items_are_read_one_by_one_up_to_a_fault(rt: HostRuntime) -> Result<(), Fail> 
     Ok(())
 }
 
-/// An entry in whose value so many bytes stand before, between and after braces.
+/// What reading gives for an entry whose value has `apart` bytes before, between and after its braces, and the length
+/// of the file.
 fn answer_to_apart(
     alloc: Global,
     apart: usize,

@@ -5,7 +5,7 @@ use bib_value::{Macros, ValueFault, field_text, raw_len, raw_text};
 use std::alloc::Global;
 use std::test::Fail;
 
-/// The raw text of a value, in the definition of a macro if one is named.
+/// The raw text of a value, in the definition of a macro if a macro is named.
 fn said(
     alloc: Global,
     bytes: &[u8],
@@ -16,7 +16,7 @@ fn said(
     Ok(raw_text(alloc, &parts, bytes, macros, own))
 }
 
-/// Whether it is this text.
+/// Whether the result is this text.
 fn says(
     alloc: Global,
     bytes: &[u8],
@@ -28,7 +28,7 @@ fn says(
     Ok(said.as_slice() == text)
 }
 
-/// The macros, where this name stands for the text now.
+/// Defines a macro as this text, if the name and the text are allowed.
 fn define(macros: &mut Macros, name: &[u8], text: &[u8]) -> Result<(), ValueFault> {
     if is_name(name) && text.len() <= 1_048_576 {
         macros.define(name, text)?;
@@ -43,9 +43,9 @@ fn stands_for(macros: &Macros, name: &[u8], text: &[u8]) -> bool {
     }
 }
 
-/// A value, in the definition of a macro if one is named, and what it says beside the months.
+/// A value, in the definition of a macro if a macro is named, and its text if the only macros are the months.
 const SAID: &[(&[u8], Option<&[u8]>, &[u8])] = &[
-    // parts are joined as they stand
+    // parts are joined unchanged
     (b"\"a\" # { b} # 12 # Mar # none", None, b"a b12March"),
     // a macro gives nothing in its own definition
     (b"jan # { x} # JAN", Some(b"Jan"), b" x"),
@@ -60,7 +60,7 @@ fn are_said(alloc: Global, macros: &Macros) -> Result<bool, Fail> {
     Ok(true)
 }
 
-/// Whether names stand for what they were defined as last.
+/// Whether names stand for their last definition.
 fn are_replaced(macros: &mut Macros) -> Result<bool, ValueFault> {
     define(macros, b"p", b"x")?;
     let are_apart = stands_for(macros, b"P", b"x")
@@ -70,7 +70,7 @@ fn are_replaced(macros: &mut Macros) -> Result<bool, ValueFault> {
     Ok(are_apart && stands_for(macros, b"mar", b"3"))
 }
 
-/// Macros, each of which stands for the text of the one before twice, and their values.
+/// Macros and their values: each stands for the text of the macro before it twice.
 const DOUBLED: &[(&[u8], &[u8])] = &[
     (b"m1", b"m0 # m0"),
     (b"m2", b"m1 # m1"),
@@ -94,7 +94,7 @@ const DOUBLED: &[(&[u8], &[u8])] = &[
     (b"m20", b"m19 # m19"),
 ];
 
-/// Lets the macro `m0` stand for `x`, and each one after it for the text of the one before twice.
+/// Defines the macro `m0` as `x`, and each macro after it as the text of the macro before it twice.
 fn double_all(alloc: Global, macros: &mut Macros) -> Result<(), Fail> {
     define(macros, b"m0", b"x")?;
     for (name, value) in DOUBLED {
@@ -110,12 +110,12 @@ fn len_of(alloc: Global, bytes: &[u8], macros: &Macros) -> Result<u32, ReadFault
     Ok(raw_len(&parts, bytes, macros, None))
 }
 
-/// Whether it is `x` so many times.
+/// Whether the text is `x` `count` times.
 fn is_all_x(text: &[u8], count: usize) -> bool {
     text.len() == count && text.iter().all(|byte| *byte == b'x')
 }
 
-/// Whether a text may have 1,048,576 bytes and no more.
+/// Whether a text may have 1,048,576 bytes, and not one more.
 fn is_limited(alloc: Global, macros: &mut Macros) -> Result<bool, Fail> {
     double_all(alloc, macros)?;
     let full = said(alloc, b"m19 # m19", macros, None)??;

@@ -7,7 +7,7 @@ use bib_scan::{
 use std::alloc::Global;
 use std::test::Fail;
 
-/// What is to be seen of an item.
+/// What the example expects to see of an item.
 #[derive(Clone, Copy)]
 struct Seen<'a> {
     kind: Kind,

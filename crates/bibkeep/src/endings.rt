@@ -1,4 +1,4 @@
-//! What the user is told at the end, and the status to end with.
+//! What the program says at the end, and the status with which it ends.
 
 ghost use Rattle.std.specs.Prelude.{◌≡◌, ◌≢◌, ◌⊎◌};
 ghost use Rattle.bib_taps.specs.Taps.{tap_inner, has_failed};
@@ -10,10 +10,10 @@ use bib_words::status;
 use std::io;
 use std::io::{ErrorKind, Write};
 
-/// What is said of want of memory.
+/// The message of want of memory.
 const MEMORY: &[u8] = b"bibkeep: 10 Memory\n";
 
-/// Says this on standard error, and gives the status back. A fault there can be told nowhere.
+/// Writes this to standard error, and returns the status. There is nowhere to report a fault of standard error.
 pub fn end<E: Write>(errors: &mut Tap<E>, text: &[u8], status: u8) -> u8
     ensures status { result ≡ status }
     ensures told { Tells (E.contents (tap_inner errors.old)) (E.contents (tap_inner errors.new)) text.now (has_failed errors.new) }
@@ -22,7 +22,7 @@ pub fn end<E: Write>(errors: &mut Tap<E>, text: &[u8], status: u8) -> u8
     status
 }
 
-/// The words could not be had: memory ran out, or they are not UTF-8.
+/// The words of the command line could not be read: memory ran out, or they are not UTF-8.
 pub fn end_without_words<E: Write>(errors: &mut Tap<E>, error: &io::Error) -> u8
     ensures { (result ≡ 2) ⊎ (result ≡ 4) }
 {
@@ -46,7 +46,7 @@ pub fn end_unopened<E: Write>(errors: &mut Tap<E>, error: &io::Error) -> u8
     end(errors, READ_FAULT, status::FAULT)
 }
 
-/// There is no command with so many words.
+/// No command has this many words.
 pub fn end_unknown<E: Write>(errors: &mut Tap<E>) -> u8
     ensures { result ≡ 2 }
 {

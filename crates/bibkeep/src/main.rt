@@ -28,7 +28,7 @@ fn main(rt: HostRuntime) -> ExitCode {
     ExitCode::from(answer_words(&rt, rt.alloc()))
 }
 
-/// Does what the words ask for, and gives the status to end with.
+/// Does what the words say, and returns the status to end with.
 fn answer_words(rt: &HostRuntime, alloc: Global) -> u8 {
     let words = match env::args(rt) {
         Ok(words) => words,
@@ -48,8 +48,8 @@ fn answer_words(rt: &HostRuntime, alloc: Global) -> u8 {
     }
 }
 
-/// Runs the command over the file that it names and its journal, or over standard input if it names no file; `explain` reads
-/// neither. What is new is put in its place.
+/// Runs the command over the file that it names and its journal, or over standard input if it names no file; `explain`
+/// reads neither. What is new is put in its place.
 fn perform(rt: &HostRuntime, alloc: Global, command: &Command) -> u8
     requires { IsCommand command.now }
     ensures { EndsFor command.now result }
@@ -97,8 +97,8 @@ fn run_opened(
     finish(rt, alloc, path, &outcome).status
 }
 
-/// Opens the file, and its journal where there is one and the command reads it. Where standard input is closed, the file
-/// takes its number: then it would be read as the input too.
+/// Opens the file, and its journal if there is one and the command reads it. If standard input is closed, the file gets
+/// the number of standard input. Then it would be read as the input too, so a command that takes input fails.
 fn open(
     rt: &HostRuntime,
     alloc: Global,
@@ -130,7 +130,7 @@ struct Finished<'a> {
     stored: Stored<'a>,
 }
 
-/// Says how the run over this file ended, and puts the new file and the new journal in their places, if there are such.
+/// Says how the run over this file ended, and puts the new file and the new journal, if there are any, in their places.
 fn finish<'a>(rt: &HostRuntime, alloc: Global, path: &str, outcome: &'a Outcome) -> Finished<'a>
     ensures { IsFinished outcome.now result.status (option_copied result.stored.put.file) (option_copied result.stored.put.journal) }
 {
@@ -179,7 +179,7 @@ where
     )
 }
 
-/// A new tap over what there is.
+/// A new tap over the source, if there is one.
 fn over<J: Read>(source: Option<J>) -> Option<Tap<J>>
 where
     J: Drop,

@@ -12,7 +12,8 @@ use std::io::{ErrorKind, Write};
 use std::string::String;
 use std::{fs, io};
 
-/// The journal of a file stands beside it; where the path is a symbolic link, beside the file that it points to.
+/// The path of a file's journal: beside the file, or if the path is a symbolic link, beside the file that the link
+/// points to.
 pub fn journal_path(rt: &HostRuntime, alloc: Global, path: &str) -> io::Result<String> {
     let path = fs::canonicalize(rt, path)?.into_string();
     Ok(format!(in alloc; "{}.bibkeep", path.as_str())?)
@@ -28,7 +29,7 @@ pub struct Left<'a> {
 impl Left<'_> {
     ghost use Rattle.std.specs.Prelude.{◌≡◌, ◌↔◌, IsTrue, None};
 
-    /// Whether nothing is left.
+    /// Whether nothing is to be put in place.
     pub fn is_nothing(&self) -> bool
         ensures { IsTrue result ↔ ((self.now.file ≡ None) × (self.now.journal ≡ None)) }
     {
@@ -36,7 +37,7 @@ impl Left<'_> {
     }
 }
 
-/// What was put in place, which `store` alone can tell.
+/// What was put in place, which only `store` can say.
 #[derive(Clone, Copy, Debug)]
 pub struct Stored<'a> {
     put: Left<'a>,
@@ -59,7 +60,7 @@ impl Stored<'_> {
     }
 }
 
-/// What the outcome of a run leaves.
+/// What the outcome of a run leaves to be put in place.
 pub fn left_by(outcome: &Outcome) -> Left<'_>
     ensures { AreLeft outcome.now (option_copied result.file) (option_copied result.journal) }
 {
@@ -79,9 +80,9 @@ fn bytes_of(text: &Option<Text>) -> Option<&[u8]>
     }
 }
 
-/// Puts the new file and the new journal, where there are such, in the place of the old ones, and gives back what was put
-/// there. Both are written before either is renamed, and each has the permissions of the file. A symbolic link stays, and
-/// what it points to is replaced. Nothing but a file is replaced.
+/// Puts the new file and the new journal, if there are any, in the place of the old ones, and returns what was put
+/// there. Both are written before either is renamed, and each has the permissions of the file. A symbolic link stays,
+/// and the file that it points to is replaced. Only a file is replaced, never a directory or a device.
 pub fn store<'a>(
     rt: &HostRuntime,
     alloc: Global,
@@ -116,7 +117,7 @@ pub fn store<'a>(
     })
 }
 
-/// A file that is written beside the one whose place it is to take, and the bytes that stand in it.
+/// A file that is written beside the file that it is to replace, and its bytes.
 #[derive(Drop)]
 struct New<'a> {
     name: String,
@@ -136,7 +137,7 @@ impl<'a> New<'a> {
         ensures { IfOk result (λ new. new.bytes.now ≡ bytes.now) }
     {
         let name = format!(in alloc; "{}.bibkeep-new", path.as_str())?;
-        // What an earlier run left is no file to write to, be it a link to another one.
+        // What an earlier run left is removed, even if it is a link: its target must not be written to.
         let _ = fs::remove_file(rt, name.as_str());
         let file = File::create_new(rt, name.as_str())?;
         match fill(file, permissions, bytes) {
@@ -166,7 +167,7 @@ fn fill(mut file: File, permissions: Permissions, bytes: &[u8]) -> io::Result<()
     file.sync_all()
 }
 
-/// Writes the new file, if there is one, beside the one that it is to replace.
+/// Writes the new file, if there is one, beside the file that it is to replace.
 fn write_file<'a>(
     rt: &HostRuntime,
     alloc: Global,
@@ -183,8 +184,8 @@ fn write_file<'a>(
     Ok(Some(New::write(rt, alloc, path, permissions, bytes)?))
 }
 
-/// Writes the new journal, if there is one, beside the one that it is to replace. Where that is a symbolic link, it is
-/// what the link points to.
+/// Writes the new journal, if there is one, beside the journal that it is to replace. If the old journal is a symbolic
+/// link, the file that the link points to is replaced.
 fn write_journal<'a>(
     rt: &HostRuntime,
     alloc: Global,
@@ -220,7 +221,7 @@ fn put(rt: &HostRuntime, new: &Option<New<'_>>) -> io::Result<()> {
     }
 }
 
-/// Takes away what was written, if anything was.
+/// Removes what was written, if anything was.
 fn discard(rt: &HostRuntime, new: &Option<New<'_>>) {
     if let Some(new) = new {
         let _ = fs::remove_file(rt, new.name.as_str());

@@ -10,7 +10,7 @@ use bib_store::{Database, Holders, ItemList};
 use std::alloc::{AllocError, Global};
 use std::test::Fail;
 
-/// What is asked: of macros as an item sees them, of a preamble, of an entry, or of the whole file.
+/// A question: about macros as an item sees them, a preamble, an entry, or the whole file.
 enum Question {
     MacroText(usize, &'static [u8]),
     PreambleText(usize),
@@ -24,21 +24,21 @@ enum Question {
     HoldersOf(&'static [u8]),
     PreambleCount,
     ByteCount,
-    /// The first free key of the base `x`, where this one is taken too.
+    /// The first free key of the base `x`, if this key is taken too.
     FreeKey(&'static [u8]),
 }
 
-/// What it is. It is nothing where there is no such entry, item or preamble.
+/// The answer to a question. It is nothing if there is no such entry, item or preamble.
 enum Answer {
     Nothing,
     Text(&'static [u8]),
     Number(usize),
     Truth(bool),
-    /// The first of the entries, and how many there are.
+    /// The first of the entries, and their number.
     Holders(usize, usize),
 }
 
-/// A file, changes that are made one after another, a question, and its answer then.
+/// A file, changes that are made one after another, a question, and its answer after them.
 struct Asked {
     name: &'static str,
     file: &'static [u8],
@@ -538,7 +538,7 @@ impl Example for Asked {
         self.file
     }
 
-    /// Whether the open file answers as the example says, once it is changed.
+    /// Whether the open file answers as the example says, after the changes.
     fn comes_out<L: ItemList>(&self, alloc: Global, db: &mut Database<L>) -> Result<bool, Stop> {
         change(alloc, db, self.changes)?;
         let said = answer_of(alloc, db, &self.question)?;

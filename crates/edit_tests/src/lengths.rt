@@ -85,7 +85,7 @@ fn digits(alloc: Global, count: usize) -> Result<Text, AllocError> {
     Ok(Seq::from_vec(digits))
 }
 
-/// How long the text of the step is that sets so many digits in the place of so many.
+/// How long the text of the step is that replaces `old` digits by `new` digits.
 fn step_len(alloc: Global, old: usize, new: usize) -> Result<u64, AllocError> {
     let pieces = [Piece {
         place: 10,
@@ -95,7 +95,8 @@ fn step_len(alloc: Global, old: usize, new: usize) -> Result<u64, AllocError> {
     Ok(step_text_len(b"", &pieces))
 }
 
-/// Whether the texts of 32 steps are so long together, which may be kept, and with one more, which may not.
+/// Whether the texts of 32 steps together are as long as the example says, which may be kept; and with one step more,
+/// which may not.
 fn are_added_up(alloc: Global) -> Result<bool, Stop> {
     let first = step_len(alloc, 1, DIGITS.count)?;
     let next = step_len(alloc, DIGITS.count, DIGITS.count)?;

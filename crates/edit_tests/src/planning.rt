@@ -69,7 +69,7 @@ fn are_pieces(pieces: &[Piece], changes: &[Change]) -> bool {
         })
 }
 
-/// Whether these are the pieces of the one edit that is asked for.
+/// Whether these are the pieces of the one edit among the requests.
 fn is_planned<L: ItemList>(
     alloc: Global,
     db: &Database<L>,

@@ -7,7 +7,8 @@ use bib_store::{Database, ItemList};
 use std::alloc::Global;
 use std::test::Fail;
 
-/// A file in which `p` stands for `A`, the pieces that let `q` stand for it, which may be refused, and those that lead back.
+/// A file where the macro `p` stands for `A`; the pieces that rename it to `q`, which may be refused; and the pieces
+/// that lead back.
 struct Renaming {
     name: &'static str,
     file: &'static [u8],
@@ -49,7 +50,7 @@ const RENAMINGS: &[Renaming] = &[
     },
 ];
 
-/// Whether after the last item this name stands for `A`, and the other for nothing.
+/// Whether after the last item this name stands for `A`, and the other name for nothing.
 fn is_only<L: ItemList>(db: &Database<L>, name: &[u8], other: &[u8]) -> Result<bool, Stop> {
     let n = db.item_count();
     let text = db.macro_text(n, name)?;
@@ -66,7 +67,7 @@ impl Example for Renaming {
         self.file
     }
 
-    /// Whether the macro is renamed unless it is refused, and then back.
+    /// Whether the macro is renamed, unless that is refused, and then renamed back.
     fn comes_out<L: ItemList>(&self, alloc: Global, db: &mut Database<L>) -> Result<bool, Stop> {
         let is_refused = db
             .splice(pieces_of(alloc, self.changes)?.as_slice())

@@ -1,4 +1,4 @@
-//! Keys that are renamed and made anew.
+//! Keys that are renamed and regenerated.
 
 use crate::rows::{Course, Row, Step, all_come_out, all_hold};
 use crate::turns::Turn;
@@ -8,11 +8,11 @@ const TWO: &[u8] = b"@misc{a}\n@misc{b}\n";
 
 const WAITING: &[u8] = b"@misc{a}@misc{b, crossref = {Z}}";
 
-/// Two entries whose keys are those that are made of the other.
+/// Two entries, each with the key that would be made for the other.
 pub const CROSSED: &[u8] =
     b"@misc{Lam86, author = {Donald E. Knuth}, year = 1984}\n@misc{Knu84, author = {Leslie Lamport}, year = 1986, crossref = {lam86}}\n";
 
-/// The same with the keys that are made of them.
+/// The same two entries, each with the key that is made for it.
 pub const MADE: &[u8] =
     b"@misc{Knu84, author = {Donald E. Knuth}, year = 1984}\n@misc{Lam86, author = {Leslie Lamport}, year = 1986, crossref = {Knu84}}\n";
 

@@ -1,4 +1,5 @@
-//! Worked examples as rows. A row holds where it comes out as it says, be the file kept in a plain list or in pages.
+//! Worked examples as rows. A row holds if it gives what it says, both with the file in a plain list and with it in
+//! pages.
 
 use crate::turns::{Asked, Left, Turn, after, asked_of, is_same};
 use bib_edit::EditFault;
@@ -18,8 +19,8 @@ pub struct Row<'a> {
     pub left: &'a [u8],
 }
 
-/// A turn, the number of the refusal at which it ends, or 0, and what the example says of the file that it leaves, and of
-/// how many changes can then be undone and redone.
+/// A turn; the number of the refusal at which it ends, or 0; and what the example says about the file that it leaves,
+/// and about how many changes can be undone and redone then.
 #[derive(Clone, Copy)]
 pub struct Step<'a> {
     pub turn: Turn,
@@ -131,7 +132,7 @@ pub fn all_hold(alloc: Global, rows: &[Row<'_>]) -> Result<(), Fail> {
     Ok(())
 }
 
-/// The same of examples of several turns.
+/// Fails with the name of the first example of several turns that does not hold.
 pub fn all_come_out(alloc: Global, courses: &[Course<'_>]) -> Result<(), Fail> {
     for course in courses {
         told(course.name, holds(alloc, course.file, course.steps))?;

@@ -14,10 +14,10 @@ use std::test::Fail;
 const HEAD: &[u8] =
     b"bibkeep 2\nba7816bf8f01cfea414140de5dae2223b00361a396177a9cb410ff61f20015ad\n";
 
-/// The rest of it where an entry was removed from the end.
+/// The rest of the journal if an entry was removed from the end.
 const REMOVED: &[u8] = b"1 0\n\n1\n3 8 0\n@misc{k}\n";
 
-/// A run, and the rest of the journal that it saves after `HEAD`, where the example says one.
+/// A run, and the rest of the journal that it saves after `HEAD`, if the example says it.
 struct Run {
     step: Step<'static>,
     journal: Option<&'static [u8]>,
@@ -31,7 +31,7 @@ struct Runs {
     runs: &'static [Run],
 }
 
-/// A file, the rest of its journal after `HEAD`, and the number and the place of their fault.
+/// A file, the rest of its journal after `HEAD`, and the number and the place of the fault with which both are refused.
 struct Loaded {
     name: &'static str,
     file: &'static [u8],
@@ -39,11 +39,11 @@ struct Loaded {
     fault: (u16, Option<usize>),
 }
 
-/// The rest of the journal of the file `abc`, where that was put in, an entry was removed after it, and another one was added
-/// and taken back.
+/// The rest of the journal of the file `abc`: `abc` was put in, an entry after it was removed, and another entry was
+/// added and taken back.
 const TURNED: &[u8] = b"2 1\n\n1\n0 0 3\nabc\n\n1\n3 8 0\n@misc{k}\n\n1\n3 0 5\n@a{b}\n";
 
-/// How many changes are to be turned, how many are, why no more, and the file then.
+/// How many changes are to be undone or redone, how many are, why not more, and the file then.
 struct Turns {
     n: usize,
     done: usize,
@@ -251,7 +251,7 @@ const JOURNALS: &[Loaded] = &[
     },
 ];
 
-/// The journal of which this is the rest.
+/// The journal with this rest after `HEAD`.
 fn journal_of(alloc: Global, rest: &[u8]) -> Result<Vec<u8>, AllocError> {
     let mut journal = HEAD.to_vec(alloc)?;
     journal.extend_from_slice(rest)?;
@@ -286,7 +286,7 @@ fn is_saved_alike(one: &Saved, other: &Saved) -> bool {
         && one.journal.as_slice() == other.journal.as_slice()
 }
 
-/// Whether the example says no journal, or this one.
+/// Whether this is the journal that the example says, if it says one.
 fn is_journal(journal: &[u8], said: Option<&[u8]>) -> bool {
     match said {
         Some(rest) => journal.strip_prefix(HEAD) == Some(rest),
@@ -294,7 +294,8 @@ fn is_journal(journal: &[u8], said: Option<&[u8]>) -> bool {
     }
 }
 
-/// What a run saves, if it comes out as it says, and it makes no difference in which list the file is kept.
+/// What a run saves, if it leaves what the example says, and leaves the same with the file in a plain list and in
+/// pages.
 fn ran(
     alloc: Global,
     file: &[u8],
@@ -311,7 +312,7 @@ fn ran(
     Ok(None)
 }
 
-/// The first run, from what the example gives.
+/// The first run, from the file and the journal of the example.
 fn first_ran(alloc: Global, runs: &Runs, run: &Run) -> Result<Option<Saved>, Stop> {
     match runs.journal {
         Some(rest) => {
@@ -355,7 +356,7 @@ fn loaded_holds(alloc: Global, loaded: &Loaded) -> Result<bool, Stop> {
     Ok(loaded.fault == fault_of(alloc, loaded.file, journal.as_slice()))
 }
 
-/// So many turns of this kind.
+/// A turn that does this request `n` times.
 fn turn_of(request: &Request, n: usize) -> Turn {
     match request {
         Request::Redo => Turn::Redo(n),
@@ -363,14 +364,14 @@ fn turn_of(request: &Request, n: usize) -> Turn {
     }
 }
 
-/// What a session leaves that stays open, of the file `abc`.
+/// What a session over the file `abc` saves after it did the request `n` times.
 fn left_of(alloc: Global, journal: &[u8], request: &Request, n: usize) -> Result<Saved, Stop> {
     let asked = asked_of(alloc, &turn_of(request, n))?;
     let (_, saved) = ran_in(alloc, b"abc", Some(journal), Flat::new(alloc), &asked)?;
     Ok(saved)
 }
 
-/// What is left of the file `abc` where no session stays open.
+/// What `undo_changes` or `redo_changes` gives for `n` changes of the file `abc`.
 fn turned_of(
     alloc: Global,
     journal: &[u8],
@@ -384,7 +385,8 @@ fn turned_of(
     }
 }
 
-/// Whether so many changes are turned as the examples say, and what is left is what a session leaves that stays open.
+/// Whether as many changes are undone or redone as the examples say, and the file and the journal are what a session
+/// would save.
 fn turns_hold(alloc: Global, request: &Request, turns: &[Turns]) -> Result<bool, Stop> {
     let journal = journal_of(alloc, TURNED)?;
     for it in turns {

@@ -7,10 +7,10 @@ use bib_store::{Database, ItemList, Piece};
 use std::alloc::{AllocError, Global};
 use std::test::Fail;
 
-/// A place, its old bytes and its new.
+/// A piece: a place, its old bytes and its new bytes.
 pub type Change = (u64, &'static [u8], &'static [u8]);
 
-/// A file, pieces that are put into it at once, the number of their refusal, or 0, and the file afterwards.
+/// A file; pieces that are put into it at once; the number of their refusal, or 0; and the file afterwards.
 struct Splice {
     name: &'static str,
     file: &'static [u8],
@@ -256,7 +256,8 @@ impl Example for Scan {
         self.file
     }
 
-    /// Whether so many bytes were read once the file was opened and the pieces were put into it.
+    /// Whether the last scan read the number of bytes that the example says: the scan for the pieces, or without pieces
+    /// the scan at opening.
     fn comes_out<L: ItemList>(&self, alloc: Global, db: &mut Database<L>) -> Result<bool, Stop> {
         if !self.changes.is_empty() {
             let _ = db.splice(pieces_of(alloc, self.changes)?.as_slice());

@@ -10,7 +10,7 @@ use bib_script::read_script;
 use bib_store::ItemList;
 use std::alloc::{AllocError, Global};
 
-/// Bytes, among them one that stands so many times.
+/// Bytes, with one byte repeated `count` times among them.
 #[derive(Clone, Copy)]
 pub struct Long {
     pub before: &'static [u8],
@@ -19,7 +19,8 @@ pub struct Long {
     pub after: &'static [u8],
 }
 
-/// The edits of a script, so many times or once; the entries that a script adds, at once; or undo and redo, so many times.
+/// The edits of a script, once or a number of times; the entries that a script adds, at once; or undo or redo, a number
+/// of times.
 #[derive(Clone, Copy)]
 pub enum Turn {
     Script(&'static [u8]),
@@ -31,15 +32,15 @@ pub enum Turn {
     Redo(usize),
 }
 
-/// Requests that are made so many times, one after another.
+/// Requests, and how many times they are made, one after another.
 #[derive(Drop)]
 pub struct Asked {
     pub times: usize,
     pub requests: Seq<Request>,
 }
 
-/// What a turn leaves: how many requests it made, the number of the refusal at which it ended, or 0, and the file with its
-/// history.
+/// What a turn leaves: how many requests it made, the number of the refusal at which it ended, or 0, and the file with
+/// its history.
 #[derive(Drop)]
 pub struct Left {
     pub done: usize,
@@ -101,7 +102,7 @@ pub fn requests_of(alloc: Global, turn: &Turn) -> Result<Seq<Request>, AllocErro
     }
 }
 
-/// What a turn asks for.
+/// The requests of a turn, and how many times they are made.
 pub fn asked_of(alloc: Global, turn: &Turn) -> Result<Asked, AllocError> {
     Ok(Asked {
         times: times_of(turn),
@@ -127,7 +128,7 @@ pub fn has_depth(edit: &Edit) -> bool
     }
 }
 
-/// The same of a request.
+/// Whether the request makes no keys, or makes them at a depth of 1 to 8.
 fn asks_with_depth(request: &Request) -> bool
     ensures { IsTrue result → AsksWithDepth request.now }
 {
@@ -137,7 +138,7 @@ fn asks_with_depth(request: &Request) -> bool
     }
 }
 
-/// The same of all requests.
+/// Whether each of the requests makes no keys, or makes them at a depth of 1 to 8.
 fn all_ask_with_depth(requests: &[Request]) -> bool
     ensures { IsTrue result → All AsksWithDepth requests.now }
 {
@@ -149,8 +150,8 @@ fn all_ask_with_depth(requests: &[Request]) -> bool
     true
 }
 
-/// Makes the requests up to the first refusal: how many are made, and the number of the refusal, or 0. None is made where
-/// one asks for a depth that cannot be asked for.
+/// Makes the requests up to the first refusal: how many are made, and the number of the refusal, or 0. If a request has
+/// a depth that is not allowed, none is made.
 fn performed<L: ItemList>(session: &mut Session<L>, asked: &Asked) -> (usize, u16) {
     let requests = asked.requests.as_slice();
     if !all_ask_with_depth(requests) {
@@ -170,7 +171,7 @@ fn performed<L: ItemList>(session: &mut Session<L>, asked: &Asked) -> (usize, u1
     (done, 0)
 }
 
-/// What is left of a session once this was asked for.
+/// What a session leaves after these requests.
 pub fn left_after<L: ItemList>(
     session: &mut Session<L>,
     asked: &Asked,

@@ -1,4 +1,4 @@
--- Lines that are written of texts that are their own field texts can stand in a file.
+-- Lines that are written of texts that are their own field texts can be lines of a file.
 use Rattle.std.proofs.Common.{◌≡◌, ℕ, ◌+◌, ◌-◌, Bool, true, false, cond, not, ◌&&◌, eqb, List, [], ◌∷◌, ◌++◌, take, drop, refl, sym, ap, subst, ◌∙◌, ⊎_elim, append-nil, map}
 use Rattle.std.specs.Prelude.{codes, Option, Some, None, option_map, find}
 use Rattle.std.specs.List.{flat_map, list_any, list_all, slice_range, prefix_len, AllByRecursion}

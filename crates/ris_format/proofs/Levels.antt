@@ -42,7 +42,7 @@ level-front x rest k le = ap (λ (u : Text). eqb (opens u) (closes u)) (take-app
 
 -- ---- a part of a text
 
--- the part stands in the text, at depth 0
+-- the part is in the text, at depth 0
 pub record IsWithin (text part : Text) : Type 0 where
   pub front : Text
   pub rest : Text

@@ -14,7 +14,7 @@ use Rattle.bib_value.proofs.NeatTexts.{field_text-neat}
 use Rattle.ris_format.proofs.Neat.{neat-has_bytes}
 use Rattle.ris_format.proofs.Values.{are_neat}
 
--- ---- neat values are read as they stand
+-- ---- neat values are read unchanged
 
 abbrev is_filled_line : RisLine → Bool
 is_filled_line l = has_bytes l.value
@@ -53,7 +53,7 @@ groups-neat (g ∷ groups) n =
 pub read-lines_of : (groups : List Tagged) → list_all is_neat_group groups ≡ true → read_lines (lines_of groups) ≡ lines_of groups
 read-lines_of groups n = read-neat (lines_of groups) (groups-neat groups n)
 
--- ---- what stands after tags
+-- ---- the values after tags
 
 abbrev pub is_among : List Text → Text → Bool
 is_among tags tag = list_any (λ other. bytes_eq other tag) tags

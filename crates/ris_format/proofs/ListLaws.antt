@@ -16,7 +16,7 @@ use Rattle.ris_format.proofs.Trims.{cut_out, neat-cut}
 use Rattle.ris_format.proofs.Levels.{opens, closes, count-append, count-cons, count-before_run, count-after_run, space-no_brace, IsWithin, IsStretch, stretch-is, level-within, byte-within, balanced-within, level_at, take-sum}
 use Rattle.ris_format.proofs.PartLaws.{none-in}
 
--- how often a byte stands in the text
+-- how often the text has a byte
 abbrev count_of : ℕ → Text → ℕ
 count_of k text = count_by (λ b. eqb b k) text
 

@@ -15,7 +15,7 @@ kept_more F xs n d y out all step within told =
     ∙ ap (λ made. out ++ made) (sym (ap F (drop-cons xs n d within) ∙ step _))
     ∙ told
 
--- one of which nothing is made
+-- one item that gives nothing
 pub passed : {A B : Type 0} (F : List A → B) (xs : List A) (n : ℕ) (d : A) (all : B)
     → ((rest : List A) → F (get_or xs n d ∷ rest) ≡ F rest) → n < length xs → F (drop n xs) ≡ all → F (drop (n + 1) xs) ≡ all
 passed F xs n d all step within told = ap (λ k. F (drop k xs)) (add-one n) ∙ sym (ap F (drop-cons xs n d within) ∙ step _) ∙ told
@@ -29,7 +29,7 @@ decided F xs n d all v step within told = sym (ap F (drop-cons xs n d within) �
 pub none_left : {A B : Type 0} (F : List A → B) (xs : List A) (n : ℕ) (all v : B) → F [] ≡ v → length xs ≤ n → F (drop n xs) ≡ all → v ≡ all
 none_left F xs n all v none end told = sym (ap F (drop_all n xs end) ∙ none) ∙ told
 
--- what stands between each two of the texts stands before each but the first
+-- the text between each two texts comes before each text except the first
 pub joined_first : (between : Text) (texts : List (Bor Text)) (d : Bor Text) → 1 ≤ length texts
     → (get_or texts 0 d).now ++ flat_map (λ y. between ++ y) (map (λ (x : Bor Text). x.now) (take (length texts - 1) (drop 1 texts))) ≡ join_by (λ x. x) between (map (λ (x : Bor Text). x.now) texts)
 joined_first between [] d some = absurd (omega arith)

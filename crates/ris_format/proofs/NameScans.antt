@@ -153,11 +153,11 @@ pieces-comma x y alone level =
 
 -- ---- the word `and` at depth 0
 
--- the word stands at the front of the text, between white space
+-- the word `and` is at the front of the text, between white space
 abbrev and_at : Bool → Text → Bool
 and_at s t = s && same (take 3 t) (codes "and") && is_space (get_or t 3 0)
 
--- no cut stands in the text, where white space stands before it or not, and so many braces open and close
+-- no cut is in the text, with white space before it or not, if `opened` braces open and `closed` braces close before the text
 abbrev pub free : Bool → ℕ → ℕ → Text → Bool
 free s o c [] = true
 free s o c (b ∷ t) = not (o == c && and_at s (b ∷ t)) && free (is_space b) (o + one 123 b) (c + one 125 b) t
@@ -286,7 +286,7 @@ no-and false e rest last h = refl
 no-and true false rest last h = refl
 no-and true true rest last h = absurd (cc)
 
--- where no word begins with an `a`, there is no cut
+-- if no word begins with an `a`, there is no cut
 pub lacks-free : (s : Bool) (o c : ℕ) (t : Text) → lacks_and s t ≡ true → free s o c t ≡ true
 lacks-free s o c [] h = refl
 lacks-free s o c (b ∷ t) h =

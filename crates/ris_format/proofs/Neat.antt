@@ -57,7 +57,7 @@ not_is : (c : Bool) → not c ≡ true → c ≡ false
 not_is true e = sym e
 not_is false e = refl
 
--- a neat text decides nothing of what may stand after it, but that a word has begun
+-- after a neat text the rest is neat if it is neat inside a word
 pub neat-append : (apart : Bool) (x y : Text) → neat apart x ≡ true → neat apart (x ++ y) ≡ neat false y
 neat-append true [] y n = absurd (cc)
 neat-append false [] y n = refl

@@ -1,4 +1,4 @@
--- Fields that stand in the order of a table are found again by its names.
+-- Fields in the order of a table are found again by the names of the table.
 use Rattle.std.proofs.Common.{◌≡◌, Bool, true, false, not, ◌&&◌, eqb, List, [], ◌∷◌, length, refl, sym, ap, ◌∙◌, ⊎_elim, map, arith}
 use Rattle.std.specs.Prelude.{filter}
 use Rattle.std.specs.List.{list_any, list_all}
@@ -20,7 +20,7 @@ are_distinct (name ∷ names) = not (list_any (bytes_eq name) names) && are_dist
 abbrev pub is_filled_field : RecordField → Bool
 is_filled_field f = has_bytes f.1
 
--- the field of this name, with an empty text where there is none
+-- the field of this name, with an empty text if there is no such field
 abbrev pub found : Fields → Text → RecordField
 found fields name = field name (text_of fields name)
 
@@ -63,7 +63,7 @@ nothing-found : (names : List Text) → filter is_filled_field (map (found []) n
 nothing-found [] = refl
 nothing-found (n ∷ names) = nothing-found names
 
--- the names of an order find the fields that stand in it
+-- the names of a table find the fields that are in its order
 pub found-in_order : (names : List Text) (fields : Fields) → are_distinct names ≡ true → are_in_order names fields ≡ true → list_all is_filled_field fields ≡ true → filter is_filled_field (map (found fields) names) ≡ fields
 found-in_order names [] apart order filled = nothing-found names
 found-in_order [] (f ∷ fields) apart order filled = absurd (cc)
@@ -101,7 +101,7 @@ found-plain name (f ∷ fields) all some =
     ap (λ (t : Text). is_plain_field (field name t)) past ∙ found-plain name fields p.1 (ap has_bytes (sym past) ∙ some))
     (cases_Bool (is_filled name f))
 
--- a field that stands in an order has one of its names
+-- a field in the order of a table has a name of the table
 pub in-order-named : (names : List Text) (f : RecordField) (fields : Fields) → are_in_order names (f ∷ fields) ≡ true → list_any (bytes_eq f.0) names ≡ true
 in-order-named [] f fields order = absurd (cc)
 in-order-named (n ∷ names) f fields order =

@@ -53,7 +53,7 @@ kept-one (b ∷ t) some n h =
 
 -- ---- two pages
 
--- what stands before the first `--`, that, and what stands after it
+-- a text is the text before its first `--`, the `--`, and the text after it
 dash-parts : (text : Text) → has_dash text ≡ true → text ≡ take (before_dash text) text ++ (45 ∷ 45 ∷ drop (before_dash text + 2) text)
 dash-parts [] h = absurd (cc)
 dash-parts (b ∷ []) h =

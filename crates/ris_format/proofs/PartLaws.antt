@@ -81,7 +81,7 @@ no-space : (text : Text) (k : ℕ) → is_level text k ≡ true → is_gap text 
 no-space text k level gap =
     false_from_ne_true (is_space (get_or text k 0)) (λ s. both_ways (is_gap text k) gap (and_from (is_level text k) _ level (space-separates (get_or text k 0) s)))
 
--- the word stands in the piece, at depth 0 at both ends, and has white space at neither
+-- the word is in the piece, at depth 0 at both ends, and has white space at neither
 pub record IsWordIn (at : ℕ) (text : Text) (w : NameWord) : Type 0 where
   pub place : ℕ
   pub is_at : w.at ≡ at + place

@@ -127,7 +127,7 @@ pub record PersonIsKept (p : Person) : Type 0 where
   pub is : read_name (ris_name p) ≡ bib_name p
   pub neat_is : neat true (ris_name p) ≡ true
 
--- parts with these properties, of which the first is there
+-- the parts of a person have these properties, and Last is not empty
 record AreTexts (v f j : Text) : Type 0 where
   last : IsPart v
   first : IsPart f

@@ -1,4 +1,4 @@
--- What is told of pieces between commas after some places.
+-- The pieces between commas that are found after some places are passed.
 use Rattle.std.proofs.Common.{◌≡◌, ℕ, ◌+◌, ◌-◌, ◌≤◌, ◌<◌, Bool, true, false, cond, ◌&&◌, eqb, List, [], ◌∷◌, ◌++◌, length, take, drop, get_or, refl, sym, ap, ◌∙◌, arith, append_assoc, append-nil, map, add-one}
 use Rattle.std.specs.List.{slice_range, slice_split, onto_first}
 use Rattle.std.proofs.lemmas.Bool.{cond-true, cond-false, and_parts, eqb-true}

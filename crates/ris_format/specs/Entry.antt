@@ -6,10 +6,11 @@ use Rattle.bib_names.specs.Label.{balances}
 use Rattle.bib_data.specs.declared.edit.NewEntry.{NewEntry}
 use Rattle.ris_format.specs.People.{in_braces}
 
--- each text as a braced value
+-- a field whose value is the text in braces
 abbrev pub value_field : RecordField → RecordField
 value_field f = (f.0, in_braces f.1)
 
+-- the entry with the record's type and key, each text as a braced value
 abbrev pub entry_of : Record → NewEntry
 entry_of r = record { kind_name = r.kind_name; key = r.key; fields = map value_field r.fields }
 

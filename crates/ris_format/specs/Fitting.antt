@@ -17,10 +17,10 @@ has_own_text f = bytes_eq (field_text f.1) f.1
 abbrev pub is_spaced : Record → Bool
 is_spaced entry = list_all has_own_text entry.fields && not (list_any is_space entry.key)
 
--- the RIS record of such a record is well formed
+-- the RIS record of a record with such texts and such a key is well formed
 abbrev pub SpacedRecordsFit : Type 0
 SpacedRecordsFit = (entry : Record) → is_spaced entry ≡ true → is_well_formed (ris entry) ≡ true
 
--- the RIS record of each record that a database gives is well formed, however deep its parents are asked for
+-- the RIS record of each record that a database gives is well formed, whatever the depth of inherited fields
 abbrev pub GivenRecordsFit : Type 0
 GivenRecordsFit = (file : Text) (db : Reading) (depth n : ℕ) (entry : Record) → Reads file db → expanded depth (entries_of db) n ≡ Some entry → is_well_formed (ris entry) ≡ true

@@ -7,17 +7,19 @@ use Rattle.bib_spec.specs.Text.{Text}
 use Rattle.bib_text.specs.Trimming.{trimmed}
 use Rattle.ris_format.specs.Lines.{has_bytes}
 
+-- the byte is a comma, at which keywords are cut
 abbrev pub is_comma_byte : ℕ → Bool
 is_comma_byte byte = byte == comma
 
--- what stands between the commas, without white space at the ends
+-- the texts between the commas, without white space at their ends
 abbrev pub keyword_pieces : Text → List Text
 keyword_pieces text = map trimmed (slice_split is_comma_byte text)
 
--- empty ones are left out
+-- the keywords that are written: the texts between commas, without the empty ones
 abbrev pub written_keywords : Text → List Text
 written_keywords text = filter has_bytes (keyword_pieces text)
 
+-- the field `keywords` from these lines: their values, joined by a comma and a space
 abbrev pub read_keywords : List Text → Text
 read_keywords values = join_by (λ value. value) (codes ", ") values
 

@@ -7,35 +7,40 @@ use Rattle.bib_spec.specs.Texts.{is_empty, field_text}
 use Rattle.bib_value.specs.Spacing.{neat}
 use Rattle.ris_text.specs.declared.records.RisLine.{RisLine}
 
+-- the text is not empty
 abbrev pub has_bytes : Text → Bool
 has_bytes text = not (is_empty text)
 
--- the text alone, or nothing where it is empty
+-- a list with the text, or the empty list if the text is empty
 abbrev pub single : Text → List Text
 single text = if is_empty text then [] else text ∷ []
 
 -- ---- writing
 
+-- a line with this tag and this value
 abbrev pub line : Text → Text → RisLine
 line tag value = record { tag = tag; value = value }
 
--- values that stand after one tag, a line each
+-- a tag and its values, each on a line of its own
 pub record Tagged : Type 0 where
   pub tag : Text
   pub values : List Text
 
+-- this tag with these values
 abbrev pub tagged : Text → List Text → Tagged
 tagged tag values = record { tag = tag; values = values }
 
+-- the lines of one tag and its values
 abbrev pub tagged_lines : Tagged → List RisLine
 tagged_lines group = map (line group.tag) group.values
 
+-- the lines of all these tags and values
 abbrev pub lines_of : List Tagged → List RisLine
 lines_of groups = flat_map tagged_lines groups
 
 -- ---- reading
 
--- each value is words with one space between each two, and so a field text as it stands
+-- each value is words with one space between each two: it is its own field text
 abbrev pub are_neat_lines : List RisLine → Bool
 are_neat_lines lines = list_all (λ l. neat true l.value) lines
 
@@ -55,10 +60,10 @@ has_tag tags l = list_any (λ tag. bytes_eq tag l.tag) tags
 abbrev pub values_at : List Text → List RisLine → List Text
 values_at tags lines = map (λ l. l.value) (filter (has_tag tags) lines)
 
--- the first of them, empty if there is none
+-- the first value after these tags, empty if there is none
 abbrev pub value_at : List Text → List RisLine → Text
 value_at tags lines = slice_index_or (values_at tags lines) 0 []
 
--- the text, or the other one where it is empty
+-- the text, or the other text if it is empty
 abbrev pub or_else : Text → Text → Text
 or_else text other = if is_empty text then other else text

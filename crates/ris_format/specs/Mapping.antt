@@ -1,4 +1,4 @@
--- Which field of a record stands after which tag, both ways. (dialect)
+-- Which tag carries which field of a record, both ways. (dialect)
 use Rattle.std.specs.Prelude.{Bool, not, ◌&&◌, ◌||◌, List, [], ◌∷◌, ◌++◌, codes, map, filter, find, is_some, if◌then◌else◌}
 use Rattle.std.specs.List.{list_any}
 use Rattle.std.specs.Option.{option_map_or}
@@ -15,6 +15,7 @@ use Rattle.ris_format.specs.Dates.{has_slash, month_digits, written_date, read_y
 use Rattle.ris_format.specs.Pages.{written_start, written_end, read_pages}
 use Rattle.ris_format.specs.Keywords.{written_keywords, read_keywords}
 
+-- the fields of a record
 abbrev pub Fields : Type 0
 Fields = List RecordField
 
@@ -22,19 +23,21 @@ Fields = List RecordField
 abbrev pub has_text : RecordField → Bool
 has_text f = has_bytes f.1
 
+-- the field has exactly this name, and a text that is not empty
 abbrev pub is_filled : Text → RecordField → Bool
 is_filled name field = bytes_eq field.0 name && has_bytes field.1
 
--- the first text of the field of exactly this name that is not empty, and else the empty text
+-- the text of the first field of exactly this name whose text is not empty; empty if there is none
 abbrev pub text_of : Fields → Text → Text
 text_of fields name = option_map_or (λ field. field.1) (find (is_filled name) fields) []
 
 -- ---- the table of fields
 
+-- a field with this name and this text
 abbrev pub field : Text → Text → RecordField
 field name text = (name, text)
 
--- those from series on
+-- the fields from `series` on that a record of the kind can have, in order
 abbrev pub later_names : Kind → List Text
 later_names kind =
     codes "series" ∷ codes "journal" ∷ codes "year" ∷ codes "month" ∷ codes "volume" ∷ codes "number" ∷ codes "pages"
@@ -56,16 +59,18 @@ ris_names =
 
 -- ---- writing: the values of these fields by their tags, in order
 
+-- author and editor: a line for each name
 abbrev pub written_names : Fields → List Tagged
 written_names fields =
     tagged (codes "AU") (written_people (text_of fields (codes "author")))
     ∷ tagged (codes "A2") (written_people (text_of fields (codes "editor")))
     ∷ []
 
--- the booktitle, empty in an article
+-- the booktitle, empty for an article
 abbrev pub booktitle_text : Kind → Fields → Text
 booktitle_text kind fields = if is_article kind then [] else text_of fields (codes "booktitle")
 
+-- title, booktitle, series and journal
 abbrev pub written_titles : Kind → Fields → List Tagged
 written_titles kind fields =
     tagged (codes "TI") (single (text_of fields (codes "title")))
@@ -74,6 +79,7 @@ written_titles kind fields =
     ∷ tagged (codes "JF") (single (text_of fields (codes "journal")))
     ∷ []
 
+-- date, volume, number, and the first and the last page
 abbrev pub written_numbers : Fields → List Tagged
 written_numbers fields =
     tagged (codes "PY") (written_date (text_of fields (codes "year")) (text_of fields (codes "month")))
@@ -83,6 +89,7 @@ written_numbers fields =
     ∷ tagged (codes "EP") (written_end (text_of fields (codes "pages")))
     ∷ []
 
+-- publisher, address and serial number
 abbrev pub written_publishers : Kind → Fields → List Tagged
 written_publishers kind fields =
     tagged (codes "PB") (single (text_of fields (publisher_field kind)))
@@ -90,6 +97,7 @@ written_publishers kind fields =
     ∷ tagged (codes "SN") (single (text_of fields (serial_field kind)))
     ∷ []
 
+-- URL, DOI, abstract, note and keywords
 abbrev pub written_notes : Fields → List Tagged
 written_notes fields =
     tagged (codes "UR") (single (text_of fields (codes "url")))
@@ -99,13 +107,15 @@ written_notes fields =
     ∷ tagged (codes "KW") (written_keywords (text_of fields (codes "keywords")))
     ∷ []
 
+-- all fields of a record of this kind
 abbrev pub written_fields : Kind → Fields → List Tagged
 written_fields kind fields =
     written_names fields
     ++ (written_titles kind fields ++ (written_numbers fields ++ (written_publishers kind fields ++ written_notes fields)))
 
--- ---- reading: these fields from lines whose values are field texts, with an empty text where one is not there
+-- ---- reading: these fields from lines whose values are field texts; a field that is not there has an empty text
 
+-- author, editor and title
 abbrev pub read_names : List RisLine → Fields
 read_names lines =
     field (codes "author") (read_people (values_at (codes "AU" ∷ codes "A1" ∷ []) lines))
@@ -113,7 +123,7 @@ read_names lines =
     ∷ field (codes "title") (value_at (codes "TI" ∷ codes "T1" ∷ []) lines)
     ∷ []
 
--- the journal stands after JF, else after JO, else in an article after T2
+-- the journal: the value after JF, else after JO, else for an article after T2
 abbrev pub read_journal : Kind → List RisLine → Text
 read_journal kind lines =
     or_else (value_at (codes "JF" ∷ []) lines)
@@ -125,12 +135,14 @@ abbrev pub read_booktitle : Kind → List RisLine → Fields
 read_booktitle kind lines =
     if is_article kind then [] else field (codes "booktitle") (value_at (codes "T2" ∷ []) lines) ∷ []
 
+-- series and journal
 abbrev pub read_titles : Kind → List RisLine → Fields
 read_titles kind lines =
     field (codes "series") (value_at (codes "T3" ∷ []) lines)
     ∷ field (codes "journal") (read_journal kind lines)
     ∷ []
 
+-- year, month, volume, number and pages
 abbrev pub read_numbers : List RisLine → Fields
 read_numbers lines =
     field (codes "year") (read_year (value_at (codes "PY" ∷ codes "Y1" ∷ []) lines))
@@ -140,6 +152,7 @@ read_numbers lines =
     ∷ field (codes "pages") (read_pages (value_at (codes "SP" ∷ []) lines) (value_at (codes "EP" ∷ []) lines))
     ∷ []
 
+-- publisher, address and serial number
 abbrev pub read_publishers : Kind → List RisLine → Fields
 read_publishers kind lines =
     field (publisher_field kind) (value_at (codes "PB" ∷ []) lines)
@@ -147,6 +160,7 @@ read_publishers kind lines =
     ∷ field (serial_field kind) (value_at (codes "SN" ∷ []) lines)
     ∷ []
 
+-- URL, DOI, abstract, note and keywords
 abbrev pub read_notes : List RisLine → Fields
 read_notes lines =
     field (codes "url") (value_at (codes "UR" ∷ []) lines)
@@ -156,6 +170,7 @@ read_notes lines =
     ∷ field (codes "keywords") (read_keywords (values_at (codes "KW" ∷ []) lines))
     ∷ []
 
+-- all fields of a record of this kind
 abbrev pub read_fields : Kind → List RisLine → Fields
 read_fields kind lines =
     read_names lines
@@ -180,10 +195,11 @@ is_dropped kind f = has_bytes f.1 && not (is_carried kind f.0 f.1)
 abbrev pub dropped : Record → List Text
 dropped entry = map (λ f. f.0) (filter (is_dropped (kind_of_entry entry.kind_name)) entry.fields)
 
--- the fields, and after them the key where it is not empty
+-- the fields, and after them the key if it is not empty
 abbrev pub written : Kind → Record → List Tagged
 written kind entry = written_fields kind entry.fields ++ (tagged (codes "ID") (single entry.key) ∷ [])
 
+-- the RIS record of a record: the RIS type of its kind, and the lines of its fields and its key
 abbrev pub ris : Record → RisRecord
 ris entry = record { kind_name = ris_type (kind_of_entry entry.kind_name); lines = lines_of (written (kind_of_entry entry.kind_name) entry) }
 
@@ -197,5 +213,6 @@ record_in kind lines = record {
   fields = filter has_text (read_fields kind lines);
 }
 
+-- the record of a RIS record, whose values are read as field texts
 abbrev pub back : RisRecord → Record
 back ris = record_in (kind_of_ris ris.kind_name) (read_lines ris.lines)

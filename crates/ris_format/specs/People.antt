@@ -1,4 +1,4 @@
--- Names of persons: one RIS line for each, in which the suffix stands after the first name. (dialect)
+-- Names of persons: one RIS line for each, where the suffix comes after the first name. (dialect)
 use Rattle.std.specs.Prelude.{ℕ, ◌+◌, Bool, true, false, not, ◌==◌, ◌&&◌, ◌||◌, nat_lt, List, [], ◌∷◌, ◌++◌, length, map, codes, Option, None, is_none, if◌then◌else◌}
 use Rattle.std.specs.List.{flat_map, list_any, list_all, slice_range, join_by}
 use Rattle.std.specs.Option.{option_map_or}
@@ -37,7 +37,7 @@ abbrev pub part_text : Text → List NameWord → Text
 part_text name [] = []
 part_text name (word ∷ words) = to_last_end name word.at (word ∷ words)
 
--- von and Last, empty where Last is
+-- the words of von and Last, none if Last has none
 abbrev pub family : List NameWord → List NameWord → List NameWord
 family von [] = []
 family von (word ∷ words) = von ++ (word ∷ words)
@@ -48,6 +48,7 @@ pub record Person : Type 0 where
   pub first : Text
   pub suffix : Text
 
+-- the parts of this name as texts, each a slice of the name
 abbrev pub person : Text → Name → Person
 person name parts = record {
   last = part_text name (family parts.von parts.last);
@@ -55,6 +56,7 @@ person name parts = record {
   suffix = part_text name parts.jr;
 }
 
+-- two texts with a comma and a space between them
 abbrev pub with_comma : Text → Text → Text
 with_comma text more = text ++ (codes ", " ++ more)
 
@@ -71,41 +73,45 @@ ris_name p =
 abbrev pub is_somebody : Person → Bool
 is_somebody p = has_bytes p.last || has_bytes p.first || has_bytes p.suffix
 
--- the parts of a name, none where it is refused: its braces do not balance, or it has more than two commas
+-- the parts of a name, none if the name is refused: its braces do not balance, or it has more than two commas
 abbrev pub taken_apart : Text → Option Name
 taken_apart name = if balances name then parts_of name else None
 
+-- the name is refused
 abbrev pub is_broken : Text → Bool
 is_broken name = is_none (taken_apart name)
 
--- a list that cannot be taken apart, or one of whose names cannot
+-- the braces of the list do not balance, or one of its names is refused
 abbrev pub is_refused : Text → Bool
 is_refused list = not (balances list) || list_any is_broken (names_of list)
 
+-- the value for a person, if the name has a word
 abbrev pub written_person : Person → List Text
 written_person p = if is_somebody p then ris_name p ∷ [] else []
 
--- the name as a value, nothing where it has no word or is refused
+-- the value for a name, if it has a word and is not refused
 abbrev pub written_name : Text → List Text
 written_name name = option_map_or (λ parts. written_person (person name parts)) (taken_apart name) []
 
--- the names that have a word, nothing where one of them is refused
+-- the values for all names that have a word; no value if one of the names is refused
 abbrev pub written_names : List Text → List Text
 written_names names = if list_any is_broken names then [] else flat_map written_name names
 
--- the names of a list that have a word, nothing where the list is refused
+-- the values for all names of a list that have a word; no value if the list or one of its names is refused
 abbrev pub written_people : Text → List Text
 written_people list = if is_refused list then [] else flat_map written_name (names_of list)
 
 -- ---- reading
 
--- what stands between the commas of a value at depth 0, without white space at the ends
+-- the texts between the commas of a value at depth 0, without white space at their ends
 abbrev pub name_pieces : Text → List Text
 name_pieces value = map (λ s. trimmed s.text) (between 1 value 0 (commas value))
 
+-- the text in braces
 abbrev pub in_braces : Text → Text
 in_braces text = open_brace ∷ text ++ close_brace ∷ []
 
+-- the text, or a pair of braces if it is empty
 abbrev pub or_braces : Text → Text
 or_braces text = if is_empty text then in_braces [] else text
 
@@ -123,8 +129,8 @@ person_of (last ∷ first ∷ []) = record { last = last; first = first; suffix 
 person_of (last ∷ []) = record { last = last; first = []; suffix = [] }
 person_of [] = record { last = []; first = []; suffix = [] }
 
--- no word that begins with an `a`, in either case, stands after white space, so none is `and`; whether white space stands
--- before the text
+-- No word after white space begins with an `a`, in either case, so no word is `and`. The first argument says whether white space
+-- is before the text.
 abbrev pub lacks_and : Bool → Text → Bool
 lacks_and after_space [] = true
 lacks_and after_space (b ∷ text) = not (after_space && to_ascii_lowercase b == 97) && lacks_and (is_space b) text
@@ -133,17 +139,19 @@ lacks_and after_space (b ∷ text) = not (after_space && to_ascii_lowercase b ==
 abbrev pub is_opaque : Text → Bool
 is_opaque value = nat_lt 2 (length (commas value)) || nat_lt 1 (length (names_of value))
 
--- a value whose braces balance, as a name of a list: an opaque one stands in braces
+-- a value whose braces balance, as a name of a list: in braces if it would be read as another name
 abbrev pub read_balanced : Text → Text
 read_balanced value = if is_opaque value then in_braces value else bib_name (person_of (name_pieces value))
 
--- a value as a name of a list; one whose braces do not balance is copied
+-- a value as a name of a list; a value whose braces do not balance is unchanged
 abbrev pub read_name : Text → Text
 read_name value = if balances value then read_balanced value else value
 
+-- the names joined by ` and `
 abbrev pub name_list : List Text → Text
 name_list names = join_by (λ name. name) (codes " and ") names
 
+-- the list of names that these values say
 abbrev pub read_people : List Text → Text
 read_people values = name_list (map read_name values)
 
@@ -153,10 +161,11 @@ read_people values = name_list (map read_name values)
 abbrev pub is_plain_person : Text → Person → Bool
 is_plain_person name p = has_bytes p.last && bytes_eq (bib_name p) name
 
+-- the name is written as its parts say, with a Last
 abbrev pub is_plain_name : Text → Bool
 is_plain_name name = option_map_or (λ parts. is_plain_person name (person name parts)) (taken_apart name) false
 
--- one or more such names, joined by ` and `
+-- the list is one or more such names, joined by ` and `
 abbrev pub are_plain_names : Text → Bool
 are_plain_names list =
     balances list && bytes_eq (name_list (names_of list)) list && list_all is_plain_name (names_of list)

@@ -11,7 +11,7 @@ pub(crate) struct Braces {
 }
 
 impl Braces {
-    /// Those of no bytes.
+    /// The braces of no bytes.
     pub fn none() -> Self
         ensures opened { result.opened ≡ 0 }
         ensures closed { result.closed ≡ 0 }
@@ -29,7 +29,7 @@ impl Braces {
         self.opened == self.closed
     }
 
-    /// Those with one more byte seen.
+    /// The braces with one more byte seen.
     pub fn and(self, byte: u8) -> Self
         requires opened { self.opened + 1 < 2 ^ 64 }
         requires closed { self.closed + 1 < 2 ^ 64 }

@@ -72,14 +72,14 @@ pub(crate) fn month_digits(text: &[u8]) -> Option<&'static [u8]>
     digits_among(&MONTHS, text)
 }
 
-/// The year, empty where it cannot be written.
+/// The year, empty if it has a slash, since a date cannot carry it.
 fn written_year(year: &[u8]) -> &[u8]
     ensures { result.now ≡ written_year year.now }
 {
     if has_slash(year) { b"" } else { year }
 }
 
-/// The month's number, empty where the text names none.
+/// The month's number, empty if the text names no month.
 fn written_month(text: &[u8]) -> &'static [u8]
     ensures { result.now ≡ written_month text.now }
 {
@@ -102,7 +102,7 @@ fn date_value(alloc: Global, year: &[u8], digits: &[u8]) -> Result<Text, AllocEr
     Ok(Seq::from_vec(value))
 }
 
-/// Puts a line for the date after the others, where there is a year or a month.
+/// Adds a line for the date if there is a year or a month.
 pub(crate) fn push_date<T: Kept>(
     alloc: Global,
     lines: &mut Vec<T>,
@@ -123,7 +123,7 @@ pub(crate) fn push_date<T: Kept>(
 
 // ---- reading
 
-/// How many bytes stand before the first slash.
+/// How many bytes are before the first slash; all bytes if there is none.
 fn slash_place(text: &[u8]) -> usize
     ensures len { result ≡ prefix_len is_no_slash text.now }
     ensures within { result ≤ length text.now }
@@ -182,7 +182,7 @@ fn named_among(months: &[(&'static [u8], &'static [u8])], digits: &[u8]) -> &'st
     b""
 }
 
-/// The month of a date, empty where its second piece is no number from 1 to 12.
+/// The month of a date, empty if the second piece of the date is no number from 1 to 12.
 pub(crate) fn read_month(value: &[u8]) -> &'static [u8]
     ensures { result.now ≡ read_month value.now }
 {

@@ -8,7 +8,7 @@ use crate::text::{copy, copy_with_room, has_bytes};
 use bib_scan::Text;
 use std::alloc::{AllocError, Global};
 
-/// How many fields a record made of RIS has at most, however many lines it has.
+/// A record made of RIS has at most this many fields, however many lines the RIS record has.
 pub(crate) const MOST_FIELDS: usize = 19;
 
 /// Whether the field has this name, and a text that is not empty.
@@ -18,7 +18,7 @@ fn is_filled(name: &[u8], field: &(Text, Text)) -> bool
     is(field.0.as_slice(), name) && has_bytes(field.1.as_slice())
 }
 
-/// The first text that is not empty of a field of exactly this name, and else the empty text.
+/// The text of the first field of exactly this name whose text is not empty; empty if there is none.
 pub(crate) fn text_of<'a>(fields: &'a [(Text, Text)], name: &[u8]) -> &'a [u8]
     ensures { result.now ≡ text_of fields.now name.now }
 {
@@ -30,7 +30,7 @@ pub(crate) fn text_of<'a>(fields: &'a [(Text, Text)], name: &[u8]) -> &'a [u8]
     b""
 }
 
-/// Puts a field after the others, where its text is not empty.
+/// Adds a field if its text is not empty.
 pub(crate) fn push_field(
     alloc: Global,
     fields: &mut Vec<(Text, Text)>,
@@ -47,7 +47,7 @@ pub(crate) fn push_field(
     Ok(())
 }
 
-/// The same with a text that is handed on.
+/// Adds a field with this text, which it does not copy, if the text is not empty.
 pub(crate) fn push_text(
     alloc: Global,
     fields: &mut Vec<(Text, Text)>,
@@ -106,8 +106,8 @@ fn later_names(kind: Kind) -> [&'static [u8]; 15]
     ]
 }
 
-/// The names of the fields that RIS records are made of, whatever their type: whoever gathers fields for them needs no
-/// others. It takes no memory.
+/// The names of the fields that RIS records are made of, whatever their type: to make one, a caller needs no other
+/// fields. It takes no memory.
 pub fn ris_names() -> [&'static [u8]; 22]
     ensures { map (λ n. n.now) result ≡ ris_names }
 {

@@ -26,7 +26,7 @@ use std::alloc::{AllocError, Global};
 
 // ---- lines
 
-/// Puts the lines of author and editor after the others.
+/// Adds the lines of author and editor.
 fn push_names<T: Kept>(
     alloc: Global,
     lines: &mut Vec<T>,
@@ -38,7 +38,7 @@ fn push_names<T: Kept>(
     push_people(alloc, lines, *b"A2", text_of(fields, b"editor"))
 }
 
-/// The booktitle, empty in an article.
+/// The booktitle, empty for an article.
 fn booktitle<'a>(kind: Kind, fields: &'a [(Text, Text)]) -> &'a [u8]
     ensures { result.now ≡ booktitle_text kind fields.now }
 {
@@ -49,7 +49,7 @@ fn booktitle<'a>(kind: Kind, fields: &'a [(Text, Text)]) -> &'a [u8]
     }
 }
 
-/// Puts the lines of titles after the others.
+/// Adds the lines of titles.
 fn push_titles<T: Kept>(
     alloc: Global,
     lines: &mut Vec<T>,
@@ -64,7 +64,7 @@ fn push_titles<T: Kept>(
     push_single(alloc, lines, *b"JF", text_of(fields, b"journal"))
 }
 
-/// Puts the lines of date, volume, number and pages after the others.
+/// Adds the lines of date, volume, number and pages.
 fn push_numbers<T: Kept>(
     alloc: Global,
     lines: &mut Vec<T>,
@@ -81,7 +81,7 @@ fn push_numbers<T: Kept>(
     push_end(alloc, lines, *b"EP", pages)
 }
 
-/// Puts the lines of publisher, address and serial number after the others.
+/// Adds the lines of publisher, address and serial number.
 fn push_publishers<T: Kept>(
     alloc: Global,
     lines: &mut Vec<T>,
@@ -100,7 +100,7 @@ fn push_publishers<T: Kept>(
     push_single(alloc, lines, *b"SN", text_of(fields, kind.serial_field()))
 }
 
-/// Puts the lines of addresses on the web, abstract, note and keywords after the others.
+/// Adds the lines of URL, DOI, abstract, note and keywords.
 fn push_notes<T: Kept>(
     alloc: Global,
     lines: &mut Vec<T>,
@@ -115,7 +115,7 @@ fn push_notes<T: Kept>(
     push_keywords(alloc, lines, *b"KW", text_of(fields, b"keywords"))
 }
 
-/// Puts the lines of a record's fields after the others.
+/// Adds the lines of a record's fields.
 fn push_fields<T: Kept>(
     alloc: Global,
     lines: &mut Vec<T>,
@@ -131,7 +131,7 @@ fn push_fields<T: Kept>(
     push_notes(alloc, lines, fields)
 }
 
-/// Puts the lines of a record after the others, with its key at the end.
+/// Adds the lines of a record, with its key at the end.
 fn push_record<T: Kept>(
     alloc: Global,
     lines: &mut Vec<T>,
@@ -146,7 +146,7 @@ fn push_record<T: Kept>(
 
 // ---- what is dropped
 
-/// Whether the name is one of a field that a record of the kind can have.
+/// Whether a record of the kind can have a field of this name.
 fn is_field_name(alloc: Global, kind: Kind, name: &[u8]) -> Result<bool, AllocError>
     ensures { IfOk result (λ b. b ≡ list_any (bytes_eq name.now) (field_names kind)) }
 {
@@ -185,7 +185,7 @@ fn is_dropped(alloc: Global, kind: Kind, field: &(Text, Text)) -> Result<bool, A
     Ok(!is_carried(alloc, kind, field.0.as_slice(), field.1.as_slice())?)
 }
 
-/// Puts the name of the field after the others, where the field is dropped.
+/// Adds the name of the field if the field is dropped.
 fn push_dropped(
     alloc: Global,
     names: &mut Vec<Text>,
@@ -235,8 +235,8 @@ fn record_of(alloc: Global, kind: Kind, entry: &Record) -> Result<RisRecord, All
     })
 }
 
-/// Puts the text of a record's RIS record, as `to_ris` makes that, after a text. It takes time in the record's size, and
-/// memory for the text alone. The one refusal is want of memory: then a part of the record may stand there.
+/// Adds the text of a record's RIS record, as `to_ris` makes it, to a text. It takes time in the record's size, and
+/// memory for the text alone. The one refusal is want of memory: then a part of the record may follow the text.
 pub fn write_entry(alloc: Global, text: &mut Vec<u8>, entry: &Record) -> Result<(), MappingFault>
     requires { is_well_formed (ris entry.now) ≡ true }
     ensures text { OnOk result (text.new.items ≡ text.old.items ++ record_text (ris entry.now)) }
@@ -249,7 +249,7 @@ pub fn write_entry(alloc: Global, text: &mut Vec<u8>, entry: &Record) -> Result<
     Ok(())
 }
 
-/// The RIS record of a record, as `to_ris` makes it, for those who don't ask what is dropped. It takes time in the record's
+/// The RIS record of a record, as `to_ris` makes it, without the names of dropped fields. It takes time in the record's
 /// size. The one refusal is want of memory.
 pub fn ris_of(alloc: Global, entry: &Record) -> Result<RisRecord, MappingFault>
     ensures record { IfOk result (λ r. r ≡ ris entry.now) }
@@ -259,10 +259,10 @@ pub fn ris_of(alloc: Global, entry: &Record) -> Result<RisRecord, MappingFault>
     Ok(record_of(alloc, kind, entry)?)
 }
 
-/// The RIS record of a record, and the names of the fields that are dropped: those that the table of its type does not
-/// have, lists of names that cannot be taken apart, years with a slash and texts that name no month. Fields with an
-/// empty text are left out and not named; of two fields of one name the first that is not empty is written. It takes
-/// time in the record's size. The one refusal is want of memory.
+/// The RIS record of a record, and the names of the fields that are dropped: fields that the table of its type does not
+/// have, lists of names that cannot be taken apart, years with a slash, and months whose text names no month. Fields
+/// with an empty text are left out and not named. If two fields have one name, the first that is not empty is written.
+/// It takes time in the record's size. The one refusal is want of memory.
 pub fn to_ris(alloc: Global, entry: &Record) -> Result<(RisRecord, Seq<Text>), MappingFault>
     ensures record { IfOk result (λ r. r.0 ≡ ris entry.now) }
     ensures dropped { IfOk result (λ r. r.1 ≡ dropped entry.now) }

@@ -1,4 +1,4 @@
-//! What lines of a RIS record are kept as: themselves, or the bytes of their text.
+//! The lines of a RIS record are kept as lines, or as the bytes of their text.
 
 ghost use Rattle.std.specs.Prelude.{◌≡◌, ◌++◌, ◌∷◌, [], List, OnOk};
 ghost use Rattle.ris_text.specs.declared.records.RisLine.{RisLine as Line};
@@ -9,12 +9,12 @@ use crate::text::copy;
 use ris_text::{RisLine, write_line};
 use std::alloc::{AllocError, Global};
 
-/// What lines are kept as, a list of members for each.
+/// A form in which lines are kept: each line becomes members of a list.
 pub(crate) trait Kept: Drop {
-    /// What a line is kept as.
+    /// The members that a line is kept as.
     ghost kept: { Line → List Self };
 
-    /// Puts a line after those that are kept.
+    /// Adds a line to the lines that are kept.
     fn keep(
         alloc: Global,
         lines: &mut Vec<Self>,

@@ -17,7 +17,7 @@ fn is_cut(byte: u8) -> bool
     byte == b','
 }
 
-/// What stands between the commas, without white space at the ends.
+/// The texts between the commas, without white space at their ends.
 fn keyword_pieces(alloc: Global, text: &[u8]) -> Result<Vec<&[u8]>, AllocError>
     ensures { IfOk result (λ pieces. map (λ p. p.now) pieces.items ≡ keyword_pieces text.now) }
 {
@@ -33,7 +33,7 @@ fn keyword_pieces(alloc: Global, text: &[u8]) -> Result<Vec<&[u8]>, AllocError>
     Ok(pieces)
 }
 
-/// Those of the pieces that have a byte.
+/// The pieces that are not empty.
 fn filled<'a>(alloc: Global, pieces: &[&'a [u8]]) -> Result<Vec<&'a [u8]>, AllocError>
     ensures { IfOk result (λ words. map (λ w. w.now) words.items ≡ filter has_bytes (map (λ p. p.now) pieces.now)) }
 {
@@ -53,7 +53,7 @@ fn keywords(alloc: Global, text: &[u8]) -> Result<Vec<&[u8]>, AllocError>
     filled(alloc, keyword_pieces(alloc, text)?.as_slice())
 }
 
-/// Puts a line for each keyword after the others.
+/// Adds a line for each keyword.
 pub(crate) fn push_keywords<T: Kept>(
     alloc: Global,
     lines: &mut Vec<T>,
@@ -69,7 +69,7 @@ pub(crate) fn push_keywords<T: Kept>(
     Ok(())
 }
 
-/// Puts a line for the keyword after the others.
+/// Adds a line for the keyword.
 fn push_word<T: Kept>(
     alloc: Global,
     lines: &mut Vec<T>,

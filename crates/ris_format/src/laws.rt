@@ -8,8 +8,8 @@ pub fn a_record_of_the_profile_is_kept()
     ensures { ProfileIsKept }
 {}
 
-/// The RIS record of a record whose texts are field texts, and whose key has no white space, can be written; and each
-/// record that a database gives is such.
+/// The RIS record of a record can be written as text if the record's texts are field texts and its key has no white
+/// space. So it is for each record that a database gives.
 pub fn given_records_fit()
     ensures spaced { SpacedRecordsFit }
     ensures given { GivenRecordsFit }

@@ -11,7 +11,7 @@ use bib_value::{field_text, is_neat};
 use ris_text::RisLine;
 use std::alloc::{AllocError, Global};
 
-/// Puts a line with the text after the others, where it is not empty.
+/// Adds a line with the text if the text is not empty.
 pub(crate) fn push_single<T: Kept>(
     alloc: Global,
     lines: &mut Vec<T>,
@@ -99,7 +99,7 @@ pub(crate) fn value_at<'a>(tags: &[[u8; 2]], lines: &'a [RisLine]) -> &'a [u8]
     b""
 }
 
-/// The text, or the other one where it is empty.
+/// The text, or the other text if it is empty.
 pub(crate) fn or_else<'a>(text: &'a [u8], other: &'a [u8]) -> &'a [u8]
     ensures { result.now ≡ or_else text.now other.now }
 {

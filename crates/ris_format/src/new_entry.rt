@@ -62,8 +62,8 @@ fn all_braced(alloc: Global, fields: &[(Text, Text)]) -> Result<Vec<(Text, Text)
     Ok(all)
 }
 
-/// The entry that an edit may add for a record: the record's type, key and field names, and each text in braces. It takes
-/// time and memory in the record's size.
+/// The entry that an edit may add for a record: the record's type, key and field names, and each text in braces. It
+/// takes time and memory in the record's size.
 ///
 /// A record with a text whose braces do not balance is refused as 64; the only other refusal is want of memory.
 pub fn to_entry(alloc: Global, given: &Record) -> Result<NewEntry, MappingFault>
@@ -85,8 +85,8 @@ pub fn to_entry(alloc: Global, given: &Record) -> Result<NewEntry, MappingFault>
     })
 }
 
-/// The entry that `to_entry` makes of a record, made of the record's own memory: a text gets its braces in the memory that
-/// it has, if there is room for them, and else in more. It takes time in the record's size.
+/// The entry that `to_entry` makes of a record, in the record's own memory: a text gets its braces in place if there is
+/// room for them, else in more memory. It takes time in the record's size.
 ///
 /// A record with a text whose braces do not balance is refused as 64; the only other refusal is want of memory.
 pub fn into_entry(alloc: Global, entry: Record) -> Result<NewEntry, MappingFault>

@@ -25,7 +25,7 @@ fn begins_with_hyphen(text: &[u8]) -> bool
     }
 }
 
-/// How many bytes stand before the first `--`, all where there is none.
+/// How many bytes are before the first `--`; all bytes if there is none.
 fn before_dash(text: &[u8]) -> usize
     ensures len { result ≡ before_dash text.now }
     ensures within { result ≤ length text.now }
@@ -38,7 +38,7 @@ fn before_dash(text: &[u8]) -> usize
     text.len()
 }
 
-/// How many bytes stand before the first `-`.
+/// How many bytes are before the first `-`; all bytes if there is none.
 fn before_hyphen(text: &[u8]) -> usize
     ensures len { result ≡ prefix_len is_no_hyphen text.now }
     ensures within { result ≤ length text.now }
@@ -46,14 +46,14 @@ fn before_hyphen(text: &[u8]) -> usize
     text.iter().take_while(|b| **b != b'-').count()
 }
 
-/// The text after so many bytes, or nothing.
+/// The text after its first `count` bytes, or nothing if it has fewer.
 fn after(text: &[u8], count: usize) -> &[u8]
     ensures { result.now ≡ drop count text.now }
 {
     text.split_at(count.min(text.len())).1
 }
 
-/// What stands before the first `--`, or else before the first `-`.
+/// The text before the first `--`; if there is none, before the first `-`.
 fn before_cut(text: &[u8]) -> &[u8]
     ensures { result.now ≡ before_cut text.now }
 {
@@ -65,7 +65,7 @@ fn before_cut(text: &[u8]) -> &[u8]
     }
 }
 
-/// What stands after it.
+/// The text after the first `--`; if there is none, after the first `-`.
 fn after_cut(text: &[u8]) -> &[u8]
     ensures { result.now ≡ after_cut text.now }
 {
@@ -84,7 +84,7 @@ fn is_margin(byte: u8) -> bool
     is_space(byte) || byte == b'-'
 }
 
-/// How many such bytes the text begins with.
+/// How many bytes of white space and hyphens the text begins with.
 fn margin_len(text: &[u8]) -> usize
     ensures len { result ≡ prefix_len is_margin text.now }
     ensures within { result ≤ length text.now }
@@ -92,7 +92,7 @@ fn margin_len(text: &[u8]) -> usize
     text.iter().take_while(|b| is_margin(**b)).count()
 }
 
-/// The text before such bytes at its end.
+/// The text without the white space and hyphens at its end.
 fn before_margin(text: &[u8]) -> &[u8]
     ensures { result.now ≡ before_run is_margin text.now }
 {
@@ -103,7 +103,7 @@ fn before_margin(text: &[u8]) -> &[u8]
     &text[..end]
 }
 
-/// The text without such bytes at its ends.
+/// The text without white space and hyphens at its ends.
 fn page(text: &[u8]) -> &[u8]
     ensures { result.now ≡ page text.now }
 {
@@ -112,14 +112,14 @@ fn page(text: &[u8]) -> &[u8]
 
 // ---- writing
 
-/// Whether there is a first page and a last.
+/// Whether the text has a first page and a last page.
 fn are_two(text: &[u8]) -> bool
     ensures { result ≡ are_two text.now }
 {
     has_bytes(page(before_cut(text))) && has_bytes(page(after_cut(text)))
 }
 
-/// Puts a line for the first page after the others.
+/// Adds a line for the first page.
 pub(crate) fn push_start<T: Kept>(
     alloc: Global,
     lines: &mut Vec<T>,
@@ -135,7 +135,7 @@ pub(crate) fn push_start<T: Kept>(
     }
 }
 
-/// Puts a line for the last page after the others, where there are two.
+/// Adds a line for the last page if there are two pages.
 pub(crate) fn push_end<T: Kept>(
     alloc: Global,
     lines: &mut Vec<T>,
@@ -153,7 +153,7 @@ pub(crate) fn push_end<T: Kept>(
 
 // ---- reading
 
-/// The two pages with a dash between them, or the one that is there.
+/// The two pages with a dash between them, or the one that is not empty.
 pub(crate) fn read_pages(alloc: Global, start: &[u8], end: &[u8]) -> Result<Text, AllocError>
     ensures { IfOk result (λ t. t ≡ read_pages start.now end.now) }
 {
@@ -178,7 +178,7 @@ fn has_dash(text: &[u8]) -> bool
     before_dash(text) < text.len()
 }
 
-/// Whether the text is a page, with nothing to be cut off.
+/// Whether the text is a page: not empty, without `--`, and without white space or hyphens at its ends.
 fn is_plain_page(text: &[u8]) -> bool
     ensures { result ≡ is_plain_page text.now }
 {
@@ -192,7 +192,7 @@ fn has_no_hyphen(text: &[u8]) -> bool
     text.iter().all(|b| *b != b'-')
 }
 
-/// Whether the text has no hyphen, or is two such pages with `--` between them.
+/// Whether the text has no hyphen, or is two pages with `--` between them.
 pub(crate) fn are_plain_pages(text: &[u8]) -> bool
     ensures { result ≡ are_plain_pages text.now }
 {

@@ -26,7 +26,7 @@ pub(crate) struct Person<'a> {
     suffix: &'a [u8],
 }
 
-/// The slice of the text from one place to another, as far as it has them.
+/// The slice of the text from one place to another, or as much of it as the text has.
 fn between(text: &[u8], start: usize, end: usize) -> &[u8]
     ensures { result.now ≡ slice_range text.now start end }
 {
@@ -61,7 +61,7 @@ fn part_text<'a>(name: &'a [u8], words: &[Word<'_>]) -> &'a [u8]
     }
 }
 
-/// The slice of a name with von and Last, empty where Last is.
+/// The slice of a name with von and Last, empty if Last has no word.
 fn family_text<'a>(name: &'a [u8], von: &[Word<'_>], last: &[Word<'_>]) -> &'a [u8]
     ensures { result.now ≡ part_text name.now (family von.now last.now) }
 {
@@ -132,7 +132,7 @@ impl<'a> Model for Person<'a> {
     ghost view = { λ p. record { last = p.last.now; first = p.first.now; suffix = p.suffix.now } };
 }
 
-/// The parts of the name as texts, none where it cannot be taken apart.
+/// The parts of the name as texts, none if the name cannot be taken apart.
 fn person_in(alloc: Global, name: &[u8]) -> Result<Option<Person<'_>>, AllocError>
     ensures { IfOk result (λ found. found ≡ option_map (person name.now) (taken_apart name.now)) }
 {
@@ -144,7 +144,7 @@ fn person_in(alloc: Global, name: &[u8]) -> Result<Option<Person<'_>>, AllocErro
     }
 }
 
-/// The names of a list, none where its braces do not balance.
+/// The names of a list, none if its braces do not balance.
 fn listed_names(alloc: Global, list: &[u8]) -> Result<Seq<&[u8]>, AllocError>
     ensures { IfOk result (λ names. map (λ n. n.now) names ≡ listed_names list.now) }
 {
@@ -186,7 +186,7 @@ pub(crate) fn is_refused(alloc: Global, list: &[u8]) -> Result<bool, AllocError>
 
 // ---- writing
 
-/// Puts a line for the name after the others, where it has a word.
+/// Adds a line for the name if it has a word.
 fn push_person<T: Kept>(
     alloc: Global,
     lines: &mut Vec<T>,
@@ -202,7 +202,7 @@ fn push_person<T: Kept>(
     Ok(())
 }
 
-/// Puts a line for the name after the others, where it has a word. Says whether it can be taken apart.
+/// Adds a line for the name if it has a word. Says whether the name can be taken apart.
 fn push_name<T: Kept>(
     alloc: Global,
     lines: &mut Vec<T>,
@@ -219,7 +219,7 @@ fn push_name<T: Kept>(
     Ok(true)
 }
 
-/// Puts a line for each of these names after the others, none where one of them cannot be taken apart.
+/// Adds a line for each of these names, or no line if one of them cannot be taken apart.
 fn push_names<T: Kept>(
     alloc: Global,
     lines: &mut Vec<T>,
@@ -238,7 +238,7 @@ fn push_names<T: Kept>(
     Ok(())
 }
 
-/// Puts a line for each name of a list after the others, none where the list is refused.
+/// Adds a line for each name of a list, or no line if the list is refused.
 #[tactic(auto, using(crate::proofs::TakenApart::written_listed))]
 pub(crate) fn push_people<T: Kept>(
     alloc: Global,
@@ -260,7 +260,7 @@ fn is_cut(braces: Braces, byte: u8) -> bool
     braces.are_level() && byte == b','
 }
 
-/// What stands between the commas of a value at depth 0, without white space at the ends.
+/// The texts between the commas of a value at depth 0, without white space at their ends.
 fn name_pieces(alloc: Global, value: &[u8]) -> Result<Vec<&[u8]>, AllocError>
     ensures { IfOk result (λ pieces. map (λ p. p.now) pieces.items ≡ name_pieces value.now) }
 {
@@ -306,7 +306,7 @@ fn person_of<'a>(pieces: &[&'a [u8]]) -> Person<'a>
     }
 }
 
-/// Whether no word that begins with an `a` stands after white space: then none is `and`.
+/// Whether no word after white space begins with an `a`: then no word is `and`.
 fn lacks_and(text: &[u8]) -> bool
     ensures { result ≡ lacks_and false text.now }
 {
@@ -320,8 +320,8 @@ fn lacks_and(text: &[u8]) -> bool
     true
 }
 
-/// Whether a value whose braces balance, with so many pieces, would be read as another name than it says. Most values are
-/// not taken apart: no memory is asked for.
+/// Whether a value whose braces balance, and which has `pieces` pieces, would be read as another name than it says.
+/// Most values need not be taken apart, and take no memory.
 fn is_opaque(alloc: Global, value: &[u8], pieces: usize) -> Result<bool, AllocError>
     requires balanced { balances value.now ≡ true }
     requires count { pieces ≡ length (name_pieces value.now) }
@@ -359,7 +359,7 @@ fn read_name(alloc: Global, value: &[u8]) -> Result<Text, AllocError>
     }
 }
 
-/// Puts a value as one more name of a list.
+/// Adds a value to a list as one more name.
 fn push_read(alloc: Global, list: &mut Vec<u8>, value: &[u8]) -> Result<(), AllocError>
     ensures { OnOk result (list.new.items ≡ list.old.items ++ (codes " and " ++ read_name value.now)) }
 {
@@ -403,7 +403,7 @@ fn is_plain_name(alloc: Global, name: &[u8]) -> Result<bool, AllocError>
     }
 }
 
-/// Whether all names are written so.
+/// Whether all names are written as their parts say, with a Last.
 fn are_all_plain(alloc: Global, names: &[&[u8]]) -> Result<bool, AllocError>
     ensures { IfOk result (λ b. b ≡ list_all is_plain_name (map (λ n. n.now) names.now)) }
 {
@@ -415,7 +415,7 @@ fn are_all_plain(alloc: Global, names: &[&[u8]]) -> Result<bool, AllocError>
     Ok(true)
 }
 
-/// Whether the list has such names, joined by ` and `.
+/// Whether the list is names that are written as their parts say, with a Last, joined by ` and `.
 pub(crate) fn are_plain_names(alloc: Global, list: &[u8]) -> Result<bool, AllocError>
     ensures { IfOk result (λ b. b ≡ are_plain_names list.now) }
 {

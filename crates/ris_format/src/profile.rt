@@ -67,7 +67,7 @@ fn has_form(alloc: Global, name: &[u8], text: &[u8]) -> Result<bool, AllocError>
     Ok(true)
 }
 
-/// Whether the field's text is not empty, its own field text, and has that form.
+/// Whether the field's text is not empty, is its own field text, and has the form that is read back.
 fn is_plain_field(alloc: Global, field: &(Text, Text)) -> Result<bool, AllocError>
     ensures { IfOk result (λ b. b ≡ is_plain_field field.now) }
 {
@@ -78,7 +78,7 @@ fn is_plain_field(alloc: Global, field: &(Text, Text)) -> Result<bool, AllocErro
     has_form(alloc, field.0.as_slice(), text)
 }
 
-/// Whether each field is such.
+/// Whether each field's text is not empty, is its own field text, and has the form that is read back.
 fn are_plain_fields(alloc: Global, fields: &[(Text, Text)]) -> Result<bool, AllocError>
     ensures { IfOk result (λ b. b ≡ list_all is_plain_field fields.now) }
 {
@@ -90,9 +90,9 @@ fn are_plain_fields(alloc: Global, fields: &[(Text, Text)]) -> Result<bool, Allo
     Ok(true)
 }
 
-/// Whether a record has a type of the table, a key that an edit may write, fields of that type in the table's order, and
-/// texts in the one form that is read back: such a record, written as RIS and read, is the same again. It takes time in
-/// the record's size. The one refusal is want of memory.
+/// Whether a record has a type of the table, a key that an edit may write, fields of that type in the table's order,
+/// and texts in the one form that is read back: such a record, written as RIS and read, is the same again. It takes
+/// time in the record's size. The one refusal is want of memory.
 pub fn in_profile(alloc: Global, entry: &Record) -> Result<bool, MappingFault>
     ensures test { IfOk result (λ b. b ≡ in_profile entry.now) }
     ensures memory { IfErr result (λ fault. fault ≡ Memory) }

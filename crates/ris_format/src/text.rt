@@ -11,7 +11,7 @@ use bib_scan::{Seq, Text, is_balanced};
 use bib_text::trimmed;
 use std::alloc::{AllocError, Global};
 
-/// What stands between two places, without white space at its ends.
+/// The text between two places, without white space at its ends.
 pub(crate) fn piece_between(text: &[u8], start: usize, end: usize) -> &[u8]
     requires ordered { start ≤ end }
     requires within { end ≤ length text.now }
@@ -65,7 +65,7 @@ pub(crate) fn with_comma(alloc: Global, text: &[u8], more: &[u8]) -> Result<Text
     Ok(Seq::from_vec(out))
 }
 
-/// The text in braces. It takes memory only where the text has no room for them.
+/// The text in braces. It takes memory only if the text has no room for them.
 pub(crate) fn in_braces(text: Text) -> Result<Text, AllocError>
     ensures { IfOk result (λ t. t ≡ in_braces text) }
 {

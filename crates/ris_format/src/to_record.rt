@@ -20,7 +20,7 @@ use bib_scan::{Seq, Text};
 use ris_text::{RisLine, RisRecord};
 use std::alloc::{AllocError, Global};
 
-/// Puts a field with the names that stand after these tags after the other fields.
+/// Adds a field with the names after these tags.
 fn push_people(
     alloc: Global,
     fields: &mut Vec<(Text, Text)>,
@@ -35,7 +35,7 @@ fn push_people(
     push_text(alloc, fields, name, people)
 }
 
-/// Puts author, editor and title after the other fields.
+/// Adds author, editor and title.
 fn push_names(
     alloc: Global,
     fields: &mut Vec<(Text, Text)>,
@@ -48,7 +48,7 @@ fn push_names(
     push_field(alloc, fields, b"title", value_at(&[*b"TI", *b"T1"], lines))
 }
 
-/// The journal: after JF, else after JO, else in an article after T2.
+/// The journal: the value after JF, else after JO, else for an article after T2.
 fn read_journal(kind: Kind, lines: &[RisLine]) -> &[u8]
     ensures { result.now ≡ read_journal kind lines.now }
 {
@@ -63,7 +63,7 @@ fn read_journal(kind: Kind, lines: &[RisLine]) -> &[u8]
     )
 }
 
-/// Puts the booktitle after the other fields, but in an article.
+/// Adds the booktitle, except for an article.
 fn push_booktitle(
     alloc: Global,
     fields: &mut Vec<(Text, Text)>,
@@ -78,7 +78,7 @@ fn push_booktitle(
     push_field(alloc, fields, b"booktitle", value_at(&[*b"T2"], lines))
 }
 
-/// Puts series and journal after the other fields.
+/// Adds series and journal.
 fn push_titles(
     alloc: Global,
     fields: &mut Vec<(Text, Text)>,
@@ -91,7 +91,7 @@ fn push_titles(
     push_field(alloc, fields, b"journal", read_journal(kind, lines))
 }
 
-/// Puts date, volume, number and pages after the other fields.
+/// Adds year, month, volume, number and pages.
 fn push_numbers(
     alloc: Global,
     fields: &mut Vec<(Text, Text)>,
@@ -109,7 +109,7 @@ fn push_numbers(
     push_text(alloc, fields, b"pages", pages)
 }
 
-/// Puts publisher, address and serial number after the other fields.
+/// Adds publisher, address and serial number.
 fn push_publishers(
     alloc: Global,
     fields: &mut Vec<(Text, Text)>,
@@ -133,7 +133,7 @@ fn push_publishers(
     )
 }
 
-/// Puts the keywords after the other fields.
+/// Adds the keywords.
 fn push_keywords(
     alloc: Global,
     fields: &mut Vec<(Text, Text)>,
@@ -146,7 +146,7 @@ fn push_keywords(
     push_text(alloc, fields, b"keywords", keywords)
 }
 
-/// Puts addresses on the web, abstract, note and keywords after the other fields.
+/// Adds URL, DOI, abstract, note and keywords.
 fn push_notes(
     alloc: Global,
     fields: &mut Vec<(Text, Text)>,
@@ -166,7 +166,7 @@ fn push_notes(
     push_keywords(alloc, fields, lines)
 }
 
-/// The fields that lines say whose values are field texts.
+/// The fields that lines say, if the values of the lines are field texts.
 fn read_fields(
     alloc: Global,
     kind: Kind,
@@ -184,7 +184,7 @@ fn read_fields(
     Ok(fields)
 }
 
-/// The record of a kind that lines say whose values are field texts.
+/// The record of a kind that lines say, if the values of the lines are field texts.
 fn record_in(alloc: Global, kind: Kind, lines: &[RisLine]) -> Result<Record, AllocError>
     ensures { IfOk result (λ entry. entry ≡ record_in kind lines.now) }
 {
@@ -196,8 +196,8 @@ fn record_in(alloc: Global, kind: Kind, lines: &[RisLine]) -> Result<Record, All
     })
 }
 
-/// The record of a RIS record. Its values are read as field texts, and its key is the text after ID, empty without
-/// one; which tag gives which field stands in docs/FORMAT-RIS.md. It takes time in the record's size. The one refusal is
+/// The record of a RIS record. Its values are read as field texts, and its key is the text after ID, empty if there is
+/// no ID. docs/FORMAT-RIS.md says which tag gives which field. It takes time in the record's size. The one refusal is
 /// want of memory.
 pub fn from_ris(alloc: Global, ris: &RisRecord) -> Result<Record, MappingFault>
     ensures record { IfOk result (λ entry. entry ≡ back ris.now) }
@@ -205,7 +205,7 @@ pub fn from_ris(alloc: Global, ris: &RisRecord) -> Result<Record, MappingFault>
 {
     let kind = Kind::of_ris(ris.kind_name.as_slice());
     let lines = ris.lines.as_slice();
-    // Most values are field texts as they stand.
+    // Most values are their own field text.
     if are_neat_lines(lines) {
         return Ok(record_in(alloc, kind, lines)?);
     }

@@ -9,7 +9,7 @@ fn owned(alloc: Global, text: &[u8]) -> Result<Text, RisFault> {
     Ok(Seq::from_vec(Vec::from_slice(alloc, text)?))
 }
 
-/// The text of what a file says, if that can be written.
+/// The records of a file, written as text again, if they can be written.
 fn again(alloc: Global, file: &[u8]) -> Result<Option<Text>, RisFault> {
     let file = read_ris(alloc, file)?;
     let records = file.records.as_slice();
@@ -90,7 +90,7 @@ fn one_record(
     Ok(Seq::from_vec(records))
 }
 
-/// What is written of one record with one line, if it is well-formed.
+/// The text of one record with one line, if the record is well formed.
 fn written(
     alloc: Global,
     kind_name: &[u8],

@@ -86,7 +86,7 @@ const KING_LINES: [([u8; 2], &[u8]); 8] = [
     (*b"ID", b"k1"),
 ];
 
-/// Whether a record is written as these lines, and the fields of these names alone are not.
+/// Whether a record is written as these lines, and only the fields with these names are dropped.
 fn is_written(
     alloc: Global,
     record: &Record,
@@ -104,7 +104,7 @@ fn is_written(
     Ok(are_named && is_ris(&written, kind, lines))
 }
 
-/// Whether a RIS record is read as one of this type, with this key and these fields.
+/// Whether a RIS record is read as a record of this type, with this key and these fields.
 fn is_read(
     alloc: Global,
     record: &RisRecord,
@@ -120,7 +120,7 @@ fn is_read(
     )
 }
 
-/// Whether what is written of the record is read as it was.
+/// Whether the record is the same again after it is written and read.
 fn comes_back(alloc: Global, record: &Record) -> Result<bool, MappingFault> {
     let (written, _dropped) = to_ris(alloc, record)?;
     is_read(alloc, &written, b"article", b"k1", &KING)

@@ -9,11 +9,11 @@ use Rattle.bib_spec.specs.Text.{Text}
 use Rattle.bib_spec.specs.Texts.{onto_first}
 use Rattle.ris_text.specs.Lines.{Line, line_at, line_texts, lines_from, lines_of, mark_len}
 
--- how many bytes stand before the first line feed
+-- how many bytes are before the first line feed
 abbrev pub line_len : Text → ℕ
 line_len t = prefix_len (λ b. not (b == line_feed)) t
 
--- the line feed is the first byte, or stands after the first
+-- the line feed is the first byte, or comes after the first
 ends_here : (b : ℕ) (t : Text) → (b == line_feed) ≡ true → (line_len (b ∷ t) ≡ 0) × (line_texts (b ∷ t) ≡ [] ∷ line_texts t)
 ends_here b t is = (rw is refl, rw is refl)
 
@@ -50,7 +50,7 @@ line_last (b ∷ c ∷ t) some all =
       | inr is ↦ (ends_later b (c ∷ t) is).1 ∙ ap (onto_first b) (line_last (c ∷ t) (omega arith) (omega (arith, all, (ends_later b (c ∷ t) is).0)))
     ]
 
--- the first line, and the lines from the byte on that stands so far after its first
+-- the first line, of `len` bytes, and the lines after its line feed, which begin `after` bytes later
 pub first_line : (place : ℕ) (t : Text) (len after : ℕ) → 0 < length t → len ≡ line_len t → after ≡ min (length t) (len + 1)
     → lines_from place (line_texts t) ≡ line_at place (take len t) ∷ lines_from (place + after) (line_texts (drop after t))
 first_line place t len after some is next =

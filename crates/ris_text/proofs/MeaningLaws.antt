@@ -36,7 +36,7 @@ wrong_says_nothing end lines file fault says wrong =
 
 -- ---- some meaning
 
--- the lines are those of a tree and others, of which there are none or the first is wrong
+-- the lines are the lines of a tree, and either there are no others or the first of the others is wrong
 record Decided (end : ℕ) (lines : List Line) : Type 0 where
   tree : Tree
   is_tree : IsTree tree
@@ -44,7 +44,7 @@ record Decided (end : ℕ) (lines : List Line) : Type 0 where
   same : tree_lines tree ++ rest ≡ lines
   ending : (rest ≡ []) ⊎ ((fault : RisFault) × IsWrong end rest fault)
 
--- inside a record: none is left, or a TY line stands there, or an ER line before lines that are decided
+-- inside a record: no line is left, or a TY line is next, or an ER line before lines that are decided
 data Ending (end : ℕ) : List Line → Type 0 where
   over : Ending end []
   again : (line : Line) (rest : List Line) → line.class ≡ Begin → Ending end (line ∷ rest)
@@ -125,7 +125,7 @@ with_more end line lines untagged i = record {
   ending = i.ending;
 }
 
--- a line with a tag that may stand inside a record
+-- a line with a tag that may be inside a record
 with_paragraph : (end : ℕ) (line : Line) (lines : List Line) → is_inner line.class ≡ true → Inner end lines → Inner end (line ∷ lines)
 with_paragraph end line lines is i =
     let p : Paragraph = record { head = line; more = i.front } in

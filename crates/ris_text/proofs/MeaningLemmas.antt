@@ -32,7 +32,7 @@ inner_untagged end line lines Other is untagged = absurd (cc)
 inner_untagged end line lines Blank is untagged = ap (λ (t : Told). t.inside) (told-class end line lines Blank is)
 inner_untagged end line lines Untagged is untagged = ap (λ (t : Told). t.inside) (told-class end line lines Untagged is)
 
--- what continues a value, where lines without a tag stand before a line with one
+-- what continues a value, if lines without a tag are before a line that continues nothing
 pub continuation-append : (lines rest : List Line) → all_untagged lines ≡ true → continuation rest ≡ [] → continuation (lines ++ rest) ≡ map (λ line. line.text) lines
 continuation-append [] rest untagged stops = stops
 continuation-append (line ∷ lines) rest untagged stops =
@@ -78,7 +78,7 @@ count-cons p ps b is = sum_by-cons (λ (q : Paragraph). if is_other q.head.class
 abbrev pub other_count : List Paragraph → ℕ
 other_count ps = count_by (λ p. is_other p.head.class) ps
 
--- one paragraph more, before lines of which the rest is known
+-- one paragraph more, before lines whose rest is known
 paragraph_told : (end : ℕ) (p : Paragraph) (ps : List Paragraph) (after : List Line) (i : Inside) (class : Class) → p.head.class ≡ class → is_inner class ≡ true
     → continuation after ≡ map (λ line. line.text) p.more → told_inner end after ≡ paragraphs_told ps i → told_inner end (p.head ∷ after) ≡ paragraphs_told (p ∷ ps) i
 paragraph_told end p ps after i Begin is inside_it texts rest = absurd (cc)
@@ -246,7 +246,7 @@ told_if_says end lines file says =
     ∙ ap (λ n. Ok (ris_file (file_of t).records n)) (add-zero (file_of t).skipped)
     ∙ ap (λ (f : RisFile). Ok f) says.told
 
--- where a tag line stands that is no TY line
+-- a line of a class that may be inside a record is wrong outside records
 not_begun : (end : ℕ) (line : Line) (rest : List Line) (class : Class) → line.class ≡ class → is_inner class ≡ true → (told end (line ∷ rest)).outside ≡ Err (NoStart line.place)
 not_begun end line rest Begin is inner_class = absurd (cc)
 not_begun end line rest End is inner_class = absurd (cc)

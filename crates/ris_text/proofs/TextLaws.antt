@@ -67,7 +67,7 @@ fits_trimmed : (value : Text) → fits_line value ≡ true → trimmed value ≡
 unfolding fits_line
 fits_trimmed value fits = (bytes_eq-Decides (trimmed value) value).0 (and_parts (not (list_any ends_line value)) (bytes_eq (trimmed value) value) fits).1
 
--- no line feed stands in the text
+-- the text has no line feed
 abbrev LacksFeed : Text → Type 0
 LacksFeed text = list_any (λ b. b == line_feed) text ≡ false
 

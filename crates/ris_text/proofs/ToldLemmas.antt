@@ -42,7 +42,7 @@ length-after (line ∷ lines) = go (length-after lines) (is_untagged line.class)
 
 -- ---- inside a record
 
--- what was kept, so many skipped lines, and what the rest says, are what all the lines say
+-- what was kept, the `n` lines that were skipped, and what the rest says, are what all the lines say
 pub record IsInside (end : ℕ) (kept : List RisLine) (skipped : ℕ) (all rest : List Line) : Type 0 where
   pub told : inside (kept ++ (told_inner end rest).kept) (skipped + (told_inner end rest).skipped) (told_inner end rest).after ≡ told_inner end all
   pub count : skipped + length rest ≤ length all
@@ -72,7 +72,7 @@ IsInside-known end kept kept' skipped all rest after left line tag value so_far 
 
 -- ---- outside records
 
--- so many skipped lines, and what the rest says, are the whole outcome, and there are at most so many of both
+-- the `n` lines that were skipped, and what the rest says, are the whole outcome; skipped lines and rest are no more than all lines
 pub record IsOutside (end skipped : ℕ) (whole : Outcome) (most : ℕ) (rest : List Line) : Type 0 where
   pub told : with_front [] skipped (told end rest).outside ≡ whole
   pub count : skipped + length rest ≤ most

@@ -10,7 +10,7 @@ use Rattle.ris_text.specs.declared.records.RisRecord.{RisRecord}
 use Rattle.ris_text.specs.Tags.{begin_tag, end_tag}
 use Rattle.ris_text.specs.Writing.{written, ended, record_text}
 
--- a text that stands first in a longer one stands first wherever that does
+-- a text at the front of a longer one is at the front of each text that begins with the longer one
 pub front_stands : (text now more new : Text) → now ≡ text ++ more → take (length now) new ≡ now → take (length text) new ≡ text
 front_stands text now more new grown stands =
     let within : length text ≤ length now = omega (arith, ap (length {A = ℕ}) grown, length-append text more) in

@@ -9,10 +9,10 @@ use Rattle.ris_text.specs.declared.lines.Class.TheVariants.{Begin, End, Known, O
 use Rattle.bib_text.specs.Trimming.{trimmed}
 use Rattle.ris_text.specs.Tags.{has_tag, tag_class}
 
--- A line has one of six classes: `Begin` with the tag TY, `End` with ER, `Known tag` with a tag that a record keeps, `Other` with another tag; without a tag
--- `Blank`, which is white space alone, and `Untagged`.
+-- A line has one of six classes. With a tag: `Begin` has TY, `End` has ER, `Known tag` a tag that a record keeps, `Other` another
+-- tag. Without a tag: `Blank` is white space alone, `Untagged` is any other text.
 
--- a line: the place of its first byte in the file, its class, and its text, which is its value where it has a tag
+-- a line: the place of its first byte in the file, its class, and its text, which is its value if it has a tag
 pub record Line : Type 0 where
   pub place : ℕ
   pub class : Class
@@ -22,7 +22,7 @@ pub record Line : Type 0 where
 abbrev pub tag_line : ℕ → Text → Text → Line
 tag_line place tag value = record { place = place; class = tag_class tag; text = trimmed value }
 
--- a line without a tag, which is blank where it has no text
+-- a line without a tag, which is blank if it has no text
 abbrev pub plain_line : ℕ → Text → Line
 plain_line place text = record { place = place; class = if is_empty text then Blank else Untagged; text = text }
 
@@ -30,12 +30,12 @@ plain_line place text = record { place = place; class = if is_empty text then Bl
 unfoldable pub line_at : ℕ → Text → Line
 line_at place bytes = if has_tag bytes then tag_line place (take 2 bytes) (drop 5 bytes) else plain_line place (trimmed bytes)
 
--- Line feeds end lines, and the last line may lack its own.
+-- The bytes of the lines of a text. Line feeds end lines, and the last line may lack its line feed.
 abbrev pub line_texts : Text → List Text
 line_texts [] = []
 line_texts (b ∷ t) = if b == line_feed then [] ∷ line_texts t else onto_first b (line_texts t)
 
--- the lines that have these bytes, where the first stands at this place
+-- the lines that have these bytes, the first of them at this place
 abbrev pub lines_from : ℕ → List Text → List Line
 lines_from place [] = []
 lines_from place (bytes ∷ others) = line_at place bytes ∷ lines_from (place + length bytes + 1) others
@@ -44,10 +44,11 @@ lines_from place (bytes ∷ others) = line_at place bytes ∷ lines_from (place 
 abbrev pub mark : Text
 mark = 239 ∷ 187 ∷ 191 ∷ []
 
+-- how many bytes the mark at the front of a file takes: three, or none if the file has no mark
 unfoldable pub mark_len : Text → ℕ
 mark_len file = if starts_with nat_eq file mark then 3 else 0
 
--- the lines of a file; a mark at its front is no part of them, and counts in their places
+-- the lines of a file; a mark at its front is in no line, but counts in the places of lines
 abbrev pub lines_of : Text → List Line
 lines_of file = lines_from (mark_len file) (line_texts (drop (mark_len file) file))
 

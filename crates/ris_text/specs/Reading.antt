@@ -9,27 +9,28 @@ use Rattle.ris_text.specs.declared.fault.RisFault.TheVariants.{NoStart, NoEnd, E
 use Rattle.ris_text.specs.Lines.{Line, lines_of}
 use Rattle.ris_text.specs.Trees.{is_inner, Begun, IsBegun, begun_lines, record_of, Tree, IsTree, tree_lines, file_of}
 
--- the lines are those of a tree, and it says this
+-- the lines are the lines of a tree, and the tree says this
 pub record Says (lines : List Line) (file : RisFile) : Type 0 where
   pub tree : Tree
   pub is_tree : IsTree tree
   pub same : tree_lines tree ≡ lines
   pub told : file_of tree ≡ file
 
--- What is wrong with the lines after a tree: each rule says what stands there first, and gives the fault with its place. The file ends at `end`.
+-- What is wrong with the lines after a tree, in a file that ends at `end`: each rule says which lines are there first, and gives
+-- the fault with its place.
 pub data IsWrong (end : ℕ) : List Line → RisFault → Type 0 where
-  -- a tag line stands outside records that is no TY line: one that may stand inside a record, or an ER line
+  -- outside records there is a tag line other than a TY line: a line that may be inside a record, or an ER line
   inner : (line : Line) (rest : List Line) → is_inner line.class ≡ true → IsWrong end (line ∷ rest) (NoStart line.place)
   ends : (line : Line) (rest : List Line) → line.class ≡ End → IsWrong end (line ∷ rest) (NoStart line.place)
   -- a record begins inside another
   begins_again : (b : Begun) (line : Line) (rest : List Line) → IsBegun b → line.class ≡ Begin → IsWrong end (begun_lines b ++ line ∷ rest) (NoEnd line.place)
   -- the file ends inside a record
   unended : (b : Begun) → IsBegun b → IsWrong end (begun_lines b) (NoEnd end)
-  -- a record ends that has no type
+  -- a record without a type ends
   untyped : (b : Begun) (line : Line) (rest : List Line) → IsBegun b → line.class ≡ End → is_empty (record_of b).kind_name ≡ true
       → IsWrong end (begun_lines b ++ line ∷ rest) (EmptyType b.first.head.place)
 
--- the lines of a tree, and then lines with which something is wrong
+-- the lines are the lines of a tree, and then lines with which something is wrong
 pub record GoesWrong (end : ℕ) (lines : List Line) (fault : RisFault) : Type 0 where
   pub before : Tree
   pub is_tree : IsTree before

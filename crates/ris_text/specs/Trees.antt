@@ -11,7 +11,7 @@ use Rattle.ris_text.specs.declared.records.RisRecord.{RisRecord}
 use Rattle.ris_text.specs.declared.records.RisFile.{RisFile}
 use Rattle.ris_text.specs.Lines.{Line, is_untagged}
 
--- the value with the texts that continue it: those that are not empty, with a space between one and the next
+-- the value with the texts that continue it: all that are not empty, with a space between one and the next
 unfoldable pub joined : Text → List Text → Text
 joined value texts = join_with_byte space (filter (λ text. not (is_empty text)) (value ∷ texts))
 
@@ -22,6 +22,7 @@ pub record Paragraph : Type 0 where
   pub head : Line
   pub more : List Line
 
+-- the lines of a paragraph
 abbrev pub paragraph_lines : Paragraph → List Line
 paragraph_lines p = p.head ∷ p.more
 
@@ -33,7 +34,7 @@ value_of p = joined p.head.text (map (λ line. line.text) p.more)
 abbrev pub all_untagged : List Line → Bool
 all_untagged lines = list_all (λ line. is_untagged line.class) lines
 
--- the tag is one that may stand inside a record
+-- a line of this class may be inside a record, after its TY line
 abbrev pub is_inner : Class → Bool
 is_inner Begin = false
 is_inner End = false
@@ -42,7 +43,7 @@ is_inner Other = true
 is_inner Blank = false
 is_inner Untagged = false
 
--- a paragraph that may stand inside a record
+-- a paragraph that may be inside a record
 abbrev pub is_inner_paragraph : Paragraph → Bool
 is_inner_paragraph p = is_inner p.head.class && all_untagged p.more
 
@@ -70,17 +71,18 @@ is_other Untagged = false
 
 -- ---- records
 
--- a record that has begun: the paragraph of its TY line, and those after
+-- a record that has begun: the paragraph of its TY line, and the paragraphs after it
 pub record Begun : Type 0 where
   pub first : Paragraph
   pub inner : List Paragraph
 
--- it begins with a TY line, no other TY line and no ER line follows, and lines without a tag stand where they continue one with a tag
+-- a record begins with a TY line, no other TY line and no ER line follows, and lines without a tag continue a line with one
 pub record IsBegun (b : Begun) : Type 0 where
   pub begins : b.first.head.class ≡ Begin
   pub continued : all_untagged b.first.more ≡ true
   pub inner : list_all is_inner_paragraph b.inner ≡ true
 
+-- the lines of a record that has begun
 abbrev pub begun_lines : Begun → List Line
 begun_lines b = paragraph_lines b.first ++ flat_map paragraph_lines b.inner
 
@@ -98,13 +100,14 @@ pub record Block : Type 0 where
   pub last : Line
   pub after : List Line
 
--- its type is not empty, and after its ER line stand lines without a tag
+-- a whole record: its type is not empty, it ends with an ER line, and the lines after the ER line have no tag
 pub record IsBlock (b : Block) : Type 0 where
   pub begun : IsBegun b.begun
   pub typed : is_empty (record_of b.begun).kind_name ≡ false
   pub ends : b.last.class ≡ End
   pub after : all_untagged b.after ≡ true
 
+-- the lines of a record, with its ER line and the lines after it that belong to no record
 abbrev pub block_lines : Block → List Line
 block_lines b = begun_lines b.begun ++ (b.last ∷ b.after)
 
@@ -115,7 +118,7 @@ pub record Tree : Type 0 where
   pub front : List Line
   pub blocks : List Block
 
--- all of them are blocks
+-- all are blocks
 pub data AreBlocks : List Block → Type 0 where
   none : AreBlocks []
   more : {b : Block} {bs : List Block} → IsBlock b → AreBlocks bs → AreBlocks (b ∷ bs)
@@ -125,6 +128,7 @@ pub record IsTree (t : Tree) : Type 0 where
   pub front : all_untagged t.front ≡ true
   pub blocks : AreBlocks t.blocks
 
+-- the lines of a file
 abbrev pub tree_lines : Tree → List Line
 tree_lines t = t.front ++ flat_map block_lines t.blocks
 
@@ -141,6 +145,7 @@ is_counted Other = false
 abbrev pub skipped_outside : List Line → ℕ
 skipped_outside lines = count_by (λ line. is_counted line.class) lines
 
+-- how many lines are skipped inside a record and after it
 abbrev pub skipped_by : Block → ℕ
 skipped_by b = skipped_inside b.begun + skipped_outside b.after
 

@@ -22,7 +22,7 @@ fn has_line_end(text: &[u8]) -> bool
     text.iter().any(|b| ends_line(*b))
 }
 
-/// Whether the text can stand in a line: no line ends in it, and no white space stands at its ends.
+/// Whether the text fits a line: no line ends in it, and it has no white space at its ends.
 #[tactic(auto, unfolding(crate::specs::Writing::fits_line))]
 fn fits_line(text: &[u8]) -> bool
     ensures { result ≡ fits_line text.now }
@@ -30,7 +30,7 @@ fn fits_line(text: &[u8]) -> bool
     !has_line_end(text) && trimmed(text) == text
 }
 
-/// Whether the line has a known tag, and its value can stand in a line.
+/// Whether the line has a known tag and a value that fits a line.
 fn is_well_formed_line(line: &RisLine) -> bool
     ensures { result ≡ is_well_formed_line line.now }
 {
@@ -46,7 +46,7 @@ fn are_well_formed_lines(lines: &[RisLine]) -> bool
 }
 
 /// Whether a record can be written and read back: it has a type, its tags are known (docs/FORMAT-RIS.md), and type and
-/// values can stand in a line. It takes time in the record's size, and no memory.
+/// values fit a line. It takes time in the record's size, and no memory.
 #[tactic(auto, unfolding(crate::specs::Writing::is_well_formed))]
 pub fn is_well_formed(rec: &RisRecord) -> bool
     ensures { result ≡ is_well_formed rec.now }

@@ -8,7 +8,7 @@ use crate::lines::Lines;
 use bib_text::{Seq, Text};
 use std::alloc::{AllocError, Global};
 
-/// Puts a text after a value, with a space between them where neither is empty.
+/// Adds a text to a value, with a space between them if neither is empty.
 fn join(value: &mut Vec<u8>, text: &[u8]) -> Result<(), AllocError>
     ensures { IfOk result (λ _. value.new.items ≡ joined value.old.items (text.now ∷ [])) }
 {
@@ -19,7 +19,7 @@ fn join(value: &mut Vec<u8>, text: &[u8]) -> Result<(), AllocError>
     value.extend_from_slice(text)
 }
 
-/// The value with the lines without a tag at the front, which continue it, and the lines after those.
+/// The value with the lines without a tag at the front, which continue it; and the lines after them.
 pub(crate) fn continued<'a>(
     alloc: Global,
     value: &[u8],

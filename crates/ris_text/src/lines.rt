@@ -23,7 +23,7 @@ pub(crate) enum Class {
     Untagged,
 }
 
-/// A line: the place of its first byte in the file, what it does, and its text, which is its value where it has a tag.
+/// A line: the place of its first byte in the file, what it does, and its text, which is its value if it has a tag.
 #[derive(Clone, Copy)]
 pub(crate) struct Line<'a> {
     pub place: usize,
@@ -73,7 +73,7 @@ fn line_at(place: usize, bytes: &[u8]) -> Line<'_>
     tag_line(place, tag, bytes.split_at(5).1)
 }
 
-/// How many bytes stand before the first line feed, or before the end.
+/// How many bytes are before the first line feed, or before the end if there is none.
 fn line_len(text: &[u8]) -> usize
     ensures len { result ≡ prefix_len (λ b. not (b == line_feed)) text.now }
     ensures within { result ≤ length text.now }
@@ -97,7 +97,7 @@ fn mark_len(file: &[u8]) -> usize
     }
 }
 
-/// The lines of a file that are left, from the front. They take no memory.
+/// The lines of a file that are still to be read, from the front. They take no memory.
 #[derive(Drop)]
 pub(crate) struct Lines<'a> {
     file: &'a [u8],
@@ -116,7 +116,7 @@ impl<'a> Model for Lines<'a> {
 }
 
 impl<'a> Lines<'a> {
-    /// Those of a file.
+    /// The lines of a file.
     pub fn of(file: &'a [u8]) -> Self
         ensures { result ≡ lines_of file.now }
     {
@@ -126,7 +126,7 @@ impl<'a> Lines<'a> {
         }
     }
 
-    /// Whether there is a first of them, and it has no tag.
+    /// Whether there is a first line, and it has no tag.
     pub fn continues(&self) -> bool
         ensures { result ≡ continues self.now }
     {
@@ -134,7 +134,7 @@ impl<'a> Lines<'a> {
         !rest.is_empty() && !has_tag(rest)
     }
 
-    /// The first of them, and those after it.
+    /// The first line, and the lines after it.
     pub fn first(&self) -> Option<(Line<'a>, Lines<'a>)>
         ensures some { IfSome result (λ r. self.now ≡ seen r.0 ∷ r.1) }
         ensures none { IfNone result (self.now ≡ []) }

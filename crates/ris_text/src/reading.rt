@@ -65,7 +65,7 @@ struct Whole<'a> {
     after: Lines<'a>,
 }
 
-/// Reads a record, whose TY line stands before these lines.
+/// Reads a record, given its TY line and the lines after the TY line.
 fn read_record<'a>(
     alloc: Global,
     end: usize,
@@ -93,8 +93,8 @@ fn read_record<'a>(
     })
 }
 
-/// What comes next in a file: a record, or none where the file ends; how many lines were skipped by then; and the lines
-/// that are left.
+/// What is next in a file: a record, or none if the file ends; how many lines were skipped by then; and the lines that
+/// are left.
 #[derive(Drop)]
 struct Next<'a> {
     rec: Option<RisRecord>,
@@ -102,7 +102,8 @@ struct Next<'a> {
     after: Lines<'a>,
 }
 
-/// Reads on to the end of the next record, in a file that ends at this place and of which so many lines were skipped.
+/// Reads on to the end of the next record, in a file that ends at this place, where `skipped` lines were skipped so
+/// far.
 fn read_next<'a>(
     alloc: Global,
     end: usize,
@@ -170,7 +171,7 @@ impl<'a> Unread<'a> {
     ghost use Rattle.ris_text.specs.Code.{ris_file, with_record};
     ghost use Rattle.ris_text.specs.declared.fault.RisFault.TheVariants.{Memory};
 
-    /// The whole file, of which nothing is read yet. A mark of UTF-8 at its front is dropped, and counted in places.
+    /// A file before its first record is read. A mark of UTF-8 at its front is dropped, but counted in places.
     pub fn of(file: &'a [u8]) -> Self
         ensures { IsLeft file.now [] result }
     {
@@ -188,9 +189,9 @@ impl<'a> Unread<'a> {
         self.skipped
     }
 
-    /// The next record, or none where the file ends, and what is left after it; or the line at which the file goes wrong.
-    /// It takes time in the length of what it reads, and memory for the record. A file that goes wrong is refused as 61 to
-    /// 63, with its place; else the one refusal is want of memory.
+    /// The next record, or none if the file ends, and what is left after it; or the line at which the file goes wrong.
+    /// It takes time in the length of what it reads, and memory for the record. A file that goes wrong is refused as 61
+    /// to 63, with the place; else the one refusal is want of memory.
     pub fn next(self, alloc: Global) -> Result<(Option<RisRecord>, Unread<'a>), RisFault>
         ensures some { IfOk result (λ r. IfSome r.0 (λ rec. self.entry.says ≡ with_record rec r.1.says)) }
         ensures fewer { IfOk result (λ r. IfSome r.0 (λ _. r.1.lines < self.entry.lines)) }
@@ -209,10 +210,11 @@ impl<'a> Unread<'a> {
 }
 
 /// Reads a file: the records that it says, or the first line at which it goes wrong. A mark of UTF-8 at its front is
-/// dropped, and counted in places. It takes time in the length of the file, and memory for what it says: `Unread` reads
-/// with memory for one record at a time. (RIS format specification; dialect: docs/FORMAT-RIS.md)
+/// dropped, but counted in places. It takes time in the length of the file, and memory for all its records: `Unread`
+/// takes memory for one record at a time. (RIS format specification; dialect: docs/FORMAT-RIS.md)
 ///
-/// A file that goes wrong is refused as 61 to 63, with its place in bytes from 0; else the one refusal is want of memory.
+/// A file that goes wrong is refused as 61 to 63, with its place in bytes from 0; else the one refusal is want of
+/// memory.
 pub fn read_ris(alloc: Global, bytes: &[u8]) -> Result<RisFile, RisFault>
     ensures read { IfOk result (λ file. Reads bytes.now file) }
     ensures refused { IfErr result (λ fault. (fault ≡ Memory) ⊎ IsFaultOf bytes.now fault) }

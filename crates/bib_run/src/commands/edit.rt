@@ -19,13 +19,13 @@ use bib_store::Paged;
 use bib_words::status;
 use std::alloc::{AllocError, Global};
 
-/// The number of a line that asks for nothing.
+/// The fault number of a line that is no request.
 const BAD_SCRIPT: u16 = 71;
 
 /// The message of words that say no edit.
 const BAD_WORDS: &[u8] = b"bibkeep: 71 BadScript\n";
 
-/// What the script makes of the file, up to its first line that is refused or asks for nothing.
+/// What the script makes of the file, up to its first line that is refused or is no request.
 pub fn answer_edit(
     alloc: Global,
     file: Vec<u8>,
@@ -45,7 +45,7 @@ pub fn answer_edit(
     }
 }
 
-/// What the script makes of a session, unless it is too long.
+/// What the script makes of the file of a session, unless the script is too long.
 fn answer_script(
     alloc: Global,
     session: &mut Session<Paged>,
@@ -59,7 +59,7 @@ fn answer_script(
     edit(alloc, session, input)
 }
 
-/// What the script makes of a session.
+/// What the script makes of the file of a session.
 fn edit(alloc: Global, session: &mut Session<Paged>, input: &[u8]) -> Result<Answer, AllocError>
     ensures { IfOk result (HasEditedBy input.now session.old) }
 {
@@ -91,7 +91,7 @@ pub fn answer_words(
     }
 }
 
-/// What the words of one edit make of a session.
+/// What the words of one edit make of the file of a session.
 fn edit_by_words(
     alloc: Global,
     session: &mut Session<Paged>,
@@ -105,7 +105,7 @@ fn edit_by_words(
     }
 }
 
-/// What the requests of one edit make of a session.
+/// What the requests of one edit make of the file of a session.
 fn edit_alone(
     alloc: Global,
     session: &mut Session<Paged>,
@@ -120,7 +120,7 @@ fn edit_alone(
     edited_answer(alloc, requests, performed.done, message, saved)
 }
 
-/// No edit is made, and the message says that the words say none.
+/// No edit is made, and the message says that the words say no edit.
 fn bad_words(alloc: Global) -> Result<Answer, AllocError>
     ensures { IfOk result (λ answer. answer ≡ answer_of (applied_line 0) bad_words_line 1) }
 {
@@ -144,7 +144,7 @@ fn perform_told(session: &mut Session<Paged>, requests: &[Request]) -> Result<Pe
     Ok(performed)
 }
 
-/// The file and the journal that are left of a session.
+/// The file and the journal that a session leaves.
 fn saved(session: &Session<Paged>) -> Result<Saved, AllocError>
     ensures { IfOk result (Saves session.now.steps) }
 {
@@ -154,7 +154,7 @@ fn saved(session: &Session<Paged>) -> Result<Saved, AllocError>
     }
 }
 
-/// How many edits the request is.
+/// How many changes the request is: one if it is an edit.
 fn changes_of(request: &Request) -> usize
     ensures value { result ≡ changes_of request.now }
     ensures small { result ≤ 1 }
@@ -176,7 +176,7 @@ fn edits_in(requests: &[Request]) -> usize
     edits
 }
 
-/// The answer where so many of the requests were done.
+/// The answer after the first `done` requests.
 fn edited_answer(
     alloc: Global,
     requests: &[Request],
@@ -193,7 +193,7 @@ fn edited_answer(
     Ok(Answer { output, outcome })
 }
 
-/// `applied N`, a line.
+/// The line `applied N`.
 fn applied_line(alloc: Global, done: usize) -> Result<Text, AllocError>
     ensures { IfOk result (λ line. line ≡ applied_line done) }
 {
@@ -201,7 +201,7 @@ fn applied_line(alloc: Global, done: usize) -> Result<Text, AllocError>
     Ok(Text::from_vec(line.into_bytes()))
 }
 
-/// Why a script stopped after so many requests, if it did.
+/// Why a script stopped after its first `done` requests, if it did.
 fn stop_line(
     alloc: Global,
     script: &Script,
@@ -220,7 +220,7 @@ fn stop_line(
     }
 }
 
-/// The line of a script, and the fault of its request.
+/// The message of a refused request: its line in the script, and the fault.
 fn refused_line(alloc: Global, line: usize, fault: SessionFault) -> Result<Text, AllocError>
     ensures { IfOk result (λ text. text ≡ refused_line line fault) }
 {
@@ -228,7 +228,7 @@ fn refused_line(alloc: Global, line: usize, fault: SessionFault) -> Result<Text,
     script_line(alloc, line, number, session_fault_name(number))
 }
 
-/// `bibkeep: line L: N Name`, a line.
+/// The line `bibkeep: line L: N Name`.
 fn script_line(alloc: Global, line: usize, number: u16, name: &str) -> Result<Text, AllocError>
     ensures { IfOk result (λ text. text ≡ script_line line number name.now) }
 {

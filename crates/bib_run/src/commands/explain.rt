@@ -10,7 +10,7 @@ use bib_scan::Text;
 use fault_pages::{Page, page_of};
 use std::alloc::{AllocError, Global};
 
-/// The page on the fault that this word names, or that it names none.
+/// The page on the fault that this word names, or that the word names no fault.
 pub fn answer_explain(alloc: Global, word: &[u8]) -> Result<Answer, AllocError>
     ensures { IfOk result (IsExplainAnswer word.now) }
 {
@@ -20,7 +20,7 @@ pub fn answer_explain(alloc: Global, word: &[u8]) -> Result<Answer, AllocError>
     }
 }
 
-/// The page: the fault's number and name, and what is said of it.
+/// The page: the fault's number and name, and the text about it.
 fn text_of(alloc: Global, page: Page) -> Result<Text, AllocError>
     ensures { IfOk result (λ text. text ≡ head_lines (head_of page) ++ page.text.now) }
 {
@@ -39,7 +39,7 @@ fn add_head(text: &mut Vec<u8>, number: &[u8], name: &[u8]) -> Result<(), AllocE
     text.extend_from_slice(b"\n\n")
 }
 
-/// Nothing is output, and the message says that no fault has the number or name.
+/// The answer when no fault has the number or name: no output, and the message says so.
 fn no_such_fault(alloc: Global) -> Result<Answer, AllocError>
     ensures { IfOk result (λ answer. answer ≡ answer_of [] no_such_fault_line 1) }
 {

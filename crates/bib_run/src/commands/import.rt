@@ -20,10 +20,10 @@ use bib_store::Paged;
 use ris_text::RisFault;
 use std::alloc::{AllocError, Global};
 
-/// The message of a record with a text whose braces do not balance.
+/// The message of a RIS text where the braces of a record's text do not balance.
 const UNBALANCED_TEXT: &[u8] = b"bibkeep: 64 UnbalancedText\n";
 
-/// What the records of the input add to the file, all at once.
+/// Adds the records of the input to the file, all at once.
 pub fn answer_import(
     alloc: Global,
     file: Vec<u8>,
@@ -43,7 +43,7 @@ pub fn answer_import(
     }
 }
 
-/// What the records of the input add to a session, unless the input is too long.
+/// Adds the records of the input to the file of a session, unless the input is too long.
 fn answer_records(
     alloc: Global,
     session: &mut Session<Paged>,
@@ -57,7 +57,7 @@ fn answer_records(
     import_into(alloc, session, input)
 }
 
-/// What the records of a text add to a session.
+/// Adds the records of a text to the file of a session.
 fn import_into(
     alloc: Global,
     session: &mut Session<Paged>,
@@ -90,7 +90,7 @@ fn add(
     Ok(Answer { output, outcome })
 }
 
-/// Adds the entries by one edit. They are let go before more is made of the file.
+/// Adds the entries by one edit, and drops them before anything else is made of the file.
 fn add_entries(session: &mut Session<Paged>, entries: Seq<NewEntry>) -> Result<(), SessionFault>
     ensures made { OnOk result (MakesEdit (AddMany entries) session.old session.new) }
     ensures refused { IfErr result (λ fault. RefusesEdit fault (AddMany entries) session.old) }
@@ -98,7 +98,7 @@ fn add_entries(session: &mut Session<Paged>, entries: Seq<NewEntry>) -> Result<(
     session.edit(&Edit::AddMany { entries })
 }
 
-/// `added N skipped M`, a line.
+/// The line `added N skipped M`.
 fn added_line(alloc: Global, added: usize, skipped: u64) -> Result<Text, AllocError>
     ensures { IfOk result (λ line. line ≡ added_line added skipped) }
 {
@@ -106,7 +106,7 @@ fn added_line(alloc: Global, added: usize, skipped: u64) -> Result<Text, AllocEr
     Ok(Text::from_vec(line.into_bytes()))
 }
 
-/// Nothing is output, and the message says why no entry is added; want of memory is no answer.
+/// The answer when no entry is added: no output, and the message says why. Want of memory is no answer.
 fn unadded(alloc: Global, fault: SessionFault) -> Result<Answer, AllocError>
     ensures { IfOk result (λ answer. (fault ≢ Memory) × (answer ≡ answer_of [] (fault_line fault) 1)) }
 {
@@ -116,7 +116,7 @@ fn unadded(alloc: Global, fault: SessionFault) -> Result<Answer, AllocError>
     Ok(refused(alloc, fault_line(alloc, fault)?))
 }
 
-/// Nothing is output, and the message says why the text gives no entries; want of memory is no answer.
+/// The answer when the text gives no entries: no output, and the message says why. Want of memory is no answer.
 fn unread(alloc: Global, fault: ImportFault) -> Result<Answer, AllocError>
     ensures { IfOk result (λ answer. (fault ≢ ImportMemory) × (answer ≡ answer_of [] (import_fault_line fault) 1)) }
 {
@@ -130,7 +130,7 @@ fn unread(alloc: Global, fault: ImportFault) -> Result<Answer, AllocError>
     }
 }
 
-/// Why a text is not read, a line.
+/// A line that says why a text is not read.
 fn unread_line(alloc: Global, fault: RisFault) -> Result<Text, AllocError>
     ensures { IfOk result (λ line. line ≡ unread_line fault) }
 {

@@ -17,7 +17,7 @@ use bib_store::{Paged, Piece};
 use bib_words::status;
 use std::alloc::{AllocError, Global};
 
-/// The changes of the file's journal, a line each.
+/// The steps of the file's journal, a line for each.
 pub fn answer_log(
     alloc: Global,
     file: Vec<u8>,
@@ -54,7 +54,7 @@ fn add_steps(alloc: Global, out: &mut Vec<u8>, steps: &[Step], word: &str) -> Re
     Ok(())
 }
 
-/// The word, and how many pieces, old bytes and new bytes there are.
+/// The word, and how many pieces there are, how many bytes they take away, and how many they put in.
 fn counts_part(alloc: Global, word: &str, pieces: &[Piece]) -> Result<Vec<u8>, AllocError>
     requires { AreWritable pieces.now }
     ensures { IfOk result (λ part. part.items ≡ counts_part word.now pieces.now) }
@@ -77,7 +77,7 @@ fn add_label(out: &mut Vec<u8>, label: &[u8]) -> Result<(), AllocError>
     Ok(())
 }
 
-/// The word, how many pieces, old bytes and new bytes the step has, and its label, a line.
+/// The line of a step: the word, how many pieces it has, how many bytes it takes away and puts in, and its label.
 fn step_line(alloc: Global, word: &str, step: &Step) -> Result<Text, AllocError>
     requires { IsStep step.now }
     ensures { IfOk result (λ line. line ≡ step_line word.now step.now) }
@@ -88,7 +88,7 @@ fn step_line(alloc: Global, word: &str, step: &Step) -> Result<Text, AllocError>
     Ok(Text::from_vec(line))
 }
 
-/// How many bytes the pieces take away, or the greatest number.
+/// How many bytes the pieces take away, or the greatest `u64` if there are more.
 fn old_len(pieces: &[Piece]) -> u64
     ensures { result ≡ min (old_len pieces.now) (2 ^ 64 - 1) }
 {
@@ -99,7 +99,7 @@ fn old_len(pieces: &[Piece]) -> u64
     len
 }
 
-/// How many bytes the pieces put in, or the greatest number.
+/// How many bytes the pieces put in, or the greatest `u64` if there are more.
 fn new_len(pieces: &[Piece]) -> u64
     ensures { result ≡ min (new_len pieces.now) (2 ^ 64 - 1) }
 {
@@ -124,7 +124,7 @@ pub fn answer_forget(alloc: Global, file: Vec<u8>) -> Result<Answer, AllocError>
     }
 }
 
-/// The new journal of a session in which nothing was done.
+/// The new journal of a session without steps.
 fn forget(alloc: Global, session: &Session<Paged>) -> Result<Answer, AllocError>
     requires { session.now ≡ idle (started session.now.steps.present) }
     ensures { IfOk result (IsForgetAnswer session.now.steps.present) }

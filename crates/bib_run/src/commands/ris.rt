@@ -13,7 +13,8 @@ use bib_scan::Text;
 use bib_store::{Database, Paged};
 use std::alloc::{AllocError, Global};
 
-/// The RIS text of the entries that the keys cite, at this depth, or what it leaves out, or that a key finds none.
+/// The RIS text of the entries that the keys cite, at this depth, or the fields that it leaves out; or that a key finds
+/// no entry.
 pub fn answer_ris(
     alloc: Global,
     file: Vec<u8>,
@@ -46,7 +47,7 @@ fn ris(
     }
 }
 
-/// The RIS text of these entries, or what it leaves out.
+/// The RIS text of these entries, or the fields that it leaves out.
 fn text_of(
     alloc: Global,
     db: &Database<Paged>,

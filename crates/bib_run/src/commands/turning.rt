@@ -11,7 +11,7 @@ use bib_scan::Text;
 use bib_store::Paged;
 use std::alloc::{AllocError, Global};
 
-/// Takes so many changes back, or as many as there are.
+/// Takes the last `n` changes back, or all if there are fewer.
 pub fn answer_undo(
     alloc: Global,
     file: Vec<u8>,
@@ -26,7 +26,7 @@ pub fn answer_undo(
     }
 }
 
-/// Makes so many changes again, or as many as were taken back.
+/// Makes the next `n` changes again, or all that were taken back if they are fewer.
 pub fn answer_redo(
     alloc: Global,
     file: Vec<u8>,
@@ -41,7 +41,7 @@ pub fn answer_redo(
     }
 }
 
-/// How many changes were taken back or made again, and what is left.
+/// The answer after changes were taken back or made again: how many, and what is stored.
 fn turned_answer(alloc: Global, word: &str, turned: Turned) -> Result<Answer, AllocError>
     ensures { IfOk result (λ answer. answer ≡ turned_answer word.now turned) }
 {
@@ -52,7 +52,7 @@ fn turned_answer(alloc: Global, word: &str, turned: Turned) -> Result<Answer, Al
     Ok(Answer { output, outcome })
 }
 
-/// The word and how many changes, a line.
+/// A line with the word and the number of changes.
 fn turned_line(alloc: Global, word: &str, done: usize) -> Result<Text, AllocError>
     ensures { IfOk result (λ line. line ≡ turned_line word.now done) }
 {
