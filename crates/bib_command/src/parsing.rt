@@ -14,16 +14,16 @@ use bib_words::Command;
 use clap::ArgMatches;
 use std::alloc::{AllocError, Global};
 
-/// The command that the words name, the program's own name first, or what the user is told.
+/// The command that the words name, or the text for the user. The first word is the program's own name.
 pub fn parse(alloc: Global, words: &[String]) -> Result<Command, Usage>
     ensures ok { IfOk result (IsCommandOf (map string_bytes words.now)) }
     ensures known { IfOk result IsCommand }
 
-    // A command comes only of words that clap's exact matching accepts.
+    // Only words that clap's exact matching accepts give a command.
     ensures accepted { OnOk result (fault_of bibkeep (map string_bytes words.now) ≡ []) }
     ensures err { IfErr result (IsUsageFor (map string_bytes words.now)) }
 
-    // Words that name a command are refused for want of memory alone.
+    // Words that name a command are refused only if memory runs out.
     ensures taken { takes bibkeep (map string_bytes words.now) ≡ true → IfErr result (λ usage. usage ≡ no_memory) }
 {
     let Ok(command) = command_line(alloc) else {
