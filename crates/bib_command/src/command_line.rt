@@ -71,6 +71,7 @@ fn top<'a>(alloc: Global) -> Result<Command<'a>, AllocError>
         "Edits BibTeX files and leaves every other byte as it was",
         "\
 Exit status: 0 done, 1 refused or a finding of lint, 2 bad usage, 3 read or write error, 4 out of memory.
+More: man bibkeep; the guide is GUIDE.md in the folder share/doc/bibkeep that ./install made.
 
 Examples:
   bibkeep check refs.bib          # what is in the file, and what looks wrong
