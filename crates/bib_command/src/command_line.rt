@@ -21,7 +21,7 @@ pub fn command_line<'a>(alloc: Global) -> Result<Command<'a>, AllocError>
     )
 }
 
-/// With the commands that change a file, and those over what was done to it.
+/// With the commands that change a file, and those over its journal.
 fn edits<'a>(alloc: Global) -> Result<Command<'a>, AllocError>
     ensures { IfOk result (Reads bibkeep_edits) }
 {
@@ -32,7 +32,7 @@ fn edits<'a>(alloc: Global) -> Result<Command<'a>, AllocError>
     adds(adds(turns, log(alloc)), forget(alloc))
 }
 
-/// With the commands that make something of what a file says.
+/// With the commands that make labels, JSON, names or keys of what a file says.
 fn makes<'a>(alloc: Global) -> Result<Command<'a>, AllocError>
     ensures { IfOk result (Reads bibkeep_makes) }
 {
@@ -51,7 +51,7 @@ fn shows<'a>(alloc: Global) -> Result<Command<'a>, AllocError>
     adds(adds(checks, show(alloc)), cite(alloc))
 }
 
-/// The command with one more subcommand, where both could be made.
+/// The command with one more subcommand, if there was memory to make both.
 fn adds<'a>(
     command: Result<Command<'a>, AllocError>,
     more: Result<Command<'a>, AllocError>,
@@ -61,7 +61,7 @@ fn adds<'a>(
     command?.subcommand(more?)
 }
 
-/// The program, by this name whatever the file is called that it was started as.
+/// The program. Help calls it bibkeep, even if the file that it was started from has another name.
 fn top<'a>(alloc: Global) -> Result<Command<'a>, AllocError>
     ensures { IfOk result (Reads bibkeep_top) }
 {
@@ -426,7 +426,7 @@ fn over_steps<'a>(
         .arg(print(alloc))
 }
 
-/// A command over a file that is named.
+/// A command with the argument F.
 fn over_file<'a>(
     alloc: Global,
     name: &'a str,

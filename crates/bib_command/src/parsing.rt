@@ -32,7 +32,7 @@ pub fn parse(alloc: Global, words: &[String]) -> Result<Command, Usage>
     match command.try_get_matches_from(words) {
         Ok(matches) => match matches.subcommand() {
             Some((name, inner)) => match command_of(alloc, name, inner) {
-                // clap has held the words to the counts of their command, but its contract does not say so
+                // clap has checked how many words the command takes, but its contract does not say so
                 Ok(command) if command.is_known() => Ok(command),
                 _ => Err(no_memory(alloc)),
             },
@@ -70,14 +70,14 @@ fn words_in(alloc: Global, matches: &ArgMatches<'_>) -> Result<Seq<Text>, AllocE
     Ok(Seq::from_vec(words))
 }
 
-/// The number of a command, or 0 where it has none.
+/// The number of a command, or 0 if it takes none.
 fn number_of(matches: &ArgMatches<'_>) -> u32
     ensures { result ≡ number (rows_of (found_of matches.now)) }
 {
     matches.get_one::<u32>("N").unwrap_or(0)
 }
 
-/// The depth of a command, or 0 where it has none.
+/// The depth of a command, or 0 if it takes none.
 fn depth_of(matches: &ArgMatches<'_>) -> u8
     ensures { result ≡ depth (rows_of (found_of matches.now)) }
 {

@@ -6,7 +6,7 @@ ghost use Rattle.fault_pages.specs.Heads.{head_of, is_asked, faults_of_bytes, fa
 
 use crate::asking::{Page, is_asked};
 
-/// The page on one of these faults, if the word names one: the bytes of a file are none of the grammar.
+/// The page on one of these faults, if the word names one: the bytes of a file are not valid.
 pub(crate) fn faults_of_bytes(word: &[u8]) -> Option<Page>
     ensures { option_map head_of result ≡ find (is_asked word.now) faults_of_bytes }
 {
@@ -90,7 +90,7 @@ pub(crate) fn faults_of_limits(word: &[u8]) -> Option<Page>
     None
 }
 
-/// The page on one of these faults, if the word names one: what is asked for is not there, or cannot be said.
+/// The page on one of these faults, if the word names one: what you ask for is not there, or cannot be written.
 pub(crate) fn faults_of_questions(word: &[u8]) -> Option<Page>
     ensures { option_map head_of result ≡ find (is_asked word.now) faults_of_questions }
 {
