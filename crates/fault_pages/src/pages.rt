@@ -315,7 +315,7 @@ pub(crate) fn faults_of_inputs(word: &[u8]) -> Option<Page>
         return Some(Page {
             number: b"71",
             name: b"BadScript",
-            text: b"A line of the script is neither an edit nor `group` or `end`; or the words after the file are not an edit. It has one of\nthese:\n\n- an unknown first word;\n- too few or too many words, or a field without a value;\n- a position that is not 1 to 9 digits;\n- a label of more than 255 bytes, or with a control byte.\n\n  $ printf 'set a t 3\\n' | bibkeep edit f.bib\n  applied 0\n  bibkeep: line 1: 71 BadScript\n  $ printf 'set a t 3\\n' | cat -t\n  set a t 3\n\nMost often the words are separated by spaces and not by tabs, or `printf` changed a backslash. `cat -t` shows a tab as `^I`.\n`bibkeep help edit` lists the lines.\n",
+            text: b"A line of the script is neither an edit nor `group` or `end`; or the words after the file are not an edit. One of these is\nthe reason:\n\n- the first word is unknown;\n- there are too few or too many words, or a field has no value;\n- a position is not 1 to 9 digits;\n- a label has more than 255 bytes or a control byte.\n\n  $ printf 'set a t 3\\n' | bibkeep edit f.bib\n  applied 0\n  bibkeep: line 1: 71 BadScript\n  $ printf 'set a t 3\\n' | cat -t\n  set a t 3\n\nMost often the words are separated by spaces and not by tabs, or `printf` changed a backslash. `cat -t` shows a tab as `^I`.\n`bibkeep help edit` lists the lines.\n",
         });
     }
     None
