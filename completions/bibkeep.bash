@@ -5,7 +5,7 @@ _bibkeep() {
     local verbs='set drop add remove move rename-key rename-macro inline introduce regenerate'
     local current=${COMP_WORDS[COMP_CWORD]} command='' file='' count=0 position
 
-    # The command, and how many words of its own stand before this one; the first of them is the file.
+    # The command, and how many words of its own come before this one; the first of them is the file.
     for ((position = 1; position < COMP_CWORD; position++)); do
         case ${COMP_WORDS[position]} in
             --min-crossrefs | --steps | --depth) position=$((position + 1)) ;;

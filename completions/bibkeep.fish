@@ -1,6 +1,6 @@
 # Completion of bibkeep for fish. Put it into ~/.config/fish/completions or PREFIX/share/fish/vendor_completions.d.
 
-# The keys of the file that stands in the line.
+# The keys of the file in the line.
 function __bibkeep_keys
     set -l words (commandline -opc)
     for word in $words[3..]

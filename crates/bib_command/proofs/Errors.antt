@@ -1,4 +1,4 @@
--- What the user is told of an error.
+-- The text and the status for an error.
 use Rattle.std.proofs.Common.{◌≡◌, List, true, refl, inl, inr}
 use Rattle.clap.specs.Words.{Text, HasKind, fault_of, kind_of, is_simple_and_free}
 use Rattle.clap.specs.declared.error.Error.{Error}
@@ -15,14 +15,14 @@ pub bibkeep_is_simple : is_simple_and_free bibkeep ≡ true
 unfolding clap_on_literals
 bibkeep_is_simple = refl
 
--- of want of memory the user is told nothing
+-- if memory runs out, there is no text
 pub usage_of_memory : (kind : ErrorKind) (usage : Usage) → IsUsageOf kind usage → kind ≡ OutOfMemory → usage ≡ no_memory
 usage_of_memory kind usage (spec.help is status) memory = cc
 usage_of_memory kind usage (spec.version is status) memory = cc
 usage_of_memory kind usage (spec.mistake a b not_memory status) memory = absurd (not_memory memory)
 usage_of_memory kind usage (spec.memory is) memory = is
 
--- an error of the words is the first fault that matching meets, or want of memory
+-- an error of the words is the first fault that matching meets, or that memory ran out
 pub usage_for : (words : List Text) (error : Error) (usage : Usage) → HasKind (fault_of bibkeep words) error → IsUsageOf (kind_of error) usage → IsUsageFor words usage
 usage_for words error usage (inl memory) of = spec.memory (usage_of_memory (kind_of error) usage of memory)
 usage_for words error usage (inr among) of = told (kind_of error) among of

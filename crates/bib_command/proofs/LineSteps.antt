@@ -9,14 +9,14 @@ use Rattle.bib_command.specs.CommandLine.{adds}
 or_false : (a b c : _) → c ≡ (a || b) → a ≡ false → b ≡ false → c ≡ false
 or_false a b c e x y = e ∙ ap₂ (λ p q. p || q) x y
 
--- with one more argument
+-- a command with one more argument
 pub reads_rule : (old new : Command) (a : Arg) (line : App) (r : Rule) → AddsArg old a new → Reads line old → rule_of a ≡ r → a.global ≡ false → Reads (with_rule line r) new
 reads_rule old new a line r h o e l = record {
   app = h.shape l ∙ ap₂ with_rule o.app e;
   local = or_false _ _ _ h.globals o.local l;
 }
 
--- with one more subcommand
+-- a command with one more subcommand
 pub reads_subcommand : (old sub new : Command) (x y : App) → AddsSubcommand old sub new → Reads x old → Reads y sub → Reads (adds x y) new
 reads_subcommand old sub new x y h o s = record {
   app = h.shape s.local ∙ ap₂ adds o.app s.app;

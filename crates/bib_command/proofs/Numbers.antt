@@ -40,7 +40,7 @@ number_read bits text (Err e) h = go (is_number bits (without_leading_plus text)
         let inner = both _ _ outer.0 in
         absurd (h ((ltb-true _ _ inner.0, digits_from (without_leading_plus text) inner.1), ltb-true _ _ outer.1))
 
--- `get_one(id).unwrap_or(0)` of a number of so many bits
+-- `get_one(id).unwrap_or(0)` of a number of `bits` bits
 pub one_number : {E : Type 0} (bits : ℕ) (gives : List ℕ → Result ℕ E → Type 0) (one : Option Text) (r : Option ℕ) → ((t : Text) (x : Result ℕ E) → gives t x → ParsesUnsigned bits 10 t x)
     → (one ≡ None → r ≡ None) → ((t : Text) → one ≡ Some t → ReadsOne gives t r) → unwrap_or r 0 ≡ option_map_or (number_said bits) one 0
 one_number {E} bits gives None r parses none some = ap (λ o. unwrap_or o 0) (none refl)

@@ -34,7 +34,7 @@ edit_words = record (new_rule (codes "WORD")) { range = Some (record { start_inc
 abbrev pub switch : Text → Rule
 switch name = record (new_rule name) { long = Some name; action = Some SetTrue }
 
--- `--NAME N`: a number from 1 to 65535, and this one where it is left out
+-- `--NAME N`: a number from 1 to 65535, and `default` if the option is left out
 abbrev pub count : Text → Text → Rule
 count name default = record (new_rule (codes "N")) {
   long = Some name;
@@ -42,7 +42,7 @@ count name default = record (new_rule (codes "N")) {
   parser = Some (parser.Signed (pos 1) (pos 65535));
 }
 
--- `--depth D`: a number from 1 to 8, and 1 where it is left out
+-- `--depth D`: a number from 1 to 8, and 1 if the option is left out
 abbrev pub levels : Rule
 levels = record (new_rule (codes "D")) {
   long = Some (codes "depth");
@@ -52,7 +52,7 @@ levels = record (new_rule (codes "D")) {
 
 -- ---- commands
 
--- a command over a file that is named
+-- a command with the argument F
 abbrev pub over_file : Text → App
 over_file name = with_rule (new_app name) (needed (codes "F"))
 
@@ -68,7 +68,7 @@ show_line = with_rule (with_rule (over_file (codes "show")) (needed (codes "KEY"
 abbrev pub cite_line : App
 cite_line = with_rule (with_rule (over_file (codes "cite")) keys) (count (codes "min-crossrefs") (codes "2"))
 
--- `labels F [--depth D] KEY..`, and so `json`
+-- `labels F [--depth D] KEY..`; the same for `json`
 abbrev pub keys_line : Text → App
 keys_line name = with_rule (with_rule (over_file name) keys) levels
 
@@ -84,7 +84,7 @@ newkeys_line = with_rule (over_file (codes "newkeys")) levels
 abbrev pub edit_line : App
 edit_line = with_rule (with_rule (with_rule (over_file (codes "edit")) edit_words) (switch (codes "print"))) (switch (codes "new-journal"))
 
--- `undo F [--steps N] [--print]`, and so `redo`
+-- `undo F [--steps N] [--print]`; the same for `redo`
 abbrev pub steps_line : Text → App
 steps_line name = with_rule (with_rule (over_file name) (count (codes "steps") (codes "1"))) (switch (codes "print"))
 
@@ -100,7 +100,7 @@ import_line = with_rule (with_rule (over_file (codes "import")) (switch (codes "
 abbrev pub explain_line : App
 explain_line = with_rule (new_app (codes "explain")) (needed (codes "FAULT"))
 
--- with one more subcommand
+-- the command with one more subcommand
 abbrev pub adds : App → App → App
 adds a s = with_subcommand a s.top
 
@@ -108,40 +108,40 @@ adds a s = with_subcommand a s.top
 abbrev pub bibkeep_top : App
 bibkeep_top = on_top (λ s. record s { has_version = true; subcommand_required = true }) (new_app (codes "bibkeep"))
 
--- with the commands that show what a file says
+-- the program with the commands that show what a file says
 abbrev pub bibkeep_shows : App
 bibkeep_shows = adds (adds (adds (adds (adds bibkeep_top cat_line) (over_file (codes "check"))) (over_file (codes "lint"))) show_line) cite_line
 
--- with those that make something of it
+-- and with those that make labels, JSON, names or keys of it
 abbrev pub bibkeep_makes : App
 bibkeep_makes = adds (adds (adds (adds bibkeep_shows (keys_line (codes "labels"))) (keys_line (codes "json"))) names_line) newkeys_line
 
--- with those that change a file, and those over what was done to it
+-- and with those that change a file, and those over its journal
 abbrev pub bibkeep_edits : App
 bibkeep_edits = adds (adds (adds (adds (adds bibkeep_makes edit_line) (steps_line (codes "undo"))) (steps_line (codes "redo"))) (over_file (codes "log"))) (over_file (codes "forget"))
 
--- `bibkeep COMMAND`
+-- the whole command line, `bibkeep COMMAND`
 abbrev pub bibkeep : App
 bibkeep = adds (adds (adds bibkeep_edits ris_line) import_line) explain_line
 
--- ---- what matches name
+-- ---- the command that clap's matches name
 
 -- the values of an argument, in order
 abbrev pub values : Text → List Row → List Text
 values id rows = unwrap_or (all_of id rows) []
 
--- the number that a text of digits says, where it is below 2 to the power of so many bits
+-- the number that a text of digits says, if it has at most `bits` bits; else 0
 abbrev pub number_said : ℕ → Text → ℕ
 number_said bits text =
     let digits = without_leading_plus text in
     if nat_lt 0 (length digits) && list_all (λ d. nat_lt (digit_value d) 10) digits && nat_lt (digits_value 10 digits) (2 ^ bits)
     then digits_value 10 digits else 0
 
--- the number of the command, or 0 where it has none
+-- the number of the command, or 0 if it takes none
 abbrev pub number : List Row → ℕ
 number rows = option_map_or (number_said 32) (one_of (codes "N") rows) 0
 
--- the depth of the command, or 0 where it has none
+-- the depth of the command, or 0 if it takes none
 abbrev pub depth : List Row → ℕ
 depth rows = option_map_or (number_said 8) (one_of (codes "D") rows) 0
 

@@ -1,4 +1,4 @@
--- What a command of clap reads words by.
+-- When a command of clap reads its words as a line of the command line does.
 use Rattle.std.specs.Prelude.{◌≡◌, false}
 use Rattle.clap.specs.Words.{App, app_of}
 use Rattle.clap.specs.declared.builder.Command.{Command}

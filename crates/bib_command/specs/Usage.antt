@@ -1,4 +1,4 @@
--- What the user is told in place of running a command.
+-- The text and the status for words that name no command.
 use Rattle.std.specs.Prelude.{◌≡◌, ◌≢◌, List, []}
 use Rattle.clap.specs.Words.{Text, IsAmong, fault_of}
 use Rattle.clap.specs.declared.error.ErrorKind.{ErrorKind}
@@ -6,18 +6,18 @@ use Rattle.clap.specs.declared.error.ErrorKind.TheVariants.{DisplayHelp, Display
 use Rattle.bib_command.specs.declared.usages.Usage.{Usage}
 use Rattle.bib_command.specs.CommandLine.{bibkeep}
 
--- the answer to words for which there is no memory
+-- the answer without a text, if memory runs out
 abbrev pub no_memory : Usage
 no_memory = record { text = []; status = 4 }
 
--- what the user is told of an error of this kind (clap)
+-- the text and the status for an error of this kind (clap): 0 for help and the version, 2 for a mistake
 pub data IsUsageOf (kind : ErrorKind) (usage : Usage) : Type 0 where
   help : kind ≡ DisplayHelp → usage.status ≡ 0 → IsUsageOf kind usage
   version : kind ≡ DisplayVersion → usage.status ≡ 0 → IsUsageOf kind usage
   mistake : kind ≢ DisplayHelp → kind ≢ DisplayVersion → kind ≢ OutOfMemory → usage.status ≡ 2 → IsUsageOf kind usage
   memory : usage ≡ no_memory → IsUsageOf kind usage
 
--- what the user is told of words that name no command: of the first fault that clap's exact matching meets
+-- the text and the status for words that name no command: those for the first fault that clap's exact matching meets
 pub data IsUsageFor (words : List Text) (usage : Usage) : Type 0 where
   told : (kind : ErrorKind) → IsAmong kind (fault_of bibkeep words) → IsUsageOf kind usage → IsUsageFor words usage
   memory : usage ≡ no_memory → IsUsageFor words usage

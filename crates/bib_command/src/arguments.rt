@@ -74,7 +74,7 @@ pub fn new_journal<'a>(alloc: Global) -> Arg<'a>
     )
 }
 
-/// An option with a number, which is `default` where it is left out.
+/// An option with a number, which is `default` if the option is left out.
 pub fn count<'a>(alloc: Global, name: &'a str, default: &'a str, help: &'a str) -> Arg<'a>
     ensures rule { rule_of result ≡ count name.entry.now default.entry.now }
     ensures local { result.global ≡ false }
@@ -86,7 +86,7 @@ pub fn count<'a>(alloc: Global, name: &'a str, default: &'a str, help: &'a str) 
         .help(help)
 }
 
-/// The option with the depth of records, which is 1 where it is left out.
+/// The option with the depth of records, which is 1 if the option is left out.
 pub fn levels<'a>(alloc: Global) -> Arg<'a>
     ensures rule { rule_of result ≡ levels }
     ensures local { result.global ≡ false }

@@ -21,7 +21,7 @@ pub fn command_line<'a>(alloc: Global) -> Result<Command<'a>, AllocError>
     )
 }
 
-/// With the commands that change a file, and those over what was done to it.
+/// With the commands that change a file, and those over its journal.
 fn edits<'a>(alloc: Global) -> Result<Command<'a>, AllocError>
     ensures { IfOk result (Reads bibkeep_edits) }
 {
@@ -32,7 +32,7 @@ fn edits<'a>(alloc: Global) -> Result<Command<'a>, AllocError>
     adds(adds(turns, log(alloc)), forget(alloc))
 }
 
-/// With the commands that make something of what a file says.
+/// With the commands that make labels, JSON, names or keys of what a file says.
 fn makes<'a>(alloc: Global) -> Result<Command<'a>, AllocError>
     ensures { IfOk result (Reads bibkeep_makes) }
 {
@@ -51,7 +51,7 @@ fn shows<'a>(alloc: Global) -> Result<Command<'a>, AllocError>
     adds(adds(checks, show(alloc)), cite(alloc))
 }
 
-/// The command with one more subcommand, where both could be made.
+/// The command with one more subcommand, if there was memory to make both.
 fn adds<'a>(
     command: Result<Command<'a>, AllocError>,
     more: Result<Command<'a>, AllocError>,
@@ -61,7 +61,7 @@ fn adds<'a>(
     command?.subcommand(more?)
 }
 
-/// The program, by this name whatever the file is called that it was started as.
+/// The program. Help calls it bibkeep, even if the file that it was started from has another name.
 fn top<'a>(alloc: Global) -> Result<Command<'a>, AllocError>
     ensures { IfOk result (Reads bibkeep_top) }
 {
@@ -70,7 +70,8 @@ fn top<'a>(alloc: Global) -> Result<Command<'a>, AllocError>
         "bibkeep",
         "Edits BibTeX files and leaves every other byte as it was",
         "\
-Exit status: 0 done, 1 refused, 2 bad usage, 3 read or write error, 4 out of memory.
+Exit status: 0 done, 1 refused or a finding of lint, 2 bad usage, 3 read or write error, 4 out of memory.
+More: man bibkeep; the guide is GUIDE.md in the folder share/doc/bibkeep that ./install made.
 
 Examples:
   bibkeep check refs.bib          # what is in the file, and what looks wrong
@@ -105,8 +106,8 @@ fn check<'a>(alloc: Global) -> Result<Command<'a>, AllocError>
         "check",
         "Counts what is in a file and reports what looks wrong",
         "\
-It reports repeated entries, extra fields, undefined macros, macros that their own definition uses, and crossrefs that
-are missing, that name their own entry, or whose parent comes before them. None of these is a refusal: the status is 0.
+It reports repeated entries, extra fields, undefined macros, macros that their own definition uses, and crossrefs that name
+no entry, that name their own entry, or whose parent comes before them. A report is not a refusal: the status is 0.
 
 Example:
   bibkeep check refs.bib",
@@ -212,8 +213,8 @@ fn names<'a>(alloc: Global) -> Result<Command<'a>, AllocError>
         "names",
         "Prints an entry's authors, or its editors if it has none, by a template",
         "\
-A template is text and groups in braces, of which each prints a part of the name: f (first), v (von), l (last) and
-j (jr). One letter prints initials, two print the words.
+A template is text and groups in braces. Each group prints a part of the name: f (first), v (von), l (last) or j (jr). One
+letter prints initials, two print the words.
 
 Examples:
   bibkeep names refs.bib knuth86 '{ff }{vv~}{ll}{, jj}'
@@ -264,7 +265,8 @@ by tabs (shown here as spaces):
   group LABEL                            begins a step: one undo takes back the edits up to its end
   end                                    ends the step
 Arguments make one edit, so group and end are for standard input only. Put -- before words that begin with a hyphen.
-The first refused line stops the script; the edits before it are kept, and `bibkeep undo F` takes them back.
+The first refused line stops the script; the edits before it are kept. `bibkeep undo F` takes back the last edit or step,
+`bibkeep undo F --steps N` the last N.
 
 Examples:
   bibkeep edit refs.bib set knuth86 year 1986
@@ -424,7 +426,7 @@ fn over_steps<'a>(
         .arg(print(alloc))
 }
 
-/// A command over a file that is named.
+/// A command with the argument F.
 fn over_file<'a>(
     alloc: Global,
     name: &'a str,

@@ -1,5 +1,5 @@
 //! The command line. It knows the words and options of each command, and not what a command does. It promises the
-//! command that clap's exact matching of the words names, or what to tell the user.
+//! command that clap's exact matching of the words names, or the text for the user.
 #![tactic(auto)]
 
 mod arguments;

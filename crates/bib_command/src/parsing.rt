@@ -14,16 +14,16 @@ use bib_words::Command;
 use clap::ArgMatches;
 use std::alloc::{AllocError, Global};
 
-/// The command that the words name, the program's own name first, or what the user is told.
+/// The command that the words name, or the text for the user. The first word is the program's own name.
 pub fn parse(alloc: Global, words: &[String]) -> Result<Command, Usage>
     ensures ok { IfOk result (IsCommandOf (map string_bytes words.now)) }
     ensures known { IfOk result IsCommand }
 
-    // A command comes only of words that clap's exact matching accepts.
+    // Only words that clap's exact matching accepts give a command.
     ensures accepted { OnOk result (fault_of bibkeep (map string_bytes words.now) ≡ []) }
     ensures err { IfErr result (IsUsageFor (map string_bytes words.now)) }
 
-    // Words that name a command are refused for want of memory alone.
+    // Words that name a command are refused only if memory runs out.
     ensures taken { takes bibkeep (map string_bytes words.now) ≡ true → IfErr result (λ usage. usage ≡ no_memory) }
 {
     let Ok(command) = command_line(alloc) else {
@@ -32,7 +32,7 @@ pub fn parse(alloc: Global, words: &[String]) -> Result<Command, Usage>
     match command.try_get_matches_from(words) {
         Ok(matches) => match matches.subcommand() {
             Some((name, inner)) => match command_of(alloc, name, inner) {
-                // clap has held the words to the counts of their command, but its contract does not say so
+                // clap has checked how many words the command takes, but its contract does not say so
                 Ok(command) if command.is_known() => Ok(command),
                 _ => Err(no_memory(alloc)),
             },
@@ -70,14 +70,14 @@ fn words_in(alloc: Global, matches: &ArgMatches<'_>) -> Result<Seq<Text>, AllocE
     Ok(Seq::from_vec(words))
 }
 
-/// The number of a command, or 0 where it has none.
+/// The number of a command, or 0 if it takes none.
 fn number_of(matches: &ArgMatches<'_>) -> u32
     ensures { result ≡ number (rows_of (found_of matches.now)) }
 {
     matches.get_one::<u32>("N").unwrap_or(0)
 }
 
-/// The depth of a command, or 0 where it has none.
+/// The depth of a command, or 0 if it takes none.
 fn depth_of(matches: &ArgMatches<'_>) -> u8
     ensures { result ≡ depth (rows_of (found_of matches.now)) }
 {

@@ -1,4 +1,4 @@
-//! What the user is told in place of running a command.
+//! The text that the user gets if no command runs.
 
 ghost use Rattle.std.specs.Prelude.{◌≡◌, [], ◌⊎◌, IsTrue, ◌↔◌, ◌≢◌};
 ghost use Rattle.clap.specs.Words.{kind_of};
@@ -9,15 +9,15 @@ use bib_words::status;
 use clap::error::ErrorKind;
 use std::alloc::Global;
 
-/// Why the words give no command: a text for the user, and the status to end with, which is 0 for help and the version,
-/// 2 for a mistake, and 4, with no text, for want of memory.
+/// Why the words give no command: a text for the user, and the status to end with. The status is 0 for help and the
+/// version, 2 for a mistake, and 4, with no text, if memory runs out.
 #[derive(Drop)]
 pub struct Usage {
     pub text: Text,
     pub status: u8,
 }
 
-/// What the user is told of an error.
+/// The text and the status for an error of clap.
 pub fn usage_of(alloc: Global, error: &clap::Error) -> Usage
     ensures { IsUsageOf (kind_of error.now) result }
 {
@@ -38,7 +38,7 @@ pub fn usage_of(alloc: Global, error: &clap::Error) -> Usage
     }
 }
 
-/// There is no memory to tell more.
+/// The answer without a text, when there is no memory to make one.
 pub fn no_memory(alloc: Global) -> Usage
     ensures { result ≡ no_memory }
 {

@@ -7,6 +7,7 @@ use Rattle.fault_pages.specs.declared.asking.Page.{Page}
 abbrev pub Head : Type 0
 Head = Text × Text
 
+-- the number and the name of a page
 abbrev pub head_of : Page → Head
 head_of page = (page.number.now, page.name.now)
 
@@ -16,7 +17,7 @@ is_asked word head = bytes_eq word head.0 || same word head.1
 
 -- ---- all faults, by their numbers
 
--- the bytes of a file are none of the grammar
+-- the bytes of a file are not valid
 abbrev pub faults_of_bytes : List Head
 faults_of_bytes =
     (codes "1", codes "Unended")
@@ -36,7 +37,7 @@ faults_of_limits =
     ∷ (codes "10", codes "Memory")
     ∷ []
 
--- what is asked for is not there, or cannot be said
+-- what you ask for is not there, or cannot be written
 abbrev pub faults_of_questions : List Head
 faults_of_questions =
     (codes "11", codes "NoSuchEntry")
@@ -89,6 +90,6 @@ faults_of_inputs =
 abbrev pub faults : List Head
 faults = faults_of_bytes ++ (faults_of_limits ++ (faults_of_questions ++ (faults_of_edits ++ (faults_of_journals ++ faults_of_inputs))))
 
--- the fault that the word names, if there is one
+-- the fault that the word names, by number or name, if there is one
 abbrev pub asked : Text → Option Head
 asked word = find (is_asked word) faults

@@ -9,7 +9,7 @@ use crate::pages::{
     faults_of_questions,
 };
 
-/// A fault's number in digits, its name, and what is said of it.
+/// A fault's number in digits, its name, and the text of its page.
 #[derive(Clone, Copy, Debug)]
 pub struct Page {
     pub number: &'static [u8],

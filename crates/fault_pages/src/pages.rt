@@ -6,7 +6,7 @@ ghost use Rattle.fault_pages.specs.Heads.{head_of, is_asked, faults_of_bytes, fa
 
 use crate::asking::{Page, is_asked};
 
-/// The page on one of these faults, if the word names one: the bytes of a file are none of the grammar.
+/// The page on one of these faults, if the word names one: the bytes of a file are not valid.
 pub(crate) fn faults_of_bytes(word: &[u8]) -> Option<Page>
     ensures { option_map head_of result ≡ find (is_asked word.now) faults_of_bytes }
 {
@@ -90,7 +90,7 @@ pub(crate) fn faults_of_limits(word: &[u8]) -> Option<Page>
     None
 }
 
-/// The page on one of these faults, if the word names one: what is asked for is not there, or cannot be said.
+/// The page on one of these faults, if the word names one: what you ask for is not there, or cannot be written.
 pub(crate) fn faults_of_questions(word: &[u8]) -> Option<Page>
     ensures { option_map head_of result ≡ find (is_asked word.now) faults_of_questions }
 {
@@ -112,7 +112,7 @@ pub(crate) fn faults_of_questions(word: &[u8]) -> Option<Page>
         return Some(Page {
             number: b"13",
             name: b"NoSuchFault",
-            text: b"`explain` is asked about a word that is neither the number nor the name of a fault.\n\n  $ bibkeep explain 99\n  bibkeep: 13 NoSuchFault\n\nGive the number or the name that the message has, without `bibkeep:`.\n",
+            text: b"`explain` takes the number or the name of a fault, and the word that you gave is neither.\n\n  $ bibkeep explain 99\n  bibkeep: 13 NoSuchFault\n\nGive the number or the name that the message has, without `bibkeep:`.\n",
         });
     }
     if is_asked(word, b"21", b"TooManyCommas") {
@@ -133,7 +133,7 @@ pub(crate) fn faults_of_questions(word: &[u8]) -> Option<Page>
         return Some(Page {
             number: b"23",
             name: b"BadTemplate",
-            text: b"The template of `names` is not one: see `NAMES.md`.\n\n  $ bibkeep names names.bib a '{l'\n  bibkeep: 23 BadTemplate\n\nWrite a template such as `'{ll}{, f.}'`, in single quotes for the shell.\n",
+            text: b"The template that you gave to `names` is not valid. `NAMES.md` has the rules.\n\n  $ bibkeep names names.bib a '{l'\n  bibkeep: 23 BadTemplate\n\nWrite a template such as `'{ll}{, f.}'`, in single quotes for the shell.\n",
         });
     }
     if is_asked(word, b"24", b"NotUtf8") {
@@ -154,28 +154,28 @@ pub(crate) fn faults_of_edits(word: &[u8]) -> Option<Page>
         return Some(Page {
             number: b"31",
             name: b"BadKey",
-            text: b"A new key is not valid: it could not be read back, or no crossref could name it. A new key has 1 to 255 bytes above the\nspace, without DEL, comma or braces. Keys that an edit looks up may be anything.\n\n  $ printf '%s\\t%s\\t%s\\n' rename-key a 'knuth 86' | bibkeep edit f.bib\n  applied 0\n  bibkeep: line 1: 31 BadKey\n\nWrite `knuth-86`.\n",
+            text: b"A new key is not valid: it could not be read back, or no crossref could name it. A new key has 1 to 255 bytes. None of\nthem is a space, a control byte (0 to 31, or 127), a comma or a brace. The key of an entry that is there already may be\nanything that the file allows.\n\n  $ printf '%s\\t%s\\t%s\\n' rename-key a 'knuth 86' | bibkeep edit f.bib\n  applied 0\n  bibkeep: line 1: 31 BadKey\n\nWrite `knuth-86`.\n",
         });
     }
     if is_asked(word, b"32", b"BadName") {
         return Some(Page {
             number: b"32",
             name: b"BadName",
-            text: b"The name of a field or macro is not valid, or the type of a new entry is not: `string`, `preamble` and `comment` are not\ntypes of entries. `FORMAT-BIB.md` says what a name is.\n\n  $ printf '%s\\t%s\\t%s\\t%s\\n' set a 'x=y' 1 | bibkeep edit f.bib\n  applied 0\n  bibkeep: line 1: 32 BadName\n\nWrite a name without white space and `=`. Look for words in the wrong order.\n",
+            text: b"The name of a field or macro is not valid, or the type of a new entry is not valid. `string`, `preamble` and `comment` are\nnot types of entries. `FORMAT-BIB.md` says what a name is.\n\n  $ printf '%s\\t%s\\t%s\\t%s\\n' set a 'x=y' 1 | bibkeep edit f.bib\n  applied 0\n  bibkeep: line 1: 32 BadName\n\nWrite a name without white space and `=`. Look for words in the wrong order.\n",
         });
     }
     if is_asked(word, b"33", b"BadValue") {
         return Some(Page {
             number: b"33",
             name: b"BadValue",
-            text: b"A value is not one as in a file; or, for `introduce`, the braces of the text do not match.\n\n  $ printf '%s\\t%s\\t%s\\t%s\\n' set a x '{1' | bibkeep edit f.bib\n  applied 0\n  bibkeep: line 1: 33 BadValue\n\nWrite `{text}`, `\"text\"`, a number, a macro's name, or such parts with `#` between them.\n",
+            text: b"A value is not written as in a file; or, for `introduce`, the braces of the text do not match.\n\n  $ printf '%s\\t%s\\t%s\\t%s\\n' set a x '{1' | bibkeep edit f.bib\n  applied 0\n  bibkeep: line 1: 33 BadValue\n\nWrite `{text}`, `\"text\"`, a number, a macro's name, or such parts with `#` between them.\n",
         });
     }
     if is_asked(word, b"34", b"BadPosition") {
         return Some(Page {
             number: b"34",
             name: b"BadPosition",
-            text: b"The position is greater than the number of items; for `move`, than the number of the other items.\n\n  $ printf '%s\\t%s\\t%s\\t%s\\n' add 4 misc x | bibkeep edit f.bib\n  applied 0\n  bibkeep: line 1: 34 BadPosition\n\n`bibkeep check F` prints the number of items; that number is the end of the file.\n",
+            text: b"The position is greater than the number of items. For `move`, it is greater than the number of the other items.\n\n  $ printf '%s\\t%s\\t%s\\t%s\\n' add 4 misc x | bibkeep edit f.bib\n  applied 0\n  bibkeep: line 1: 34 BadPosition\n\n`bibkeep check F` prints the number of items; that number is the end of the file.\n",
         });
     }
     if is_asked(word, b"35", b"NotFound") {
@@ -189,42 +189,42 @@ pub(crate) fn faults_of_edits(word: &[u8]) -> Option<Page>
         return Some(Page {
             number: b"36",
             name: b"Ambiguous",
-            text: b"Two entries have the key; or the entry has the field twice, or a new entry would; or the macro is defined twice.\n\n  $ printf '%s\\t%s\\t%s\\t%s\\n' set a t 3 | bibkeep edit f.bib\n  applied 0\n  bibkeep: line 1: 36 Ambiguous\n\n`bibkeep check F` reports repeated entries and extra fields. Remove one of the two by hand.\n",
+            text: b"Two entries have the key; or the entry has the field twice, or a new entry would; or the macro is defined twice.\n\n  $ printf '%s\\t%s\\t%s\\t%s\\n' set a t 3 | bibkeep edit f.bib\n  applied 0\n  bibkeep: line 1: 36 Ambiguous\n\n`bibkeep check F` reports repeated entries and extra fields. It does not report a macro that is defined twice, but\n`grep -in '@string' F` lists the definitions. Remove one of the two by hand.\n",
         });
     }
     if is_asked(word, b"37", b"KeyInUse") {
         return Some(Page {
             number: b"37",
             name: b"KeyInUse",
-            text: b"Another entry has the new key already, or another new entry would get it; an import says so too. `rename-key` also\nrefuses a key that no entry has but that a crossref names, since the renamed entry would become a parent unasked. (`add`\nand `import` accept such a key: the new entry becomes the parent.)\n\n  $ printf '%s\\t%s\\t%s\\t%s\\n' add 0 misc C | bibkeep edit f.bib\n  applied 0\n  bibkeep: line 1: 37 KeyInUse\n\nChoose another key.\n",
+            text: b"Another entry has the new key already, or another new entry would get it. An import says so too.\n\n`rename-key` also refuses a key that no entry has but that a crossref names. The renamed entry would become a parent, and\nyou did not ask for that. `add` and `import` accept such a key: the new entry becomes the parent.\n\n  $ printf '%s\\t%s\\t%s\\t%s\\n' add 0 misc C | bibkeep edit f.bib\n  applied 0\n  bibkeep: line 1: 37 KeyInUse\n\nChoose another key.\n",
         });
     }
     if is_asked(word, b"38", b"NameInUse") {
         return Some(Page {
             number: b"38",
             name: b"NameInUse",
-            text: b"The new name of a macro is a month's, or the file defines or uses it already: some text would change. `rename-macro` may\nchange the case of a name.\n\n  $ printf '@string{m = 1}@misc{a, t = m}' > macro.bib\n  $ printf '%s\\t%s\\t%s\\n' rename-macro m jan | bibkeep edit macro.bib\n  applied 0\n  bibkeep: line 1: 38 NameInUse\n\nChoose a name that the file does not have.\n",
+            text: b"The new name of a macro is that of a month, or the file defines or uses it already, so some text would change.\n`rename-macro` may change the case of a name.\n\n  $ printf '@string{m = 1}@misc{a, t = m}' > macro.bib\n  $ printf '%s\\t%s\\t%s\\n' rename-macro m jan | bibkeep edit macro.bib\n  applied 0\n  bibkeep: line 1: 38 NameInUse\n\nChoose a name that the file does not have.\n",
         });
     }
     if is_asked(word, b"39", b"Referred") {
         return Some(Page {
             number: b"39",
             name: b"Referred",
-            text: b"Another entry names the entry that you remove in its `crossref`, and would lose what it inherits.\n\n  $ printf '%s\\t%s\\n' remove c | bibkeep edit f.bib\n  applied 0\n  bibkeep: line 1: 39 Referred\n  $ bibkeep cite f.bib '*' | awk -F'\\t' 'tolower($2) == \"c\" { print $1 }'\n  b\n\nThe last command lists the entries that refer to `c`. `drop` or `set` their `crossref` first.\n",
+            text: b"The `crossref` of another entry names the entry that you remove. The other entry would lose what it inherits.\n\n  $ printf '%s\\t%s\\n' remove c | bibkeep edit f.bib\n  applied 0\n  bibkeep: line 1: 39 Referred\n  $ bibkeep cite f.bib '*' | awk -F'\\t' 'tolower($2) == \"c\" { print $1 }'\n  b\n\nThe last command lists the entries that refer to `c`. `drop` or `set` their `crossref` first.\n",
         });
     }
     if is_asked(word, b"40", b"WouldMerge") {
         return Some(Page {
             number: b"40",
             name: b"WouldMerge",
-            text: b"The edit would turn text into something else. The text before and after a removed entry would join and begin an item, or\ncontinue the word `comment`; or, in an entry that was opened with `(`, the closing `)` would become a byte of the key.\n\n  $ printf 'x @book@misc{a}{b}' > merged.bib; printf '%s\\t%s\\n' remove a | bibkeep edit merged.bib\n  applied 0\n  bibkeep: line 1: 40 WouldMerge\n  $ printf '@misc(a, t = 1)' > round.bib; printf '%s\\t%s\\t%s\\n' drop a t | bibkeep edit round.bib\n  applied 0\n  bibkeep: line 1: 40 WouldMerge\n  $ printf '@misc(a, t = 1 )' > spaced.bib; printf '%s\\t%s\\t%s\\n' drop a t | bibkeep edit spaced.bib; cat spaced.bib; echo\n  applied 1\n  @misc(a )\n\nChange the text between the items by hand; write white space before the `)`.\n",
+            text: b"The edit would turn text into something else:\n\n- The text before a removed entry and the text after it would join, and begin an item or continue the word `comment`.\n- In an entry that was opened with `(`, the closing `)` would become a byte of the key.\n\n  $ printf 'x @book@misc{a}{b}' > merged.bib; printf '%s\\t%s\\n' remove a | bibkeep edit merged.bib\n  applied 0\n  bibkeep: line 1: 40 WouldMerge\n  $ printf '@misc(a, t = 1)' > round.bib; printf '%s\\t%s\\t%s\\n' drop a t | bibkeep edit round.bib\n  applied 0\n  bibkeep: line 1: 40 WouldMerge\n\nChange the text between the items by hand. Before a `)`, write white space:\n\n  $ printf '@misc(a, t = 1 )' > spaced.bib; printf '%s\\t%s\\t%s\\n' drop a t | bibkeep edit spaced.bib; cat spaced.bib; echo\n  applied 1\n  @misc(a )\n",
         });
     }
     if is_asked(word, b"41", b"JournalFull") {
         return Some(Page {
             number: b"41",
             name: b"JournalFull",
-            text: b"The journal would have more than 65,535 steps that can be undone, or more than 67,174,399 bytes of steps.\n\n  $ printf '@misc{a, t = 1}\\n' > full.bib\n  $ yes \"$(printf 'set\\ta\\tt\\t2')\" | head -n 65536 > script\n  $ bibkeep edit full.bib < script\n  applied 65535\n  bibkeep: line 65536: 41 JournalFull\n\n`bibkeep forget F` starts a new journal; earlier changes can then no longer be undone. Then run the rest of the script.\nThe edits between `group` and `end` are one step.\n",
+            text: b"The journal would have more than 65,535 steps, or more than 67,174,399 bytes of steps. An edit discards the undone steps,\nso these do not count.\n\n  $ printf '@misc{a, t = 1}\\n' > full.bib\n  $ yes \"$(printf 'set\\ta\\tt\\t2')\" | head -n 65536 > script\n  $ bibkeep edit full.bib < script\n  applied 65535\n  bibkeep: line 65536: 41 JournalFull\n\n`bibkeep forget F` starts a new journal; earlier changes can then no longer be undone. Then run the rest of the script.\nThe edits between `group LABEL` and `end` are one step.\n",
         });
     }
     None
@@ -238,14 +238,14 @@ pub(crate) fn faults_of_journals(word: &[u8]) -> Option<Page>
         return Some(Page {
             number: b"51",
             name: b"NothingToUndo",
-            text: b"There are fewer changes to undo than you ask for. Those that there are, are undone; the status is 1 all the same.\n\n  $ printf '@misc{a}\\n' > new.bib; bibkeep undo new.bib\n  undone 0\n  bibkeep: 51 NothingToUndo\n\n`bibkeep log F` lists the changes.\n",
+            text: b"There are fewer changes to undo than you ask for. `undo F --steps N` then undoes them all and prints how many they were;\nthe status is 1 all the same.\n\n  $ printf '@misc{a}\\n' > new.bib; bibkeep undo new.bib\n  undone 0\n  bibkeep: 51 NothingToUndo\n\n`bibkeep log F` lists the changes.\n",
         });
     }
     if is_asked(word, b"52", b"NothingToRedo") {
         return Some(Page {
             number: b"52",
             name: b"NothingToRedo",
-            text: b"There are fewer changes to redo than you ask for. Those that there are, are redone. An edit discards what could be\nredone.\n\n  $ bibkeep redo new.bib\n  redone 0\n  bibkeep: 52 NothingToRedo\n\n`bibkeep log F` lists the changes.\n",
+            text: b"There are fewer changes to redo than you ask for. `redo F --steps N` then redoes them all and prints how many they were.\nAn edit discards what could be redone.\n\n  $ bibkeep redo new.bib\n  redone 0\n  bibkeep: 52 NothingToRedo\n\n`bibkeep log F` lists the changes.\n",
         });
     }
     if is_asked(word, b"53", b"BadJournal") {
@@ -259,14 +259,14 @@ pub(crate) fn faults_of_journals(word: &[u8]) -> Option<Page>
         return Some(Page {
             number: b"54",
             name: b"JournalMismatch",
-            text: b"`F.bibkeep` is a journal, but not of this file as it is now. You, your editor, `git checkout` or another program changed\nthe file since the last run of bibkeep. Or a run was interrupted after it stored the file and before it stored the\njournal. Nothing is done, because undo would change the wrong bytes.\n\n  $ printf '@misc{a, t = 1}\\n' > kept.bib\n  $ printf '%s\\t%s\\t%s\\t%s\\n' set a t 2 | bibkeep edit kept.bib\n  applied 1\n  $ printf '@misc{b}\\n' >> kept.bib\n  $ bibkeep undo kept.bib; echo status $?\n  bibkeep: 54 JournalMismatch\n  status 1\n  $ bibkeep forget kept.bib; bibkeep log kept.bib\n  $ cat kept.bib\n  @misc{a, t = 2}\n  @misc{b}\n\nTo keep your change, run `bibkeep forget F`, or `edit` and `import` with `--new-journal`: this starts a new journal, and undo\nreaches back to this moment. To keep undo, restore the file as the last run left it, to the last byte.\n",
+            text: b"`F.bibkeep` is a journal, but not of this file as it is now. You, your editor, `git checkout` or another program changed\nthe file since the last run of bibkeep. Or a run was interrupted after it stored the file and before it stored the\njournal. Nothing is done, because undo would change the wrong bytes.\n\n  $ printf '@misc{a, t = 1}\\n' > kept.bib\n  $ printf '%s\\t%s\\t%s\\t%s\\n' set a t 2 | bibkeep edit kept.bib\n  applied 1\n  $ printf '@misc{b}\\n' >> kept.bib\n  $ bibkeep undo kept.bib; echo status $?\n  bibkeep: 54 JournalMismatch\n  status 1\n  $ bibkeep forget kept.bib; bibkeep log kept.bib\n  $ cat kept.bib\n  @misc{a, t = 2}\n  @misc{b}\n\nTo keep your change, start a new journal by `bibkeep forget F`, or by `edit` or `import` with `--new-journal`. Undo then\nreaches back to this moment. To be able to undo the earlier changes, restore the file as the last run left it, to the last\nbyte.\n",
         });
     }
     if is_asked(word, b"55", b"StepOpen") {
         return Some(Page {
             number: b"55",
             name: b"StepOpen",
-            text: b"A line `group` comes inside a step. In the library `begin`, `undo` and `redo` say so while a step is open.\n\n  $ printf 'group\\tone\\ngroup\\ttwo\\n' | bibkeep edit f.bib\n  applied 0\n  bibkeep: line 2: 55 StepOpen\n\nWrite `end` before it.\n",
+            text: b"A line `group` is inside a step that has not ended. In the library `begin`, `undo` and `redo` say so while a step is open.\n\n  $ printf 'group\\tone\\ngroup\\ttwo\\n' | bibkeep edit f.bib\n  applied 0\n  bibkeep: line 2: 55 StepOpen\n\nWrite a line `end` before the second `group`.\n",
         });
     }
     if is_asked(word, b"56", b"NoOpenStep") {
@@ -287,14 +287,14 @@ pub(crate) fn faults_of_inputs(word: &[u8]) -> Option<Page>
         return Some(Page {
             number: b"61",
             name: b"NoStart",
-            text: b"A line of a RIS text with a tag other than TY is outside a record. The offset is that line's first byte.\n\n  $ : > new2.bib; printf 'AU  - x\\n' | bibkeep import new2.bib\n  bibkeep: 61 NoStart at 0\n\nWrite a line `TY  - BOOK`, or another type, before it.\n",
+            text: b"A line of a RIS text is outside a record, and its tag is not TY. The offset is that line's first byte.\n\n  $ : > new2.bib; printf 'AU  - x\\n' | bibkeep import new2.bib\n  bibkeep: 61 NoStart at 0\n\nWrite a line `TY  - BOOK`, or another type, before that line.\n",
         });
     }
     if is_asked(word, b"62", b"NoEnd") {
         return Some(Page {
             number: b"62",
             name: b"NoEnd",
-            text: b"A RIS record has no line ER: another TY line begins inside it, or the text ends there.\n\n  $ printf 'TY  - BOOK\\nTI  - One\\nTY  - BOOK\\nER  - \\n' | bibkeep import new2.bib\n  bibkeep: 62 NoEnd at 21\n\nWrite a line `ER  - ` before it.\n",
+            text: b"A RIS record has no line ER: another TY line begins inside it, or the text ends there.\n\n  $ printf 'TY  - BOOK\\nTI  - One\\nTY  - BOOK\\nER  - \\n' | bibkeep import new2.bib\n  bibkeep: 62 NoEnd at 21\n\nWrite a line `ER  - ` before that TY line, or at the end of the text.\n",
         });
     }
     if is_asked(word, b"63", b"EmptyType") {
@@ -315,7 +315,7 @@ pub(crate) fn faults_of_inputs(word: &[u8]) -> Option<Page>
         return Some(Page {
             number: b"71",
             name: b"BadScript",
-            text: b"A line of the script is neither an edit nor `group` or `end`, or the words after the file are not an edit: an unknown first\nword, too few or too many words, a field without a value, a position that is not 1 to 9 digits, a label of more than 255 bytes\nor with a control byte.\n\n  $ printf 'set a t 3\\n' | bibkeep edit f.bib\n  applied 0\n  bibkeep: line 1: 71 BadScript\n  $ printf 'set a t 3\\n' | cat -t\n  set a t 3\n\nMost often the words are separated by spaces and not by tabs, which `cat -t` shows as `^I`; or `printf` changed a\nbackslash. `bibkeep help edit` lists the lines.\n",
+            text: b"A line of the script is neither an edit nor `group` or `end`; or the words after the file are not an edit. One of these is\nthe reason:\n\n- the first word is unknown;\n- there are too few or too many words, or a field has no value;\n- a position is not 1 to 9 digits;\n- a label has more than 255 bytes or a control byte.\n\n  $ printf 'set a t 3\\n' | bibkeep edit f.bib\n  applied 0\n  bibkeep: line 1: 71 BadScript\n  $ printf 'set a t 3\\n' | cat -t\n  set a t 3\n\nMost often the words are separated by spaces and not by tabs, or `printf` changed a backslash. `cat -t` shows a tab as `^I`.\n`bibkeep help edit` lists the lines.\n",
         });
     }
     None
