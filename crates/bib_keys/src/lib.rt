@@ -4,9 +4,9 @@
 #![tactic(auto)]
 
 mod dangling;
+mod label_bases;
 mod making;
-mod parents;
 mod taken_keys;
 
+pub use label_bases::Parents;
 pub use making::{free_key, free_keys, made_keys};
-pub use parents::Parents;

@@ -12,7 +12,7 @@ ghost use Rattle.bib_keys.specs.MadeBase.{made_base};
 ghost use Rattle.bib_keys.specs.Parents.{AreParents};
 ghost use Rattle.bib_keys.specs.TakenKeys.{AreTaken, taken_in};
 
-use crate::parents::Parents;
+use crate::label_bases::Parents;
 use crate::taken_keys::TakenKeys;
 use bib_names::{key_letters, label_names};
 use bib_scan::{Seq, Text};

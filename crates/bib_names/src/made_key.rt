@@ -7,8 +7,8 @@ ghost use Rattle.bib_names.specs.Label.{key_letters, key_base};
 
 use crate::fault::NameFault;
 use crate::label::or_anon;
-use crate::labelling::letters;
-use crate::parts::base_of;
+use crate::label_parts::base_of;
+use crate::labels::letters;
 use bib_data::Record;
 use bib_scan::{Seq, Text};
 use std::alloc::{AllocError, Global};

@@ -1,0 +1,11 @@
+use Rattle.std.proofs.Common.{◌≡◌, ◌-◌, ◌++◌}
+use Rattle.bib_spec.specs.Records.{entries_of, parent}
+use Rattle.bib_spec.specs.Lineages.{lineage}
+use Rattle.bib_store.specs.Meaning.{OfReading, IsEntryNumber}
+use Rattle.bib_keys.specs.Parents.{AreParents, AreKnown}
+use Rattle.bib_keys.proofs.label_bases.Parents.find_line.Given as goal
+
+abbrev pub invariant-find : goal.invariant-find
+invariant-find g l =
+    IsEntryNumber l.db l.heir × AreParents l.db l.self × AreKnown l.self.known.items l.self.line.items
+    × OfReading l.db (λ r. l.self.line.items ++ lineage (parent (entries_of r)) (l.depth - l.counter) l.heir ≡ lineage (parent (entries_of r)) l.depth l.n)

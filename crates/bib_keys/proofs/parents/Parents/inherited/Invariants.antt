@@ -1,9 +1,0 @@
-use Rattle.std.proofs.Common.{◌≡◌, take}
-use Rattle.bib_spec.specs.Text.{Text}
-use Rattle.bib_spec.specs.Records.{entries_of}
-use Rattle.bib_store.specs.Meaning.{OfReading}
-use Rattle.bib_keys.specs.Parents.{AreParents, parts_along}
-use Rattle.bib_keys.proofs.parents.Parents.inherited.Given as goal
-
-abbrev pub invariant-join : goal.invariant-join
-invariant-join l = (file : Text) → AreParents file l.self → OfReading file (λ r. l.inherited ≡ parts_along (entries_of r) (take l.n-index l.self.line.items))

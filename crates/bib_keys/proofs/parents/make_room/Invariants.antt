@@ -1,9 +1,0 @@
-use Rattle.std.proofs.Common.{◌+◌, ◌-◌, length}
-use Rattle.bib_keys.specs.Parents.{KeepTheSame}
-use Rattle.bib_keys.proofs.parents.make_room.Given as goal
-
-abbrev pub invariant-grow : goal.invariant-grow
-invariant-grow l = KeepTheSame l.initial.known.items l.known.items
-
-abbrev pub decreases-grow : goal.decreases-grow
-decreases-grow l = l.n + 1 - length l.known.items

@@ -1,0 +1,12 @@
+use Rattle.std.proofs.Common.{◌≡◌, ◌∙◌}
+use Rattle.std.proofs.lemmas.Result.{IfOk-weaker}
+use Rattle.bib_spec.specs.Text.{Text}
+use Rattle.bib_names.specs.Label.{label_base}
+use Rattle.bib_names.specs.LabelParts.{base_from, parts_of, parts_with}
+use Rattle.bib_names.proofs.LabelPartLaws.{base_alone}
+use Rattle.bib_names.proofs.label_parts.base_of.Goals as goal
+
+pub returns : goal.returns
+returns c =
+    let alone = base_alone c.args.fields.now c.none.result c.none.ensures in
+    IfOk-weaker c.base_with.result (λ (base : Text). base ≡ base_from (parts_with (parts_of c.args.fields.now) c.none.result)) (λ (base : Text). base ≡ label_base c.args.fields.now) (λ base h. h ∙ alone) c.base_with.ensures
