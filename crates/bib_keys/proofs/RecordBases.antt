@@ -9,7 +9,7 @@ use Rattle.bib_store.proofs.ChosenFields.{chosen_inherited}
 use Rattle.bib_store.proofs.Inherited.{record_with, fields_along, expanded_along}
 use Rattle.bib_names.specs.Label.{Fields, label_names, label_base}
 use Rattle.bib_names.specs.LabelParts.{parts_of, no_parts, parts_with, base_from}
-use Rattle.bib_names.specs.declared.label_parts.LabelParts.{LabelParts}
+use Rattle.bib_names.specs.declared.label_fields.LabelParts.{LabelParts}
 use Rattle.bib_names.proofs.LabelFields.{base_kept}
 use Rattle.bib_names.proofs.LabelPartLaws.{base_of_parts, parts_inherited, parts_alone, parts_further}
 use Rattle.bib_keys.specs.Parents.{label_fields, with_parent, parts_along}

@@ -5,7 +5,7 @@ use Rattle.bib_spec.specs.Records.{EntryTexts, entries_of, fields_at}
 use Rattle.bib_store.specs.Meaning.{OfReading}
 use Rattle.bib_store.specs.Choosing.{chosen}
 use Rattle.bib_names.specs.Label.{Fields, label_names}
-use Rattle.bib_names.specs.declared.label_parts.LabelParts.{LabelParts}
+use Rattle.bib_names.specs.declared.label_fields.LabelParts.{LabelParts}
 use Rattle.bib_names.specs.LabelParts.{parts_of, no_parts, parts_with}
 use Rattle.bib_keys.specs.declared.label_bases.Parents.{Parents}
 

@@ -11,7 +11,7 @@ use Rattle.bib_spec.specs.Records.{RecordField, missing}
 use Rattle.bib_spec.proofs.Names.{true-same}
 use Rattle.bib_spec.proofs.Missing.{bears_with}
 use Rattle.bib_names.specs.Label.{Fields, text_in, listed_names, letters_of_names, first_three, or_anon, label_base}
-use Rattle.bib_names.specs.declared.label_parts.LabelParts.{LabelParts}
+use Rattle.bib_names.specs.declared.label_fields.LabelParts.{LabelParts}
 use Rattle.bib_names.specs.LabelParts.{letters_if_any, letters_in, year_digits, parts_of, base_from, has_field, given, no_parts, parts_with}
 use Rattle.bib_names.proofs.LabelFields.{find_filtered}
 

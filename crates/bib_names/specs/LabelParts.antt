@@ -5,7 +5,7 @@ use Rattle.std.specs.Option.{option_or, option_flatten}
 use Rattle.std.specs.Char.{is_ascii_digit}
 use Rattle.bib_spec.specs.Text.{Text, same}
 use Rattle.bib_names.specs.Label.{Fields, text_in, listed_names, letters_of_names, first_three, or_anon, last_two}
-use Rattle.bib_names.specs.declared.label_parts.LabelParts.{LabelParts}
+use Rattle.bib_names.specs.declared.label_fields.LabelParts.{LabelParts}
 
 -- ---- what a text gives
 

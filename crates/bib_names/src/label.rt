@@ -6,7 +6,7 @@ ghost use Rattle.bib_names.specs.Label.{text_in, label_names, balances, listed_n
 ghost use Rattle.bib_names.specs.Surname.{initials_printed, last_printed};
 
 use crate::fault::NameFault;
-use crate::label_parts::base_of;
+use crate::label_fields::base_of;
 use crate::name_list::names_of;
 use crate::printing::printed_group;
 use crate::special::{Chars, char_count};

@@ -7,8 +7,8 @@ ghost use Rattle.bib_names.specs.Label.{key_letters, key_base};
 
 use crate::fault::NameFault;
 use crate::label::or_anon;
-use crate::label_parts::base_of;
-use crate::labels::letters;
+use crate::label_fields::base_of;
+use crate::labelling::letters;
 use bib_data::Record;
 use bib_scan::{Seq, Text};
 use std::alloc::{AllocError, Global};

@@ -4,7 +4,7 @@ use Rattle.bib_spec.specs.Text.{Text}
 use Rattle.bib_names.specs.Label.{label_base}
 use Rattle.bib_names.specs.LabelParts.{base_from, parts_of, parts_with}
 use Rattle.bib_names.proofs.LabelPartLaws.{base_alone}
-use Rattle.bib_names.proofs.label_parts.base_of.Goals as goal
+use Rattle.bib_names.proofs.label_fields.base_of.Goals as goal
 
 pub returns : goal.returns
 returns c =

@@ -35,7 +35,7 @@ pub struct Inherited<'a> {
 
 impl<'a> Model for Inherited<'a> {
     ghost use Rattle.std.specs.Option.{option_copied};
-    ghost use Rattle.bib_names.specs.declared.label_parts.LabelParts.{LabelParts};
+    ghost use Rattle.bib_names.specs.declared.label_fields.LabelParts.{LabelParts};
 
     ghost Value = { LabelParts };
 

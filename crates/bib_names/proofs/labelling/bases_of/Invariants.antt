@@ -1,6 +1,6 @@
 use Rattle.std.proofs.Common.{◌≡◌, take, map}
 use Rattle.bib_names.specs.Label.{label_base}
-use Rattle.bib_names.proofs.labels.bases_of.Given as goal
+use Rattle.bib_names.proofs.labelling.bases_of.Given as goal
 
 abbrev pub invariant-loop-record : goal.invariant-loop-record
 invariant-loop-record l = l.bases.items ≡ map (λ r. label_base r.fields) (take l.record-index l.records)

@@ -2,7 +2,7 @@ use Rattle.std.proofs.Common.{◌≡◌, ℕ, List, map, take}
 use Rattle.std.specs.List.{range_with_len}
 use Rattle.bib_names.specs.Label.{count_of, label_at}
 use Rattle.bib_names.specs.Counts.{times}
-use Rattle.bib_names.proofs.labels.labels_of.Given as goal
+use Rattle.bib_names.proofs.labelling.labels_of.Given as goal
 
 abbrev pub invariant-loop-base : goal.invariant-loop-base
 invariant-loop-base l = record {

@@ -3,7 +3,7 @@ use Rattle.std.proofs.lemmas.List.{take_more, take_all, map-append}
 use Rattle.bib_spec.specs.Text.{Text}
 use Rattle.bib_data.specs.declared.record.Record.{Record}
 use Rattle.bib_names.specs.Label.{label_base}
-use Rattle.bib_names.proofs.labels.bases_of.Goals as goal
+use Rattle.bib_names.proofs.labelling.bases_of.Goals as goal
 
 abbrev base : Record → Text
 base r = label_base r.fields

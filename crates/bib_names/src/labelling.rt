@@ -7,7 +7,7 @@ ghost use Rattle.bib_names.specs.Counts.{times};
 ghost use Rattle.bib_names.specs.Label.{label_base, label_of, labels_of};
 
 use crate::fault::NameFault;
-use crate::label_parts::base_of;
+use crate::label_fields::base_of;
 use crate::tally::Tally;
 use bib_data::Record;
 use bib_scan::{Seq, Text};

@@ -1,6 +1,6 @@
 use Rattle.std.proofs.Common.{◌≡◌, ◌++◌}
 use Rattle.bib_spec.specs.MadeKeys.{letters}
-use Rattle.bib_names.proofs.labels.letters.Given as goal
+use Rattle.bib_names.proofs.labelling.letters.Given as goal
 
 abbrev pub decreases-loop-rest : goal.decreases-loop-rest
 decreases-loop-rest l = l.rest

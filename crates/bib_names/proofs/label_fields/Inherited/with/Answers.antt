@@ -1,8 +1,8 @@
 use Rattle.std.proofs.Common.{◌≡◌, ◌∙◌, Option, Some, None, Bor, refl, ap}
 use Rattle.std.specs.Option.{option_copied, option_or}
 use Rattle.bib_spec.specs.Text.{Text}
-use Rattle.bib_names.specs.declared.label_parts.LabelParts.{LabelParts}
-use Rattle.bib_names.proofs.label_parts.Inherited.with.Goals as goal
+use Rattle.bib_names.specs.declared.label_fields.LabelParts.{LabelParts}
+use Rattle.bib_names.proofs.label_fields.Inherited.with.Goals as goal
 
 -- the first of two that are lent
 copied-or : {X : Type 0} (a b r : Option (Bor X)) (first second : Option X) → r ≡ option_or a b → option_copied a ≡ first → option_copied b ≡ second → option_copied r ≡ option_or first second

@@ -2,7 +2,7 @@ use Rattle.std.proofs.Common.{◌≡◌, get_or, refl, sym, ap, ◌∙◌, subst
 use Rattle.std.specs.Str.{bytes_eq}
 use Rattle.bib_spec.specs.Text.{Text}
 use Rattle.bib_names.proofs.LabelLaws.{count_of_more, labels_more}
-use Rattle.bib_names.proofs.labels.labels_of.Goals as goal
+use Rattle.bib_names.proofs.labelling.labels_of.Goals as goal
 
 pub loop-base-preserved : goal.loop-base-preserved
 loop-base-preserved c =
