@@ -56,7 +56,7 @@ below_more : (k n : ℕ) (ns : List ℕ) → k ≤ n → AllByRecursion (λ m. m
 below_more k n [] le all = tt
 below_more k n (m ∷ ns) le all = (let low = all.0 in omega (arith, low, le), below_more k n ns le all.1)
 
--- so many of them stand before item n
+-- as many numbers of definitions are below n as definitions are among the first n items
 rank_defined : (items : List Item) (n : ℕ) → rank_in n (definition_numbers items) ≡ length (gathered defined_by months (take n items))
 rank_defined items n = ⊎_elim
     (λ (past : length items < n).

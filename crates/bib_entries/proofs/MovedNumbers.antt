@@ -160,7 +160,7 @@ pub rank_all : (n : ℕ) (front : List ℕ) → AllByRecursion (λ m. m < n) fro
 rank_all n [] below = refl
 rank_all n (m ∷ front) below = rank_first n m front ∙ ap (λ (b : Bool). cond b (suc (rank_in n front)) (rank_in n front)) (lt-ltb m n below.0) ∙ ap suc (rank_all n front below.1)
 
--- so many are below n
+-- the numbers below n are those of the front
 pub rank_of : (n : ℕ) (front rest numbers : List ℕ) → PartAt n front rest numbers → rank_in n numbers ≡ length front
 rank_of n front rest numbers p =
     let all = rank_all n front p.below in
@@ -168,7 +168,7 @@ rank_of n front rest numbers p =
     let sum = ap (rank_in n) p.whole ∙ rank-append n front rest in
     omega (arith, all, none, sum)
 
--- where numbers from n on make way, those up to n have the same below them
+-- if numbers from n on make way, those up to n have as many below them as they had
 pub rank_before_gap : (n j : ℕ) (front rest : List ℕ) → AllByRecursion (λ m. n ≤ m) rest → j ≤ n → rank_in j (front ++ map suc rest) ≡ rank_in j (front ++ rest)
 rank_before_gap n j [] rest above le = rank_none j (map suc rest) (higher rest above) ∙ sym (rank_none j rest (high rest above))
   where
@@ -250,7 +250,7 @@ above_raised n [] above = tt
 above_raised n (m ∷ rest) above = (let le = above.0 in omega (arith, le), above_raised n rest above.1)
 
 module _ (n k : ℕ) (numbers : List ℕ) (ascend : Ascend numbers) (is : k ≡ rank_in n numbers) where
-  -- the numbers below n are so many
+  -- the first k numbers are those below n
   pub ends : (front rest : List ℕ) → PartAt n front rest numbers → k ≡ length front
   ends front rest p = is ∙ rank_of n front rest numbers p
 
@@ -375,7 +375,7 @@ rest_put P (suc k) n (m ∷ numbers) h all =
 
 -- ---- the number itself
 
--- where the first that is not below n is another number, n is none of them
+-- if the first number that is not below n is another, n is not among the numbers
 pub absent : (n k : ℕ) (numbers : List ℕ) → Ascend numbers → k ≡ rank_in n numbers → (k < length numbers → get_or numbers k 0 ≢ n) → AllByRecursion (λ m. m ≢ n) numbers
 absent n k numbers ascend is other =
     let p = parted_at n numbers ascend in

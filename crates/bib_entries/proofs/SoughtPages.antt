@@ -124,7 +124,7 @@ module _ (n : ℕ) (pages : List (List ℕ)) (ascend : Ascend (joined pages)) (f
         let whole = subst Ascend (joined-split pages p h) ascend in
         (ascend_parts (page_at pages p) (joined (drop (suc p) pages)) (ascend_parts (joined (take p pages)) (page_at pages p ++ joined (drop (suc p) pages)) whole).1).0
 
-    -- so many are below n: those of the pages before it, and some in it
+    -- the numbers below n are those of the pages before page p, and some in page p
     pub rank_at : p < length pages → length (joined (take p pages)) + rank_in n (page_at pages p) ≡ rank_in n (joined pages)
     rank_at h =
         let high = above_page p h (point.1 p [] (omega arith) h) in

@@ -163,7 +163,7 @@ agrees texts id t x y other = ap (λ (o : Option Text). is_text o x) (with_other
 at_itself : (texts : ℕ → Option Text) (id : ℕ) (t : Option Text) (x : Text) → has_text (with_text texts id t) x id ≡ is_text t x
 at_itself texts id t x = ap (λ (o : Option Text). is_text o x) (with_same texts id t)
 
--- of the text that the id gets it is a holder also
+-- the id becomes a holder of the text that it gets
 gets : (texts : ℕ → Option Text) (order : List ℕ) (id : ℕ) (t : Text) → holders (also id (has_text texts (folded t))) order ≡ holders (has_text (with_text texts id (Some t)) (folded t)) order
 gets texts order id t = all_same (also id test) (has_text after (folded t)) same order
   where
@@ -179,11 +179,11 @@ gets texts order id t = all_same (also id test) (has_text after (folded t)) same
         (λ (e : y ≢ id). also_other id test y e ∙ sym (agrees texts id (Some t) (folded t) y e))
         (cases_eq y id)
 
--- of a text that it has no longer it is none
+-- the id is no holder of a text that it no longer has
 loses : (texts : ℕ → Option Text) (order : List ℕ) (id : ℕ) (t : Option Text) (x : Text) → is_text t x ≡ false → without id (holders (has_text texts x) order) ≡ holders (has_text (with_text texts id t) x) order
 loses texts order id t x lacks = fewer (has_text texts x) (has_text (with_text texts id t) x) id (at_itself texts id t x ∙ lacks) (agrees texts id t x) order
 
--- a text that it has before and after, or neither before nor after, has the holders that it had
+-- a text that the id has both before and after, or neither before nor after, has the holders that it had
 keeps : (texts : ℕ → Option Text) (order : List ℕ) (id : ℕ) (t : Option Text) (x : Text) → is_text t x ≡ is_text (texts id) x → holders (has_text texts x) order ≡ holders (has_text (with_text texts id t) x) order
 keeps texts order id t x is = all_same (has_text texts x) (has_text after x) same order
   where

@@ -20,7 +20,7 @@ pub first_begins : (pages : List (List Item)) → BeginsWith pages 0 first_start
 first_begins [] = record { item = refl; byte = refl }
 first_begins (page ∷ pages) = record { item = refl; byte = refl }
 
--- from a page of which it is known where it begins
+-- the way to member n begins at page p, whose start is known
 pub way_begun : (pages : List (List Item)) (p n : ℕ) (start : PageStart) → BeginsWith pages p start → start.item ≤ n → IsOnWay pages p n (n - start.item)
 way_begun pages p n start begins low =
     let item : start.item ≡ length (joined (take p pages)) = begins.item in

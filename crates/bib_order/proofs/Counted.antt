@@ -85,7 +85,7 @@ less_counted (suc m) n list h e =
 
 -- ---- writing them down
 
--- the first so many ids are written down, and there is room for the others
+-- the ids below `id` are written down, and there is room for the others up to `count`
 pub record IsWritten {Z : Type 0} (id count : ℕ) (was list : Vec ℕ Z) : Type 0 where
   pub ids : list.items ≡ counted id ++ was.items
   pub len : 0 < count → vec_len list ≡ id

@@ -90,7 +90,7 @@ apart (x ∷ a) b d = lacks_one x a b (all_back (λ (y : ℕ). y ≢ x) a b d.0)
 
 -- ---- the holders before a number
 
--- so many of the ids that pass are among the first n, and the others are not
+-- the first `count` of the ids that pass are among the first n ids, and the others are not
 pub record IsCounted (now ids : List ℕ) (n count : ℕ) : Type 0 where
   pub within : count ≤ length ids
   pub front : (k d : ℕ) → k < count → is_among (take n now) (get_or ids k d) ≡ true
