@@ -125,7 +125,7 @@ exchanged_shorts there before new after plain fits =
 
 -- ---- a list in parts
 
--- up to a number, so many from there, those after them up to another number, and the rest
+-- a list is its first `from` elements, `many` after them, those up to number `to`, and the rest
 pub four_parts : {X : Type 0} (from many to : ℕ) (xs : List X) → from + many ≤ to → xs ≡ take from xs ++ (take many (drop from xs) ++ (take (to - (from + many)) (drop (from + many) xs) ++ drop to xs))
 four_parts {X} from many to xs order =
     let sum : from + many + (to - (from + many)) ≡ to = omega (arith, order) in
@@ -304,7 +304,7 @@ module _ (c : Change) (old now : List Item) (count lead : ℕ) (put : ArePut c o
 
   -- ---- numbers
 
-  -- so many items fit
+  -- the count of all items is less than 2^64
   all_fit : from + lead + (length come + length (gone ++ after)) < 2 ^ 64
   all_fit =
       let all = ap (length {A = Item}) now_parts in

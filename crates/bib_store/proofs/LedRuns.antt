@@ -1,4 +1,4 @@
--- Runs of pieces, of which the last is put in first and taken out last.
+-- Runs of pieces: the last run is inserted first and removed last.
 use Rattle.std.proofs.Common.{◌≡◌, ℕ, ◌+◌, ◌-◌, ◌≤◌, Bool, Option, List, [], ◌∷◌, ◌++◌, length, take, drop, refl, sym, subst, ◌∙◌, ap, ap₂, arith, append_assoc, length-append, length-drop, take-append-drop}
 use Rattle.std.specs.List.{between, flat_map}
 use Rattle.std.proofs.lemmas.List.{take_all, take_at, drop_at, drop-drop, append-nil, drop-append-le, length-take-le, take-take, drop-take}
@@ -33,7 +33,7 @@ between-first items from to n order within =
     ∙ ap (take (to - from)) (drop-take from (n - from) items)
     ∙ take-take (to - from) (n - from) (drop from items) low
 
--- no pieces lead to what is there
+-- an empty list of pieces leads from what is there to itself
 pub none_lead : (ps : List Piece) (front : Text) (n : ℕ) (items : List Item) (t : Tables) → length ps ≡ 0 → LeadWithin ps front n items t items t
 none_lead [] front n items t none = record {
   first = take n items;

@@ -37,7 +37,7 @@ repeated-first entries n entry at =
     ap (λ o. option_map_or (λ (entry : EntryTexts). list_any (is_named entry.key) (keys_of (take n entries))) o false) at
     ∙ ap (list_any (is_named entry.key)) (sym (take-map (λ (entry : EntryTexts). entry.key) n entries)) ∙ named_before entry.key (keys_of entries) n
 
--- ---- keys of which no two are one
+-- ---- keys that are all different
 
 -- a key that names another names itself
 named_itself : (key other : Text) → is_named key other ≡ true → is_named key key ≡ true

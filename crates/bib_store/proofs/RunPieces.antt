@@ -1,4 +1,4 @@
--- Pieces in two parts, of which the later lie after the text that the earlier fit.
+-- Pieces in two parts: the later ones lie after the text that the earlier ones fit.
 use Rattle.std.proofs.Common.{◌≡◌, ℕ, ◌+◌, ◌≤◌, List, [], ◌∷◌, ◌++◌, length, drop, refl, sym, ◌∙◌, ap, ap₂, arith, append_assoc, length-append}
 use Rattle.std.proofs.lemmas.List.{take_at, drop-append-le}
 use Rattle.std.specs.List.{AllByRecursion}

@@ -22,12 +22,12 @@ pub record IsWindow (items : List Item) (w : Window) : Type 0 where
   pub within : w.to ≤ length items
   pub begins : w.with_front ≡ true → w.from ≡ 0
 
--- the front, where it is before the window
+-- the front, if it is before the window
 abbrev pub front_before : Bool → Text → Text
 front_before true front = []
 front_before false front = front
 
--- the front, where it is in the window
+-- the front, if it is in the window
 abbrev pub front_within : Bool → Text → Text
 front_within true front = front
 front_within false front = []
@@ -89,19 +89,19 @@ abbrev pub OfJoined : Change → ℕ → List Item → Tables → (Reading → T
 OfJoined c front_len items t P = (front : Text) (db inner : Reading) → IsKeptAs db front items t → Reads c.text inner
     → HasItems front_len (exchanged c.window inner.items items) (joined c.window db inner) → P (joined c.window db inner)
 
--- the items of the change, of this count, stand before those that they replace
+-- the `count` items of the change are in the list before those that they replace
 pub record ArePut (c : Change) (old now : List Item) (count : ℕ) : Type 0 where
   pub window : IsWindow old c.window
   pub counted : (inner : Reading) → Reads c.text inner → count ≡ length inner.items
   pub put : (inner : Reading) → Reads c.text inner → now ≡ take c.window.from old ++ (all_stored inner.items ++ drop c.window.from old)
 
--- the change has so many items, and so many stand in its window
+-- the change has `count` items, at least `lead`, and so has its window
 pub record HasLead (w : Window) (count lead : ℕ) : Type 0 where
   pub come : lead ≤ count
   pub go : w.from + lead ≤ w.to
 
--- So many items of the change, which has this count of them, have the bodies of the first in the window, before which they
--- stand: of those the trails alone change.
+-- The first `lead` of the change's `count` items have the bodies of the first items in the window, which come after them
+-- in the list: only the trails of these change.
 pub record IsLead (w : Window) (count lead : ℕ) (now : List Item) : Type 0 where
   pub come : lead ≤ count
   pub go : w.from + lead ≤ w.to

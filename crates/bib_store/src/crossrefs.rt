@@ -26,14 +26,15 @@ use bib_scan::{FieldView, Fields, ItemView, Note, Text, same_folded};
 use bib_value::{MacroTable, ValueFault};
 use std::alloc::Global;
 
-/// What the crossref of an entry says where the entry stands, and whether it says that whatever macros stand for.
+/// What the crossref of an entry says at the entry's place in the file, and whether it says so whatever macros stand for.
 #[derive(Drop)]
 pub(crate) struct Said {
     pub text: Option<Text>,
     pub settled: bool,
 }
 
-/// What the crossref says with one more field, whose text is measured: the first such field counts.
+/// What the crossref says once one more field is read: the first field named `crossref` counts. The field's text is
+/// measured.
 fn with_value<M: MacroTable>(
     alloc: Global,
     found: Option<Text>,
@@ -52,7 +53,7 @@ fn with_value<M: MacroTable>(
     Ok(found)
 }
 
-/// What the crossref says with one more field.
+/// What the crossref says once one more field is read.
 fn with_field<M: MacroTable>(
     alloc: Global,
     found: Option<Text>,
@@ -141,7 +142,7 @@ fn first_crossref<M: MacroTable>(
     })
 }
 
-/// What the crossref of an entry says, none of whose texts is too long, and of which this was noted.
+/// What the crossref of an entry says, if none of the entry's texts is too long. `note` is what was noted of the entry.
 fn noted_crossref<M: MacroTable>(
     alloc: Global,
     entry: &ItemView<'_>,
@@ -168,7 +169,7 @@ fn noted_crossref<M: MacroTable>(
     }
 }
 
-/// What the crossref of an entry says, none of whose texts is too long.
+/// What the crossref of an entry says, if none of the entry's texts is too long.
 fn short_crossref<M: MacroTable>(
     alloc: Global,
     entry: &ItemView<'_>,
@@ -183,7 +184,7 @@ fn short_crossref<M: MacroTable>(
     if let Some(known) = note {
         return noted_crossref(alloc, entry, known, macros);
     }
-    // most entries have none, and need not be read
+    // most entries have no crossref, and need not be read
     if lacks_crossref(entry.body()) {
         return Ok(Said {
             text: None,
@@ -193,8 +194,8 @@ fn short_crossref<M: MacroTable>(
     first_crossref(alloc, entry.fields(), macros)
 }
 
-/// What the crossref of an entry says, of which this may have been noted, where no macro stands for more than `longest`
-/// bytes. Texts are measured only where one of them may be too long.
+/// What the crossref of an entry says, if no macro stands for more than `longest` bytes. `note` is what was noted of the
+/// entry, if anything. Texts are measured only if one of them may be too long.
 pub(crate) fn crossref_within<M: MacroTable>(
     alloc: Global,
     entry: &ItemView<'_>,
