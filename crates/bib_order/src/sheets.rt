@@ -45,7 +45,7 @@ fn gap(sheets: &[Sheet], count: usize, n: usize) -> (usize, usize)
 }
 
 /// Records in `homes` that the page with this name has each of these ids.
-fn tell(homes: &mut Vec<Option<usize>>, ids: &[usize], name: usize)
+fn set_home(homes: &mut Vec<Option<usize>>, ids: &[usize], name: usize)
     ensures { IsTold homes.old.items homes.new.items }
 {
     'pass: for k in 0..ids.len() {
@@ -71,7 +71,7 @@ fn part(
 {
     sheets.reserve(1)?;
     let second = sheets[p].tail(alloc, HALF, name)?;
-    tell(homes, second.ids(), name);
+    set_home(homes, second.ids(), name);
     sheets.insert(p + 1, second)?;
     sheets[p].truncate(HALF);
     Ok(())
