@@ -28,7 +28,7 @@ pub struct EntryTable {
     // the ids by the keys that their crossref texts name
     referring: KeyIndex,
     // how many entries the caller expects
-    awaited: usize,
+    expected_count: usize,
 }
 
 /// The number of the first entry that has a key, and how many entries have it.
@@ -136,7 +136,7 @@ impl EntryTable {
             keys: KeyIndex::new(alloc),
             crossrefs: Vec::new(alloc),
             referring: KeyIndex::new(alloc),
-            awaited: 0,
+            expected_count: 0,
         }
     }
 
@@ -147,7 +147,7 @@ impl EntryTable {
         ensures { SaysTheSame self.old self.new }
     {
         self.order.prepare(additional);
-        self.awaited = self.order.count().saturating_add(additional);
+        self.expected_count = self.order.count().saturating_add(additional);
         let _ = self.crossrefs.reserve(additional);
         let _ = self.keys.reserve(additional.min(SAMPLE));
     }
@@ -158,7 +158,7 @@ impl EntryTable {
     {
         let count = self.order.count();
         if count == SAMPLE && self.keys.len() > SAMPLE / 2 {
-            let _ = self.keys.reserve(self.awaited.saturating_sub(count));
+            let _ = self.keys.reserve(self.expected_count.saturating_sub(count));
         }
     }
 
