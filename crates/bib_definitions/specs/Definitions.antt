@@ -1,4 +1,4 @@
--- The macros that a file defines, and what they stand for where each item stands.
+-- The macros that a file defines, and what they stand for before each item.
 use Rattle.std.specs.Prelude.{◌≡◌, ◌≤◌, ℕ, suc, Bool, true, false, List, [], ◌∷◌, length, map, filter, count_by, Option, Some, None, option_map, if◌then◌else◌}
 use Rattle.std.specs.List.{enumerate_from}
 use Rattle.bib_spec.specs.Text.{Text, folded, same}

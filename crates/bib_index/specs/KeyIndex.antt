@@ -38,7 +38,7 @@ abbrev pub members : Option (List ℕ) → List ℕ
 members None = []
 members (Some ids) = ids
 
--- the ids of a folded text, where these are kept
+-- the ids of a folded text, in lists that are kept by text
 abbrev pub ids_in : List (Text × List ℕ) → Text → List ℕ
 ids_in lists x = members (value_at lists x)
 

@@ -67,7 +67,7 @@ taken_next pages starts now p start next h e i b w =
       next = begins_more pages p start next h i b w.next;
     }
 
--- ---- they stay known where an edit leaves the pages before them
+-- ---- the starts stay known if an edit leaves the pages before them
 
 begins_same : (old new : List (List Item)) (p : ℕ) (start : PageStart) → take p new ≡ take p old → BeginsWith old p start → BeginsWith new p start
 begins_same old new p start same begins = record {

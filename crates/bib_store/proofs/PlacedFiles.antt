@@ -1,4 +1,4 @@
--- The list and the file of a change whose items each take the place of one in its window.
+-- The list and the file of a change whose items each replace one of its window.
 use Rattle.std.proofs.Common.{◌≡◌, ℕ, ◌+◌, ◌-◌, ◌≤◌, ◌<◌, List, [], ◌∷◌, ◌++◌, length, map, take, drop, set, slice_get, Some, None, refl, sym, subst, ◌∙◌, ap, ap₂, arith, take-append-drop, All}
 use Rattle.std.specs.List.{between}
 use Rattle.std.proofs.lemmas.List.{take-map, drop-map, drop-drop, take-set, drop-set, length-take-le}

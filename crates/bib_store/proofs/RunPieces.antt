@@ -8,7 +8,7 @@ use Rattle.bib_spec.proofs.PieceLemmas.{drop-place, stands_before, applied_from-
 use Rattle.history_spec.specs.Shifting.{all_moved_back, FitAfter}
 use Rattle.history_spec.proofs.Shifts.{fit-after, applied-from_after}
 
--- where a piece stands in a text, it stands in a longer one
+-- a piece that fits a text fits a longer one
 stands_longer : (text more : Text) (p : Piece) → Stands text p → Stands (text ++ more) p
 stands_longer text more p s =
     let inside = s.inside in

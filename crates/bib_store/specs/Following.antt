@@ -1,4 +1,4 @@
--- Items that come and go where no macro is defined.
+-- Items that come and go and define no macro.
 use Rattle.std.specs.Prelude.{◌≡◌, ◌≢◌, List, map, None}
 use Rattle.std.specs.List.{AllByRecursion, between}
 use Rattle.std.specs.Prelude.{ℕ}

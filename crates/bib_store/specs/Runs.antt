@@ -20,7 +20,7 @@ use Rattle.history_spec.specs.Shifting.{all_moved_back, FitAfter}
 use Rattle.bib_store.specs.Stored.{file_of}
 use Rattle.bib_store.specs.Windows.{HasLead, IsChange, ArePut, bytes_before, bytes_within}
 
--- the pieces lie in the window of the change, and make its text of what stands there
+-- the pieces lie in the window of the change, and make its text of the window's bytes
 pub record LieIn (pieces : List Piece) (front : Text) (items : List Item) (c : Change) : Type 0 where
   pub fit : FitAfter (length (bytes_before c.window front items)) pieces (bytes_within c.window front items)
   pub text : c.text ≡ applied (all_moved_back (length (bytes_before c.window front items)) pieces) (bytes_within c.window front items)

@@ -32,20 +32,20 @@ abbrev pub front_within : Bool → Text → Text
 front_within true front = front
 front_within false front = []
 
--- what stands before the window
+-- the bytes before the window
 abbrev pub bytes_before : Window → Text → List Item → Text
 bytes_before w front items = file_of (front_before w.with_front front) (take w.from items)
 
--- what stands in it
+-- the bytes in it
 abbrev pub bytes_within : Window → Text → List Item → Text
 bytes_within w front items = file_of (front_within w.with_front front) (between w.from w.to items)
 
--- what stands after it
+-- the bytes after it
 abbrev pub bytes_after : Window → List Item → Text
 bytes_after w items = flat_map kept_bytes (drop w.to items)
 
--- The pieces lead from the file to one in which another text stands in the window. The text is read, and begins with
--- an item unless it begins the file.
+-- The pieces lead from the file to one with another text in the window. The text is read, and begins with an item unless
+-- it begins the file.
 pub record IsChange (pieces : List Piece) (front : Text) (items : List Item) (c : Change) : Type 0 where
   pub window : IsWindow items c.window
   pub fit : Fit pieces (file_of front items)
@@ -73,7 +73,7 @@ abbrev pub front_after : Bool → Text → Text → Text
 front_after true old new = new
 front_after false old new = old
 
--- the items of the list afterwards: these stand in the window
+-- the items of the list afterwards, with these in the window
 abbrev pub exchanged : Window → List reading.Item → List Item → List Item
 exchanged w inner items = take w.from items ++ (all_stored inner ++ drop w.to items)
 

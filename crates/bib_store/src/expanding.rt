@@ -92,12 +92,12 @@ impl<L: ItemList> Database<L> {
         Ok(Seq::from_vec(fields))
     }
 
-    /// Where its memory comes from.
+    /// The allocator that the database was opened with.
     pub(crate) fn allocator(&self) -> Global {
         self.alloc
     }
 
-    /// The parent of entry `n`: its target, where that is another entry.
+    /// The parent of entry `n`: its target, if that is another entry.
     pub fn parent(&self, n: usize) -> Option<usize>
         requires { IsEntryNumber self.now n }
         ensures parent { OfReading self.now (λ db. result ≡ parent (entries_of db) n) }
