@@ -158,7 +158,7 @@ fn renew<L: ItemList>(
     ensures only { IfErr result (λ fault. (fault ≡ BadSplice) ⊎ (fault ≡ Memory)) }
     ensures err { OnErr result ((old : List Item) → (inner : Reading) → Reads change.now.text inner → ArePut change.now old (L.items items.old) count → SayTheSameOf old tables.old tables.new) }
 {
-    let lead = lead_of(&*items, change.window, count);
+    let lead = unchanged_first(&*items, change.window, count);
     if can_follow(&*items, change.window, count, lead) {
         return follow(alloc, &*items, tables, change, count, lead);
     }
@@ -169,7 +169,7 @@ fn renew<L: ItemList>(
 
 /// 1 if the first new item differs from the first old one in its trail alone, else 0. The `count` new items are in the
 /// list, before the old ones, those of the window. It takes one step for each byte of that item's body.
-pub(crate) fn lead_of<L: ItemList>(items: &L, window: Window, count: usize) -> usize
+pub(crate) fn unchanged_first<L: ItemList>(items: &L, window: Window, count: usize) -> usize
     requires ordered { window.from ≤ window.to }
     requires within { window.to + count ≤ length (L.items items.now) }
     ensures { IsLead window count result (L.items items.now) }

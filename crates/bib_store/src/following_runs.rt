@@ -14,7 +14,7 @@ ghost use Rattle.bib_store.specs.Stored.{file_of, IsKept};
 ghost use Rattle.bib_store.specs.Windows.{IsWindow, HasLead, IsLead, ArePut};
 
 use crate::change::{Change, change_near};
-use crate::exchanging::{can_follow, lead_of};
+use crate::exchanging::{can_follow, unchanged_first};
 use crate::following::{forget, learn};
 use crate::redefining::{Former, give_back, redefine};
 use crate::tables::Tables;
@@ -162,7 +162,7 @@ fn learn_few<L: ItemList>(
     ensures back { OnErr result ((old : List Item) (inner : Reading) → Reads change.now.text inner → ArePut change.now old (L.items items.now) count → StayFollowed (length old - change.now.window.to) (take change.now.window.to old) tables.old (take change.now.window.to old) tables.new) }
 {
     let window = change.window;
-    let lead = lead_of(items, window, count);
+    let lead = unchanged_first(items, window, count);
     if can_follow(items, window, count, lead) {
         return learn_others(alloc, tables, items, change, count, lead);
     }
