@@ -18,7 +18,7 @@ ghost use Rattle.bib_store.specs.Windows.{IsWindow};
 
 use crate::bounds::Bounds;
 use crate::change::Change;
-use crate::crossrefs::{Said, crossref_within};
+use crate::crossrefs::{CrossrefText, crossref_within};
 use crate::item_fault::ItemFault;
 use crate::redefining::{Former, give_back, redefine};
 use crate::tables::Tables;
@@ -55,9 +55,9 @@ fn crossref_at(
     entry: &ItemView<'_>,
     n: usize,
     definitions: &Definitions,
-) -> Result<Said, ItemFault>
+) -> Result<CrossrefText, ItemFault>
     ensures text { IfOk result (λ said. (i : Item) → IsTree name_limit i.tree → is_entry_tree i.tree ≡ true → entry.now ≡ view_of i → map crossref_text (entry_in (texts_at definitions.now n) i.tree) ≡ said.text ∷ []) }
-    ensures settled { IfOk result (λ said. said.settled ≡ true → IsSettledEntry entry.now said.text) }
+    ensures settled { IfOk result (λ said. said.is_literal ≡ true → IsSettledEntry entry.now said.text) }
     ensures short { OnOk result ((i : Item) → IsTree name_limit i.tree → is_entry_tree i.tree ≡ true → entry.now ≡ view_of i → first_too_long (placed_texts (texts_at definitions.now n) i.tree) ≡ None) }
 {
     match crossref_within(
@@ -107,7 +107,7 @@ fn put_entry(
     if !say_the_same(&was.text, &said.text) {
         return false;
     }
-    tables.bounds.admit(new.body().len(), said.settled);
+    tables.bounds.admit(new.body().len(), said.is_literal);
     true
 }
 

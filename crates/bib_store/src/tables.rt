@@ -12,7 +12,7 @@ ghost use Rattle.bib_entries.specs.Numbers.{PartAt, HaveNext};
 ghost use Rattle.bib_entries.specs.EntryTable.{IsTableOf};
 
 use crate::bounds::{Bounds, is_settled_value};
-use crate::crossrefs::{Said, crossref_within};
+use crate::crossrefs::{CrossrefText, crossref_within};
 use crate::item_fault::ItemFault;
 use crate::measuring::{measure, value_text};
 use bib_definitions::Definitions;
@@ -250,7 +250,7 @@ impl Tables {
         ensures err { OnErr result (SayTheSame self.old self.new) }
     {
         let longest = self.definitions.longest();
-        let Said { text, settled } = crossref_within(
+        let CrossrefText { text, is_literal } = crossref_within(
             alloc,
             view,
             &self.definitions.at(n),
@@ -260,7 +260,7 @@ impl Tables {
         insert_named(&mut self.entries, &mut self.named, n, view.key(), text)?;
         self.preambles.make_way(n);
         self.definitions.make_way(n);
-        self.bounds.admit(view.body().len(), settled);
+        self.bounds.admit(view.body().len(), is_literal);
         Ok(())
     }
 
