@@ -122,7 +122,7 @@ impl Tables {
             if let Err(fault) = tables.add(alloc, n, body, None) {
                 return Err(fault.in_file(start));
             }
-            start = after(start, body, trail);
+            start = item_end(start, body, trail);
         }
         tables.file_len = file_len;
         Ok(tables)
@@ -447,7 +447,7 @@ fn kept_number(n: usize, from: usize, to: usize) -> usize
 }
 
 /// The place after an item that begins at `start`.
-fn after(start: usize, body: &[u8], trail: &[u8]) -> usize
+fn item_end(start: usize, body: &[u8], trail: &[u8]) -> usize
     ensures { start + length body.now + length trail.now < 2 ^ 64 → result ≡ start + length body.now + length trail.now }
 {
     start.saturating_add(body.len()).saturating_add(trail.len())
