@@ -86,7 +86,7 @@ impl Tables {
             }
             n += 1;
             if n == SAMPLE {
-                self.prepare(items_in(bytes.len(), item.start));
+                self.prepare(estimated_count(bytes.len(), item.start));
             }
         }
         self.file_len = bytes.len();
@@ -433,7 +433,7 @@ fn insert_named(
 }
 
 /// Estimates how many items a file of `file_len` bytes has, if the last of its first `SAMPLE` items begins at `start`.
-fn items_in(file_len: usize, start: usize) -> usize {
+fn estimated_count(file_len: usize, start: usize) -> usize {
     file_len / (start / SAMPLE).max(1)
 }
 
