@@ -1,4 +1,4 @@
--- Numbers in ascending order, one of which comes or goes, and the numbers that the items of a kind have.
+-- Numbers in ascending order, when one comes or goes, and the numbers that the items of a kind have.
 use Rattle.std.specs.Prelude.{ℕ, Bool, ◌≡◌, ◌<◌, ◌≤◌, ◌+◌, ◌^◌, ⊤, nat_lt, List, [], ◌∷◌, ◌++◌, length, filter, map}
 use Rattle.std.specs.List.{AllByRecursion, enumerate_from}
 use Rattle.bib_spec.specs.Tree.{Tree}
