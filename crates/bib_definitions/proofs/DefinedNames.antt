@@ -1,4 +1,4 @@
--- The definitions of a name, where one more comes after them, and the last of the first of them.
+-- The definitions of a name, when one more comes after them, and the last of those with a rank below a number.
 use Rattle.std.proofs.Common.{◌≡◌, ℕ, zero, suc, ◌+◌, ◌<◌, ◌≤◌, nat_lt, Bool, true, false, cond, List, [], ◌∷◌, ◌++◌, Option, Some, None, unwrap_or, length, slice_index_or, if◌then◌else◌, ⊎_elim, sym, refl, ◌∙◌, ap, ap₂, subst, arith, All}
 use Rattle.std.specs.Str.{bytes_eq}
 use Rattle.std.specs.List.Sorted.{IsPartitionPoint}
@@ -13,7 +13,7 @@ use Rattle.bib_spec.proofs.Names.{eq-true}
 use Rattle.bib_definitions.specs.declared.held.Definition.{Definition}
 use Rattle.bib_definitions.specs.ByName.{Defined, definitions_of, text_after, texts_after, EndsBy}
 
--- where no name is defined, names stand for months alone
+-- if no name is defined, only the names of months stand for texts
 pub no_texts : (defined : Defined) → ((name : Text) → value_at defined name ≡ None) → (r : ℕ) → texts_after defined r ≡ months
 no_texts defined none r = λ i name. ap (λ (o : Option (List Definition)). or_else (text_after r (unwrap_or o [])) (months name)) (none name) i
 
@@ -68,7 +68,7 @@ module _ (old new : Defined) (name : Text) (d : Definition) (put : IsWith old na
       one zero e lt = omega arith
       one (suc k) e lt = absurd (omega (arith, lt))
 
--- where they end by one number, they end by any greater
+-- if all ranks are below a number, they are below any greater one
 pub ends_later : (m n : ℕ) (defined : Defined) → m ≤ n → EndsBy m defined → EndsBy n defined
 ends_later m n defined le ends x k d lt = let h = ends x k d lt in omega (arith, le, h)
 

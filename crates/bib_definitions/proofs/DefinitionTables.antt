@@ -1,4 +1,5 @@
--- The table of definitions, where one more comes after the others, one gives way to another, and where other items come and go.
+-- The table of definitions, when one more comes after the others, one is replaced by another, and other items come and
+-- go.
 use Rattle.std.proofs.Common.{◌≡◌, ℕ, zero, suc, ◌+◌, ◌<◌, ◌≤◌, ◌^◌, true, false, cond, List, [], ◌∷◌, ◌++◌, length, map, take, drop, ⊎_elim, refl, sym, ◌∙◌, ap, ap₂, subst, arith, zero-add, append-nil, take-append-drop}
 use Rattle.std.specs.List.{AllByRecursion}
 use Rattle.std.proofs.lemmas.Bool.{cases_lt, both_ways}
@@ -56,7 +57,7 @@ below_more : (k n : ℕ) (ns : List ℕ) → k ≤ n → AllByRecursion (λ m. m
 below_more k n [] le all = tt
 below_more k n (m ∷ ns) le all = (let low = all.0 in omega (arith, low, le), below_more k n ns le all.1)
 
--- so many of them stand before item n
+-- as many numbers of definitions are below n as definitions are among the first n items
 rank_defined : (items : List Item) (n : ℕ) → rank_in n (definition_numbers items) ≡ length (gathered defined_by months (take n items))
 rank_defined items n = ⊎_elim
     (λ (past : length items < n).
@@ -72,7 +73,7 @@ rank_defined items n = ⊎_elim
     ∙ counted 0 months before)
     (cases_lt (length items) n)
 
--- definitions in file order say what macros stand for where each item stands
+-- definitions in file order say what macros stand for before each item
 pub of_listed : (items : List Item) (known : Known) → known.numbers ≡ definition_numbers items → AreAllOf known.names (definitions_in items) → AreDefinitionsOf items known
 of_listed items known numbers_are all_are = record { numbers = numbers_are; all = all_are; texts = λ n i x. at n x i }
   where
@@ -138,7 +139,7 @@ module _ (before after : List Item) (item : Item) (n : ℕ) (count : length befo
       of_listed (before ++ after) (record { numbers = few; names = names })
       (closed_numbers is_definition_tree before after item n count fits many few other moved are.numbers) (subst (AreAllOf names) same are.all)
 
--- ---- a definition gives way to another
+-- ---- a definition is replaced by another
 
 one_defined : (m : Macros) (tree : Tree) → is_definition_tree tree ≡ true → (d : Text × Text) × (defined_by m tree ≡ d ∷ [])
 one_defined m (DefinitionTree d) is = (_, refl)

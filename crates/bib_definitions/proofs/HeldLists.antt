@@ -33,7 +33,7 @@ with-each old new name held put x =
     value_at-each new x ∙ ap (option_map definitions_held) (put x) ∙ sym (along definitions_held (bytes_eq x (folded name)) held (value_at old x))
     ∙ ap (cond (bytes_eq x (folded name)) (Some (definitions_held held))) (sym (value_at-each old x))
 
--- what holds of a value holds where there is one
+-- what holds of a value holds if there is one
 has_some : {V : Type 0} (r : Option V) (v : V) (P : Type 0) → r ≡ Some v → IfSome r (λ o. P) → P
 has_some (Some w) v P is holds = holds
 has_some None v P is holds = absurd (none-some v is)
@@ -49,6 +49,6 @@ with-twice old mid new name u v r first is last x = next x ∙ over (bytes_eq x 
     over true t = refl
     over false t = first x ∙ cond-false (bytes_eq x (folded name)) (Some u) (value_at old x) t
 
--- where no name is defined, there are none out of order
+-- if no name is defined, no definitions are out of order
 pub none_in_order : (defined : Defined) → ((name : Text) → value_at defined name ≡ None) → AreInOrder defined
 none_in_order defined none name = subst Ascends (sym (ap (λ (o : Option (List Definition)). unwrap_or o []) (none name))) (λ i j e le lt. absurd (omega (arith, lt)))

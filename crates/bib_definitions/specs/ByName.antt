@@ -14,25 +14,27 @@ use Rattle.bib_definitions.specs.Held.{definitions_held}
 abbrev pub Defined : Type 0
 Defined = List (Text × List Definition)
 
+-- the definitions of a folded name, in file order
 abbrev pub definitions_of : Defined → Text → List Definition
 definitions_of defined name = unwrap_or (value_at defined name) []
 
--- the text of the last of these definitions that is one of the first r of all
+-- the text of the last of these definitions with a rank below r
 abbrev pub text_after : ℕ → List Definition → Option Text
 text_after r [] = None
 text_after r (d ∷ ds) = or_else (text_after r ds) (if nat_lt d.rank r then Some d.text else None)
 
--- what macros stand for after the first r definitions: the last of the name among them, or else the month
+-- what macros stand for after the first r definitions: the text of the name's last definition among them, or else the
+-- month
 abbrev pub texts_after : Defined → ℕ → Macros
 texts_after defined r = λ name. or_else (text_after r (definitions_of defined name)) (months name)
 
--- all definitions are among the first r
+-- each definition has a rank below r
 abbrev pub EndsBy : ℕ → Defined → Type 0
 EndsBy r defined = (name : Text) → All (λ d. d.rank < r) (definitions_of defined name)
 
 -- ---- all definitions in file order
 
--- the definitions of a folded name among these, each of which has a folded name and the text that it gives, where the first has this rank
+-- the definitions of a folded name, picked from a list of folded names with their texts whose first has this rank
 abbrev pub named_among : Text → ℕ → List (Text × Text) → List Definition
 named_among name rank [] = []
 named_among name rank (d ∷ all) =
@@ -54,7 +56,7 @@ pub record AreAllOf (named : Named) (all : List (Text × Text)) : Type 0 where
 abbrev pub Ascends : List Definition → Type 0
 Ascends ds = IsNonDecreasingBy (λ d. d.rank) ds
 
--- those of each name do
+-- the definitions of each name stand in file order
 abbrev pub AreInOrder : Defined → Type 0
 AreInOrder defined = (name : Text) → Ascends (definitions_of defined name)
 

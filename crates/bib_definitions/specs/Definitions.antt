@@ -1,4 +1,4 @@
--- The macros that a file defines, and what they stand for where each item stands.
+-- The macros that a file defines, and what they stand for before each item.
 use Rattle.std.specs.Prelude.{◌≡◌, ◌≤◌, ℕ, suc, Bool, true, false, List, [], ◌∷◌, length, map, filter, count_by, Option, Some, None, option_map, if◌then◌else◌}
 use Rattle.std.specs.List.{enumerate_from}
 use Rattle.bib_spec.specs.Text.{Text, folded, same}
@@ -13,18 +13,19 @@ pub record Known : Type 0 where
   pub numbers : List ℕ
   pub names : Named
 
--- what macros stand for before item n: what they do after the definitions that stand before it
+-- what macros stand for before item n: what they stand for after the definitions that come before it
 abbrev pub texts_at : Known → ℕ → Macros
 texts_at known n = texts_after known.names.defined (rank_in n known.numbers)
 
--- no text that a name stands for is longer
+-- no name stands for a longer text
 abbrev pub AreAtMost : ℕ → Macros → Type 0
 AreAtMost longest macros = (name text : Text) → macros name ≡ Some text → length text ≤ longest
 
--- nor is one after any of the definitions
+-- nor does a name stand for a longer text after any of the definitions
 abbrev pub AreWithin : ℕ → Defined → Type 0
 AreWithin longest names = (r : ℕ) → AreAtMost longest (texts_after names r)
 
+-- the item is a macro definition
 abbrev pub is_definition_tree : Tree → Bool
 is_definition_tree (DefinitionTree d) = true
 is_definition_tree (CommentTree h) = false
@@ -62,8 +63,8 @@ defined_by macros (EntryTree e) = []
 abbrev pub definitions_in : List Item → List (Text × Text)
 definitions_in items = gathered defined_by months items
 
--- the table says which of these items are definitions, which names they give which texts, and so what macros stand for
--- where each item stands, and after the last
+-- the table says which of these items are definitions and which names they give which texts, and so what macros stand for
+-- before each item, and after the last
 pub record AreDefinitionsOf (items : List Item) (known : Known) : Type 0 where
   pub numbers : known.numbers ≡ definition_numbers items
   pub all : AreAllOf known.names (definitions_in items)

@@ -5,18 +5,19 @@ use Rattle.bib_definitions.specs.declared.held.Definition.{Definition}
 use Rattle.bib_definitions.specs.declared.held.Held.{Held}
 use Rattle.bib_definitions.specs.declared.held.Held.TheVariants.{Nothing, One, Many}
 
+-- the definitions in file order, whichever way they are kept
 abbrev pub definitions_held : Held → List Definition
 definitions_held Nothing = []
 definitions_held (One d) = d ∷ []
 definitions_held (Many ds) = ds.items
 
--- it is empty and has room for so many
+-- the memory is empty, and has room for `count` definitions
 pub record HasRoom {Z : Type 0} (room : Vec Definition Z) (count : ℕ) : Type 0 where
   pub empty : room.items ≡ []
   pub none : vec_len room ≡ 0
   pub enough : count ≤ vec_capacity room
 
--- they have room for one more, or the memory has it for them and that one
+-- the definitions have room for one more, or the memory has room for them and one more
 abbrev pub Fits : {Z : Type 0} → Held → Vec Definition Z → Type 0
 Fits Nothing room = ⊤
 Fits (One d) room = HasRoom room 2

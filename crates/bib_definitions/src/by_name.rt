@@ -35,7 +35,7 @@ impl ByName {
     ghost use Rattle.bib_spec.specs.Texts.{months};
     ghost use Rattle.bib_definitions.specs.ByName.{texts_after, EndsBy};
 
-    /// No definitions: names stand for months alone. It takes no memory.
+    /// No definitions: only the names of months stand for texts. It takes no memory.
     pub(crate) fn new(alloc: Global) -> Self
         ensures months { (r : ℕ) → texts_after result r ≡ months }
         ensures ends { EndsBy 0 result }
@@ -45,7 +45,7 @@ impl ByName {
         }
     }
 
-    /// Puts a definition after the others of its name. Where memory is refused, nothing changes.
+    /// Adds a definition after the others of its name. If memory is refused, nothing changes.
     pub(crate) fn put(&mut self, name: &[u8], definition: Definition) -> Result<(), AllocError>
         requires short { length name.now ≤ name_limit }
         requires last { EndsBy definition.rank self.old }
@@ -66,8 +66,8 @@ impl ByName {
         }
     }
 
-    /// What the name stands for after so many definitions. It takes time in the length of the name and, for a name that
-    /// is defined m times, log m; it takes no memory.
+    /// What the name stands for after the first `rank` definitions. It takes time in the length of the name and, for a name
+    /// that is defined m times, log m; it takes no memory.
     pub(crate) fn text_after(&self, rank: usize, name: &[u8]) -> Option<&[u8]>
         ensures { option_copied result ≡ texts_after self.now rank (folded name.now) }
     {
@@ -78,7 +78,7 @@ impl ByName {
     }
 }
 
-/// Puts a definition after those that its name has. Where memory is refused, nothing changes.
+/// Adds a definition after those that its name has. If memory is refused, nothing changes.
 fn put(lists: &mut FoldedMap<Held>, name: &[u8], definition: Definition) -> Result<(), AllocError>
     requires { length name.now ≤ name_limit }
     ensures ok { OnOk result (IsWith (each_held lists.old) name.now (definitions_of (each_held lists.old) (folded name.now) ++ definition ∷ []) (each_held lists.new)) }
@@ -96,7 +96,8 @@ fn put(lists: &mut FoldedMap<Held>, name: &[u8], definition: Definition) -> Resu
     Ok(())
 }
 
-/// Puts a definition after those of its name, moved to this memory where they have no room. It asks for no more.
+/// Adds a definition after those that its name has. If they have no room for it, all of them move to `room`. It asks for no
+/// more memory.
 fn put_last(lists: &mut FoldedMap<Held>, name: &[u8], room: Vec<Definition>, definition: Definition)
     requires some { IsSome (value_at lists.old (folded name.now)) }
     requires fits { IfSome (value_at lists.old (folded name.now)) (λ held. Fits held room) }
@@ -108,7 +109,7 @@ fn put_last(lists: &mut FoldedMap<Held>, name: &[u8], room: Vec<Definition>, def
     lists.replace(name, held.with_last(room, definition));
 }
 
-/// The text of the last of these definitions that is one of the first so many of all.
+/// The text of the last definition with a rank below `rank`.
 fn text_after(definitions: &[Definition], rank: usize) -> Option<&[u8]>
     requires { Ascends definitions.now }
     ensures { option_copied result ≡ text_after rank definitions.now }

@@ -9,7 +9,7 @@ use std::marker::Model;
 use std::mem;
 
 /// All definitions of a file, and the numbers that they have among its items. An item that comes or goes and defines
-/// nothing costs a step for each page of definitions, and some for those of one.
+/// nothing costs one step for each page of definitions, and some for the definitions of one page.
 #[derive(Drop)]
 pub struct Definitions {
     numbers: Numbers,
@@ -32,7 +32,7 @@ impl Definitions {
     ghost use Rattle.bib_definitions.specs.Definitions.{texts_at, is_definition_tree, definition_count, first_definition, AreDefinitionsOf, Defines, AreAtMost, AreSettled};
     ghost use Rattle.bib_definitions.specs.MacrosSeen.{macros_seen};
 
-    /// No definitions: names stand for months alone. It takes no memory.
+    /// No definitions: only the names of months stand for texts. It takes no memory.
     pub fn new(alloc: Global) -> Self
         ensures { AreDefinitionsOf [] result }
     {
@@ -42,7 +42,7 @@ impl Definitions {
         }
     }
 
-    /// Puts in the definition that is item `n`, after all others. Where memory is refused, it says what it said.
+    /// Adds the definition that is item `n`, after all others. If memory is refused, it says what it said.
     pub fn define(&mut self, n: usize, name: &[u8], text: Text) -> Result<(), AllocError>
         requires { length name.now ≤ name_limit }
         ensures ok { OnOk result ((items : List Item) (item : Item) → length items ≡ n → is_definition_tree item.tree ≡ true → AreDefinitionsOf items self.old → Defines (macros_at months items n) item.tree name.now text → AreDefinitionsOf (items ++ item ∷ []) self.new) }
@@ -58,8 +58,8 @@ impl Definitions {
         }
     }
 
-    /// The names as they are where the definition that is item `n` gives way to another, which gives this name this text,
-    /// in memory of their own. It takes time in the count of definitions, and memory in their length.
+    /// The names with another definition in the place of item `n`: it gives this name this text. They are in memory of
+    /// their own. It takes time in the count of definitions, and memory in their length.
     pub fn redefined(
         &self,
         alloc: Global,
@@ -75,7 +75,7 @@ impl Definitions {
         Ok(names)
     }
 
-    /// Exchanges the names for others, and gives those that they were. It asks for no memory.
+    /// Replaces the names by others, and returns the old ones. It asks for no memory.
     pub fn exchange(&mut self, names: Names) -> Names
         ensures now { self.new ≡ record { numbers = self.old.numbers; names = names } }
         ensures was { result ≡ self.old.names }
@@ -83,7 +83,7 @@ impl Definitions {
         mem::replace(&mut self.names, names)
     }
 
-    /// Makes way for an item that comes as item `n` and defines nothing. Up to it, macros stand for what they stood for.
+    /// Makes way for an item that comes as item `n` and defines nothing. At item `n` macros stand for what they stood for.
     pub fn make_way(&mut self, n: usize)
         ensures come { (before after : List Item) (item : Item) → length before ≡ n → n + length after < 2 ^ 64 → is_definition_tree item.tree ≡ false → AreDefinitionsOf (before ++ after) self.old → AreDefinitionsOf (before ++ item ∷ after) self.new }
         ensures seen { texts_at self.new n ≡ texts_at self.old n }
@@ -98,7 +98,7 @@ impl Definitions {
         self.numbers.close(n);
     }
 
-    /// A length in bytes that no text is longer than for which a name stands before any item.
+    /// A length in bytes: before any item, no name stands for a longer text.
     pub fn longest(&self) -> usize
         ensures { (n : ℕ) → AreAtMost result (texts_at self.now n) }
     {

@@ -7,14 +7,14 @@ use bib_text::Text;
 use std::alloc::{AllocError, Global};
 use std::slice::from_ref;
 
-/// What a name stands for after the definition before which so many others stand.
+/// A definition: how many others come before it in the file, and the text that it gives.
 #[derive(Drop)]
 pub(crate) struct Definition {
     pub rank: usize,
     pub text: Text,
 }
 
-/// The definitions of a name in file order, of which one alone takes no memory but its place.
+/// The definitions of a name in file order. A single definition takes no memory of its own.
 #[derive(Drop)]
 pub(crate) enum Held {
     Nothing,
@@ -34,7 +34,7 @@ impl Held {
         }
     }
 
-    /// Memory for these and one more, where they have no room for it.
+    /// Memory for these definitions and one more, if they have no room for it.
     pub(crate) fn room(&self, alloc: Global) -> Result<Vec<Definition>, AllocError>
         ensures { IfOk result (λ room. Fits self.now room) }
     {
@@ -45,7 +45,7 @@ impl Held {
         }
     }
 
-    /// These and one more, moved to this memory where they have no room. It asks for no more.
+    /// These definitions and one more. If they have no room for it, all of them move to `room`. It asks for no more memory.
     pub(crate) fn with_last(self, room: Vec<Definition>, definition: Definition) -> Held
         requires { Fits self room }
         ensures { definitions_held result ≡ definitions_held self ++ definition ∷ [] }
@@ -58,7 +58,7 @@ impl Held {
     }
 }
 
-/// Memory for twice as many and one more, where these fill their own.
+/// Memory for twice as many definitions and one more, if these fill their own memory.
 fn room_beside(alloc: Global, all: &Vec<Definition>) -> Result<Vec<Definition>, AllocError>
     ensures { IfOk result (λ room. vec_capacity all.now ≤ vec_len all.now → HasRoom room (vec_len all.now + 1)) }
 {
@@ -79,7 +79,7 @@ fn pair(room: Vec<Definition>, first: Definition, second: Definition) -> Vec<Def
     all
 }
 
-/// These and one more, moved to the room where they fill their own memory.
+/// These definitions and one more. If they fill their own memory, all of them move to `room`.
 fn longer(
     mut all: Vec<Definition>,
     mut room: Vec<Definition>,

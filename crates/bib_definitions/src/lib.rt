@@ -1,6 +1,6 @@
-//! Keeps which macros a file defines, and what they stand for where each item stands. It knows the items that define a
-//! macro by their numbers; it reads no items and no values. It promises that items that come and go among them leave
-//! what it says of the others.
+//! Keeps which macros a file defines, and what they stand for before each item. It knows the numbers of the items that
+//! define a macro; it reads no items and no values. It promises that items that come and go among them leave what it says
+//! of the others.
 #![tactic(auto)]
 
 mod by_name;

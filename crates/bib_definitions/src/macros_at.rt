@@ -3,7 +3,7 @@
 use crate::names::Names;
 use bib_value::MacroTable;
 
-/// What macros stand for where an item stands. It takes no memory.
+/// What macros stand for before an item. It takes no memory.
 #[derive(Drop)]
 pub struct MacrosAt<'a> {
     pub(crate) names: &'a Names,

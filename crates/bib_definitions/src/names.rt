@@ -14,7 +14,7 @@ use std::marker::Model;
 /// How long the longest text of a month is: `September`.
 const LONGEST_MONTH: usize = 9;
 
-/// What the definitions of a file say, wherever they stand among its items.
+/// What the definitions of a file say, wherever these are among its items.
 #[derive(Drop)]
 pub struct Names {
     by_name: ByName,
@@ -41,7 +41,7 @@ impl Names {
     ghost use Rattle.bib_definitions.specs.ByName.{AreAllOf, texts_after, definitions_of};
     ghost use Rattle.bib_definitions.specs.Definitions.{AreWithin};
 
-    /// No definitions: names stand for months alone. It takes no memory.
+    /// No definitions: only the names of months stand for texts. It takes no memory.
     pub(crate) fn new(alloc: Global) -> Self
         ensures { AreAllOf result [] }
     {
@@ -52,7 +52,7 @@ impl Names {
         }
     }
 
-    /// Puts a definition after the others. Where memory is refused, nothing changes.
+    /// Adds a definition after the others. If memory is refused, nothing changes.
     pub(crate) fn put(&mut self, name: &[u8], text: Text) -> Result<(), AllocError>
         requires { length name.now ≤ name_limit }
         ensures ok { OnOk result ((all : List (Bytes × Bytes)) → AreAllOf self.old all → AreAllOf self.new (all ++ (folded name.now, text) ∷ [])) }
@@ -68,7 +68,7 @@ impl Names {
         Ok(())
     }
 
-    /// Puts a definition after the others, with its name and its text in memory of its own.
+    /// Adds a definition after the others, with its name and its text in memory of its own.
     fn put_copy(&mut self, alloc: Global, name: &[u8], text: &[u8]) -> Result<(), AllocError>
         ensures ok { OnOk result ((all : List (Bytes × Bytes)) → AreAllOf self.old all → AreAllOf self.new (all ++ (folded name.now, text.now) ∷ [])) }
     {
@@ -79,7 +79,7 @@ impl Names {
         self.put(name, Seq::from_vec(text.to_vec(alloc)?))
     }
 
-    /// Puts the definition of these before which `rank` others stand after those that were put in.
+    /// Adds definition `rank` of `names`, counted from 0, after the others.
     fn put_again(&mut self, alloc: Global, names: &Names, rank: usize) -> Result<(), AllocError>
         requires { rank < length names.now.order }
         ensures ok { OnOk result ((front rest all : List (Bytes × Bytes)) (d : Bytes × Bytes) → length front ≡ rank → AreAllOf names.now (front ++ d ∷ rest) → AreAllOf self.old all → AreAllOf self.new (all ++ d ∷ [])) }
@@ -91,7 +91,7 @@ impl Names {
         }
     }
 
-    /// The same, but that the definition before which `rank` others stand is another, in memory of their own.
+    /// These names in memory of their own, with another definition in the place of definition `rank`, counted from 0.
     pub(crate) fn exchanged(
         &self,
         alloc: Global,
@@ -119,15 +119,15 @@ impl Names {
         self.by_name.of(name)
     }
 
-    /// What the name stands for after so many definitions. It takes time in the length of the name and, for a name that
-    /// is defined m times, log m; it takes no memory.
+    /// What the name stands for after the first `rank` definitions. It takes time in the length of the name and, for a name
+    /// that is defined m times, log m; it takes no memory.
     pub(crate) fn text_after(&self, rank: usize, name: &[u8]) -> Option<&[u8]>
         ensures { option_copied result ≡ texts_after self.now.defined rank (folded name.now) }
     {
         self.by_name.text_after(rank, name)
     }
 
-    /// A length in bytes that no text is longer than for which a name stands, before any item or after the last.
+    /// A length in bytes: no name stands for a longer text, before any item or after the last.
     pub fn longest(&self) -> usize
         ensures { AreWithin result self.now.defined }
     {

@@ -1,4 +1,4 @@
--- A table of entries, where one comes or goes, and what it finds.
+-- A table of entries, when an entry comes or goes, and what the table finds.
 use Rattle.std.proofs.Common.{◌≡◌, ◌≢◌, ℕ, zero, suc, ◌+◌, ◌≤◌, ◌<◌, Bool, true, false, not, ◌&&◌, List, [], ◌∷◌, ◌++◌, Option, None, Some, option_map, length, map, filter, take, drop, insert, remove, slice_get, slice_index, count_by, sym, subst, ⊎_elim, ◌∙◌, ap, ap₂, refl, arith, zero-add}
 use Rattle.std.specs.Prelude.{◌==◌, nat_le, IsSome}
 use Rattle.std.specs.Char.{to_ascii_lowercase}
@@ -46,7 +46,7 @@ map-insert {X} {Y} f xs n x = map-append f (take n xs) (x ∷ drop n xs) ∙ ap�
 pub map-remove : {X Y : Type 0} (f : X → Y) (xs : List X) (n : ℕ) → map f (remove xs n) ≡ remove (map f xs) n
 map-remove {X} {Y} f xs n = map-append f (take n xs) (drop (suc n) xs) ∙ ap₂ (λ (a b : List Y). a ++ b) (sym (take-map f n xs)) (sym (drop-map f (suc n) xs))
 
--- functions that agree but for one id, on ids that lack it
+-- functions that agree except on one id, applied to ids that lack it
 pub map-other : {Y : Type 0} (f g : ℕ → Y) (id : ℕ) → ((other : ℕ) → other ≢ id → f other ≡ g other) → (ids : List ℕ) → Lacks ids id → map f ids ≡ map g ids
 map-other f g id same [] lacks = refl
 map-other f g id same (x ∷ ids) lacks = ap₂ (λ y ys. y ∷ ys) (same x lacks.0) (map-other f g id same ids lacks.1)
@@ -270,7 +270,7 @@ none_kept [] id none = refl
 none_kept (x ∷ crossrefs) zero none = absurd (none-some x (sym none))
 none_kept (x ∷ crossrefs) (suc id) none = none_kept crossrefs id none
 
--- where there is no room for it, it is given none
+-- if there is no room for it, it is given none
 pub none_given : (crossrefs : List (Option Text)) (id : ℕ) (crossref : Option Text) → (IsSome crossref → id < length crossrefs) → length crossrefs ≤ id → GivesCrossref crossrefs crossrefs id crossref
 none_given crossrefs id None room past = record { itself = none_kept crossrefs id (slice_get_past crossrefs id past); others = λ other differ. refl }
 none_given crossrefs id (Some text) room past = absurd (omega (arith, room refl, past))
@@ -297,12 +297,12 @@ taken_back names id name ids mid new free with take =
 
 -- ---- what it finds
 
--- an id passes where its key is named
+-- an id passes if its key is named
 passes : (text key : Text) → is_text (name_of key) (folded text) ≡ is_named text key
 passes text [] = refl
 passes text (b ∷ bs) = same_comm text (b ∷ bs)
 
--- an id passes where its crossref text names the key
+-- an id passes if its crossref text names the key
 pub passes_named : (key : Text) (crossref : Option Text) → length key ≤ name_limit → is_text (named_by crossref) (folded key) ≡ refers key crossref
 passes_named key None short = refl
 passes_named key (Some text) short = ⊎_elim
@@ -341,7 +341,7 @@ tests_crossrefs names key (x ∷ ids) (c ∷ crossrefs) short e =
     ap₂ (λ (b : Bool) (l : List Bool). b ∷ l) (ap (λ (o : Option Text). is_text o (folded key)) (heads e).0 ∙ passes_named key c short) (tests_crossrefs names key ids crossrefs short (heads e).1)
 
 module _ {X : Type 0} (passes : X → Bool) where
-  -- the numbers of those that pass, where the first of all has number b
+  -- the numbers of those that pass, if the first of all has number b
   abbrev pub numbers_from : ℕ → List X → List ℕ
   numbers_from b xs = map (λ (p : ℕ × X). p.0) (filter (λ (p : ℕ × X). passes p.1) (enumerate_from b xs))
 
@@ -352,7 +352,7 @@ module _ {X : Type 0} (passes : X → Bool) where
   pub numbered_later : (b : ℕ) (x : X) (xs : List X) → passes x ≡ false → numbers_from b (x ∷ xs) ≡ numbers_from (b + 1) xs
   numbered_later b x xs t = ap (map (λ (p : ℕ × X). p.0)) (cond-false (passes x) ((b, x) ∷ filter (λ (p : ℕ × X). passes p.1) (enumerate_from (b + 1) xs)) (filter (λ (p : ℕ × X). passes p.1) (enumerate_from (b + 1) xs)) t)
 
--- the ids that pass, where they pass as what they are the ids of
+-- the ids that pass, if they pass as their members do
 module _ {X : Type 0} (test : ℕ → Bool) (passes : X → Bool) where
   lacks_holders : (ids : List ℕ) (id : ℕ) → Lacks ids id → Lacks (holders test ids) id
   lacks_holders [] id l = tt

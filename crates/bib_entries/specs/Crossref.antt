@@ -4,6 +4,7 @@ use Rattle.bib_spec.specs.Text.{Text}
 use Rattle.bib_entries.specs.declared.crossref.Held.{Held}
 use Rattle.bib_entries.specs.declared.crossref.Held.TheVariants.{Nothing, Short, Long}
 
+-- the crossref text that is kept, or none
 abbrev pub text_of : Held → Option Text
 text_of Nothing = None
 text_of (Short text) = Some text

@@ -30,7 +30,7 @@ named_by (Some text) = if nat_le (length text) name_limit then name_of text else
 abbrev pub crossref_of : List (Option Text) → ℕ → Option Text
 crossref_of crossrefs id = slice_index_or crossrefs id None
 
--- the ids have these names, in order, and the index says so; an id that is in no use has none
+-- the ids have these names, in order, and the index says so; an id that is not in use has no name
 pub record AreNamed (said : List (Option Text)) (ids : List ℕ) (keys : List (Text × List ℕ)) : Type 0 where
   pub names : ℕ → Option Text
   pub named : map names ids ≡ said
@@ -53,11 +53,11 @@ refers key crossref = option_map_or (λ text. is_named text key) crossref false
 abbrev pub referrers : Text → List (Option Text) → List ℕ
 referrers key crossrefs = map (λ p. p.0) (filter (λ p. refers key p.1) (enumerate_from 0 crossrefs))
 
--- what it says of entries, it says still
+-- the new table says of entries all that the old one says
 abbrev pub SaysTheSame : Kept → Kept → Type 0
 SaysTheSame old new = (keys : List Text) (crossrefs : List (Option Text)) → IsTableOf keys crossrefs old → IsTableOf keys crossrefs new
 
--- no two of the keys are one, folded; empty keys are none
+-- no two of the keys are the same, folded; empty keys do not count
 abbrev pub AreApart : List Text → Type 0
 AreApart keys = (text : Text) → count_by (is_named text) keys ≤ 1
 
@@ -68,13 +68,13 @@ pub record GivesName (old new : ℕ → Option Text) (id : ℕ) (name : Option T
   pub itself : new id ≡ name
   pub others : (other : ℕ) → other ≢ id → new other ≡ old other
 
--- the index is that of the names in which the id has this one
+-- the index is that of these names, except that the id has this name
 pub record IsIndexWith (old : ℕ → Option Text) (id : ℕ) (name : Option Text) (ids : List ℕ) (keys : List (Text × List ℕ)) : Type 0 where
   pub names : ℕ → Option Text
   pub gives : GivesName old names id name
   pub index : IsIndexOf names ids (ids_in keys)
 
--- an index of names among which the id has none stays one
+-- if the old index is that of some names, and the id has none of them, the new index is that of these names too
 abbrev pub StaysIndex : ℕ → List ℕ → List (Text × List ℕ) → List (Text × List ℕ) → Type 0
 StaysIndex id ids old new = (names : ℕ → Option Text) → names id ≡ None → IsIndexOf names ids (ids_in old) → IsIndexOf names ids (ids_in new)
 

@@ -13,11 +13,11 @@ use std::marker::Model;
 enum Held {
     Nothing,
     Short(ShortText),
-    // in a box, so that the place of a short one is small
+    // in a box, so that a `Held` with a short text is small
     Long(Box<Text>),
 }
 
-/// A text, or that there is none: in 24 bytes, and in no memory of its own where it has at most 22.
+/// A text or none, in 24 bytes. A text of at most 22 bytes takes no memory of its own.
 #[derive(Drop)]
 pub(crate) struct Crossref {
     held: Held,

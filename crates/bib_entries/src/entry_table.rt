@@ -13,7 +13,7 @@ use bib_text::{NAME_LIMIT, Text};
 use std::alloc::{AllocError, Global};
 use std::marker::Model;
 
-// After so many entries it shows whether most have a key of their own.
+// After this many entries the table tells whether most entries have a key of their own.
 const SAMPLE: usize = 65_536;
 
 /// The keys and the crossref texts of a file's entries. An entry that comes or goes costs a few steps for each page of
@@ -27,18 +27,18 @@ pub struct EntryTable {
     crossrefs: Vec<Crossref>,
     // the ids by the keys that their crossref texts name
     referring: KeyIndex,
-    // how many entries there are to be
-    awaited: usize,
+    // how many entries the caller expects
+    expected_count: usize,
 }
 
-/// The first entry that has a key, by its number, and how many have it.
+/// The number of the first entry that has a key, and how many entries have it.
 #[derive(Clone, Copy, Debug, PartialEq, Eq)]
 pub struct Holders {
     pub first: usize,
     pub count: usize,
 }
 
-/// Gives an id of the order its key, where it has none. Where memory is refused, each key has the ids that it had.
+/// Gives its key to an id of the order that has none. If memory is refused, each key has the ids that it had.
 fn add_key(keys: &mut KeyIndex, order: &Order, key: &[u8], id: usize) -> Result<(), AllocError>
     requires { length key.now ≤ name_limit }
     ensures ok { OnOk result ((names : ℕ → Option Bytes) → names id ≡ None → IsIndexOf names order.now (ids_in keys.old) → IsIndexWith names id (name_of key.now) order.now keys.new) }
@@ -51,7 +51,7 @@ fn add_key(keys: &mut KeyIndex, order: &Order, key: &[u8], id: usize) -> Result<
     keys.add(order, key, id)
 }
 
-/// Takes its key from an id. It asks for no memory.
+/// Takes the key from an id that has it. It asks for no memory.
 fn take_key(keys: &mut KeyIndex, key: &[u8], id: usize)
     ensures { (names : ℕ → Option Bytes) (order : List ℕ) → names id ≡ name_of key.now → IsIndexOf names order (ids_in keys.old) → IsIndexWith names id None order keys.new }
 {
@@ -78,7 +78,7 @@ fn make_room(
     Ok(())
 }
 
-/// Keeps the crossref text of an id, for which there is room if it has one.
+/// Keeps the crossref text of an id. If it has one, there is room for it.
 fn put_crossref(crossrefs: &mut Vec<Crossref>, id: usize, crossref: Crossref)
     requires { IsSome crossref → id < length crossrefs.old.items }
     ensures { GivesCrossref crossrefs.old.items crossrefs.new.items id crossref }
@@ -88,7 +88,7 @@ fn put_crossref(crossrefs: &mut Vec<Crossref>, id: usize, crossref: Crossref)
     }
 }
 
-/// The key that a crossref text names, or an empty one where it names none.
+/// The key that a crossref text names, or an empty key if it names none.
 fn named_key(crossref: &Crossref) -> &[u8]
     ensures key { name_of result.now ≡ named_by crossref.now }
     ensures short { length result.now ≤ name_limit }
@@ -136,29 +136,29 @@ impl EntryTable {
             keys: KeyIndex::new(alloc),
             crossrefs: Vec::new(alloc),
             referring: KeyIndex::new(alloc),
-            awaited: 0,
+            expected_count: 0,
         }
     }
 
-    /// Makes room for so many entries more, as far as there is memory for it. There is room for 65,536 keys
-    /// at first, and for all once so many entries show that most have a key of their own. The table says what it said: the room
-    /// is no promise, and saves time alone.
+    /// Makes room for `additional` more entries, as far as there is memory for it: for at most 65,536 keys at first, and
+    /// for all keys once 65,536 entries show that most entries have a key of their own. The table says what it said. The
+    /// room is not promised; it only saves time.
     pub fn prepare(&mut self, additional: usize)
         ensures { SaysTheSame self.old self.new }
     {
         self.order.prepare(additional);
-        self.awaited = self.order.count().saturating_add(additional);
+        self.expected_count = self.order.count().saturating_add(additional);
         let _ = self.crossrefs.reserve(additional);
         let _ = self.keys.reserve(additional.min(SAMPLE));
     }
 
-    /// Makes room for the keys of all entries that are awaited, where it shows that most have one of their own.
+    /// Makes room for the keys of all expected entries, if the first 65,536 show that most have a key of their own.
     fn prepare_keys(&mut self)
         ensures { self.new ≡ self.old }
     {
         let count = self.order.count();
         if count == SAMPLE && self.keys.len() > SAMPLE / 2 {
-            let _ = self.keys.reserve(self.awaited.saturating_sub(count));
+            let _ = self.keys.reserve(self.expected_count.saturating_sub(count));
         }
     }
 
@@ -173,7 +173,7 @@ impl EntryTable {
     pub fn first(&self, key: &[u8]) -> Option<usize>
         ensures { (keys : List Bytes) (crossrefs : List (Option Bytes)) → IsTableOf keys crossrefs self.now → result ≡ first_named key.now keys }
     {
-        // the ids of an order are distinct
+        // for the proof: the ids of an order are distinct
         let _ = self.order.count();
         match self.keys.first(key) {
             Some(id) => self.order.position_of(id),
@@ -193,7 +193,7 @@ impl EntryTable {
         ensures first { (keys : List Bytes) (crossrefs : List (Option Bytes)) → IsTableOf keys crossrefs self.now → option_map (λ h. h.first) result ≡ first_named key.now keys }
         ensures count { IfSome result (λ h. (keys : List Bytes) (crossrefs : List (Option Bytes)) → IsTableOf keys crossrefs self.now → h.count ≡ count_by (is_named key.now) keys) }
     {
-        // the ids of an order are distinct
+        // for the proof: the ids of an order are distinct
         let _ = self.order.count();
         let ids = self.keys.holders(key);
         let id = ids.first()?;
@@ -204,8 +204,8 @@ impl EntryTable {
         })
     }
 
-    /// Whether it is known that no two entries have one key, folded. Where two had one once, it is not known any more.
-    /// `false` promises nothing: a caller then looks for itself, which costs time alone.
+    /// Whether it is known that no two entries have the same key, folded. Once two entries have had the same key, this is
+    /// no longer known. `false` promises nothing: the caller then has to look for itself, which only costs time.
     pub fn are_apart(&self) -> bool
         ensures { IsTrue result → (keys : List Bytes) (crossrefs : List (Option Bytes)) → IsTableOf keys crossrefs self.now → AreApart keys }
     {
@@ -231,7 +231,7 @@ impl EntryTable {
         requires { length key.now ≤ name_limit }
         ensures { (keys : List Bytes) (crossrefs : List (Option Bytes)) → IsTableOf keys crossrefs self.now → result ≡ slice_get (referrers key.now crossrefs) k }
     {
-        // the ids of an order are distinct
+        // for the proof: the ids of an order are distinct
         let _ = self.order.count();
         match self.referring.holders(key).get(k) {
             Some(id) => self.order.position_of(*id),
@@ -239,7 +239,7 @@ impl EntryTable {
         }
     }
 
-    /// Puts in an entry before entry `n`, or at the end. Where memory is refused, the table says what it said.
+    /// Inserts an entry before entry `n`, or at the end. If memory is refused, the table says what it said.
     pub fn insert(&mut self, n: usize, key: &[u8], crossref: Option<Text>) -> Result<(), AllocError>
         requires { length key.now ≤ name_limit }
         ensures ok { OnOk result ((keys : List Bytes) (crossrefs : List (Option Bytes)) → n ≤ length keys → IsTableOf keys crossrefs self.old → IsTableOf (insert keys n key.now) (insert crossrefs n crossref) self.new) }
@@ -258,7 +258,7 @@ impl EntryTable {
         }
     }
 
-    /// Gives an id its key and its crossref text, where it has none. Where memory is refused, it has none still.
+    /// Gives a key and a crossref text to an id that has neither. If memory is refused, it still has neither.
     #[tactic(auto, using(crate::proofs::Tables::given_after))]
     fn describe(&mut self, id: usize, key: &[u8], crossref: Crossref) -> Result<(), AllocError>
         requires { length key.now ≤ name_limit }
@@ -284,7 +284,7 @@ impl EntryTable {
         }
     }
 
-    /// Takes entry `n` out, whose key this is. It asks for no memory.
+    /// Removes entry `n`, which has this key. It asks for no memory.
     pub fn remove(&mut self, n: usize, key: &[u8])
         ensures { (keys : List Bytes) (crossrefs : List (Option Bytes)) → slice_get keys n ≡ Some key.now → IsTableOf keys crossrefs self.old → IsTableOf (remove keys n) (remove crossrefs n) self.new }
     {

@@ -1,4 +1,4 @@
--- The ids that have a text, where one id gets it or loses it.
+-- The ids that have a text, when one id gets it or loses it.
 use Rattle.std.proofs.Common.{◌≡◌, ◌≢◌, ℕ, ◌≤◌, Bool, true, false, not, cond, zero, suc, List, [], ◌∷◌, ◌++◌, Option, None, Some, length, take, drop, filter, insert, sym, subst, ⊎_elim, ◌∙◌, ap, ap₂, refl, arith, length-append}
 use Rattle.std.specs.Prelude.{◌==◌}
 use Rattle.std.specs.List.{slice_get}
@@ -73,7 +73,7 @@ more test ids n id d e lacks =
     ∙ sym (ap (λ (l : List ℕ). insert l (before test ids n) id) none
     ∙ ap₂ (λ (u v : List ℕ). u ++ id ∷ v) (take_at f r (before test ids n) count) (drop_at f r (before test ids n) count))
 
--- where it is not there, that changes nothing
+-- if the id is not in the order, that changes nothing
 pub more_nowhere : (test : ℕ → Bool) (ids : List ℕ) (id : ℕ) → Lacks ids id → holders (also id test) ids ≡ holders test ids
 more_nowhere test ids id l = same_holders (also id test) test id (also_other id test) ids l
 
@@ -82,7 +82,7 @@ before_fits : (test : ℕ → Bool) (ids : List ℕ) (n : ℕ) → before test i
 before_fits test ids n =
     omega (arith, ap (length {A = ℕ}) (holders-split test ids n), length-append (holders test (take n ids)) (holders test (drop n ids)), length-filter test (take n ids))
 
--- where none passes, it is the only one
+-- if no id passes, this one is the only one that does
 pub more_first : (test : ℕ → Bool) (ids : List ℕ) (n id : ℕ) → IsDistinct ids → slice_get ids n ≡ Some id → test id ≡ false → holders test ids ≡ [] → holders (also id test) ids ≡ id ∷ []
 more_first test ids n id d e lacks none =
     let low : before test ids n ≡ 0 = omega (arith, before_fits test ids n, ap (length {A = ℕ}) none) in
@@ -163,7 +163,7 @@ agrees texts id t x y other = ap (λ (o : Option Text). is_text o x) (with_other
 at_itself : (texts : ℕ → Option Text) (id : ℕ) (t : Option Text) (x : Text) → has_text (with_text texts id t) x id ≡ is_text t x
 at_itself texts id t x = ap (λ (o : Option Text). is_text o x) (with_same texts id t)
 
--- of the text that the id gets it is a holder also
+-- the id becomes a holder of the text that it gets
 gets : (texts : ℕ → Option Text) (order : List ℕ) (id : ℕ) (t : Text) → holders (also id (has_text texts (folded t))) order ≡ holders (has_text (with_text texts id (Some t)) (folded t)) order
 gets texts order id t = all_same (also id test) (has_text after (folded t)) same order
   where
@@ -179,11 +179,11 @@ gets texts order id t = all_same (also id test) (has_text after (folded t)) same
         (λ (e : y ≢ id). also_other id test y e ∙ sym (agrees texts id (Some t) (folded t) y e))
         (cases_eq y id)
 
--- of a text that it has no longer it is none
+-- the id is no holder of a text that it no longer has
 loses : (texts : ℕ → Option Text) (order : List ℕ) (id : ℕ) (t : Option Text) (x : Text) → is_text t x ≡ false → without id (holders (has_text texts x) order) ≡ holders (has_text (with_text texts id t) x) order
 loses texts order id t x lacks = fewer (has_text texts x) (has_text (with_text texts id t) x) id (at_itself texts id t x ∙ lacks) (agrees texts id t x) order
 
--- a text that it has before and after, or neither before nor after, has the holders that it had
+-- a text that the id has both before and after, or neither before nor after, has the holders that it had
 keeps : (texts : ℕ → Option Text) (order : List ℕ) (id : ℕ) (t : Option Text) (x : Text) → is_text t x ≡ is_text (texts id) x → holders (has_text texts x) order ≡ holders (has_text (with_text texts id t) x) order
 keeps texts order id t x is = all_same (has_text texts x) (has_text after x) same order
   where
@@ -262,21 +262,21 @@ texts_follow = record {
   removed = λ texts order index n h none is x. is x ∙ sym (follow_order.removed_other (has_text texts x) order n h (ap (λ (o : Option Text). is_text o x) none));
 }
 
--- where no id has a text, no text has an id
+-- if no id has a text, no text has an id
 pub no_holders : (order : List ℕ) → holders (λ _. false) order ≡ []
 no_holders [] = refl
 no_holders (id ∷ order) = no_holders order
 
 -- ---- no text has two ids
 
--- nor has one where a text gets one list with one id at most
+-- still no text has two ids after one text gets a list with one id at most
 pub one_with : (old new : List (Text × List ℕ)) (name : Text) (ids : List ℕ) → HaveOneAtMost old → length ids ≤ 1 → IsWith old name ids new → HaveOneAtMost new
 one_with old new name ids one short put x = ⊎_elim
     (λ (h : bytes_eq x (folded name) ≡ true). subst (λ (o : Option (List ℕ)). length (members o) ≤ 1) (sym (put x ∙ cond-true (bytes_eq x (folded name)) (Some ids) (value_at old x) h)) short)
     (λ (h : bytes_eq x (folded name) ≡ false). subst (λ (o : Option (List ℕ)). length (members o) ≤ 1) (sym (put x ∙ cond-false (bytes_eq x (folded name)) (Some ids) (value_at old x) h)) (one x))
     (cases_Bool (bytes_eq x (folded name)))
 
--- or where it keeps what it had
+-- or after it keeps the list that it had
 pub one_replaced : {R : Type 0} (old new : List (Text × List ℕ)) (name : Text) (ids : List ℕ) (result : Option R) → HaveOneAtMost old → length ids ≤ 1 → IfSome result (λ r. IsWith old name ids new) → IfNone result (new ≡ old) → HaveOneAtMost new
 one_replaced old new name ids (Some r) one short some none = one_with old new name ids one short some
 one_replaced old new name ids None one short some none = subst HaveOneAtMost (sym none) one

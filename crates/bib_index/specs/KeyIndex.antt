@@ -4,7 +4,7 @@ use Rattle.bib_spec.specs.Text.{Text, folded}
 use Rattle.folded_map.specs.FoldedMap.{value_at}
 use Rattle.bib_order.specs.Holders.{holders}
 
--- a text that is there is this one, once folded
+-- there is a text, and folded it is x
 abbrev pub is_text : Option Text → Text → Bool
 is_text None x = false
 is_text (Some t) x = bytes_eq x (folded t)
@@ -13,7 +13,7 @@ is_text (Some t) x = bytes_eq x (folded t)
 abbrev pub has_text : (ℕ → Option Text) → Text → ℕ → Bool
 has_text texts x id = is_text (texts id) x
 
--- the texts of the ids, where this id has another or none
+-- the texts of the ids, except that this id has text t, or none if t is none
 abbrev pub with_text : (ℕ → Option Text) → ℕ → Option Text → ℕ → Option Text
 with_text texts id t other = if other == id then t else texts other
 
@@ -21,7 +21,7 @@ with_text texts id t other = if other == id then t else texts other
 abbrev pub IsIndexOf : (ℕ → Option Text) → List ℕ → (Text → List ℕ) → Type 0
 IsIndexOf texts order index = (x : Text) → index x ≡ holders (has_text texts x) order
 
--- what passes the test, and this id
+-- the test, which this id passes too
 abbrev pub also : ℕ → (ℕ → Bool) → ℕ → Bool
 also id test other = if other == id then true else test other
 
@@ -29,7 +29,7 @@ also id test other = if other == id then true else test other
 abbrev pub without : ℕ → List ℕ → List ℕ
 without id ids = filter (λ other. not (other == id)) ids
 
--- a folded text has these ids, and the others have those that they had
+-- the folded text has these ids now, and every other text has the ids that it had
 abbrev pub Has : (Text → List ℕ) → Text → List ℕ → (Text → List ℕ) → Type 0
 Has old text ids new = (x : Text) → new x ≡ (if bytes_eq x text then ids else old x)
 
@@ -38,7 +38,7 @@ abbrev pub members : Option (List ℕ) → List ℕ
 members None = []
 members (Some ids) = ids
 
--- the ids of a folded text, where these are kept
+-- the ids of a folded text, in lists that are kept by text
 abbrev pub ids_in : List (Text × List ℕ) → Text → List ℕ
 ids_in lists x = members (value_at lists x)
 

@@ -12,11 +12,11 @@ use std::slice::from_ref;
 enum Held {
     Nothing,
     One(usize),
-    // in a box, so that the place of one alone is small
+    // in a box, so that a `Held` with one id is small
     Many(Box<Vec<usize>>),
 }
 
-/// Ids in order, of which one alone takes no memory but its place.
+/// Ids in order. A single id takes no memory of its own.
 #[derive(Drop)]
 pub(crate) struct Holders {
     alloc: Global,
@@ -32,7 +32,7 @@ impl Model for Holders {
     ghost view = { λ h. ids_of h.held };
 }
 
-/// An id, and another before it or after it.
+/// Two ids: `one`, with `id` before it or after it.
 fn pair(alloc: Global, one: usize, k: usize, id: usize) -> Result<Box<Vec<usize>>, AllocError>
     requires { k ≤ 1 }
     ensures { IfOk result (λ ids. ids.value.items ≡ insert (one ∷ []) k id) }
@@ -99,7 +99,7 @@ impl Holders {
         }
     }
 
-    /// Takes an id out. It asks for no memory.
+    /// Removes an id. It asks for no memory.
     pub(crate) fn take_out(&mut self, id: usize)
         ensures { self.new ≡ without id self.old }
     {

@@ -19,7 +19,7 @@ use std::marker::Model;
 pub struct KeyIndex {
     alloc: Global,
     lists: FoldedMap<Holders>,
-    // whether a text has, or had, two ids
+    // whether some text has, or had, two ids
     shared: bool,
 }
 
@@ -60,16 +60,15 @@ impl KeyIndex {
         self.lists.len()
     }
 
-    /// Makes room for so many texts more. The index stays as it is: that there is room then is no promise, and saves time
-    /// alone.
+    /// Makes room for `additional` more texts. The index is unchanged. The room is not promised; it only saves time.
     pub fn reserve(&mut self, additional: usize) -> Result<(), AllocError>
         ensures { self.new ≡ self.old }
     {
         self.lists.reserve(additional)
     }
 
-    /// Whether it is known that no text has two ids. Where a text had two once, that is not known any more. `false` promises
-    /// nothing: a caller then looks for itself, which costs time alone.
+    /// Whether it is known that no text has two ids. Once a text has had two, this is no longer known. `false` promises
+    /// nothing: the caller then has to look for itself, which only costs time.
     pub fn are_apart(&self) -> bool
         ensures { IsTrue result → HaveOneAtMost self.now }
     {
@@ -100,7 +99,7 @@ impl KeyIndex {
         self.holders(text).len()
     }
 
-    /// Gives an id of the order this text, where it has none. Where memory is refused, each text has the ids that it had.
+    /// Gives this text to an id of the order that has none. If memory is refused, each text has the ids that it had.
     pub fn add(&mut self, order: &Order, text: &[u8], id: usize) -> Result<(), AllocError>
         requires { length text.now ≤ name_limit }
         ensures ok { OnOk result ((texts : ℕ → Option Text) → texts id ≡ None → IsIndexOf texts order.now (ids_in self.old) → IsIndexOf (with_text texts id (Some text.now)) order.now (ids_in self.new)) }
@@ -116,8 +115,7 @@ impl KeyIndex {
         self.take_out(text, id);
     }
 
-    /// Gives an id of the order a new text in the place of the one that it has. Where memory is refused, each text has the
-    /// ids that it had.
+    /// Gives another text to an id of the order that has one. If memory is refused, each text has the ids that it had.
     pub fn rekey(
         &mut self,
         order: &Order,
@@ -137,13 +135,14 @@ impl KeyIndex {
         Ok(())
     }
 
-    /// Puts an id of the order among those that have the text, where it is not one of them.
+    /// Adds an id of the order to the ids that have the text, if it is none of them yet. If memory is refused, each text
+    /// has the ids that it had.
     fn put_in(&mut self, order: &Order, text: &[u8], id: usize) -> Result<(), AllocError>
         requires { length text.now ≤ name_limit }
         ensures ok { OnOk result ((test : ℕ → Bool) → test id ≡ false → ids_in self.old (folded text.now) ≡ holders test order.now → Has (ids_in self.old) (folded text.now) (holders (also id test) order.now) (ids_in self.new)) }
         ensures err { OnErr result (IsKept (ids_in self.old) (ids_in self.new)) }
     {
-        // the ids of an order are distinct
+        // for the proof: the ids of an order are distinct
         let _ = order.count();
         let Some(n) = order.position_of(id) else {
             return Ok(());
@@ -158,8 +157,8 @@ impl KeyIndex {
         }
     }
 
-    /// Gives a text these ids again, and one more before id `k` of them, or at the end. Where memory is refused, it has
-    /// these alone.
+    /// Gives a text its ids back, and one more id before id `k` of them or at the end. If memory is refused, the text gets
+    /// back only the ids that it had.
     fn put_back(
         &mut self,
         text: &[u8],
@@ -179,7 +178,7 @@ impl KeyIndex {
         put
     }
 
-    /// Takes an id out of those that have the text. It asks for no memory.
+    /// Removes an id from those that have the text. It asks for no memory.
     fn take_out(&mut self, text: &[u8], id: usize)
         ensures { Has (ids_in self.old) (folded text.now) (without id (ids_in self.old (folded text.now))) (ids_in self.new) }
     {

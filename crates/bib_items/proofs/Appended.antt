@@ -49,7 +49,7 @@ appended_more items from n front now body trail h k b t e =
 
 -- ---- page by page
 
--- so many items of those from one number up to another are left, and the others were put after the text
+-- of the items from `from` up to `to`, the last `left` remain, and those before them were put after the text
 pub record IsAppended (pages : List (List Item)) (p from to skip left : ℕ) (front now : Text) : Type 0 where
   pub way : IsOnWay pages p (to - left) skip
   pub most : left ≤ to - from

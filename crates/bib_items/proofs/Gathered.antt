@@ -1,4 +1,4 @@
--- Where the items of a text that is read lie, page by page.
+-- The places of the items of a text that was read, page by page.
 use Rattle.std.proofs.Common.{◌≡◌, ℕ, ◌+◌, ◌-◌, ◌≤◌, ◌<◌, List, [], ◌∷◌, ◌++◌, length, take, drop, get_or, sym, ◌∙◌, ap, ap₂, refl, arith, inl, append_assoc, take-append-drop, length-append, length-drop, Some}
 use Rattle.std.proofs.lemmas.List.{length-map, map-append, append-nil, take_all, take_more, drop_more, length-take-le, get_or-drop}
 use Rattle.std.proofs.Math.Seq.{take-add}

@@ -100,7 +100,7 @@ pub appended_lies : (shared own body trail : Text) (s : Span) → s.start ≡ le
     → LiesInEither shared ((own ++ body) ++ trail) s
 appended_lies shared own body trail s at b t = inr (omega (arith, at), omega (arith, at, b, t, length-append (own ++ body) trail, length-append own body))
 
--- an item stands where its span says
+-- an item is at the place that its span says
 pub standing_is : (before body trail rest : Text) (s : Span) → s.start ≡ length before → s.body ≡ length body → s.trail ≡ length trail
     → item_in (before ++ ((body ++ trail) ++ rest)) s ≡ item body trail
 standing_is before body trail rest s at b t =
@@ -161,7 +161,7 @@ weigh a b (s ∷ spans) all =
 pub weigh_all : (a b : Text) (spans : List Span) (items : List Item) → LieInEither a b spans → items_in (a ++ b) spans ≡ items → total spans ≡ length (flat_map kept_bytes items)
 weigh_all a b spans items all e = sym (weigh a b spans all) ∙ ap (λ l. length (flat_map kept_bytes l)) e
 
--- where the items are the same, they have as many bytes
+-- if the items are the same, they have as many bytes
 pub same_weight : (a b c : Text) (spans places : List Span) → LieInEither a b spans → LieInEither a c places → items_in (a ++ c) places ≡ items_in (a ++ b) spans → total places ≡ total spans
 same_weight a b c spans places x y e = weigh_all a c places (items_in (a ++ b) spans) y e ∙ weigh a b spans x
 

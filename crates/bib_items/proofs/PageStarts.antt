@@ -20,7 +20,7 @@ pub first_begins : (pages : List (List Item)) → BeginsWith pages 0 first_start
 first_begins [] = record { item = refl; byte = refl }
 first_begins (page ∷ pages) = record { item = refl; byte = refl }
 
--- from a page of which it is known where it begins
+-- the way to member n begins at page p, whose start is known
 pub way_begun : (pages : List (List Item)) (p n : ℕ) (start : PageStart) → BeginsWith pages p start → start.item ≤ n → IsOnWay pages p n (n - start.item)
 way_begun pages p n start begins low =
     let item : start.item ≡ length (joined (take p pages)) = begins.item in
@@ -67,7 +67,7 @@ taken_next pages starts now p start next h e i b w =
       next = begins_more pages p start next h i b w.next;
     }
 
--- ---- they stay known where an edit leaves the pages before them
+-- ---- the starts stay known if an edit leaves the pages before them
 
 begins_same : (old new : List (List Item)) (p : ℕ) (start : PageStart) → take p new ≡ take p old → BeginsWith old p start → BeginsWith new p start
 begins_same old new p start same begins = record {

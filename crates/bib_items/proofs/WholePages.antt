@@ -81,7 +81,7 @@ joined-taken pages n m p q a b =
 pub pages_taken : {X : Type 0} (pages : List (List X)) (p q : ℕ) → ArePages pages → ArePages (take p pages ++ drop q pages)
 pages_taken pages p q all = all_append IsPage (take p pages) (drop q pages) (first_pages pages p all) (last_pages pages q all)
 
--- the pages from number p on, up to number q, have so many members
+-- the pages from number p up to number q have `items` members, which are at most `most`
 pub record ArePassed {X : Type 0} (pages : List (List X)) (p q items most : ℕ) : Type 0 where
   pub ordered : p ≤ q
   pub within : q ≤ length pages
@@ -101,7 +101,7 @@ passed_more pages p q items most len h e low w =
 
 -- ---- some go after others
 
--- of the members up to a number, so many are left
+-- of the members from `from` up to `to`, only the last `left` are still there
 pub record IsCutTo {X : Type 0} (old now : List X) (from to left : ℕ) : Type 0 where
   pub fits : left + from ≤ to
   pub cut : now ≡ take from old ++ drop (to - left) old

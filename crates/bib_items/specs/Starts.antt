@@ -11,7 +11,7 @@ use Rattle.bib_items.specs.Pages.{IsPaged}
 abbrev pub weight : List Item → ℕ
 weight items = length (flat_map kept_bytes items)
 
--- page p begins there: after so many items, which have so many bytes
+-- where page p begins: how many items the pages before it have, and how many bytes
 pub record BeginsWith (pages : List (List Item)) (p : ℕ) (start : PageStart) : Type 0 where
   pub item : start.item ≡ length (joined (take p pages))
   pub byte : start.byte ≡ weight (joined (take p pages))
@@ -20,7 +20,7 @@ pub record BeginsWith (pages : List (List Item)) (p : ℕ) (start : PageStart) :
 abbrev pub first_start : PageStart
 first_start = record { item = 0; byte = 0 }
 
--- where the first pages begin, as far as it is kept
+-- where the first pages begin, for as many pages as it is known
 pub record AreStarts (pages : List (List Item)) (starts : List PageStart) : Type 0 where
   pub within : length starts ≤ length pages
   pub each : (p : ℕ) → p < length starts → BeginsWith pages p (slice_index_or starts p first_start)

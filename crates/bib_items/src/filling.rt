@@ -13,7 +13,7 @@ use crate::shared_text::SharedText;
 use bib_scan::Layout;
 use std::alloc::{AllocError, Global};
 
-/// The items of a text that is read, in pages of which all but the last are full. The pages share the text.
+/// The items of a text that was read, in pages that share the text. Each page except the last is full.
 pub(crate) fn pages_of(
     alloc: Global,
     text: Vec<u8>,
@@ -27,7 +27,7 @@ pub(crate) fn pages_of(
     pages_over(alloc, &text, layout)
 }
 
-/// The same.
+/// The items of a text that was read, in pages that share it. Each page except the last is full.
 fn pages_over(alloc: Global, text: &SharedText, layout: &Layout) -> Result<Vec<Page>, AllocError>
     requires { IsLayoutOf text.now layout.now }
     ensures items { IfOk result (λ pages. (db : Reading) → Reads text.now db → joined pages.items ≡ all_stored db.items) }
@@ -35,7 +35,7 @@ fn pages_over(alloc: Global, text: &SharedText, layout: &Layout) -> Result<Vec<P
 {
     let count = layout.len();
     let mut pages = Vec::with_capacity(alloc, count.div_ceil(PAGE_LIMIT))?;
-    // so many bytes fit
+    // for the proof: the text's length fits a usize
     let _ = text.len();
     let mut start = layout.front(text.as_slice()).len();
     let mut from = 0;

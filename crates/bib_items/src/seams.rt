@@ -11,7 +11,7 @@ use crate::places::{locate, part, take_away};
 use crate::starts::PageStart;
 use std::alloc::{AllocError, Global};
 
-/// How many pages have the items before number `n`. A page that has one of them and others becomes two.
+/// How many pages have the first `n` items. A page with some of these items and some others is cut in two first.
 fn seam(alloc: Global, pages: &mut Vec<Page>, count: usize, n: usize) -> Result<usize, AllocError>
     requires paged { IsPaged pages.old.items count }
     requires within { n ≤ count }
@@ -30,7 +30,7 @@ fn seam(alloc: Global, pages: &mut Vec<Page>, count: usize, n: usize) -> Result<
     Ok(p + 1)
 }
 
-/// Puts pages before page `p`, or at the end.
+/// Inserts pages before page `p`, or at the end.
 fn put_pages(pages: &mut Vec<Page>, p: usize, new: Vec<Page>) -> Result<(), AllocError>
     requires { p ≤ length pages.old.items }
     ensures ok { OnOk result (pages.new.items ≡ take p pages.old.items ++ (new.items ++ drop p pages.old.items)) }
@@ -43,7 +43,7 @@ fn put_pages(pages: &mut Vec<Page>, p: usize, new: Vec<Page>) -> Result<(), Allo
     Ok(())
 }
 
-/// Takes pages away, from one number up to another. It asks for no memory.
+/// Removes the pages from number `p` up to `q`. It asks for no memory.
 fn take_pages(pages: &mut Vec<Page>, p: usize, q: usize)
     requires ordered { p ≤ q }
     requires within { q ≤ length pages.old.items }
@@ -55,7 +55,7 @@ fn take_pages(pages: &mut Vec<Page>, p: usize, q: usize)
     pages.truncate(left);
 }
 
-/// Puts new pages before item `n`, or at the end. It takes a few steps for each page.
+/// Inserts new pages before item `n`, or at the end. It takes a few steps for each page.
 pub(crate) fn put_all(
     alloc: Global,
     pages: &mut Vec<Page>,
@@ -74,8 +74,8 @@ pub(crate) fn put_all(
     put_pages(pages, p, new)
 }
 
-/// The number of the page up to which the pages from number `p` on have no more than `most` items together, and how many
-/// items these have.
+/// The page up to which the pages from number `p` on have at most `most` items together, and how many items these pages
+/// have.
 fn whole_pages(pages: &[Page], p: usize, most: usize) -> (usize, usize)
     requires { p ≤ length pages.now }
     ensures ordered { p ≤ result.0 }
@@ -94,8 +94,8 @@ fn whole_pages(pages: &[Page], p: usize, most: usize) -> (usize, usize)
     (pages.len(), items)
 }
 
-/// Takes away the pages that begin with item `n` and have no more than `most` items together; where there are none, item
-/// `n` alone. It says how many items went, and asks for no memory.
+/// Removes whole pages from item `n` on that have at most `most` items together. If no whole page can go, it removes item
+/// `n` alone. It returns how many items it removed, and asks for no memory.
 fn take_some(pages: &mut Vec<Page>, starts: &mut Vec<PageStart>, n: usize, most: usize) -> usize
     requires some { 0 < most }
     requires within { n + most ≤ length (joined pages.old.items) }
@@ -120,8 +120,8 @@ fn take_some(pages: &mut Vec<Page>, starts: &mut Vec<PageStart>, n: usize, most:
     1
 }
 
-/// Takes the items away from one number up to another. It takes a few steps for each page that goes, and asks for no memory.
-/// It is known then where the pages before them begin.
+/// Removes the items from number `from` up to `to`. It takes a few steps for each page that goes, and asks for no memory.
+/// It is then known where the pages before them begin.
 pub(crate) fn take_range(pages: &mut Vec<Page>, starts: &mut Vec<PageStart>, from: usize, to: usize)
     requires ordered { from ≤ to }
     requires within { to ≤ length (joined pages.old.items) }

@@ -6,7 +6,7 @@ use std::alloc::{AllocError, Global};
 use std::marker::Model;
 use std::sync::Arc;
 
-/// A text with several owners, none of which changes it. Its memory is given back with the last of them.
+/// A text with several owners, none of whom changes it. Its memory is given back with the last owner.
 #[derive(Drop)]
 pub(crate) struct SharedText {
     text: Option<Arc<Vec<u8>, Global>>,

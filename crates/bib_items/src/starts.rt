@@ -14,8 +14,8 @@ pub(crate) struct PageStart {
     pub byte: usize,
 }
 
-/// The last page that begins no later than item `n`, as far as they are kept: at once where the pages before it are full.
-/// Only time rests on it.
+/// The last page with a known start that begins no later than item `n`: found at once if the pages before it are full. Only
+/// time depends on it.
 fn last_begun(starts: &[PageStart], n: usize) -> usize {
     let full = n / PAGE_LIMIT;
     if full < starts.len() && starts[full].item == n - n % PAGE_LIMIT {
@@ -26,8 +26,8 @@ fn last_begun(starts: &[PageStart], n: usize) -> usize {
         .saturating_sub(1)
 }
 
-/// A page that begins no later than item `n`, and where. It is the last such page as far as they are kept, which only time
-/// rests on.
+/// A page that begins no later than item `n`, and its start: the last such page with a known start. Only time depends on
+/// which page it is.
 pub(crate) fn near_item(starts: &[PageStart], n: usize) -> (usize, PageStart)
     ensures begins { (pages : List (List Item)) → AreStarts pages starts.now → BeginsWith pages result.0 result.1 }
     ensures before { result.1.item ≤ n }
@@ -42,8 +42,8 @@ pub(crate) fn near_item(starts: &[PageStart], n: usize) -> (usize, PageStart)
     (0, PageStart { item: 0, byte: 0 })
 }
 
-/// A page that begins no later than the byte at this place, and where. It is the last such page as far as they are kept,
-/// which only time rests on.
+/// A page that begins no later than the byte at `place`, and its start: the last such page with a known start. Only time
+/// depends on which page it is.
 pub(crate) fn near_byte(starts: &[PageStart], place: usize) -> (usize, PageStart)
     ensures begins { (pages : List (List Item)) → AreStarts pages starts.now → BeginsWith pages result.0 result.1 }
     ensures before { result.1.byte ≤ place }
@@ -60,8 +60,8 @@ pub(crate) fn near_byte(starts: &[PageStart], place: usize) -> (usize, PageStart
     (0, PageStart { item: 0, byte: 0 })
 }
 
-/// Takes down where the pages begin, from the last that is known on, up to the first that begins after this place, as far as
-/// there is memory for it.
+/// Records where the pages begin, from the last known start up to the first page that begins after `place`, as far as there
+/// is memory for it.
 pub(crate) fn take_down(pages: &[Page], starts: &mut Vec<PageStart>, place: usize)
     requires { AreStarts pages.now starts.old.items }
     ensures { AreStarts pages.now starts.new.items }

@@ -111,7 +111,7 @@ module _ {X : Type 0} where
 
 -- ---- counted one after another
 
--- those before page p are counted, and so many stand before it
+-- the members before each of the first p pages are counted, and `first` members come before page p
 pub record AreCounted {X : Type 0} (pages : List (List X)) (old firsts : List ℕ) (p first : ℕ) : Type 0 where
   pub are : firsts ≡ take p (starts 0 pages) ++ drop p old
   pub number : first ≡ length (joined (take p pages))

@@ -1,4 +1,4 @@
--- The numbers of the items of a kind, where an item comes among others, or goes.
+-- The numbers of the items of a kind, when an item comes among others, or goes.
 use Rattle.std.proofs.Common.{◌≡◌, ℕ, suc, ◌+◌, ◌≤◌, ◌<◌, ◌^◌, Bool, true, false, cond, List, [], ◌∷◌, ◌++◌, length, map, refl, sym, ◌∙◌, ap, ap₂, subst, arith, zero-add}
 use Rattle.std.specs.List.{AllByRecursion}
 use Rattle.std.proofs.lemmas.Bool.{cond-true, cond-false}
@@ -95,7 +95,7 @@ module _ (test : Tree → Bool) where
     above = numbers-above n (length before) after (let e : n ≤ length before = omega (arith, count) in e);
   }
 
--- the numbers of a kind where an item comes, or goes
+-- the numbers of a kind, when an item comes or goes
 module _ (test : Tree → Bool) (before after : List Item) (x : Item) (n : ℕ) (count : length before ≡ n) (fits : n + length after < 2 ^ 64) (old new : List ℕ) where
   fit : HaveNext (rest_numbers test before after)
   fit = numbers-fit test (length before) after (omega (arith, fits, count))

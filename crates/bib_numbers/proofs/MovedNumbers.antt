@@ -1,4 +1,4 @@
--- Numbers in order, where one comes or goes and those after it are moved.
+-- Numbers in order, when one comes or goes and those after it are moved.
 use Rattle.std.proofs.Common.{◌≡◌, ℕ, zero, suc, ◌+◌, ◌-◌, ◌≤◌, ◌<◌, ◌^◌, List, [], ◌∷◌, ◌++◌, length, map, take, drop, get_or, insert, remove, sym, subst, ◌∙◌, ap, ap₂, ⊎_elim, refl, arith, length-append, append_assoc, zero-add}
 use Rattle.std.specs.List.{AllByRecursion}
 use Rattle.std.specs.Prelude.{◌≢◌, nat_lt, max, true, false, Bool, cond, filter}
@@ -160,7 +160,7 @@ pub rank_all : (n : ℕ) (front : List ℕ) → AllByRecursion (λ m. m < n) fro
 rank_all n [] below = refl
 rank_all n (m ∷ front) below = rank_first n m front ∙ ap (λ (b : Bool). cond b (suc (rank_in n front)) (rank_in n front)) (lt-ltb m n below.0) ∙ ap suc (rank_all n front below.1)
 
--- so many are below n
+-- the numbers below n are those of the front
 pub rank_of : (n : ℕ) (front rest numbers : List ℕ) → PartAt n front rest numbers → rank_in n numbers ≡ length front
 rank_of n front rest numbers p =
     let all = rank_all n front p.below in
@@ -168,7 +168,7 @@ rank_of n front rest numbers p =
     let sum = ap (rank_in n) p.whole ∙ rank-append n front rest in
     omega (arith, all, none, sum)
 
--- where numbers from n on make way, those up to n have the same below them
+-- if numbers from n on make way, those up to n have as many below them as they had
 pub rank_before_gap : (n j : ℕ) (front rest : List ℕ) → AllByRecursion (λ m. n ≤ m) rest → j ≤ n → rank_in j (front ++ map suc rest) ≡ rank_in j (front ++ rest)
 rank_before_gap n j [] rest above le = rank_none j (map suc rest) (higher rest above) ∙ sym (rank_none j rest (high rest above))
   where
@@ -198,7 +198,7 @@ rank_past_gap n j front rest below le =
     up [] = refl
     up (m ∷ rest) = rank_first (suc j) (suc m) (map suc rest) ∙ ap₂ (λ (b : Bool) (k : ℕ). cond b (suc k) k) (both m) (up rest) ∙ sym (rank_first j m rest)
 
--- ---- the order, where numbers are moved
+-- ---- the order, when numbers are moved
 
 pub ascend_parts : (front rest : List ℕ) → Ascend (front ++ rest) → Ascend front × Ascend rest
 ascend_parts [] rest ascend = (tt, ascend)
@@ -250,7 +250,7 @@ above_raised n [] above = tt
 above_raised n (m ∷ rest) above = (let le = above.0 in omega (arith, le), above_raised n rest above.1)
 
 module _ (n k : ℕ) (numbers : List ℕ) (ascend : Ascend numbers) (is : k ≡ rank_in n numbers) where
-  -- the numbers below n are so many
+  -- the first k numbers are those below n
   pub ends : (front rest : List ℕ) → PartAt n front rest numbers → k ≡ length front
   ends front rest p = is ∙ rank_of n front rest numbers p
 
@@ -319,7 +319,7 @@ pub have_next : (numbers : List ℕ) (last : ℕ) → last + 1 < 2 ^ 64 → AllB
 have_next [] last h all = tt
 have_next (m ∷ numbers) last h all = (let le = all.0 in omega (arith, h, le), have_next numbers last h all.1)
 
--- the last number has a next, where the rest does
+-- the last number has a successor if the rest do
 pub next_of_last : (n : ℕ) (front rest numbers : List ℕ) (k last : ℕ) → PartAt n front rest numbers → HaveNext rest → n ≤ last → k + 1 ≡ length numbers → last ≡ get_or numbers k 0 → last + 1 < 2 ^ 64
 next_of_last n front rest numbers k last p fit le h is = along front rest k p.below fit (h ∙ ap (length {A = ℕ}) p.whole) (is ∙ ap (λ (l : List ℕ). get_or l k 0) p.whole)
   where
@@ -375,7 +375,7 @@ rest_put P (suc k) n (m ∷ numbers) h all =
 
 -- ---- the number itself
 
--- where the first that is not below n is another number, n is none of them
+-- if the first number that is not below n is another, n is not among the numbers
 pub absent : (n k : ℕ) (numbers : List ℕ) → Ascend numbers → k ≡ rank_in n numbers → (k < length numbers → get_or numbers k 0 ≢ n) → AllByRecursion (λ m. m ≢ n) numbers
 absent n k numbers ascend is other =
     let p = parted_at n numbers ascend in
@@ -408,7 +408,7 @@ absent n k numbers ascend is other =
         let lt : n < m = ⊎_elim (λ (lt : n < m). lt) (λ (ge : m ≤ n). absurd (differs (omega (arith, le, ge)))) (cases_lt n m) in
         (differs, later rest m lt up.0)
 
--- the numbers after a gap, where zero is none of them
+-- the numbers after a gap, if zero is none of them
 pub part_one : (n m : ℕ) (front rest now : List ℕ) → m ≡ max n 1 → PartAt n front rest (front ++ rest) → now ≡ front ++ map suc rest → PartAt m front (map suc rest) now
 part_one n m front rest now e p is = record { whole = is; below = low front p.below; above = high rest p.above }
   where

@@ -138,7 +138,7 @@ point_shown test f l k h point = (
 
 -- ---- written back
 
--- a slice that is as long as all takes the place of all
+-- a slice that is as long as the whole list replaces the whole list
 pub written : {X : Type 0} (len : ℕ) (old new : List X) → len ≡ length old → length new ≡ length old → take len (new ++ drop (length new) old) ≡ new
 written {X} len old new is same =
     ap₂ (λ (n : ℕ) (l : List X). take n (new ++ l)) (is ∙ sym same) (ap (λ (n : ℕ). drop n old) same ∙ rest_gone old) ∙ whole new
@@ -151,7 +151,7 @@ written {X} len old new is same =
     whole [] = refl
     whole (m ∷ l) = ap (λ (rest : List X). m ∷ rest) (whole l)
 
--- numbers moved in place, where the slice was all
+-- numbers moved in place, if the slice is the whole list
 pub written_moved : (move : ℕ → ℕ) (len k : ℕ) (old slice new : List ℕ) → len ≡ length old → slice ≡ old → new ≡ moved_from move k slice → take len (new ++ drop (length new) old) ≡ moved_from move k old
 written_moved move len k old slice new is same moved =
     let now : new ≡ moved_from move k old = moved ∙ ap (moved_from move k) same in

@@ -14,7 +14,7 @@ use Rattle.bib_numbers.proofs.MovedNumbers.{ascend_parts, rank-append, rank_all,
 last_later : (m j : ℕ) (page : List ℕ) → get_or (m ∷ j ∷ page) (length (m ∷ j ∷ page) - 1) 0 ≡ get_or (j ∷ page) (length (j ∷ page) - 1) 0
 last_later m j page = let e : suc (suc (length page)) - 1 ≡ suc (suc (length page) - 1) = omega arith in ap (λ (k : ℕ). get_or (m ∷ j ∷ page) k 0) e
 
--- where the last of ascending numbers is below n, all are
+-- if the last of ascending numbers is below n, all are
 all_below : (n : ℕ) (first page : List ℕ) → Ascend (first ++ page) → 1 ≤ length page → get_or page (length page - 1) 0 < n → AllByRecursion (λ m. m < n) (first ++ page)
 all_below n [] page ascend some low = each page ascend low
   where
@@ -38,7 +38,7 @@ all_below n (m ∷ j ∷ first) page ascend some low =
     let lt : j < n = later.0 in
     (omega (arith, le, lt), later)
 
--- where the last number of a page is not, none after it is
+-- if the last number of a page is not below n, no number after it is
 all_above : (n : ℕ) (page rest : List ℕ) → Ascend (page ++ rest) → 1 ≤ length page → n ≤ get_or page (length page - 1) 0 → AllByRecursion (λ m. n ≤ m) rest
 all_above n [] rest ascend some high = absurd (omega (arith, some))
 all_above n (m ∷ []) rest ascend some high = each rest ascend.0
@@ -59,7 +59,7 @@ module _ (n : ℕ) (pages : List (List ℕ)) (ascend : Ascend (joined pages)) (f
       ascend_first : (a b c : List ℕ) → Ascend (a ++ (b ++ c)) → Ascend (a ++ b)
       ascend_first a b c up = (ascend_parts (a ++ b) c (subst Ascend (sym (append_assoc a b c)) up)).0
 
-  -- where the last page ends below n, all numbers are below it
+  -- if the last page ends below n, all numbers are below it
   pub rank_last : (p : ℕ) → p + 1 ≡ length pages → ends_below n (page_at pages p) ≡ true → length (joined pages) ≡ rank_in n (joined pages)
   rank_last p last is =
       let h : p < length pages = omega (arith, last) in
@@ -115,7 +115,7 @@ module _ (n : ℕ) (pages : List (List ℕ)) (ascend : Ascend (joined pages)) (f
             let e : q + 1 ≡ suc q = omega arith in
             subst (AllByRecursion (λ m. m < n)) (sym (joined-more pages q (omega (arith, h))) ∙ ap (λ (j : ℕ). joined (take j pages)) e) (below_page q (omega (arith, h)) (low q (omega arith)))
 
-    -- where it is past the last page, all are below n
+    -- if it is past the last page, all are below n
     pub rank_past : length pages ≤ p → length (joined pages) ≡ rank_in n (joined pages)
     rank_past h = sym (rank_all n (joined pages) (subst (AllByRecursion (λ m. m < n)) (joined-past pages p h) before_point))
 
@@ -124,7 +124,7 @@ module _ (n : ℕ) (pages : List (List ℕ)) (ascend : Ascend (joined pages)) (f
         let whole = subst Ascend (joined-split pages p h) ascend in
         (ascend_parts (page_at pages p) (joined (drop (suc p) pages)) (ascend_parts (joined (take p pages)) (page_at pages p ++ joined (drop (suc p) pages)) whole).1).0
 
-    -- so many are below n: those of the pages before it, and some in it
+    -- the numbers below n are those of the pages before page p, and some in page p
     pub rank_at : p < length pages → length (joined (take p pages)) + rank_in n (page_at pages p) ≡ rank_in n (joined pages)
     rank_at h =
         let high = above_page p h (point.1 p [] (omega arith) h) in

@@ -8,8 +8,8 @@ use crate::moving::move_from;
 use std::alloc::{AllocError, Global};
 use std::marker::Model;
 
-/// Numbers that stand together. Each is kept as what is to be added to the base, modulo 2^64, so that one step of the base
-/// moves all of them.
+/// Numbers of one page. Each is kept as its difference from the base, modulo 2^64, so that a change of the base moves all
+/// of them at once.
 #[derive(Drop)]
 pub(crate) struct Leaf {
     base: usize,
@@ -62,7 +62,7 @@ impl Leaf {
         self.list.partition_point(|m| base.wrapping_add(*m) < n)
     }
 
-    /// Whether the last number is below `n`. Where there is none, zero stands for it.
+    /// Whether the last number is below `n`. If there are no numbers, 0 counts as the last.
     pub(crate) fn ends_below(&self, n: usize) -> bool
         ensures { result ≡ ends_below n self.now }
     {
@@ -83,7 +83,7 @@ impl Leaf {
         Ok(())
     }
 
-    /// Takes number `k` away. It asks for no memory.
+    /// Removes number `k`. It asks for no memory.
     pub(crate) fn remove(&mut self, k: usize)
         requires { k < length self.old }
         ensures { self.new ≡ remove self.old k }
@@ -102,7 +102,7 @@ impl Leaf {
         })
     }
 
-    /// Keeps the numbers before place `k` alone. It asks for no memory.
+    /// Keeps only the numbers before place `k`. It asks for no memory.
     pub(crate) fn truncate(&mut self, k: usize)
         requires { k ≤ length self.old }
         ensures { self.new ≡ take k self.old }

@@ -1,4 +1,4 @@
-//! The pages of a list of numbers: where each number stands, and how numbers come, go and move.
+//! The pages of a list of numbers: in which page each number is, and how numbers come, go and move.
 
 ghost use Rattle.std.specs.Prelude.{◌≡◌, ◌+◌, ◌≤◌, ◌<◌, ◌^◌, ◌++◌, List, ℕ, [], ◌∷◌, length, insert, remove, set, OnOk, OnErr, IfOk, IsTrue};
 ghost use Rattle.bib_pages.specs.Pages.{joined, page_at, IsOnWay, IsPlace, IsGap, parted_at};
@@ -12,10 +12,11 @@ use std::alloc::{AllocError, Global};
 /// How many numbers a page has at most.
 pub(crate) const LEAF_LIMIT: usize = 512;
 
-/// How many numbers of a full page stay when it becomes two.
+/// How many numbers stay in a full page that is cut in two.
 const HALF: usize = 256;
 
-/// The page in which number `k` stands, and its place there. It takes steps in the logarithm of the pages' count.
+/// The page that has number `k`, and the number's place in that page. It takes steps in the logarithm of the number of
+/// pages.
 pub(crate) fn locate(leaves: &[Leaf], firsts: &[usize], k: usize) -> (usize, usize)
     requires within { k < length (joined leaves.now) }
     requires firsts { firsts.now ≡ starts 0 leaves.now }
@@ -25,7 +26,8 @@ pub(crate) fn locate(leaves: &[Leaf], firsts: &[usize], k: usize) -> (usize, usi
     locate_from(leaves, k, p, left)
 }
 
-/// The same, from page `first` on, before which all but `left` of the numbers before place `k` stand.
+/// The page that has number `k`, and the number's place in that page, sought from page `first` on: `left` numbers are
+/// between the start of that page and number `k`.
 fn locate_from(leaves: &[Leaf], k: usize, first: usize, left: usize) -> (usize, usize)
     requires within { k < length (joined leaves.now) }
     requires way { IsOnWay leaves.now first k left }
@@ -42,7 +44,7 @@ fn locate_from(leaves: &[Leaf], k: usize, first: usize, left: usize) -> (usize, 
     (0, 0)
 }
 
-/// Whether all numbers are below `n`, where they ascend: the last of them tells.
+/// Whether all numbers are below `n`. They ascend, so that the last one tells.
 fn are_below(leaves: &[Leaf], n: usize) -> bool
     requires { AreFilled leaves.now }
     ensures { IsTrue result → Ascend (joined leaves.now) → length (joined leaves.now) ≡ rank_in n (joined leaves.now) }
@@ -53,7 +55,7 @@ fn are_below(leaves: &[Leaf], n: usize) -> bool
     }
 }
 
-/// How many of the numbers are below `n`: at once where all are, else in steps in the logarithm of their count.
+/// How many of the numbers are below `n`: at once if all are, else in steps in the logarithm of their count.
 #[inline]
 pub(crate) fn count_below(leaves: &[Leaf], firsts: &[usize], count: usize, n: usize) -> usize
     requires { IsKept leaves.now firsts.now count }
@@ -66,7 +68,7 @@ pub(crate) fn count_below(leaves: &[Leaf], firsts: &[usize], count: usize, n: us
     count_searched(leaves, firsts, count, n)
 }
 
-/// The same, in steps in the logarithm of their count.
+/// How many of the numbers are below `n`, in steps in the logarithm of their count.
 fn count_searched(leaves: &[Leaf], firsts: &[usize], count: usize, n: usize) -> usize
     requires { IsKept leaves.now firsts.now count }
     ensures within { result ≤ length (joined leaves.now) }
@@ -79,7 +81,7 @@ fn count_searched(leaves: &[Leaf], firsts: &[usize], count: usize, n: usize) -> 
     firsts[p] + leaves[p].count_below(n)
 }
 
-/// Makes two pages of page `p`, which is full.
+/// Cuts page `p` in two, which is full.
 fn part(
     alloc: Global,
     leaves: &mut Vec<Leaf>,
@@ -101,7 +103,7 @@ fn part(
     Ok(())
 }
 
-/// Where a number can be put that is to stand before number `k` of page `p`. A full page becomes two.
+/// The page and the place at which a number is inserted before number `k` of page `p`. A full page is cut in two first.
 fn room(
     alloc: Global,
     leaves: &mut Vec<Leaf>,
@@ -129,7 +131,7 @@ fn room(
     }
 }
 
-/// Puts a number into a page, where it has room.
+/// Inserts a number into a page that has room.
 fn put_in(leaves: &mut Vec<Leaf>, p: usize, k: usize, n: usize) -> Result<(), AllocError>
     requires page { p < length leaves.old.items }
     requires within { k ≤ length (page_at leaves.old.items p) }
@@ -140,7 +142,7 @@ fn put_in(leaves: &mut Vec<Leaf>, p: usize, k: usize, n: usize) -> Result<(), Al
     leaf.insert(k, n)
 }
 
-/// Puts a number before number `k`.
+/// Inserts a number before number `k`.
 pub(crate) fn put(
     alloc: Global,
     leaves: &mut Vec<Leaf>,
@@ -161,7 +163,7 @@ pub(crate) fn put(
     put_in(leaves, p, j, n)
 }
 
-/// Whether the last page is not full.
+/// Whether there is a last page, and it is not full.
 fn has_room(leaves: &[Leaf]) -> bool
     ensures { IsTrue result → 0 < length leaves.now }
 {
@@ -171,7 +173,7 @@ fn has_room(leaves: &[Leaf]) -> bool
     }
 }
 
-/// Adds a page with one number, before which so many stand.
+/// Adds a page with one number. The pages before it have `count` numbers.
 fn add_leaf(
     alloc: Global,
     leaves: &mut Vec<Leaf>,
@@ -192,7 +194,7 @@ fn add_leaf(
     Ok(())
 }
 
-/// Puts a number after all others, of which there are so many.
+/// Adds a number after all others. There are `count` of them.
 pub(crate) fn put_last(
     alloc: Global,
     leaves: &mut Vec<Leaf>,
@@ -214,7 +216,7 @@ pub(crate) fn put_last(
     put_in(leaves, last, k, n)
 }
 
-/// Takes number `k` away, and with it a page that has no other. It asks for no memory.
+/// Removes number `k`, and its page too if the page has no other number. It asks for no memory.
 pub(crate) fn take_away(leaves: &mut Vec<Leaf>, firsts: &mut Vec<usize>, k: usize)
     requires within { k < length (joined leaves.old.items) }
     requires firsts { firsts.old.items ≡ starts 0 leaves.old.items }
@@ -233,7 +235,7 @@ pub(crate) fn take_away(leaves: &mut Vec<Leaf>, firsts: &mut Vec<usize>, k: usiz
     }
 }
 
-/// Moves the numbers by a step, from place `k` of page `p` on. It takes a step for each page after it.
+/// Moves the numbers from place `k` of page `p` on by a step. It takes one step for each page after page `p`.
 pub(crate) fn shift_from(leaves: &mut [Leaf], p: usize, k: usize, step: usize)
     requires page { p < length leaves.old }
     requires within { k ≤ length (page_at leaves.old p) }

@@ -7,8 +7,8 @@ use crate::paged::Paged;
 use std::alloc::{AllocError, Global};
 use std::marker::Model;
 
-/// The numbers that the items of a kind have among all items, in order. When an item comes or goes, the numbers of those
-/// after it change, which takes a step for each page of up to 512 numbers, and some for the numbers of one.
+/// The numbers that the items of a kind have among all items, in order. When an item comes or goes, the numbers of the
+/// items after it change. That takes one step for each page of up to 512 numbers, and some for the numbers of one page.
 #[derive(Drop)]
 pub struct Numbers {
     list: Paged,
@@ -55,7 +55,7 @@ impl Numbers {
         self.list.get(n)
     }
 
-    /// How many numbers are below `n`. It takes a step where all are, else time in the logarithm of their count.
+    /// How many numbers are below `n`. It takes one step if all are, else time in the logarithm of their count.
     pub fn rank(&self, n: usize) -> usize
         ensures within { result ≤ length self.now }
         ensures below { (front rest : List ℕ) → PartAt n front rest self.now → result ≡ length front }
@@ -64,7 +64,7 @@ impl Numbers {
         self.list.count_below(n)
     }
 
-    /// Which in order, counted from 0, the number `n` is, if it is one of them.
+    /// The place of number `n` in the order, counted from 0, if it is one of the numbers.
     pub fn position(&self, n: usize) -> Option<usize>
         ensures found { IfSome result (λ k. slice_get self.now k ≡ Some n) }
         ensures none { IfNone result (AllByRecursion (λ m. m ≢ n) self.now) }
@@ -76,7 +76,7 @@ impl Numbers {
         if self.list.get(k) == n { Some(k) } else { None }
     }
 
-    /// Whether the greatest number that a machine has is one of them. None is greater.
+    /// Whether the greatest number of a machine, 2^64 - 1, is one of them.
     fn has_greatest(&self) -> bool
         ensures fit { AllByRecursion (λ m. m < 2 ^ 64) self.now }
         ensures none { IsFalse result → HaveNext self.now }
@@ -88,8 +88,8 @@ impl Numbers {
         }
     }
 
-    /// Puts in number `n`, of an item that comes: those from `n` on are one greater then. Where memory is refused, or the
-    /// last of them has no next, nothing changes.
+    /// Inserts number `n` for an item that comes: the numbers from `n` on become one greater. If memory is refused, or the
+    /// last of them has no successor, nothing changes.
     pub fn insert(&mut self, n: usize) -> Result<(), AllocError>
         ensures ok { OnOk result ((front rest : List ℕ) → PartAt n front rest self.old → HaveNext rest → self.new ≡ front ++ n ∷ map suc rest) }
         ensures count { OnOk result (length self.new ≡ suc (length self.old)) }
@@ -104,7 +104,7 @@ impl Numbers {
         Ok(())
     }
 
-    /// Takes number `n` out, of an item that goes: those after it are one less then. It asks for no memory.
+    /// Removes number `n` of an item that goes: the numbers after it become one less. It asks for no memory.
     pub fn remove(&mut self, n: usize)
         ensures taken { (front rest : List ℕ) → PartAt n front rest (front ++ rest) → HaveNext rest → self.old ≡ front ++ n ∷ map suc rest → self.new ≡ front ++ rest }
         ensures count { length self.old ≤ length self.new + 1 }
@@ -116,8 +116,8 @@ impl Numbers {
         }
     }
 
-    /// Makes way for an item that comes, of another kind: numbers from `n` on are one greater then, if the last of them has
-    /// a next.
+    /// Makes way for an item of another kind that comes: the numbers from `n` on become one greater, if the last of them
+    /// has a successor.
     pub fn make_way(&mut self, n: usize)
         ensures moved { (front rest : List ℕ) → PartAt n front rest self.old → HaveNext rest → self.new ≡ front ++ map suc rest }
         ensures count { length self.new ≡ length self.old }
@@ -130,12 +130,12 @@ impl Numbers {
         self.list.shift_from(k, 1);
     }
 
-    /// Closes the gap of an item that goes, of another kind: numbers after `n` are one less then.
+    /// Closes the gap of an item of another kind that goes: the numbers after `n` become one less.
     pub fn close(&mut self, n: usize)
         ensures moved { (front rest : List ℕ) → PartAt n front rest (front ++ rest) → HaveNext rest → self.old ≡ front ++ map suc rest → self.new ≡ front ++ rest }
         ensures count { length self.new ≡ length self.old }
     {
-        // they are numbers of a machine
+        // for the proof: the numbers are below 2^64
         let _ = self.has_greatest();
         // zero stays
         let k = self.list.count_below(n.max(1));

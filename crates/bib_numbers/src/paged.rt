@@ -11,8 +11,8 @@ use crate::starts::count_anew;
 use std::alloc::{AllocError, Global};
 use std::marker::Model;
 
-/// A list of numbers in pages of 1 to 512. A look takes time in the logarithm of their count; a change takes a few steps
-/// for each page, and some for the numbers of one.
+/// A list of numbers in pages of 1 to 512. A look-up takes time in the logarithm of their count; a change takes a few steps
+/// for each page, and some for the numbers of one page.
 #[derive(Drop)]
 pub(crate) struct Paged {
     alloc: Global,
@@ -63,7 +63,7 @@ impl Paged {
         self.leaves[p].get(j)
     }
 
-    /// The last number. It takes a step.
+    /// The last number. It takes one step.
     pub(crate) fn last(&self) -> Option<usize>
         ensures last { IfSome result (λ n. slice_get self.now (length self.now - 1) ≡ Some n) }
         ensures some { IfSome result (λ n. (1 ≤ length self.now) × (n < 2 ^ 64)) }
@@ -73,7 +73,7 @@ impl Paged {
         Some(leaf.get(leaf.len() - 1))
     }
 
-    /// How many of the numbers are below `n`: at once where all are.
+    /// How many of the numbers are below `n`: at once if all are.
     #[inline]
     pub(crate) fn count_below(&self, n: usize) -> usize
         ensures within { result ≤ length self.now }
@@ -82,7 +82,7 @@ impl Paged {
         count_below(&self.leaves, &self.firsts, self.count, n)
     }
 
-    /// Puts number `n` before number `k`, or at the end. Where memory is refused, nothing changes.
+    /// Inserts number `n` before number `k`, or at the end. If memory is refused, nothing changes.
     pub(crate) fn insert(&mut self, k: usize, n: usize) -> Result<(), AllocError>
         requires { k ≤ length self.old }
         ensures ok { OnOk result (self.new ≡ insert self.old k n) }
@@ -109,7 +109,7 @@ impl Paged {
         Ok(())
     }
 
-    /// Takes number `k` away. It asks for no memory.
+    /// Removes number `k`. It asks for no memory.
     pub(crate) fn remove(&mut self, k: usize)
         requires { k < length self.old }
         ensures { self.new ≡ remove self.old k }

@@ -1,4 +1,4 @@
-//! How many numbers stand before each page.
+//! How many numbers come before each page.
 
 ghost use Rattle.std.specs.Prelude.{◌≡◌, ◌<◌, ◌^◌, List, ℕ, length};
 ghost use Rattle.bib_pages.specs.Pages.{joined, IsOnWay};
@@ -7,7 +7,8 @@ ghost use Rattle.bib_numbers.specs.Moves.{starts};
 use crate::leaf::Leaf;
 use crate::leaves::LEAF_LIMIT;
 
-/// The last page that begins no later than place `k`: at once where the pages before it are full. Only time rests on it.
+/// The last page that begins no later than place `k`: found at once if the pages before it are full. Only time depends on
+/// it.
 fn last_begun(firsts: &[usize], k: usize) -> usize {
     let full = k / LEAF_LIMIT;
     if full < firsts.len() && firsts[full] == k - k % LEAF_LIMIT {
@@ -18,8 +19,8 @@ fn last_begun(firsts: &[usize], k: usize) -> usize {
         .saturating_sub(1)
 }
 
-/// A page that begins no later than place `k`, and how many of the numbers before that place stand in it and in the pages
-/// after it. It is the last such page, which only time rests on.
+/// A page that begins no later than place `k`, and how many numbers are between its start and place `k`. It is the last
+/// such page; only time depends on that.
 #[tactic(auto, using(crate::proofs::FilledPages::way_start, crate::proofs::FilledPages::way_near))]
 pub(crate) fn near(firsts: &[usize], k: usize) -> (usize, usize)
     ensures { (pages : List (List ℕ)) → firsts.now ≡ starts 0 pages → IsOnWay pages result.0 k result.1 }
@@ -34,7 +35,7 @@ pub(crate) fn near(firsts: &[usize], k: usize) -> (usize, usize)
     (0, k)
 }
 
-/// Counts the numbers before each page anew.
+/// Counts again the numbers before each page.
 pub(crate) fn count_anew(leaves: &[Leaf], firsts: &mut [usize])
     requires each { length firsts.old ≡ length leaves.now }
     requires fits { length (joined leaves.now) < 2 ^ 64 }

@@ -57,7 +57,7 @@ front_found count list id h =
 pub lacks_all : (count : ℕ) (list : List ℕ) (id : ℕ) → count ≤ id → Lacks list id → Lacks (counted count ++ list) id
 lacks_all count list id h lacks = lacks_append (counted count) list id (below_lacks (counted count) id (all_below count id (counted count) h (below_counted count))) lacks
 
--- one more comes, where no other is written down
+-- one more id comes, when no other is written down
 pub more_counted : (count : ℕ) (list : List ℕ) → list ≡ [] → counted (count + 1) ++ list ≡ insert (counted count ++ list) (length (counted count ++ list)) count
 more_counted count list none =
     let next : count + 1 ≡ suc count = omega arith in
@@ -70,7 +70,7 @@ lacks_counted count list none = lacks_all count list count (omega arith) (subst 
 pub ascend_alone : (count : ℕ) (list : List ℕ) → list ≡ [] → Ascend (counted count ++ list)
 ascend_alone count list none = subst Ascend (sym (ap (λ (l : List ℕ). counted count ++ l) none ∙ append-nil (counted count))) (ascend_counted count)
 
--- the last is taken away, where no other is written down
+-- the last id is removed, when no other is written down
 pub less_counted : (count n : ℕ) (list : List ℕ) → 0 < count → n ≡ count - 1 → remove (counted count ++ list) n ≡ counted n ++ list
 less_counted zero n list h e = absurd (omega (arith, h))
 less_counted (suc m) n list h e =
@@ -85,7 +85,7 @@ less_counted (suc m) n list h e =
 
 -- ---- writing them down
 
--- the first so many ids are written down, and there is room for the others
+-- the ids below `id` are written down, and there is room for the others up to `count`
 pub record IsWritten {Z : Type 0} (id count : ℕ) (was list : Vec ℕ Z) : Type 0 where
   pub ids : list.items ≡ counted id ++ was.items
   pub len : 0 < count → vec_len list ≡ id

@@ -27,7 +27,7 @@ pub lacks_among : (ids : List ℕ) (id : ℕ) → Lacks ids id → is_among ids 
 lacks_among [] id l = refl
 lacks_among (x ∷ ids) id l = cond-false (x == id) true (is_among ids id) (ne_eqb x id l.0) ∙ lacks_among ids id l.1
 
--- an id is among the first n where its number is below n
+-- an id is among the first n if its number is below n
 pub stands_below : (ids : List ℕ) (n m id : ℕ) → slice_get ids m ≡ Some id → m < n → is_among (take n ids) id ≡ true
 stands_below [] n m id e h = absurd (none-some id e)
 stands_below (x ∷ ids) zero m id e h = absurd (omega (arith, h))
@@ -39,7 +39,7 @@ lacks_at [] m id x l e same = none-some id e
 lacks_at (y ∷ ids) zero id x l e same = l.0 (same_Some y id e ∙ same)
 lacks_at (y ∷ ids) (suc m) id x l e same = lacks_at ids m id x l.1 e same
 
--- and not, in a list of distinct ids, where it is not below n
+-- an id of a list of distinct ids is not among the first n if its number is not below n
 later_lacks : (ids : List ℕ) (n m id : ℕ) → IsDistinct ids → slice_get ids m ≡ Some id → n ≤ m → Lacks (take n ids) id
 later_lacks [] n m id d e h = absurd (none-some id e)
 later_lacks (x ∷ ids) zero m id d e h = tt
@@ -90,7 +90,7 @@ apart (x ∷ a) b d = lacks_one x a b (all_back (λ (y : ℕ). y ≢ x) a b d.0)
 
 -- ---- the holders before a number
 
--- so many of the ids that pass are among the first n, and the others are not
+-- the first `count` of the ids that pass are among the first n ids, and the others are not
 pub record IsCounted (now ids : List ℕ) (n count : ℕ) : Type 0 where
   pub within : count ≤ length ids
   pub front : (k d : ℕ) → k < count → is_among (take n now) (get_or ids k d) ≡ true
@@ -130,7 +130,7 @@ counted test now ids n distinct is = record {
     after : AllByRecursion (λ (y : ℕ). Lacks (take n now) y) (drop n now)
     after = apart (take n now) (drop n now) (subst IsDistinct (sym (take-append-drop n now)) distinct)
 
--- where the last is among the first n, all are
+-- if the last id that passes is among the first n, all that pass are
 pub counted_last : (now ids : List ℕ) (n count last : ℕ) → IsCounted now ids n count → slice_get ids (length ids - 1) ≡ Some last → is_among (take n now) last ≡ true → length ids ≡ count
 counted_last now ids n count last c is among = ⊎_elim
     (λ (short : count < length ids).

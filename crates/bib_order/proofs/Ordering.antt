@@ -110,7 +110,7 @@ distinct_insert ids n id d l =
     let whole = take-append-drop n ids in
     distinct_put (take n ids) (drop n ids) id (subst IsDistinct (sym whole) d) (subst (λ (r : List ℕ). Lacks r id) (sym whole) l)
 
--- where a new id is put in, or nothing changes
+-- the ids are distinct after a new id is inserted, or nothing changes
 pub put_or_same : {E : Type 0} (r : Result ℕ E) (old new : List ℕ) (n : ℕ) → IsDistinct old → IfOk r (λ id. (new ≡ insert old n id) × Lacks old id) → OnErr r (new ≡ old) → IsDistinct new
 put_or_same (Ok id) old new n d ok err = subst IsDistinct (sym ok.0) (distinct_insert old n id d ok.1)
 put_or_same (Err e) old new n d ok err = subst IsDistinct (sym err) d
@@ -195,7 +195,7 @@ searched_more sheets name id p before len h e none s =
       lacks = λ any. subst (λ (l : List ℕ). Lacks l id) (sym (joined-more sheets p h)) (lacks_append (joined (take p sheets)) (page_at sheets p) id (s.lacks any) (none any));
     }
 
--- an id found in page p, where it stands in all
+-- the id, which was found in a page, is number n of all ids
 pub record IsFoundAt (ids : List ℕ) (id n : ℕ) : Type 0 where
   pub within : n < length ids
   pub found : slice_get ids n ≡ Some id

@@ -7,7 +7,7 @@ abbrev pub counted : ℕ → List ℕ
 counted zero = []
 counted (suc n) = counted n ++ n ∷ []
 
--- where ids are not written down, none is, and there is room for all of them
+-- if `count` ids are not written down, the list is empty and has room for them; if `count` is 0, nothing is asked
 pub record HasRoom {Z : Type 0} (count : ℕ) (list : Vec ℕ Z) : Type 0 where
   pub none : 0 < count → list.items ≡ []
   pub room : 0 < count → count ≤ vec_capacity list

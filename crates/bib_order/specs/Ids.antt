@@ -4,11 +4,12 @@ use Rattle.bib_order.specs.declared.order.Ids.{Ids}
 use Rattle.bib_order.specs.declared.order.Ids.TheVariants.{Listed, Paged}
 use Rattle.bib_order.specs.Orders.{IsDistinct, Ascend}
 
+-- the ids in order, whichever way they are kept
 abbrev pub ids_of : Ids → List ℕ
 ids_of (Listed ids) = ids
 ids_of (Paged ids) = ids
 
--- those in a list ascend, and those in pages are distinct
+-- ids in a list ascend, and ids in pages are distinct
 abbrev pub AreKept : Ids → Type 0
 AreKept (Listed ids) = Ascend ids
 AreKept (Paged ids) = IsDistinct ids

@@ -1,4 +1,4 @@
--- A list of ids that are distinct, and what is kept of each id.
+-- A list of distinct ids, and what is kept of each id.
 use Rattle.std.specs.Prelude.{ℕ, Bool, true, false, ◌==◌, ◌≡◌, ◌≢◌, ◌≤◌, ◌<◌, ◌+◌, ◌-◌, ◌^◌, List, [], ◌∷◌, length, Option, None, slice_index_or, slice_index, insert, remove, if◌then◌else◌, nat_lt}
 use Rattle.std.specs.List.{AllByRecursion}
 use Rattle.bib_pages.specs.Pages.{joined}
@@ -7,7 +7,7 @@ use Rattle.bib_pages.specs.Pages.{joined}
 abbrev pub Lacks : List ℕ → ℕ → Type 0
 Lacks ids id = AllByRecursion (λ other. other ≢ id) ids
 
--- no id stands there twice
+-- no id is in the list twice
 abbrev pub IsDistinct : List ℕ → Type 0
 IsDistinct [] = Unit {0}
 IsDistinct (id ∷ ids) = Lacks ids id × IsDistinct ids
@@ -27,12 +27,12 @@ pub record IsKnown (homes : List (Option ℕ)) (id : ℕ) : Type 0 where
   pub within : id < length homes
   pub home : slice_index_or homes id None ≢ None
 
--- the ids in use are still, and there are no fewer ids
+-- each id that was in use still is, and there are places for no fewer ids
 pub record IsTold (old new : List (Option ℕ)) : Type 0 where
   pub len : length old ≤ length new
   pub known : (id : ℕ) → IsKnown old id → IsKnown new id
 
--- the pages have distinct ids, each of which is in use, and the count is that of all, which fits a machine number
+-- the ids in the pages are distinct and in use, and `count` is their number, which is less than 2^64
 pub record IsOrdered (sheets : List (List ℕ)) (homes : List (Option ℕ)) (count : ℕ) : Type 0 where
   pub count_is : count ≡ length (joined sheets)
   pub fits : count < 2 ^ 64
@@ -41,15 +41,15 @@ pub record IsOrdered (sheets : List (List ℕ)) (homes : List (Option ℕ)) (cou
 
 -- ---- what stays when another id comes or goes
 
--- the number that id n has once another is put in before id `at`
+-- the number that id n has after another is inserted before id `at`
 abbrev pub after_insert : ℕ → ℕ → ℕ
 after_insert at n = if nat_lt n at then n else n + 1
 
--- the number that id n has once id `at`, another, is taken away
+-- the number that id n has after another, id `at`, is removed
 abbrev pub after_remove : ℕ → ℕ → ℕ
 after_remove at n = if nat_lt n at then n else n - 1
 
--- the others stay where they stand among one another
+-- the other ids stay, and keep their order
 pub record KeepsOrder : Type 0 where
   pub inserted : (ids : List ℕ) (at id n : ℕ) → at ≤ length ids → n < length ids → slice_index (insert ids at id) (after_insert at n) ≡ slice_index ids n
   pub inserted_order : (at n m : ℕ) → n < m → after_insert at n < after_insert at m

@@ -9,8 +9,8 @@ ghost use Rattle.bib_order.specs.Counted.{counted};
 use std::alloc::{AllocError, Global};
 use std::marker::Model;
 
-/// Ids that ascend. As long as each is its own number, they are not written down, and take no memory but room for a list:
-/// it is needed once one goes from their midst.
+/// Ids that ascend. As long as each id is its own number, none is written down. Then they take no memory except room for a
+/// list, which is needed once an id from their middle is removed.
 #[derive(Drop)]
 pub(crate) struct Listed {
     // how many ids are not written down
@@ -63,7 +63,7 @@ impl Listed {
         }
     }
 
-    /// Where the id stands: at once where it is its own number, else by a search.
+    /// The number of the id, if it is one of these: at once if the id is its own number, else by a search.
     pub(crate) fn position_of(&self, id: usize) -> Option<usize>
         requires { Ascend self.now }
         ensures found { IfSome result (λ n. slice_get self.now n ≡ Some id) }
@@ -76,14 +76,14 @@ impl Listed {
         Some(self.count + n)
     }
 
-    /// Makes room for so many ids more. No id changes.
+    /// Makes room for `additional` more ids. No id changes.
     pub(crate) fn reserve(&mut self, additional: usize) -> Result<(), AllocError>
         ensures { self.new ≡ self.old }
     {
         self.list.reserve(self.count.saturating_add(additional))
     }
 
-    /// Puts an id after all of these that is larger than they are.
+    /// Adds a new id after all others, which is larger than each of them.
     pub(crate) fn push(&mut self) -> Result<usize, AllocError>
         requires { Ascend self.old }
         ensures ok { IfOk result (λ id. (self.new ≡ insert self.old (length self.old) id) × Lacks self.old id) }
@@ -102,7 +102,7 @@ impl Listed {
         Ok(id)
     }
 
-    /// Takes id `n` away. It asks for no memory.
+    /// Removes id `n`. It asks for no memory.
     pub(crate) fn remove(&mut self, n: usize)
         requires within { n < length self.old }
         requires up { Ascend self.old }
@@ -119,7 +119,8 @@ impl Listed {
     }
 }
 
-/// Writes so many ids down, each of which is its own number, where none is.
+/// Writes down the `count` ids that are their own numbers. If there are any, the list is empty before, and has room for
+/// them.
 fn write_down(list: &mut Vec<usize>, count: usize)
     requires none { 0 < count → list.old.items ≡ [] }
     requires room { 0 < count → count ≤ vec_capacity list.old }
@@ -130,7 +131,7 @@ fn write_down(list: &mut Vec<usize>, count: usize)
     }
 }
 
-/// Where the id stands among these.
+/// The index of the id in this list, if it is there.
 fn position_among(ids: &[usize], id: usize) -> Option<usize>
     requires { Ascend ids.now }
     ensures found { IfSome result (λ n. slice_get ids.now n ≡ Some id) }
@@ -139,7 +140,7 @@ fn position_among(ids: &[usize], id: usize) -> Option<usize>
     ids.binary_search(&id).ok()
 }
 
-/// The id after all of these.
+/// An id larger than all of these: the last one's successor, or 0 if there is none.
 #[tactic(auto, using(crate::proofs::Ascending::below_next))]
 fn next_id(ids: &[usize]) -> Option<usize>
     requires { Ascend ids.now }
@@ -151,7 +152,7 @@ fn next_id(ids: &[usize]) -> Option<usize>
     }
 }
 
-/// Puts an id after all of these that is larger than they are.
+/// Adds a new id after all of these, which is larger than each of them.
 #[tactic(auto, using(crate::proofs::Ascending::ascend_more, crate::proofs::Ascending::below_lacks))]
 fn add_next(ids: &mut Vec<usize>) -> Result<usize, AllocError>
     requires { Ascend ids.old.items }

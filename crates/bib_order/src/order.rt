@@ -1,4 +1,4 @@
-//! Handles of the members of a list.
+//! Ids of the members of a list, in their order.
 
 ghost use Rattle.std.specs.Prelude.{◌≡◌, ◌≤◌, ◌<◌, ℕ, Bool, [], length, take, insert, remove, slice_index, slice_get, Some, IfOk, OnErr};
 ghost use Rattle.std.specs.Option.{IfSome, IfNone};
@@ -18,10 +18,11 @@ enum Ids {
     Paged(Paged),
 }
 
-/// Distinct ids in an order: one for each member of a list that is kept elsewhere. An id stays with its member while
-/// others come and go, and is free again once it is taken away. As long as each new id came after all others and none but
-/// the last was taken away, an id is its number: both are found at once, and ids take room for a list that is not written
-/// to. From then on the ids stand in pages, and a call takes a step for each page and some for the ids of one.
+/// Distinct ids in an order: one for each member of a list that is kept elsewhere. An id stays with its member while others
+/// come and go, and can be used again once it is removed. As long as each new id came after all others and only the last
+/// was removed, each id is its own number: both are found at once, and the ids take only room for a list that is not
+/// written to. After any other change the ids are in pages, and a call takes one step for each page and some for the ids of
+/// one page.
 #[derive(Drop)]
 pub struct Order {
     alloc: Global,
@@ -60,8 +61,8 @@ impl Order {
         }
     }
 
-    /// Makes room for so many ids more, as far as there is memory for it. The order stays as it is: the room is no promise,
-    /// and saves time alone.
+    /// Makes room for `additional` more ids, as far as there is memory for it. The order is unchanged. The room is not
+    /// promised; it only saves time.
     pub fn prepare(&mut self, additional: usize)
         ensures { self.new ≡ self.old }
     {
@@ -92,7 +93,7 @@ impl Order {
         }
     }
 
-    /// The number that the id has, if it is in use.
+    /// The number of the id, if the id is in use.
     pub fn position_of(&self, id: usize) -> Option<usize>
         ensures found { IfSome result (λ n. slice_get self.now n ≡ Some id) }
         ensures none { IfNone result (Lacks self.now id) }
@@ -103,7 +104,7 @@ impl Order {
         }
     }
 
-    /// Whether the id stands before number `n`.
+    /// Whether the id is one of the first `n`.
     fn stands_before(&self, id: usize, n: usize) -> bool
         ensures { result ≡ is_among (take n self.now) id }
     {
@@ -114,8 +115,8 @@ impl Order {
         }
     }
 
-    /// How many of the ids that pass a test stand before number `n`, where `ids` are all that pass, in order. It looks at
-    /// the last of these first, and then continues by halves.
+    /// How many of the first `n` ids pass a test, if `ids` are all the ids that pass it, in order. It looks at the last of
+    /// `ids` first, and then searches by halves.
     pub fn count_before(&self, ids: &[usize], n: usize) -> usize
         ensures count { (test : ℕ → Bool) → ids.now ≡ holders test self.now → result ≡ before test self.now n }
         ensures within { result ≤ length ids.now }
@@ -145,7 +146,7 @@ impl Order {
         }
     }
 
-    /// Takes id `n` away. It needs no memory.
+    /// Removes id `n`. It needs no memory.
     pub fn remove(&mut self, n: usize)
         requires { n < length self.old }
         ensures { self.new ≡ remove self.old n }
@@ -156,7 +157,7 @@ impl Order {
         self.take_out(n);
     }
 
-    /// Makes pages of a list, where there is memory for them. No id changes.
+    /// Moves the ids from the list into pages, if there is memory for pages. No id changes.
     fn make_pages(&mut self)
         ensures { self.new ≡ self.old }
     {
@@ -167,7 +168,7 @@ impl Order {
         }
     }
 
-    /// Takes id `n` away, from the list or its page.
+    /// Removes id `n` from the list, or from its page.
     fn take_out(&mut self, n: usize)
         requires { n < length self.old }
         ensures { self.new ≡ remove self.old n }

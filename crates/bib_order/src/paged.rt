@@ -10,15 +10,15 @@ use crate::sheets::{id_of, put, seek, take_away};
 use std::alloc::{AllocError, Global};
 use std::marker::Model;
 
-/// Distinct ids in pages, each with at most 512. A call takes a step for each page, and some for the ids of one.
+/// Distinct ids in pages of at most 512. A call takes one step for each page, and some for the ids of one page.
 #[derive(Drop)]
 pub(crate) struct Paged {
     alloc: Global,
     sheets: Vec<Sheet>,
     count: usize,
-    // of each id that is in use, the name of the page to look in first
+    // for each id in use, the name of the page to search first
     homes: Vec<Option<usize>>,
-    // ids to use again: the last one next
+    // removed ids, to be used again from the last one on
     free: Vec<usize>,
     next_name: usize,
 }
@@ -35,7 +35,7 @@ impl Model for Paged {
     ghost invariant = { λ p. IsOrdered p.sheets.items p.homes.items p.count };
 }
 
-/// Makes a place for the id among the homes.
+/// Makes a place for the id in `homes`.
 fn make_place(homes: &mut Vec<Option<usize>>, id: usize) -> Result<(), AllocError>
     ensures within { OnOk result (id < length homes.new.items) }
     ensures told { IsTold homes.old.items homes.new.items }
@@ -89,7 +89,7 @@ impl Paged {
         id_of(&self.sheets, n)
     }
 
-    /// The number that the id has, if it is in use.
+    /// The number of the id, if the id is in use.
     pub(crate) fn position_of(&self, id: usize) -> Option<usize>
         ensures found { IfSome result (λ n. slice_get self.now n ≡ Some id) }
         ensures none { IfNone result (Lacks self.now id) }
@@ -103,7 +103,7 @@ impl Paged {
         }
     }
 
-    /// The id that is used next: it is in no use.
+    /// The id that the next insertion uses: it is not in use.
     fn spare(&self) -> usize
         ensures { Lacks self.now result }
     {
@@ -115,7 +115,7 @@ impl Paged {
         self.homes.len()
     }
 
-    /// Puts an id that is in no use before id `n`, or at the end.
+    /// Inserts an id that is not in use before id `n`, or at the end.
     fn take_in(&mut self, n: usize, id: usize) -> Result<(), AllocError>
         requires within { n ≤ length self.old }
         requires spare { Lacks self.old id }
@@ -126,7 +126,7 @@ impl Paged {
             return Err(AllocError);
         };
         make_place(&mut self.homes, id)?;
-        // room for all ids, so that none asks for memory when it comes back
+        // room for all ids, so that removing an id asks for no memory
         self.free
             .reserve(self.homes.len().saturating_sub(self.free.len()))?;
         let name = put(
@@ -156,7 +156,7 @@ impl Paged {
         Ok(id)
     }
 
-    /// Takes id `n` away. It asks for no memory.
+    /// Removes id `n`. It asks for no memory.
     pub(crate) fn remove(&mut self, n: usize)
         requires { n < length self.old }
         ensures { self.new ≡ remove self.old n }

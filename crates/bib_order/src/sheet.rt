@@ -7,7 +7,7 @@ ghost use Rattle.bib_order.specs.Orders.{Lacks};
 use std::alloc::{AllocError, Global};
 use std::marker::Model;
 
-/// Ids that stand together in an order, and the name of their page, which no contract sees.
+/// Ids of one page, in order, and the page's name, which no contract sees.
 #[derive(Drop)]
 pub(crate) struct Sheet {
     name: usize,
@@ -58,7 +58,7 @@ impl Sheet {
         Ok(())
     }
 
-    /// Takes id `k` away. It asks for no memory.
+    /// Removes id `k`. It asks for no memory.
     pub(crate) fn remove(&mut self, k: usize)
         requires { k < length self.old }
         ensures { self.new ≡ remove self.old k }
@@ -84,7 +84,7 @@ impl Sheet {
     }
 }
 
-/// Where the id stands among these.
+/// The index of the id in this list, if it is there.
 pub(crate) fn position_in(ids: &[usize], id: usize) -> Option<usize>
     ensures found { IfSome result (λ k. slice_get ids.now k ≡ Some id) }
     ensures none { IfNone result (Lacks ids.now id) }

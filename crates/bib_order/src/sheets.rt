@@ -1,4 +1,4 @@
-//! The pages of an order: where each id stands, and how ids come and go.
+//! The pages of an order: in which page each id is, and how ids come and go.
 
 ghost use Rattle.std.specs.Prelude.{◌≡◌, ◌+◌, ◌≤◌, ◌<◌, ◌^◌, List, ℕ, [], ◌∷◌, length, take, insert, remove, set, slice_get, slice_index, Some, None, Option, OnOk, OnErr, IfOk, true};
 ghost use Rattle.std.specs.Option.{IfSome, IfNone};
@@ -11,10 +11,10 @@ use std::alloc::{AllocError, Global};
 /// How many ids a page has at most.
 const SHEET_LIMIT: usize = 512;
 
-/// How many ids of a full page stay when it becomes two.
+/// How many ids stay in a full page that is cut in two.
 const HALF: usize = 256;
 
-/// The page in which id `n` stands, and its number there.
+/// The page that has id `n`, and the id's number in that page.
 fn locate(sheets: &[Sheet], n: usize) -> (usize, usize)
     requires { n < length (joined sheets.now) }
     ensures { IsPlace sheets.now n result.0 result.1 }
@@ -30,7 +30,7 @@ fn locate(sheets: &[Sheet], n: usize) -> (usize, usize)
     (0, 0)
 }
 
-/// The page in which an id is put before id `n`, or at the end, and its number there.
+/// The page for an id that is inserted before id `n` or at the end, and the id's number in that page.
 fn gap(sheets: &[Sheet], count: usize, n: usize) -> (usize, usize)
     requires some { 0 < length sheets.now }
     requires count { count ≡ length (joined sheets.now) }
@@ -44,8 +44,8 @@ fn gap(sheets: &[Sheet], count: usize, n: usize) -> (usize, usize)
     (last, sheets[last].len())
 }
 
-/// Keeps in mind that these ids stand in the page of this name.
-fn tell(homes: &mut Vec<Option<usize>>, ids: &[usize], name: usize)
+/// Records in `homes` that the page with this name has each of these ids.
+fn set_home(homes: &mut Vec<Option<usize>>, ids: &[usize], name: usize)
     ensures { IsTold homes.old.items homes.new.items }
 {
     'pass: for k in 0..ids.len() {
@@ -55,7 +55,7 @@ fn tell(homes: &mut Vec<Option<usize>>, ids: &[usize], name: usize)
     }
 }
 
-/// Makes two pages of page `p`. The second has this name.
+/// Cuts page `p` in two. The second page gets the given name.
 fn part(
     alloc: Global,
     sheets: &mut Vec<Sheet>,
@@ -71,13 +71,14 @@ fn part(
 {
     sheets.reserve(1)?;
     let second = sheets[p].tail(alloc, HALF, name)?;
-    tell(homes, second.ids(), name);
+    set_home(homes, second.ids(), name);
     sheets.insert(p + 1, second)?;
     sheets[p].truncate(HALF);
     Ok(())
 }
 
-/// Where an id can be put that is to stand before id `k` of page `p`, or at its end. A full page becomes two.
+/// The page and the number at which an id is inserted before id `k` of page `p`, or at its end. A full page is cut in two
+/// first.
 fn room(
     alloc: Global,
     sheets: &mut Vec<Sheet>,
@@ -103,7 +104,7 @@ fn room(
     }
 }
 
-/// Puts an id into a page, where it has room, and answers the name of the page.
+/// Inserts an id into a page that has room, and returns the page's name.
 fn put_in(sheets: &mut Vec<Sheet>, p: usize, k: usize, id: usize) -> Result<usize, AllocError>
     requires page { p < length sheets.old.items }
     requires within { k ≤ length (page_at sheets.old.items p) }
@@ -115,7 +116,7 @@ fn put_in(sheets: &mut Vec<Sheet>, p: usize, k: usize, id: usize) -> Result<usiz
     Ok(sheet.name())
 }
 
-/// Begins the pages with an id, and answers the name of the page.
+/// Makes the first page, with one id, and returns the page's name.
 fn begin(
     alloc: Global,
     sheets: &mut Vec<Sheet>,
@@ -132,7 +133,7 @@ fn begin(
     Ok(name)
 }
 
-/// Puts an id before id `n`, or at the end, and answers the name of its page. A new page has the name that is given.
+/// Inserts an id before id `n` or at the end, and returns the name of its page. A new page gets the given name.
 pub(crate) fn put(
     alloc: Global,
     sheets: &mut Vec<Sheet>,
@@ -156,7 +157,7 @@ pub(crate) fn put(
     put_in(sheets, p, k, id)
 }
 
-/// Takes id `k` of page `p` out, and with it a page that has no other.
+/// Removes id `k` of page `p`, and the page too if it has no other id.
 fn take_out(sheets: &mut Vec<Sheet>, p: usize, k: usize)
     requires page { p < length sheets.old.items }
     requires within { k < length (page_at sheets.old.items p) }
@@ -170,7 +171,7 @@ fn take_out(sheets: &mut Vec<Sheet>, p: usize, k: usize)
     }
 }
 
-/// Takes id `n` away, and answers it.
+/// Removes id `n`, and returns it.
 pub(crate) fn take_away(sheets: &mut Vec<Sheet>, n: usize) -> usize
     requires within { n < length (joined sheets.old.items) }
     ensures id { result ≡ slice_index (joined sheets.old.items) n }
@@ -191,7 +192,7 @@ pub(crate) fn id_of(sheets: &[Sheet], n: usize) -> usize
     sheets[p].ids()[k]
 }
 
-/// Whether a page is to be searched: all are, where no name is given.
+/// Whether to search this page: a page of the given name, or any page if no name is given.
 fn is_meant(sheet: &Sheet, name: Option<usize>) -> bool
     ensures { name ≡ None → result ≡ true }
 {
@@ -201,7 +202,7 @@ fn is_meant(sheet: &Sheet, name: Option<usize>) -> bool
     }
 }
 
-/// The number of the id, if it stands in a page of this name, or in any where no name is given.
+/// The number of the id, if a page of this name has it, or any page if no name is given.
 pub(crate) fn seek(sheets: &[Sheet], name: Option<usize>, id: usize) -> Option<usize>
     requires { length (joined sheets.now) < 2 ^ 64 }
     ensures found { IfSome result (λ n. slice_get (joined sheets.now) n ≡ Some id) }

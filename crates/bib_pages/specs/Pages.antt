@@ -16,16 +16,16 @@ pub record IsPlace {X : Type 0} (pages : List (List X)) (n p k : ℕ) : Type 0 w
   pub within : k < length (page_at pages p)
   pub at : n ≡ length (joined (take p pages)) + k
 
--- what is put before member k of page p, or at its end, stands before member n of the list, or at its end
+-- a member inserted before member k of page p, or at its end, is inserted before member n of the list, or at its end
 pub record IsGap {X : Type 0} (pages : List (List X)) (n p k : ℕ) : Type 0 where
   pub page : p < length pages
   pub within : k ≤ length (page_at pages p)
   pub at : n ≡ length (joined (take p pages)) + k
 
--- page p is two, of which the first has the members before number k
+-- the pages once page p is cut in two, before its member k
 abbrev pub parted_at : {X : Type 0} → ℕ → ℕ → List (List X) → List (List X)
 parted_at k p pages = take p pages ++ take k (page_at pages p) ∷ (drop k (page_at pages p) ∷ drop (suc p) pages)
 
--- the first pages are passed on the way to member n, and so many of the members before it are left
+-- on the way to member n of the list, the first p pages are passed, and `left` members before it remain
 pub record IsOnWay {X : Type 0} (pages : List (List X)) (p n left : ℕ) : Type 0 where
   pub at : n ≡ length (joined (take p pages)) + left

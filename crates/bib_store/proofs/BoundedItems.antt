@@ -1,4 +1,4 @@
--- What is known of all items, where one comes or goes.
+-- What is known of all items, when one comes or goes.
 use Rattle.std.proofs.Common.{◌≡◌, ℕ, ◌≤◌, Bool, true, false, ◌&&◌, List, [], ◌∷◌, ◌++◌, refl, sym, ◌∙◌, ap, arith}
 use Rattle.std.proofs.lemmas.Bool.{both_ways}
 use Rattle.bib_spec.specs.Text.{Text, folded}

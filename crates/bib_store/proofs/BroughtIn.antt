@@ -17,7 +17,7 @@ use Rattle.bib_store.specs.Windows.{ArePut, HasLead, IsLead}
 use Rattle.bib_store.proofs.KeptItems.{length-stored}
 use Rattle.bib_store.proofs.KeptRuns.{bodies_in, parts_of, good_first, good_last, come_followed, come_back, followed_alike}
 
--- so many, and so many after them
+-- the first a + b elements are the first a, and b after them
 take_sum : {X : Type 0} (a b : ℕ) (xs : List X) → take (a + b) xs ≡ take a xs ++ take b (drop a xs)
 take_sum {X} a b xs =
     let low : a ≤ a + b = omega arith in

@@ -78,7 +78,7 @@ module _ (names : List Text) (all : List RecordField) (field : Field) where
 abbrev bears : Text → List RecordField → Bool
 bears name fields = list_any (λ other. same other.0 name) fields
 
--- those of the others that are missing, of which these are chosen, are missing of what is chosen
+-- to choose from the missing fields gives what is missing once fields are chosen on both sides
 missing_chosen : (names : List Text) (own others : List RecordField) → chosen names (missing own others) ≡ missing (chosen names own) (chosen names others)
 missing_chosen names own [] = refl
 missing_chosen names own (x ∷ xs) =
@@ -104,7 +104,7 @@ chosen_inherited names own others =
 
 -- ---- a loop that chooses
 
--- the fields of so many rows are gathered, of which these are chosen, and these are left
+-- of the fields gathered from the rows read so far, `fields` has those with these names; `rest` is still to be read
 pub record IsChoosing (names : List Text) (macros : Macros) (old fields : List RecordField) (all rest : List view.Field) : Type 0 where
   pub readable : AllByRecursion (IsReadable macros) rest
   pub chosen_so_far : (rows : List Row) → AllZip IsFieldOf all rows → (before : List RecordField) → old ≡ chosen names before →

@@ -1,4 +1,5 @@
--- The first crossref of an entry: where its word does not stand in the entry's bytes there is none, and else it is found row by row.
+-- The first crossref of an entry: if its word is not in the entry's bytes there is none; otherwise it is found row by
+-- row.
 use Rattle.std.proofs.Common.{◌≡◌, true, false, List, [], ◌∷◌, ◌++◌, length, map, Option, Some, None, ⊎_elim, refl, sym, ◌∙◌, ap, subst, append_assoc, All}
 use Rattle.std.specs.Prelude.{find}
 use Rattle.std.specs.List.{flat_map}
@@ -33,7 +34,7 @@ row_is_first m row rows e =
     crossref_more m row rows None
     ∙ ap (λ o. option_or o (crossref_in m rows)) (cond-true (same row.assignment.name crossref) (Some (field_text (raw_text m row.assignment.value))) None e)
 
--- ---- where its word does not stand
+-- ---- if its word is not there
 
 -- a row's name among the bytes around it
 row_shape : (front space name before equals value after rows rest : Text) → front ++ ((space ++ (name ++ before ++ equals ++ value ++ after) ++ rows) ++ rest)

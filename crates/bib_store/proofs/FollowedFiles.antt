@@ -1,4 +1,4 @@
--- The file of a change whose items come and go where no macro is defined: its tables, and its raw texts.
+-- The file of a change whose items come and go and define no macro: its tables, and its raw texts.
 use Rattle.std.proofs.Common.{◌≡◌, ◌≢◌, ℕ, ◌+◌, ◌-◌, ◌≤◌, ◌<◌, ◌^◌, List, [], ◌∷◌, ◌++◌, length, map, take, drop, None, sym, subst, ◌∙◌, ap, ap₂, refl, arith, append_assoc, length-append, take-append-drop}
 use Rattle.std.specs.List.{AllByRecursion, All, flat_map}
 use Rattle.std.specs.Option.{option_or}
@@ -125,7 +125,7 @@ exchanged_shorts there before new after plain fits =
 
 -- ---- a list in parts
 
--- up to a number, so many from there, those after them up to another number, and the rest
+-- a list is its first `from` elements, `many` after them, those up to number `to`, and the rest
 pub four_parts : {X : Type 0} (from many to : ℕ) (xs : List X) → from + many ≤ to → xs ≡ take from xs ++ (take many (drop from xs) ++ (take (to - (from + many)) (drop (from + many) xs) ++ drop to xs))
 four_parts {X} from many to xs order =
     let sum : from + many + (to - (from + many)) ≡ to = omega (arith, order) in
@@ -285,7 +285,7 @@ module _ (c : Change) (old now : List Item) (count lead : ℕ) (put : ArePut c o
   same_trees =
       trees_of stay again (good_db lead from) (All-take (IsItem name_limit) lead inner.items reads.items) (sym stay_bodies ∙ sym is.same ∙ again_bodies)
 
-  -- the file's items, but for the trails of those that stay
+  -- the file's items, except for the trails of those that stay
   same_file : trees (kept ++ (come ++ after)) ≡ trees (before ++ (inner.items ++ after))
   same_file =
       ap trees (append_assoc before stay (come ++ after))
@@ -304,7 +304,7 @@ module _ (c : Change) (old now : List Item) (count lead : ℕ) (put : ArePut c o
 
   -- ---- numbers
 
-  -- so many items fit
+  -- the count of all items is less than 2^64
   all_fit : from + lead + (length come + length (gone ++ after)) < 2 ^ 64
   all_fit =
       let all = ap (length {A = Item}) now_parts in

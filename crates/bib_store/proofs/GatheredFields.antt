@@ -157,7 +157,7 @@ missing_all fields = filter_all (λ _. true) (λ _. refl) fields
 
 -- ---- a loop that gathers
 
--- the fields of so many rows are gathered, and these are left
+-- `fields` has the fields gathered from the rows read so far; `rest` is still to be read
 pub record IsGathering (macros : Macros) (old fields : List RecordField) (names : List (Text × Unit {0})) (all rest : List view.Field) : Type 0 where
   pub taken : AreTaken names fields
   pub readable : AllByRecursion (IsReadable macros) rest

@@ -65,7 +65,7 @@ lacks_start t = record {
       ⊎_elim (λ h. absurd (omega (arith, low, word_length name h))) (λ h. h) (cases_Bool (same name crossref));
 }
 
--- and not before there, where no f stands between
+-- and not before there, if there is no f between
 lacks_between : (t : Text) (at upto : ℕ) → LacksUpTo t at → upto ≤ length t
     → ((k : ℕ) → at ≤ k → k < upto → is_byte2 102 70 (get_or t k 0) ≡ true → ⊥)
     → (front name rest : Text) → t ≡ front ++ (name ++ rest) → length front + length name ≤ upto → same name crossref ≡ false

@@ -157,7 +157,7 @@ end_at limit ps i p b h e =
     let left : EndBy limit (p ∷ drop (i + 1) ps) = subst (λ (qs : List Piece). EndBy limit qs) (drop-next ps i p h e) (ends_after limit i ps b) in
     left.0
 
--- a piece on is left where no piece back is the first of what is left
+-- a piece on is left if no piece back is the first of what is left
 pub on_left : (backs ons : List Piece) (i j : ℕ) → back_is_first (drop i backs) (drop j ons) ≡ false → i < length backs → j < length ons
 on_left backs ons i j t h =
     let left : 0 < length (drop j ons) = on_there (drop i backs) (drop j ons) t (omega (arith, length-drop i backs)) in

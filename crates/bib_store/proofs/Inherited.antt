@@ -44,7 +44,7 @@ record_made item e macros seen kind key fields gathered is tree kind_is key_is f
 
 -- ---- one parent after another
 
--- what is inherited along the rest of a lineage, once so many parents gave what they have
+-- what is inherited along the rest of a lineage, once its first parents gave what they have
 abbrev pub with_rest : List EntryTexts → ℕ → ℕ → ℕ → List RecordField → List RecordField
 with_rest entries depth k heir fields = with_lineage entries (depth - k) heir fields
 

@@ -24,7 +24,7 @@ kept_as front items t file k same db r =
     let other : Reads file k.db = subst (λ (f : Text). Reads f k.db) same k.is.opens.reads in
     subst (λ (d : Reading). IsKeptAs d front items t) (one_reading name_limit file k.db db other r) k.is
 
--- the file has a reading, of which it is kept
+-- the file has a reading, and what is kept is that reading's
 pub kept_reading : (front : Text) (items : List Item) (t : Tables) (file : Text) → IsKept front items t → file_of front items ≡ file → (db : Reading) × Reads file db × IsKeptAs db front items t
 kept_reading front items t file k same = (k.db, subst (λ (f : Text). Reads f k.db) same k.is.opens.reads, k.is)
 

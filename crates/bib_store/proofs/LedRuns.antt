@@ -1,4 +1,4 @@
--- Runs of pieces, of which the last is put in first and taken out last.
+-- Runs of pieces: the last run is inserted first and removed last.
 use Rattle.std.proofs.Common.{◌≡◌, ℕ, ◌+◌, ◌-◌, ◌≤◌, Bool, Option, List, [], ◌∷◌, ◌++◌, length, take, drop, refl, sym, subst, ◌∙◌, ap, ap₂, arith, append_assoc, length-append, length-drop, take-append-drop}
 use Rattle.std.specs.List.{between, flat_map}
 use Rattle.std.proofs.lemmas.List.{take_all, take_at, drop_at, drop-drop, append-nil, drop-append-le, length-take-le, take-take, drop-take}
@@ -33,7 +33,7 @@ between-first items from to n order within =
     ∙ ap (take (to - from)) (drop-take from (n - from) items)
     ∙ take-take (to - from) (n - from) (drop from items) low
 
--- no pieces lead to what is there
+-- an empty list of pieces leads from what is there to itself
 pub none_lead : (ps : List Piece) (front : Text) (n : ℕ) (items : List Item) (t : Tables) → length ps ≡ 0 → LeadWithin ps front n items t items t
 none_lead [] front n items t none = record {
   first = take n items;
@@ -71,7 +71,7 @@ all_back n old t new_t e back f =
     let all : take n old ++ [] ≡ old = append-nil (take n old) ∙ ap (λ m. take m old) e ∙ take_all (length old) old (omega arith) in
     subst (λ (l : List Item). AreFollowed l new_t) all (back [] (omega arith) (subst (λ (l : List Item). AreFollowed l t) (sym all) f))
 
--- where the tables follow the first items and any others still, they follow more of the first
+-- tables that still follow the first items, with any others after them, still follow more of the first
 pub longer_back : (old : List Item) (t u : Tables) (to n : ℕ) → to ≤ n → n ≤ length old → StayFollowed (length old - to) (take to old) t (take to old) u → StayFollowed (length old - n) (take n old) t (take n old) u
 longer_back old t u to n order within back rest room f =
     let prefix : List Item = take n old in
@@ -124,7 +124,7 @@ module _ (front : Text) (old put led_items : List Item) (t put_t led_t : Tables)
       let all = ap (length {A = Item}) led_parts in
       omega (arith, all, length-append (led.first ++ new) (drop from old), length-append led.first new, length-drop from old)
 
-  -- where the old items of the run stand then
+  -- the place of the run's old items then
   pub old_place : length led_items - (length old - from) ≡ length led.first + length new
   old_place = let a = long_led in let o = order in let h = r.to in omega (arith, a, o, h, within)
 
@@ -272,7 +272,7 @@ module _ (front : Text) (old put led_items : List Item) (t put_t led_t : Tables)
         followed = run_followed new_t at end is ends brought_t taken;
       })
 
--- ---- a run, where one before it is refused
+-- ---- a run, if one before it is refused
 
 pub run_back : (front : Text) (old put tried : List Item) (t put_t led_t taken_t back_t : Tables) (n count lead : ℕ) (run : List Piece) (c : Change) (former : Option Former) → IsRunChange run front old n c → (inner : Reading) → Reads c.text inner
     → n ≤ length old → AreBroughtIn c old put count lead → tried ≡ put → FollowBroughtIn c lead old t put_t

@@ -1,4 +1,4 @@
--- What is said of the items of a kind, in order, and where these items stand.
+-- What is said of the items of a kind, in order, and the places of these items.
 use Rattle.std.proofs.Common.{◌≡◌, ℕ, zero, suc, ◌+◌, ◌<◌, Bool, true, false, List, [], ◌∷◌, ◌++◌, length, map, slice_get, Some, ⊎_elim, refl, sym, ◌∙◌, ap, subst, arith, add-zero, not-suc-le-zero, le_of_suc-le-suc}
 use Rattle.std.proofs.lemmas.Bool.{cases_Bool, cond-true, cond-false}
 use Rattle.bib_spec.specs.Tree.{Tree}

@@ -72,7 +72,7 @@ applied_more at ps bytes out end i p w h e =
 pub applied_all : (at : ℕ) (ps : List Piece) (bytes out : Text) (end i : ℕ) → IsApplied at ps bytes out end i → length ps ≤ i → out ++ drop end bytes ≡ applied (all_moved_back at ps) bytes
 applied_all at ps bytes out end i w h = sym (ap (λ qs. out ++ applied_from end (all_moved_back at qs) bytes) (drop_all i ps h)) ∙ w.so_far
 
--- all fit exactly where those from i on fit after this place
+-- all fit exactly if those from i on fit after this place
 pub record IsFitting (at : ℕ) (ps : List Piece) (bytes : Text) (end i : ℕ) : Type 0 where
   pub whole : FitFrom at end (drop i ps) bytes → FitAfter at ps bytes
   pub rest : FitAfter at ps bytes → FitFrom at end (drop i ps) bytes

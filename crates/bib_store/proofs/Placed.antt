@@ -1,4 +1,4 @@
--- An item takes the place of another of its kind: what is said of the items stays, but for its texts.
+-- An item replaces another of its kind: what is said of the items stays, except for its texts.
 use Rattle.std.proofs.Common.{◌≡◌, ℕ, zero, suc, ◌+◌, cond, Bool, true, false, List, [], ◌∷◌, ◌++◌, length, map, Option, Some, None, option_map, refl, sym, ◌∙◌, ap, ap₂, subst}
 use Rattle.std.specs.List.{zip, flat_map}
 use Rattle.std.specs.Option.{option_or}
@@ -61,7 +61,7 @@ none_shifted : (f : ℕ → ℕ) (a : Option ℕ) → option_map f a ≡ None �
 none_shifted f None e = refl
 none_shifted f (Some n) e = absurd (none-some (f n) (sym e))
 
--- the texts of an item are no longer where it stands elsewhere
+-- the texts of an item are as long elsewhere in the file
 here_fits : (at : ℕ) (m : Macros) (item : Item) → first_too_long (placed_texts m item.tree) ≡ None → first_too_long (zip (map (λ place. at + place) (value_places item.tree)) (raw_texts_in m item.tree)) ≡ None
 here_fits at m item e = first-shift at (value_places item.tree) (raw_texts_in m item.tree) ∙ ap (option_map (λ place. at + place)) e
 

@@ -1,4 +1,4 @@
--- The list and the file of a change whose items each take the place of one in its window.
+-- The list and the file of a change whose items each replace one of its window.
 use Rattle.std.proofs.Common.{◌≡◌, ℕ, ◌+◌, ◌-◌, ◌≤◌, ◌<◌, List, [], ◌∷◌, ◌++◌, length, map, take, drop, set, slice_get, Some, None, refl, sym, subst, ◌∙◌, ap, ap₂, arith, take-append-drop, All}
 use Rattle.std.specs.List.{between}
 use Rattle.std.proofs.lemmas.List.{take-map, drop-map, drop-drop, take-set, drop-set, length-take-le}
@@ -34,7 +34,7 @@ only_one [] h = absurd (omega (arith, h))
 only_one (x ∷ []) h = (x, refl)
 only_one (x ∷ y ∷ xs) h = absurd (omega (arith, h))
 
--- so many items has the text of a change
+-- the reading of a change's text has as many items as its layout
 pub counted_in : (c : Change) → IsLayoutOf c.text c.layout → (inner : Reading) → Reads c.text inner → length inner.items ≡ length c.layout.items
 counted_in c is inner reads = sym (length-places inner) ∙ ap (λ p. length p.items) (sym (is.2 ∙ ap places_of (one_reading name_limit c.text is.0 inner is.1 reads)))
 

@@ -1,4 +1,4 @@
--- Items that each take the place of one of their kind: what the tables say then.
+-- Items that each replace one of their kind: what the tables say then.
 use Rattle.std.proofs.Common.{◌≡◌, ℕ, zero, suc, ◌+◌, ◌<◌, ◌≤◌, Bool, true, false, List, [], ◌∷◌, ◌++◌, length, map, take, drop, slice_get, Option, Some, None, refl, sym, ◌∙◌, ap, ap₂, subst, arith, append_assoc, length-append, take_all, length-take-le, All}
 use Rattle.std.proofs.lemmas.Option.{none-some, same_Some, slice_get_within}
 use Rattle.std.proofs.lemmas.List.{drop_all}
@@ -37,13 +37,13 @@ use Rattle.bib_store.proofs.TableSteps.{other_kind}
 
 -- ---- the same bytes
 
--- what macros stand for where item n stands
+-- what macros stand for before item n
 seen_by : (n : ℕ) (before rest : List Item) (t : Tables) → length before ≡ n → AreDefinitionsOf (before ++ rest) t.definitions → texts_at t.definitions n ≡ macros_at months before (length before)
 seen_by n before rest t count are =
     let low : n ≤ length before = omega (arith, count) in
     are.texts n ∙ macros_in_front months before rest n low ∙ ap (macros_at months before) (sym count)
 
--- an item with the same bytes is the same but for its trail
+-- an item with the same bytes is the same except for its trail
 pub same_in_place : (n : ℕ) (old new : View) (t : Tables) → old.body ≡ new.body → TakesPlace n old new t t
 same_in_place n old new t same = record {
   tables = λ before after x y seen are. tables_alike (before ++ x ∷ after) (before ++ y ∷ after) t (same_trees before after x y seen) are;

@@ -56,7 +56,7 @@ pub fields_zip : (file : Text) (db : Reading) (n : ℕ) (item : Item) → Reads 
 fields_zip file db n item reads it =
     subst (λ (t : Tree). AllZip IsFieldOf (fields_of t) it.entry.rows) (sym it.is) (zip_rows (before_rows it.entry) it.entry.rows (rows_of file db n item reads it))
 
--- they can be read where the file can be opened
+-- they can be read if the file can be opened
 pub fields_readable : (file : Text) (db : Reading) (n : ℕ) (item : Item) → Reads file db → too_long_at db ≡ None → (it : IsEntryAt db n item) → AllByRecursion (IsReadable (macros_at months db.items it.number)) (fields_of item.tree)
 fields_readable file db n item reads none it =
     let macros = macros_at months db.items it.number in

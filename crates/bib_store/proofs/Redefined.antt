@@ -1,4 +1,4 @@
--- A definition that gives way to another, where all items are settled: what the tables say of the others stays.
+-- A definition that replaces another, if all items are settled: what the tables say of the others stays.
 use Rattle.std.proofs.Common.{◌≡◌, ℕ, ◌*◌, ◌<◌, ◌≤◌, true, List, [], ◌∷◌, ◌++◌, length, map, max, Option, Some, None, refl, sym, ◌∙◌, ap, ap₂, subst, arith, All}
 use Rattle.std.specs.List.{AllByRecursion}
 use Rattle.std.proofs.Math.Nat.{mul-le-mul_right}
@@ -77,7 +77,7 @@ short_bodies b k (i ∷ items) few are =
     let most = mul-le-mul_right k body in
     (omega (arith, most, few), short_bodies b k items few are.1)
 
--- where the longest item can't say a text that is too long, none does
+-- if the longest item can't say a text that is too long, no item does
 pub tables_short : (t : Tables) (longest : ℕ) → ((n : ℕ) → AreAtMost longest (texts_at t.definitions n)) → t.bounds.longest_body * max longest 1 ≤ raw_limit
     → (items : List Item) → All (IsItem name_limit) items → AreTablesOf items t → first_too_long (raw_texts_from 0 months items) ≡ None
 tables_short t longest most few items good are =
@@ -140,7 +140,7 @@ module _ (before after : List Item) (x y : Item) (old_d new_d : Definition) (x_i
         bounds = bounds;
       }
 
--- ---- item n gives way
+-- ---- item n is replaced
 
 -- what is found before the tables change
 pub record IsReady (n : ℕ) (old new : View) (field : Field) (rest : List Field) (t : Tables) (names : Named) (text : Text) (bounds : Bounds) (longest : ℕ) : Type 0 where

@@ -1,4 +1,4 @@
--- A run in which a definition gives way to another: what the tables follow, and how they come back.
+-- A run in which a definition replaces another: what the tables follow, and how they come back.
 use Rattle.std.proofs.Common.{◌≡◌, ℕ, ◌+◌, ◌-◌, List, [], ◌∷◌, ◌++◌, length, map, take, drop, Some, None, sym, subst, ◌∙◌, ap, ap₂, arith, append_assoc, All}
 use Rattle.std.specs.List.{between}
 use Rattle.std.proofs.lemmas.List.{map-append}
@@ -30,7 +30,7 @@ use Rattle.bib_store.proofs.KeptItems.{length-stored}
 use Rattle.bib_store.proofs.KeptRuns.{AreParts, parts_of, bodies_in, good_first, good_last}
 use Rattle.bib_store.proofs.RowTexts.{cons_parts}
 
--- between a number and itself stands nothing
+-- between a number and itself there is nothing
 pub define_none : (n : ℕ) (items : List Item) → DefineNothingBetween n n items
 define_none n items all are =
     let none : n - n ≡ 0 = omega arith in

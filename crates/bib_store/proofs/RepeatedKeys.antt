@@ -12,7 +12,7 @@ use Rattle.bib_spec.proofs.Counts.{count-yes, count-no}
 use Rattle.bib_entries.specs.EntryTable.{AreApart}
 use Rattle.bib_entries.proofs.Tables.{map-at}
 
--- one of the first n keys is named where the first that is named is one of them
+-- one of the first n keys is named if the first key that is named is one of them
 pub named_before : (text : Text) (keys : List Text) (n : ℕ) → list_any (is_named text) (take n keys) ≡ option_map_or (λ m. nat_lt m n) (first_named text keys) false
 named_before text keys zero = along (first_named text keys)
   where
@@ -30,14 +30,14 @@ named_before text (k ∷ ks) (suc n) = ap (λ b. is_named text k || b) (named_be
     along false None = refl
     along false (Some m) = next m
 
--- the key of an entry is an earlier one's where its first entry is an earlier one
+-- the key of an entry is that of an earlier one if the first entry with the key is an earlier one
 pub repeated-first : (entries : List EntryTexts) (n : ℕ) (entry : EntryTexts) → slice_get entries n ≡ Some entry →
     is_repeated entries n ≡ option_map_or (λ m. nat_lt m n) (first_named entry.key (keys_of entries)) false
 repeated-first entries n entry at =
     ap (λ o. option_map_or (λ (entry : EntryTexts). list_any (is_named entry.key) (keys_of (take n entries))) o false) at
     ∙ ap (list_any (is_named entry.key)) (sym (take-map (λ (entry : EntryTexts). entry.key) n entries)) ∙ named_before entry.key (keys_of entries) n
 
--- ---- keys of which no two are one
+-- ---- keys that are all different
 
 -- a key that names another names itself
 named_itself : (key other : Text) → is_named key other ≡ true → is_named key key ≡ true
@@ -62,7 +62,7 @@ counted_once test (k ∷ keys) (suc n) key at passes = ⊎_elim
     (λ none. omega (arith, count-no test k keys none, counted_once test keys n key at passes))
     (cases_Bool (test k))
 
--- and twice, where one before it passes too
+-- and counted twice, if one before it passes too
 counted_twice : (test : Text → Bool) (keys : List Text) (n : ℕ) (key : Text) → slice_get keys n ≡ Some key → test key ≡ true → list_any test (take n keys) ≡ true → 2 ≤ count_by test keys
 counted_twice test [] n key at passes some = absurd (none-some key at)
 counted_twice test (k ∷ keys) zero key at passes some = absurd (both_ways false refl some)
@@ -71,7 +71,7 @@ counted_twice test (k ∷ keys) (suc n) key at passes some = ⊎_elim
     (λ none. omega (arith, count-no test k keys none, counted_twice test keys n key at passes (sym (ap (λ b. b || list_any test (take n keys)) none) ∙ some)))
     (cases_Bool (test k))
 
--- the key of an entry is no earlier one's where no two keys are one
+-- if no two keys are the same, the key of an entry is not that of an earlier one
 pub apart-unrepeated : (entries : List EntryTexts) (n : ℕ) (entry : EntryTexts) → slice_get entries n ≡ Some entry → AreApart (keys_of entries) → is_repeated entries n ≡ false
 apart-unrepeated entries n entry at apart = ⊎_elim
     (λ some.

@@ -1,4 +1,4 @@
--- Pieces in two parts, of which the later lie after the text that the earlier fit.
+-- Pieces in two parts: the later ones lie after the text that the earlier ones fit.
 use Rattle.std.proofs.Common.{◌≡◌, ℕ, ◌+◌, ◌≤◌, List, [], ◌∷◌, ◌++◌, length, drop, refl, sym, ◌∙◌, ap, ap₂, arith, append_assoc, length-append}
 use Rattle.std.proofs.lemmas.List.{take_at, drop-append-le}
 use Rattle.std.specs.List.{AllByRecursion}
@@ -8,7 +8,7 @@ use Rattle.bib_spec.proofs.PieceLemmas.{drop-place, stands_before, applied_from-
 use Rattle.history_spec.specs.Shifting.{all_moved_back, FitAfter}
 use Rattle.history_spec.proofs.Shifts.{fit-after, applied-from_after}
 
--- where a piece stands in a text, it stands in a longer one
+-- a piece that fits a text fits a longer one
 stands_longer : (text more : Text) (p : Piece) → Stands text p → Stands (text ++ more) p
 stands_longer text more p s =
     let inside = s.inside in

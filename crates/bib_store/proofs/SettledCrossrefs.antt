@@ -61,7 +61,7 @@ literal_values bytes spans is are = (
   λ v good e m. literal_parts m months (parts_of v) (are v good e) ∙ ap (raw_text months) (sym (one_value is.0 v is.1 good (is.2 ∙ sym e))),
 )
 
--- where there is no crossref, macros make none
+-- if there is no crossref, macros make none
 none_still : (a b : Macros) (rows : List Row) → crossref_in a rows ≡ None → crossref_in b rows ≡ None
 none_still a b [] e = refl
 none_still a b (row ∷ rows) e = ⊎_elim

@@ -136,7 +136,7 @@ tree_short m k within some (DefinitionTree d) is few =
     let most = mul-le-mul_right k inside in
     first_fits (length (start ++ bytes_before_value a)) (raw_text own a.value) [] (omega (arith, value, most, few))
 
--- items whose bodies are short, where no macro stands for much before any of them
+-- items whose bodies are short, if no macro stands for much before any of them
 pub all_short : (k : ℕ) → 0 < k → (at : ℕ) (m : Macros) (items : List Item) → ((n : ℕ) → AreAtMost k (macros_at m items n)) → AllByRecursion (λ i. IsTree name_limit i.tree) items
     → AllByRecursion (λ i. length (tree_bytes i.tree) * k ≤ raw_limit) items → first_too_long (raw_texts_from at m items) ≡ None
 all_short k some at m [] within trees short = refl

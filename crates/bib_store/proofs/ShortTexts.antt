@@ -76,7 +76,7 @@ none_found : (o : Option (ℕ × Text)) → option_map (λ (p : ℕ × Text). p.
 none_found None e = refl
 none_found (Some p) e = absurd (none-some p.0 (sym e))
 
--- where no raw text of a file is too long, each text of each item is short
+-- if no raw text of a file is too long, each text of each item is short
 pub texts_short : (db : Reading) → too_long_at db ≡ None → (n : ℕ) (i : Item) → slice_get db.items n ≡ Some i → AllByRecursion IsShort (raw_texts_in (macros_at months db.items n) i.tree)
 texts_short db e n i s = texts_from (length db.front) months db.items (none_found (find is_long (raw_texts_from (length db.front) months db.items)) e) n i s
 

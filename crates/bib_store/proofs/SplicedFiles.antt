@@ -22,7 +22,7 @@ use Rattle.bib_store.specs.Stored.{file_of, IsKept}
 use Rattle.bib_store.specs.Windows.{IsWindow, IsChange, Serve, front_before, front_after, bytes_before, bytes_after, exchanged, joined, OfJoined}
 use Rattle.bib_store.proofs.KeptItems.{bytes-stored, file-stored}
 
--- its items are kept where the others were
+-- its items are kept in the place of the others
 pub stored-joined : (w : Window) (db inner : Reading) (items : List Item) → items ≡ all_stored db.items → all_stored (joined w db inner).items ≡ exchanged w inner.items items
 stored-joined w db inner items k =
     map-append stored (take w.from db.items) (inner.items ++ drop w.to db.items)
@@ -105,7 +105,7 @@ spliced_kept ps front new_front items new_items t new_t c inner db is s f i tabl
       };
     }
 
--- where a raw text of it is too long, it is no file
+-- if a raw text of it is too long, it is no file
 pub spliced_refused : (ps : List Piece) (front : Text) (items : List Item) (t : Tables) (c : Change) (inner db : Reading) → IsSpliced ps front items t c inner db
     → (too_long_at db ≡ None → ⊥) → IsOpenable (applied ps (file_of front items)) → ⊥
 spliced_refused ps front items t c inner db s long file =

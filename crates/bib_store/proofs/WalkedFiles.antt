@@ -56,7 +56,7 @@ dropped (suc to) (x ∷ xs) j =
     let e : suc (to + j) ≡ suc to + j = omega arith in
     dropped to xs j ∙ ap (slice_get (x ∷ xs)) e
 
--- where an item that is kept stands in the whole list
+-- the place in the whole list of an item that is kept
 kept_at : (from to : ℕ) (all : List Item) (n : ℕ) → from ≤ to → to ≤ length all → slice_get (without_range from to all) n ≡ slice_get all (cond (nat_lt n from) n (n + (to - from)))
 kept_at from to all n order within = ⊎_elim
     (λ e. low_kept from all (drop to all) n (ltb-true n from e) (omega (arith, order, within)) ∙ ap (slice_get all) (sym (cond-true (nat_lt n from) n (n + (to - from)) e)))

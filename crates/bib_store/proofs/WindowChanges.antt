@@ -72,7 +72,7 @@ pub too_long_made : (ps : List Piece) (front : Text) (items : List Item) (w : Wi
     → place ≡ length (bytes_before w front items) → after ≡ length (bytes_after w items) → file_limit < place + length text + after → Serve ps (file_of front items) → ⊥
 too_long_made ps front items w place text after m p b h s = absurd (omega (arith, m.long, s.short))
 
--- where the whole file is made, it is the text
+-- if the window is the whole file, its new text is the new file
 pub whole_made : (ps : List Piece) (front : Text) (items : List Item) (w : Window) (text : Text) → IsWindow items w → IsWhole items w → IsMade ps front items w text
     → applied ps (file_of front items) ≡ text
 whole_made ps front items w text is whole m =
@@ -85,7 +85,7 @@ unread_made ps front items w text is whole m unread s =
     let same : applied ps (file_of front items) ≡ text = whole_made ps front items w text is whole m in
     unread whole.with_front (subst (λ (t : Text). length t ≤ file_limit) same s.short) (subst (λ (t : Text). HasReading t) same s.reads)
 
--- the same, where the bytes are lent twice
+-- pieces that fit the window fit the file, also if the bytes of the window are lent twice
 pub lent_made : (ps : List Piece) (front : Text) (items : List Item) (w : Window) (place : ℕ) (old first second text : Text) → IsWindow items w
     → place ≡ length (bytes_before w front items) → old ≡ bytes_within w front items → first ≡ old → FitAfter place ps first → second ≡ old → text ≡ applied (all_moved_back place ps) second
     → IsMade ps front items w text

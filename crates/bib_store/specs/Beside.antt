@@ -23,7 +23,7 @@ use Rattle.bib_store.specs.Bounds.{AreBounded}
 use Rattle.bib_store.specs.ItemTexts.{first_too_long, placed_texts}
 
 -- the tables say of these items which are entries and preambles, which keys the entries have, what macros stand for
--- where each item stands, what the crossref of each entry says, and what is known of all items
+-- before each item, what the crossref of each entry says, and what is known of all items
 pub record AreTablesOf (items : List reading.Item) (t : Tables) : Type 0 where
   pub entries : t.entries ≡ entry_numbers items
   pub preambles : t.preambles ≡ preamble_numbers items
@@ -42,12 +42,12 @@ pub record HasItems (front_len : ℕ) (kept : List Item) (db : Reading) : Type 0
   pub front : length db.front ≡ front_len
   pub same : all_stored db.items ≡ kept
 
--- the tables say what they said
+-- the tables say of all items what they said
 pub record SayTheSame (old new : Tables) : Type 0 where
   pub len : new.file_len ≡ old.file_len
   pub tables : (items : List reading.Item) → AreTablesOf items old → AreTablesOf items new
 
--- the notes are those of items that are kept so, in their order, from the first on; there may be fewer
+-- the notes are those of the first of these items, in order; there may be fewer notes than items
 abbrev pub AreNotesOf : List Note → List Item → Type 0
 AreNotesOf notes kept = (n : ℕ) (note : Note) (item : Item) → slice_get notes n ≡ Some note → slice_get kept n ≡ Some item → IsNoteOf item.body note
 
@@ -57,19 +57,20 @@ IsNotedAs note view = IfSome note (λ known. (i : reading.Item) → IsTree name_
 
 -- ---- one item more
 
+-- the item with this tree and this trail
 abbrev pub item_with : Tree → Text → reading.Item
 item_with tree trail = record { tree = tree; trail = trail }
 
--- item n comes, before those that had its number and the greater ones; no raw text in it is too long
+-- item n is inserted before the items with the numbers from n on; no raw text in it is too long
 pub record IsInsertion (n : ℕ) (tree : Tree) (old new : Tables) : Type 0 where
   pub tables : (before after : List reading.Item) (trail : Text) → length before ≡ n → n + length after < 2 ^ 64 → AreTablesOf (before ++ after) old → AreTablesOf (before ++ item_with tree trail ∷ after) new
   pub texts : first_too_long (placed_texts (texts_at old.definitions n) tree) ≡ None
 
--- item n goes
+-- item n is removed
 abbrev pub IsRemoval : ℕ → Tree → Tables → Tables → Type 0
 IsRemoval n tree old new = (before after : List reading.Item) (trail : Text) → length before ≡ n → n + length after < 2 ^ 64 → AreTablesOf (before ++ item_with tree trail ∷ after) old → AreTablesOf (before ++ after) new
 
--- x stands as item n after these and is seen so, and y is seen so
+-- item n, after the items of `before`, is x, which is seen as the old view, or y, which is seen as the new one
 pub record AreSeen (n : ℕ) (old_view new_view : View) (before : List reading.Item) (x y : reading.Item) : Type 0 where
   pub count : length before ≡ n
   pub old_tree : IsTree name_limit x.tree
@@ -77,18 +78,18 @@ pub record AreSeen (n : ℕ) (old_view new_view : View) (before : List reading.I
   pub old_seen : old_view ≡ view_of (item_with x.tree [])
   pub new_seen : new_view ≡ view_of (item_with y.tree [])
 
--- item n gives way to another: the tables say what holds then, and where no raw text was too long, none is
+-- item n is replaced by another: the tables say what holds then, and if no raw text was too long, none is
 pub record TakesPlace (n : ℕ) (old_view new_view : View) (old new : Tables) : Type 0 where
   pub tables : (before after : List reading.Item) (x y : reading.Item) → AreSeen n old_view new_view before x y → AreTablesOf (before ++ x ∷ after) old → AreTablesOf (before ++ y ∷ after) new
   pub texts : (before after : List reading.Item) (x y : reading.Item) → AreSeen n old_view new_view before x y → AreTablesOf (before ++ x ∷ after) old → All (IsItem name_limit) (before ++ y ∷ after)
       → first_too_long (raw_texts_from 0 months (before ++ x ∷ after)) ≡ None → first_too_long (raw_texts_from 0 months (before ++ y ∷ after)) ≡ None
 
--- item n stands after those whose tables these were, and no raw text in it is too long
+-- item n is added after the items of the old tables, and no raw text in it is too long
 pub record IsStep (n : ℕ) (tree : Tree) (old new : Tables) : Type 0 where
   pub tables : (items : List reading.Item) (trail : Text) → length items ≡ n → AreTablesOf items old → AreTablesOf (items ++ item_with tree trail ∷ []) new
   pub texts : first_too_long (placed_texts (texts_at old.definitions n) tree) ≡ None
 
--- the first raw text that is too long in item n stands at this place of its body
+-- the first raw text that is too long in item n begins at this place of its body
 abbrev pub IsTooLongAt : ℕ → Tree → Tables → ℕ → Type 0
 IsTooLongAt n tree t place = first_too_long (placed_texts (texts_at t.definitions n) tree) ≡ Some place
 

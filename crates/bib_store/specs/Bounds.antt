@@ -12,13 +12,14 @@ use Rattle.bib_definitions.specs.Definitions.{defined_by}
 use Rattle.bib_store.specs.Meaning.{is_entry_tree}
 use Rattle.bib_store.specs.declared.bounds.Bounds.{Bounds}
 
--- the part is no name of a macro
+-- the part is not the name of a macro
 abbrev pub is_literal : Part → Bool
 is_literal (Braced t) = true
 is_literal (Quoted t) = true
 is_literal (Digits t) = true
 is_literal (Macro t) = false
 
+-- no part is the name of a macro
 abbrev pub AreLiteral : List Part → Type 0
 AreLiteral parts = AllByRecursion (λ p. is_literal p ≡ true) parts
 
@@ -27,19 +28,21 @@ pub record IsSettled (tree : Tree) : Type 0 where
   pub crossref : (a b : Macros) → map crossref_text (entry_in a tree) ≡ map crossref_text (entry_in b tree)
   pub text : (a b : Macros) → defined_by a tree ≡ defined_by b tree
 
--- an entry whose crossref says this, whatever macros stand for then, is settled
+-- an entry whose crossref says this under some macros is settled
 abbrev pub IsSettledEntry : View → Option Text → Type 0
 IsSettledEntry entry said = (m : Macros) (i : reading.Item) → IsTree name_limit i.tree → is_entry_tree i.tree ≡ true → entry ≡ view_of i → map crossref_text (entry_in m i.tree) ≡ said ∷ [] → IsSettled i.tree
 
--- the body is no longer than the longest, and where the bounds say so of all items, this one is settled
+-- the body is no longer than the longest, and if the bounds say that all items are settled, this one is
 pub record IsBounded (bounds : Bounds) (tree : Tree) : Type 0 where
   pub body : length (tree_bytes tree) ≤ bounds.longest_body
   pub settled : bounds.settled ≡ true → IsSettled tree
 
+-- each of the items is within the bounds
 abbrev pub AreBounded : Bounds → List reading.Item → Type 0
 AreBounded bounds items = AllByRecursion (λ i. IsBounded bounds i.tree) items
 
--- the bounds hold of an item more: one whose body has so many bytes, and which is settled where that is said
+-- the new bounds hold of what the old ones held, and of one more item: its body has `len` bytes, and it is settled if
+-- `settled` is true
 pub record Admits (len : ℕ) (settled : Bool) (old new : Bounds) : Type 0 where
   pub one : (tree : Tree) → length (tree_bytes tree) ≡ len → (settled ≡ true → IsSettled tree) → IsBounded new tree
   pub all : (items : List reading.Item) → AreBounded old items → AreBounded new items

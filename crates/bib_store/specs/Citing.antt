@@ -11,7 +11,7 @@ is_among numbers n = list_any (λ m. m == n) numbers
 abbrev pub AreMarks : List ℕ → List Bool → Type 0
 AreMarks numbers marks = (n : ℕ) → n < length marks → slice_index_or marks n false ≡ is_among numbers n
 
--- of how many in the list each entry is the parent
+-- for each entry, of how many entries in the list it is the parent
 abbrev pub AreCounts : List EntryTexts → List ℕ → List ℕ → Type 0
 AreCounts entries listed counts = (n : ℕ) → n < length counts → slice_index_or counts n 0 ≡ count_by (is_parent_of entries n) listed
 

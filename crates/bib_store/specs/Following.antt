@@ -1,4 +1,4 @@
--- Items that come and go where no macro is defined.
+-- Items that come and go and define no macro.
 use Rattle.std.specs.Prelude.{◌≡◌, ◌≢◌, List, map, None}
 use Rattle.std.specs.List.{AllByRecursion, between}
 use Rattle.std.specs.Prelude.{ℕ}
@@ -25,12 +25,12 @@ pub record AreItemsOf (bodies : List Text) (items : List reading.Item) : Type 0 
 abbrev pub DefineNothing : List reading.Item → Type 0
 DefineNothing items = AllByRecursion (λ i. kind_of i.tree ≢ kind.Macro) items
 
--- items with these bodies, none of which is a definition
+-- items with these bodies; none of them is a definition
 pub record AreOthersOf (bodies : List Text) (items : List reading.Item) : Type 0 where
   pub are : AreItemsOf bodies items
   pub others : DefineNothing items
 
--- no raw text of theirs is too long, where macros stand for these texts
+-- no raw text of the items is too long, if macros stand for these texts
 abbrev pub HaveShortTexts : Macros → List reading.Item → Type 0
 HaveShortTexts macros items = AllByRecursion (λ i. first_too_long (placed_texts macros i.tree) ≡ None) items
 

@@ -1,4 +1,4 @@
--- The fields of a record as they are gathered, one after another, with the names that may not follow.
+-- The fields of a record as they are gathered, one after another, with the names that are taken.
 use Rattle.std.specs.Prelude.{◌≡◌, ◌≤◌, Bool, ◌||◌, List, [], ◌∷◌, ◌++◌, length, is_some, if◌then◌else◌}
 use Rattle.std.specs.List.{list_any}
 use Rattle.bib_spec.specs.Bytes.{name_limit}
@@ -14,7 +14,7 @@ use Rattle.bib_value.specs.Raw.{OfValue}
 
 -- ---- names
 
--- no field of this name is added: it is `crossref`, or the fields have one of that name
+-- a field of this name is not added: the name is `crossref`, or one of the fields has it
 abbrev pub is_taken : List RecordField → Text → Bool
 is_taken fields name = same name crossref || list_any (λ other. same other.0 name) fields
 

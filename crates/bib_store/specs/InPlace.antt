@@ -1,4 +1,4 @@
--- Items that each take the place of another.
+-- Items that each replace another.
 use Rattle.std.specs.Prelude.{ℕ, ◌≡◌, true, List, ◌++◌, length, Option, None, All}
 use Rattle.bib_spec.specs.Bytes.{name_limit}
 use Rattle.bib_spec.specs.Text.{Text}
@@ -22,7 +22,7 @@ pub record HaveOneKey (old new : Tree) : Type 0 where
   pub new_is : is_entry_tree new ≡ true
   pub key : key_of old ≡ key_of new
 
--- the items that have these bodies, from number n on, give way to others: the tables say what holds then, and where no raw
+-- the items with these bodies, from number n on, are replaced by others: the tables say what holds then, and if no raw
 -- text was too long, none is
 pub record TakePlaces (n : ℕ) (bodies : List Text) (new : List Item) (t now : Tables) : Type 0 where
   pub tables : (before old after : List Item) → length before ≡ n → AreItemsOf bodies old → AreTablesOf (before ++ (old ++ after)) t → AreTablesOf (before ++ (new ++ after)) now
@@ -44,6 +44,6 @@ with_bounds bounds t = record {
 abbrev pub with_kept : Kept → Tables → Tables
 with_kept kept t = with_bounds kept.bounds (with_former kept.former t)
 
--- where the first tables come back from the old ones with what was kept, they come back from the new ones with what is kept
+-- if the first tables are the old ones with what was kept of them, they are also the new ones with what is kept now
 abbrev pub StayKept : Option Former → Tables → Option Former → Tables → Type 0
 StayKept former t new_former now = (first : Tables) → with_bounds first.bounds (with_former former t) ≡ first → with_bounds first.bounds (with_former new_former now) ≡ first

@@ -17,7 +17,7 @@ first_too_long texts = option_map (λ p. p.0) (find (λ p. nat_lt raw_limit (len
 abbrev pub placed_texts : Macros → Tree → List (ℕ × Text)
 placed_texts macros tree = zip (value_places tree) (raw_texts_in macros tree)
 
--- the raw texts of rows' values, each with the place of its value, where the first row begins at this place
+-- the raw texts of rows' values, each with the place of its value, if the first row begins at this place
 abbrev pub row_texts : ℕ → Macros → List Row → List (ℕ × Text)
 row_texts at macros rows = zip (row_places at rows) (map (raw_text macros) (map (λ row. row.assignment.value) rows))
 

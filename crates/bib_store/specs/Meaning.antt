@@ -1,4 +1,4 @@
--- What holds of the database that a file's bytes say, and why bytes are not opened.
+-- What holds of every reading of a file's bytes, and why bytes are not opened.
 use Rattle.std.specs.Prelude.{ℕ, ◌≡◌, ◌<◌, ◌≤◌, ◌⊎◌, Bool, true, false, List, length, map, filter, Some}
 use Rattle.std.specs.List.{enumerate_from}
 use Rattle.bib_spec.specs.Bytes.{file_limit}
@@ -9,7 +9,7 @@ use Rattle.bib_spec.specs.Fault.{IsReadFault}
 use Rattle.bib_spec.specs.Texts.{too_long_at}
 use Rattle.bib_spec.specs.Records.{entries_of, preambles_of}
 
--- it holds of the database that the bytes say
+-- it holds of every reading of these bytes
 abbrev pub OfReading : Text → (Reading → Type 0) → Type 0
 OfReading file P = (db : Reading) → Reads file db → P db
 
@@ -19,7 +19,7 @@ OfReading file P = (db : Reading) → Reads file db → P db
 abbrev pub IsItemNumber : Text → ℕ → Type 0
 IsItemNumber file n = OfReading file (λ db. n < length db.items)
 
--- an item with this number, or the end after the last
+-- a gap between items: before the item with this number, or after the last
 abbrev pub IsItemPlace : Text → ℕ → Type 0
 IsItemPlace file n = OfReading file (λ db. n ≤ length db.items)
 
@@ -31,6 +31,7 @@ IsEntryNumber file n = OfReading file (λ db. n < length (entries_of db))
 abbrev pub IsPreambleNumber : Text → ℕ → Type 0
 IsPreambleNumber file n = OfReading file (λ db. n < length (preambles_of db))
 
+-- the tree is that of an entry
 abbrev pub is_entry_tree : Tree → Bool
 is_entry_tree (EntryTree e) = true
 is_entry_tree (CommentTree h) = false

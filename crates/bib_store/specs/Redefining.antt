@@ -1,4 +1,4 @@
--- A definition that gives way to another.
+-- A definition that replaces another.
 use Rattle.std.specs.Prelude.{ℕ, ◌∷◌, List, ◌++◌, Option, Some, None}
 use Rattle.bib_spec.specs.Reading.{Item}
 use Rattle.bib_scan.specs.View.{View}
@@ -18,8 +18,8 @@ with_former (Some f) t = record {
   bounds = f.bounds;
 }
 
--- Item n, which is seen so, gives way to another, which is seen so. Where the tables of the items as they are then get back
--- what is kept of them, they are those of the items as they were.
+-- Item n, which is seen as `old`, is replaced by one that is seen as `new`. If the tables of the new items get back what
+-- `former` keeps, they are those of the old items.
 pub record IsRedefinition (n : ℕ) (old new : View) (t now : Tables) (former : Former) : Type 0 where
   pub place : TakesPlace n old new t now
   pub back : (before after : List Item) (x y : Item) → AreSeen n old new before x y → AreTablesOf (before ++ x ∷ after) t → (left : Tables) → AreTablesOf (before ++ y ∷ after) left

@@ -1,4 +1,4 @@
--- Pieces whose runs lie apart: what each run touches is replaced, and what stands between them stays.
+-- Pieces whose runs lie apart: what each run touches is replaced, and what is between runs is unchanged.
 use Rattle.std.specs.Prelude.{ℕ, ◌≡◌, ◌+◌, ◌-◌, ◌≤◌, false, Option, None, List, ◌++◌, length, take, drop, All}
 use Rattle.std.specs.List.{between}
 use Rattle.bib_spec.specs.Bytes.{name_limit, file_limit}
@@ -20,7 +20,7 @@ use Rattle.history_spec.specs.Shifting.{all_moved_back, FitAfter}
 use Rattle.bib_store.specs.Stored.{file_of}
 use Rattle.bib_store.specs.Windows.{HasLead, IsChange, ArePut, bytes_before, bytes_within}
 
--- the pieces lie in the window of the change, and make its text of what stands there
+-- the pieces lie in the window of the change, and make its text of the window's bytes
 pub record LieIn (pieces : List Piece) (front : Text) (items : List Item) (c : Change) : Type 0 where
   pub fit : FitAfter (length (bytes_before c.window front items)) pieces (bytes_within c.window front items)
   pub text : c.text ≡ applied (all_moved_back (length (bytes_before c.window front items)) pieces) (bytes_within c.window front items)
@@ -32,8 +32,8 @@ pub record IsRunChange (run : List Piece) (front : Text) (items : List Item) (n 
   pub after_front : c.window.with_front ≡ false
   pub to : c.window.to ≤ n
 
--- The items of the change stand before those of its window, and of each so many are the lead; but for those none that comes
--- or goes is a definition.
+-- The `count` items of the change are in the list before those of its window. The first `lead` items of each are the
+-- lead; no other item that comes or goes is a definition.
 pub record AreBroughtIn (c : Change) (old now : List Item) (count lead : ℕ) : Type 0 where
   pub put : ArePut c old now count
   pub leads : HasLead c.window count lead
@@ -47,11 +47,12 @@ pub record IsMeasured (front : Text) (items : List Item) (t : Tables) : Type 0 w
   pub len : t.file_len ≡ length (file_of front items)
   pub short : t.file_len ≤ file_limit
 
--- where the old tables measured the old items, the new ones measure the new items
+-- if the old tables measured the old items, the new ones measure the new items
 abbrev pub StaysMeasured : List Item → Tables → List Item → Tables → Type 0
 StaysMeasured items t new_items new_t = (front : Text) → IsMeasured front items t → IsMeasured front new_items new_t
 
--- the items are those of a file, no raw text of theirs is too long, and but for the length the tables say what holds of them
+-- the items are those of a file, no raw text of theirs is too long, and the tables say what holds of them, perhaps with
+-- another length
 pub record AreFollowed (items : List Item) (t : Tables) : Type 0 where
   pub all : List reading.Item
   pub good : All (IsItem name_limit) all
@@ -59,19 +60,19 @@ pub record AreFollowed (items : List Item) (t : Tables) : Type 0 where
   pub tables : AreTablesOf all t
   pub texts : first_too_long (raw_texts_from 0 months all) ≡ None
 
--- Where the old tables followed the old items and others after them, the new ones follow the new items and the same
--- others, of which there are no more than so many. These needn't be those of the list: there the items that a run of
--- pieces brought stand before those that it takes, and a definition stands twice of which only the trail changes.
+-- If the old tables follow the old items and at most `most` others after them, the new tables follow the new items and
+-- the same others. The others need not be those of the list: the list has the new items of a run before its old ones, so
+-- that a definition whose trail alone changes is there twice.
 abbrev pub StayFollowed : ℕ → List Item → Tables → List Item → Tables → Type 0
 StayFollowed most items t new_items new_t = (rest : List Item) → length rest ≤ most → AreFollowed (items ++ rest) t → AreFollowed (new_items ++ rest) new_t
 
--- the tables follow the items that a change brought before those of its window, in which those of the lead count no more
+-- the tables follow the items that were inserted for a change before its window, and those of the window except its lead
 abbrev pub FollowBroughtIn : Change → ℕ → List Item → Tables → Tables → Type 0
 FollowBroughtIn c lead old t new_t = (inner : Reading) → Reads c.text inner
     → StayFollowed (length old - c.window.to) (take c.window.to old) t (take c.window.from old ++ (all_stored inner.items ++ between (c.window.from + lead) c.window.to old)) new_t
 
--- Where the items that a change brought are gone again, but for the lead, the tables follow the items that there were as
--- soon as they get back what is kept of them.
+-- Once the items that were inserted for a change are gone again, except the lead, the tables follow the old items as soon
+-- as they get back what `former` keeps.
 abbrev pub ComesBack : Change → ℕ → List Item → Tables → Option Former → Type 0
 ComesBack c lead old t former = (inner : Reading) → Reads c.text inner → (rest : List Item) → length rest ≤ length old - c.window.to → AreFollowed (take c.window.to old ++ rest) t
     → (left : Tables) → AreFollowed ((take c.window.from old ++ take lead (all_stored inner.items)) ++ (between (c.window.from + lead) c.window.to old ++ rest)) left
@@ -79,8 +80,8 @@ ComesBack c lead old t former = (inner : Reading) → Reads c.text inner → (re
 
 -- ---- where the pieces lead
 
--- The pieces lead from the front and the first n items to the front and others, which the tables follow, and the items
--- after those stay.
+-- The pieces lead from the front and the first n items to the front and other items, which the tables follow. The items
+-- after the first n stay.
 pub record LeadWithin (pieces : List Piece) (front : Text) (n : ℕ) (old : List Item) (t : Tables) (new : List Item) (new_t : Tables) : Type 0 where
   pub first : List Item
   pub stay : new ≡ first ++ drop n old

@@ -13,7 +13,7 @@ use Rattle.bib_items.specs.Items.{kept_bytes, all_stored}
 use Rattle.bib_store.specs.Beside.{AreTables}
 use Rattle.bib_store.specs.Meaning.{OfReading}
 
--- the file that a front and the items after it are
+-- the file that consists of a front and the items after it
 abbrev pub file_of : Text → List Item → Text
 file_of front items = front ++ flat_map kept_bytes items
 
@@ -40,7 +40,7 @@ pub record IsKeptAs (db : Reading) (kept_front : Text) (kept_items : List Item) 
   pub tables : AreTables db kept_tables
   pub len : kept_tables.file_len ≡ length (file_of kept_front kept_items)
 
--- other tables say of the file what these say
+-- the new tables say of these items what the old ones say
 pub record SayTheSameOf (items : List Item) (old new : Tables) : Type 0 where
   pub len : new.file_len ≡ old.file_len
   pub tables : (db : Reading) (front : Text) → IsKeptAs db front items old → AreTables db new

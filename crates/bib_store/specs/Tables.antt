@@ -9,6 +9,7 @@ use Rattle.bib_spec.specs.Records.{entries_of, crossref_text}
 
 -- ---- numbers
 
+-- the tree is that of a preamble
 abbrev pub is_preamble_tree : Tree → Bool
 is_preamble_tree (PreambleTree p) = true
 is_preamble_tree (CommentTree h) = false

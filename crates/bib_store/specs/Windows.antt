@@ -22,30 +22,30 @@ pub record IsWindow (items : List Item) (w : Window) : Type 0 where
   pub within : w.to ≤ length items
   pub begins : w.with_front ≡ true → w.from ≡ 0
 
--- the front, where it is before the window
+-- the front, if it is before the window
 abbrev pub front_before : Bool → Text → Text
 front_before true front = []
 front_before false front = front
 
--- the front, where it is in the window
+-- the front, if it is in the window
 abbrev pub front_within : Bool → Text → Text
 front_within true front = front
 front_within false front = []
 
--- what stands before the window
+-- the bytes before the window
 abbrev pub bytes_before : Window → Text → List Item → Text
 bytes_before w front items = file_of (front_before w.with_front front) (take w.from items)
 
--- what stands in it
+-- the bytes in it
 abbrev pub bytes_within : Window → Text → List Item → Text
 bytes_within w front items = file_of (front_within w.with_front front) (between w.from w.to items)
 
--- what stands after it
+-- the bytes after it
 abbrev pub bytes_after : Window → List Item → Text
 bytes_after w items = flat_map kept_bytes (drop w.to items)
 
--- The pieces lead from the file to one in which another text stands in the window. The text is read, and begins with
--- an item unless it begins the file.
+-- The pieces lead from the file to one with another text in the window. The text is read, and begins with an item unless
+-- it begins the file.
 pub record IsChange (pieces : List Piece) (front : Text) (items : List Item) (c : Change) : Type 0 where
   pub window : IsWindow items c.window
   pub fit : Fit pieces (file_of front items)
@@ -73,7 +73,7 @@ abbrev pub front_after : Bool → Text → Text → Text
 front_after true old new = new
 front_after false old new = old
 
--- the items of the list afterwards: these stand in the window
+-- the items of the list afterwards, with these in the window
 abbrev pub exchanged : Window → List reading.Item → List Item → List Item
 exchanged w inner items = take w.from items ++ (all_stored inner ++ drop w.to items)
 
@@ -89,19 +89,19 @@ abbrev pub OfJoined : Change → ℕ → List Item → Tables → (Reading → T
 OfJoined c front_len items t P = (front : Text) (db inner : Reading) → IsKeptAs db front items t → Reads c.text inner
     → HasItems front_len (exchanged c.window inner.items items) (joined c.window db inner) → P (joined c.window db inner)
 
--- the items of the change, of this count, stand before those that they replace
+-- the `count` items of the change are in the list before those that they replace
 pub record ArePut (c : Change) (old now : List Item) (count : ℕ) : Type 0 where
   pub window : IsWindow old c.window
   pub counted : (inner : Reading) → Reads c.text inner → count ≡ length inner.items
   pub put : (inner : Reading) → Reads c.text inner → now ≡ take c.window.from old ++ (all_stored inner.items ++ drop c.window.from old)
 
--- the change has so many items, and so many stand in its window
+-- the change has `count` items, at least `lead`, and so has its window
 pub record HasLead (w : Window) (count lead : ℕ) : Type 0 where
   pub come : lead ≤ count
   pub go : w.from + lead ≤ w.to
 
--- So many items of the change, which has this count of them, have the bodies of the first in the window, before which they
--- stand: of those the trails alone change.
+-- The first `lead` of the change's `count` items have the bodies of the first items in the window, which come after them
+-- in the list: only the trails of these change.
 pub record IsLead (w : Window) (count lead : ℕ) (now : List Item) : Type 0 where
   pub come : lead ≤ count
   pub go : w.from + lead ≤ w.to

@@ -7,7 +7,7 @@ ghost use Rattle.history_spec.specs.Shifting.{all_moved_back, FitAfter};
 use bib_data::Piece;
 use std::alloc::{AllocError, Global};
 
-/// How many bytes there are at most with the pieces' new bytes among these. Only time and memory rest on it.
+/// At most how many bytes the text has once the pieces' new bytes are in it. Only time and memory depend on it.
 fn most_len(len: usize, pieces: &[Piece]) -> usize {
     let mut most = len;
     for piece in pieces {

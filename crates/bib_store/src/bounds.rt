@@ -12,7 +12,7 @@ ghost use Rattle.bib_store.specs.Bounds.{is_literal, AreLiteral, IsSettledEntry,
 use bib_scan::{Fields, ItemView, Part, Parts, Text, only_part, read_value, same_folded};
 use std::alloc::Global;
 
-/// What is known of all items, so that none need be read again where a macro comes to stand for another text.
+/// What is known of all items, so that none has to be read again when a macro gets another text.
 #[derive(Clone, Copy)]
 pub(crate) struct Bounds {
     /// Whatever macros stand for, crossrefs say the same, and definitions give the same texts.
@@ -22,7 +22,7 @@ pub(crate) struct Bounds {
 }
 
 impl Bounds {
-    /// Lets the bounds hold of an item more, whose body has so many bytes. They stay as they were where they held of it.
+    /// Widens the bounds to cover one more item, whose body has `len` bytes. Bounds that cover it already are unchanged.
     pub(crate) fn admit(&mut self, len: usize, settled: bool)
         ensures { Admits len settled self.old self.new }
     {
@@ -31,7 +31,7 @@ impl Bounds {
     }
 }
 
-/// Whether the part is no name of a macro.
+/// Whether the part is not the name of a macro.
 fn is_literal(part: Part<'_>) -> bool
     ensures { result ≡ is_literal (part_view part.entry) }
 {
@@ -43,7 +43,7 @@ fn is_literal(part: Part<'_>) -> bool
     }
 }
 
-/// Whether no part of the value that these bytes are is the name of a macro.
+/// Whether no part of the value in these bytes is the name of a macro.
 fn are_literal(parts: &Parts, bytes: &[u8]) -> bool
     requires { IsPartsOf bytes.now parts.now }
     ensures { result ≡ true → OfValue bytes.now (λ v. AreLiteral (parts_of v)) }
@@ -56,8 +56,7 @@ fn are_literal(parts: &Parts, bytes: &[u8]) -> bool
     true
 }
 
-/// Whether the value that these bytes are says the same whatever macros stand for. Where memory is refused, it counts as
-/// one that does not.
+/// Whether the value in these bytes says the same whatever macros stand for. If memory is refused, the answer is no.
 pub(crate) fn is_settled_value(alloc: Global, bytes: &[u8]) -> bool
     ensures { result ≡ true → (text : Bytes) × OfValue bytes.now (λ v. (m : Macros) → raw_text m v ≡ text) }
 {
@@ -83,7 +82,8 @@ fn are_settled(alloc: Global, fields: Fields<'_>) -> bool
     true
 }
 
-/// Whether the crossref of an entry, which says this where the entry stands, says it whatever macros stand for.
+/// Whether the crossref of an entry says the same whatever macros stand for. At the entry's place in the file it says
+/// `crossref`.
 pub(crate) fn is_settled_entry(alloc: Global, entry: &ItemView<'_>, crossref: &Option<Text>) -> bool
     ensures { result ≡ true → IsSettledEntry entry.now crossref.now }
 {

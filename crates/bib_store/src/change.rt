@@ -20,7 +20,7 @@ use bib_items::{ItemList, StoreFault};
 use bib_scan::{FILE_LIMIT, Layout, Seq, Text, read};
 use std::alloc::{AllocError, Global};
 
-/// The text that replaces a window, and where its items stand; and how many bytes the file has then.
+/// A window, the text that replaces it, the places of that text's items, and the length of the file afterwards.
 #[derive(Drop)]
 pub(crate) struct Change {
     pub(crate) window: Window,
@@ -29,8 +29,8 @@ pub(crate) struct Change {
     pub(crate) layout: Layout,
 }
 
-/// Where everything stands in the text, unless it is no part of a file: it is not read, or it begins with no item, and
-/// not the file either.
+/// The layout of the text, if it can be part of a file: it can be read, and it either begins with an item or begins the
+/// file.
 fn read_part(alloc: Global, text: &[u8], with_front: bool) -> Result<Option<Layout>, StoreFault>
     ensures layout { IfOk result (λ part. IfSome part (IsLayoutOf text.now)) }
     ensures begins { IfOk result (λ part. IfSome part (λ layout. with_front ≡ false → (db : Reading) → Reads text.now db → db.front ≡ [])) }
@@ -53,8 +53,9 @@ fn read_part(alloc: Global, text: &[u8], with_front: bool) -> Result<Option<Layo
     }
 }
 
-/// What replaces the window, unless the pieces don't serve there: they reach out of it or don't fit, what they make of
-/// it is no part of a file, or the file would be too long. They serve nowhere where they don't in the whole file.
+/// The change that the pieces make in this window, or none if they don't serve there: they reach out of the window or don't
+/// fit, what they make of it is no part of a file, or the file would be too long. Pieces that don't serve in a window of
+/// the whole file serve in none.
 pub(crate) fn change_of<L: ItemList>(
     alloc: Global,
     front: &[u8],
@@ -92,8 +93,8 @@ pub(crate) fn change_of<L: ItemList>(
     }
 }
 
-/// What replaces the window, which holds what the pieces touch, unless they don't serve there. What the first of them
-/// touches by its end alone is left as it is, where the rest is read by itself.
+/// The change that the pieces make in this window, which holds what they touch, or none if they don't serve there. What the
+/// first piece touches only by its end is unchanged, if the rest can be read without it.
 pub(crate) fn change_near<L: ItemList>(
     alloc: Global,
     front: &[u8],
@@ -128,8 +129,8 @@ fn begin_from(pieces: &[Piece], place: usize) -> bool {
     }
 }
 
-/// The window with the front, where the file begins with it and its front is empty: what comes into the window may begin
-/// with a front.
+/// The window with the front, if the window begins the file and the front is empty: the new text may then begin with a
+/// front.
 fn with_empty_front(front: &[u8], window: Window) -> Option<Window>
     ensures empty { IfSome result (λ w. front.now ≡ []) }
     ensures begins { IfSome result (λ w. window.from ≡ 0) }
@@ -144,7 +145,8 @@ fn with_empty_front(front: &[u8], window: Window) -> Option<Window>
     })
 }
 
-/// What replaces the window, which holds what the pieces touch, or where they don't serve there the whole file.
+/// The change that the pieces make in this window, which holds what they touch, or in the whole file if they don't serve
+/// there.
 pub(crate) fn find_change<L: ItemList>(
     alloc: Global,
     front: &[u8],

@@ -35,14 +35,14 @@ fn has_name(fields: &[(Text, Text)], name: &[u8]) -> bool
         .any(|field| same_folded(field.0.as_slice(), name))
 }
 
-/// Whether no field of this name is added: it is `crossref`, or the fields have one of that name.
+/// Whether a field of this name is not added: the name is `crossref`, or one of the fields has it.
 fn is_taken(fields: &[(Text, Text)], name: &[u8]) -> bool
     ensures { result ≡ is_taken fields.now name.now }
 {
     same_folded(name, b"crossref") || has_name(fields, name)
 }
 
-/// Adds a field, if it has one of these names, and that is not taken.
+/// Adds a field, if its name is one of these and is not taken.
 fn choose(
     alloc: Global,
     names: &[&[u8]],

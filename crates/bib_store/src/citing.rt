@@ -32,7 +32,7 @@ fn all_numbers(alloc: Global, count: usize) -> Result<Vec<usize>, AllocError>
     Ok(numbers)
 }
 
-/// Each number once, at its first place. They are marked.
+/// Each number once, at its first place. It marks these numbers.
 fn once(alloc: Global, numbers: &[usize], marks: &mut [bool]) -> Result<Vec<usize>, AllocError>
     requires numbers { All (λ n. n < length marks.old) numbers.now }
     requires unmarked { AreMarks [] marks.old }
@@ -49,7 +49,7 @@ fn once(alloc: Global, numbers: &[usize], marks: &mut [bool]) -> Result<Vec<usiz
     Ok(listed)
 }
 
-/// The list, and after it in their order the numbers that are not marked and whose count is at least `min`.
+/// The list, and after it, in order, the numbers that are not marked and whose count is at least `min`.
 fn with_added(
     listed: Vec<usize>,
     marks: &[bool],
@@ -83,11 +83,10 @@ impl<L: ItemList> Database<L> {
     ghost use Rattle.bib_store.specs.Citing.{AreCounts};
     ghost use Rattle.bib_items.specs.declared.fault.StoreFault.TheVariants.{Memory};
 
-    /// The cited list of these keys: the entries that they find, each at its first citation, and after them in file
-    /// order the others that are the parent of at least `min` of those; an added parent cites no parent of its own.
-    /// `*` alone cites all entries, in file order. Beside it stand the positions, from 0, of the keys that find no entry.
-    /// It takes time and memory in the number of keys and of entries. The one refusal is want of memory. (btxdoc 2.1;
-    /// dialect)
+    /// The cited list of these keys: the entries that they find, each at its first citation, and after them in file order
+    /// the others that are the parent of at least `min` of those. An added parent cites no parent of its own. `*` alone
+    /// cites all entries, in file order. With the list come the positions, from 0, of the keys that find no entry. It takes
+    /// time and memory in the number of keys and of entries. It is refused only out of memory. (btxdoc 2.1; dialect)
     pub fn cited(&self, keys: &[Text], min: u32) -> Result<Cited, StoreFault>
         requires { 1 ≤ min }
         ensures listed { IfOk result (λ c. OfReading self.now (λ db. c.listed ≡ listed (entries_of db) keys.now min)) }
@@ -140,7 +139,7 @@ impl<L: ItemList> Database<L> {
         Ok(with_added(listed, marks.as_slice(), counts.as_slice(), min)?)
     }
 
-    /// Of how many of these entries each entry is the parent.
+    /// For each entry, of how many of these entries it is the parent.
     fn counts_of_parents(&self, listed: &[usize]) -> Result<Vec<usize>, StoreFault>
         requires { OfReading self.now (λ db. All (λ n. n < length (entries_of db)) listed.now) }
         ensures counts { IfOk result (λ counts. OfReading self.now (λ db. AreCounts (entries_of db) listed.now counts.items)) }

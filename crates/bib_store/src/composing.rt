@@ -14,10 +14,11 @@ use bib_items::StoreFault;
 use bib_scan::Seq;
 use std::alloc::Global;
 
-/// The pieces of two edits in turn, as those of one. The first fit some text, and the second what the first make of it;
-/// neither text is longer than a file. In the text in the middle each piece of the first covers its new bytes, and each
-/// of the second its old ones: those whose closed ranges share a point, be it through others, make one piece that covers
-/// them all. It takes memory and time in the number of the pieces and their bytes.
+/// The pieces of two edits in turn, as those of one edit. The pieces of `first` fit some text, and those of `second` fit
+/// the text that `first` makes; neither text is longer than a file. In the text between the two edits, each piece of
+/// `first` covers its new bytes, and each piece of `second` its old bytes. Pieces whose closed ranges share a point, even
+/// if only through other pieces, make one piece that covers them all. It takes memory and time in the number of the pieces
+/// and their bytes.
 pub fn compose(alloc: Global, first: &[Piece], second: &[Piece]) -> Result<Seq<Piece>, StoreFault>
     requires composable { IsComposable first.now second.now }
     ensures value { IfOk result (λ pieces. pieces ≡ composed first.now second.now) }
@@ -29,8 +30,9 @@ pub fn compose(alloc: Global, first: &[Piece], second: &[Piece]) -> Result<Seq<P
     compose_at(alloc, 0, 0, first, second)
 }
 
-/// The same, of pieces that come after others, which end at `from` in the text before the first edit and at `middle_from` in
-/// the text between the two. It takes memory and time in the number of these pieces and their bytes.
+/// What `compose` gives, for pieces that come after others: these end at `from` in the text before the first edit, and at
+/// `middle_from` in the text between the two edits. It takes memory and time in the number of the pieces given and their
+/// bytes.
 pub fn compose_at(
     alloc: Global,
     from: u64,

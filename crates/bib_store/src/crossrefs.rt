@@ -26,14 +26,15 @@ use bib_scan::{FieldView, Fields, ItemView, Note, Text, same_folded};
 use bib_value::{MacroTable, ValueFault};
 use std::alloc::Global;
 
-/// What the crossref of an entry says where the entry stands, and whether it says that whatever macros stand for.
+/// What the crossref of an entry says at the entry's place in the file, and whether it says so whatever macros stand for.
 #[derive(Drop)]
-pub(crate) struct Said {
+pub(crate) struct CrossrefText {
     pub text: Option<Text>,
-    pub settled: bool,
+    pub is_literal: bool,
 }
 
-/// What the crossref says with one more field, whose text is measured: the first such field counts.
+/// What the crossref says once one more field is read: the first field named `crossref` counts. The field's text is
+/// measured.
 fn with_value<M: MacroTable>(
     alloc: Global,
     found: Option<Text>,
@@ -52,7 +53,7 @@ fn with_value<M: MacroTable>(
     Ok(found)
 }
 
-/// What the crossref says with one more field.
+/// What the crossref says once one more field is read.
 fn with_field<M: MacroTable>(
     alloc: Global,
     found: Option<Text>,
@@ -120,92 +121,92 @@ fn first_crossref<M: MacroTable>(
     alloc: Global,
     fields: Fields<'_>,
     macros: &M,
-) -> Result<Said, ItemFault>
+) -> Result<CrossrefText, ItemFault>
     ensures text { IfOk result (λ said. OfRows fields.entry (λ before rows. said.text ≡ crossref_in (M.macros macros.now) rows)) }
-    ensures settled { IfOk result (λ said. said.settled ≡ true → (text : Option Bytes) × OfRows fields.entry (λ before rows. (m : Macros) → text ≡ crossref_in m rows)) }
+    ensures settled { IfOk result (λ said. said.is_literal ≡ true → (text : Option Bytes) × OfRows fields.entry (λ before rows. (m : Macros) → text ≡ crossref_in m rows)) }
     ensures only { IfErr result (λ fault. fault ≡ ItemMemory) }
 {
     let mut fields = fields;
     'rows: while let Some(field) = fields.next() {
         if same_folded(field.name, b"crossref") {
             let text = unmeasured_text(alloc, field.value, macros)?;
-            return Ok(Said {
+            return Ok(CrossrefText {
                 text: Some(text),
-                settled: is_settled_value(alloc, field.value),
+                is_literal: is_settled_value(alloc, field.value),
             });
         }
     }
-    Ok(Said {
+    Ok(CrossrefText {
         text: None,
-        settled: true,
+        is_literal: true,
     })
 }
 
-/// What the crossref of an entry says, none of whose texts is too long, and of which this was noted.
+/// What the crossref of an entry says, if none of the entry's texts is too long. `note` is what was noted of the entry.
 fn noted_crossref<M: MacroTable>(
     alloc: Global,
     entry: &ItemView<'_>,
     note: Note,
     macros: &M,
-) -> Result<Said, ItemFault>
+) -> Result<CrossrefText, ItemFault>
     requires { IsNotedAs (Some note) entry.now }
     ensures text { IfOk result (λ said. (i : Item) → IsTree name_limit i.tree → is_entry_tree i.tree ≡ true → entry.now ≡ view_of i → map crossref_text (entry_in (M.macros macros.now) i.tree) ≡ said.text ∷ []) }
-    ensures settled { IfOk result (λ said. said.settled ≡ true → IsSettledEntry entry.now said.text) }
+    ensures settled { IfOk result (λ said. said.is_literal ≡ true → IsSettledEntry entry.now said.text) }
     ensures only { IfErr result (λ fault. fault ≡ ItemMemory) }
 {
     match note.crossref(entry.body()) {
         Some(field) => {
             let text = unmeasured_text(alloc, field.value, macros)?;
-            Ok(Said {
+            Ok(CrossrefText {
                 text: Some(text),
-                settled: is_settled_value(alloc, field.value),
+                is_literal: is_settled_value(alloc, field.value),
             })
         }
-        None => Ok(Said {
+        None => Ok(CrossrefText {
             text: None,
-            settled: true,
+            is_literal: true,
         }),
     }
 }
 
-/// What the crossref of an entry says, none of whose texts is too long.
+/// What the crossref of an entry says, if none of the entry's texts is too long.
 fn short_crossref<M: MacroTable>(
     alloc: Global,
     entry: &ItemView<'_>,
     macros: &M,
     note: Option<Note>,
-) -> Result<Said, ItemFault>
+) -> Result<CrossrefText, ItemFault>
     requires { IsNotedAs note entry.now }
     ensures text { IfOk result (λ said. (i : Item) → IsTree name_limit i.tree → is_entry_tree i.tree ≡ true → entry.now ≡ view_of i → map crossref_text (entry_in (M.macros macros.now) i.tree) ≡ said.text ∷ []) }
-    ensures settled { IfOk result (λ said. said.settled ≡ true → IsSettledEntry entry.now said.text) }
+    ensures settled { IfOk result (λ said. said.is_literal ≡ true → IsSettledEntry entry.now said.text) }
     ensures only { IfErr result (λ fault. fault ≡ ItemMemory) }
 {
     if let Some(known) = note {
         return noted_crossref(alloc, entry, known, macros);
     }
-    // most entries have none, and need not be read
+    // most entries have no crossref, and need not be read
     if lacks_crossref(entry.body()) {
-        return Ok(Said {
+        return Ok(CrossrefText {
             text: None,
-            settled: true,
+            is_literal: true,
         });
     }
     first_crossref(alloc, entry.fields(), macros)
 }
 
-/// What the crossref of an entry says, of which this may have been noted, where no macro stands for more than `longest`
-/// bytes. Texts are measured only where one of them may be too long.
+/// What the crossref of an entry says, if no macro stands for more than `longest` bytes. `note` is what was noted of the
+/// entry, if anything. Texts are measured only if one of them may be too long.
 pub(crate) fn crossref_within<M: MacroTable>(
     alloc: Global,
     entry: &ItemView<'_>,
     macros: &M,
     longest: usize,
     note: Option<Note>,
-) -> Result<Said, ItemFault>
+) -> Result<CrossrefText, ItemFault>
     requires longest { AreAtMost longest (M.macros macros.now) }
     requires note { IsNotedAs note entry.now }
     ensures text { IfOk result (λ said. (i : Item) → IsTree name_limit i.tree → is_entry_tree i.tree ≡ true → entry.now ≡ view_of i → map crossref_text (entry_in (M.macros macros.now) i.tree) ≡ said.text ∷ []) }
-    ensures settled { IfOk result (λ said. said.settled ≡ true → IsSettledEntry entry.now said.text) }
+    ensures settled { IfOk result (λ said. said.is_literal ≡ true → IsSettledEntry entry.now said.text) }
     ensures short { OnOk result ((i : Item) → IsTree name_limit i.tree → is_entry_tree i.tree ≡ true → entry.now ≡ view_of i → first_too_long (placed_texts (M.macros macros.now) i.tree) ≡ None) }
     ensures too_long { IfErr result (λ fault. (n : ℕ) → fault ≡ ItemTooLong n → (i : Item) → IsTree name_limit i.tree → is_entry_tree i.tree ≡ true → entry.now ≡ view_of i → first_too_long (placed_texts (M.macros macros.now) i.tree) ≡ Some n) }
 {
@@ -213,6 +214,6 @@ pub(crate) fn crossref_within<M: MacroTable>(
         return short_crossref(alloc, entry, macros, note);
     }
     let text = entry_crossref(alloc, entry, macros)?;
-    let settled = is_settled_entry(alloc, entry, &text);
-    Ok(Said { text, settled })
+    let is_literal = is_settled_entry(alloc, entry, &text);
+    Ok(CrossrefText { text, is_literal })
 }

@@ -15,7 +15,7 @@ use bib_value::MacroTable;
 use std::alloc::Global;
 use std::marker::Model;
 
-/// Notes of items are kept where there are no more of them than one for so many bytes of the file.
+/// Notes of items are kept if the file has at least this many bytes for each note.
 const BYTES_A_NOTE: usize = 128;
 
 /// A file that is open: its items, and what they say together. A contract sees the file's bytes; what they say is that
@@ -26,7 +26,7 @@ pub struct Database<L: ItemList> {
     pub(crate) front: Text,
     pub(crate) items: L,
     pub(crate) tables: Tables,
-    // of all items, as long as none has changed since the file was opened; or of none
+    // of all items, if none has changed since the file was opened; otherwise of none
     pub(crate) notes: Seq<Note>,
     // how many bytes were read when the file was opened, or was changed last
     pub(crate) scanned: usize,
@@ -63,9 +63,9 @@ impl<L: ItemList> Database<L> {
     ghost use Rattle.bib_store.specs.Meaning.{OfReading, IsItemNumber, IsItemPlace, IsEntryNumber, IsPreambleNumber, entry_items, entry_numbers, IsOpenFault};
     ghost use Rattle.bib_items.specs.declared.fault.StoreFault.TheVariants.{Memory, NoSuchEntry};
 
-    /// Opens the file that these bytes are. The list that is handed in holds no item; it keeps the items from now on.
-    /// It takes time and memory in the file's length and the number of items. Refused as reading refuses (1 to 7, 9),
-    /// with 8 at the first value whose raw text is longer than 1,048,576 bytes, and with 10 where memory ran out.
+    /// Opens the file with these bytes. `empty` is a list without items, which keeps the file's items from now on. It takes
+    /// time and memory in the file's length and the number of items. It is refused as reading is refused (1 to 7, 9), with
+    /// 8 at the first value whose raw text is longer than 1,048,576 bytes, and with 10 if memory runs out.
     pub fn open_bytes(alloc: Global, bytes: &[u8], empty: L) -> Result<Database<L>, ReadFault>
         requires { L.items empty ≡ [] }
         ensures opened { IfOk result (λ db. db ≡ bytes.now) }
@@ -76,7 +76,7 @@ impl<L: ItemList> Database<L> {
         Database::of_taken(alloc, take_in(alloc, layout, bytes, empty), tables)
     }
 
-    /// The same. The list may keep the file's memory in place of copies of its items.
+    /// Opens this file as `open_bytes` does. The list may keep the file's memory instead of copies of its items.
     pub fn open_file(alloc: Global, file: Vec<u8>, empty: L) -> Result<Database<L>, ReadFault>
         requires { L.items empty ≡ [] }
         ensures opened { IfOk result (λ db. db ≡ file.items) }
@@ -87,7 +87,7 @@ impl<L: ItemList> Database<L> {
         Database::of_taken(alloc, take_file(alloc, layout, file, empty), tables)
     }
 
-    /// The file of which this was taken in, if it was, and whose tables these are.
+    /// Builds the database from what was taken in of a file and the file's tables, or returns the fault of taking it in.
     fn of_taken(
         alloc: Global,
         taken: Result<(Text, L, Seq<Note>), ReadFault>,
@@ -104,7 +104,7 @@ impl<L: ItemList> Database<L> {
         }
     }
 
-    /// The file that a front and the items after it are, of which this was noted and these are the tables.
+    /// Builds the database from its parts: the front, the items, their notes and the tables.
     fn of_items(
         alloc: Global,
         front: Text,
@@ -142,13 +142,14 @@ impl<L: ItemList> Database<L> {
         self.tables.file_len
     }
 
-    /// How many bytes were read when the file was opened or was changed last: after opening it the file's length, and after a
-    /// splice the lengths of the new texts of what it read again, added up, or the new file's length where it read the
-    /// whole. What was read in vain before that does not count, and a refused splice leaves it. (dialect)
+    /// How many bytes were read when the file was opened or last changed. After opening, it is the file's length. After a
+    /// splice, it is the sum of the lengths of the new texts that the splice read, or the new file's length if the splice
+    /// read the whole file. What a splice read in vain before does not count, and a refused splice leaves the number
+    /// unchanged. (dialect)
     pub fn last_scan(&self) -> usize
         ensures { result ≤ length self.now }
     {
-        // what was read lies apart in the file, so that it is never longer
+        // the texts that were read don't overlap in the file, so that the number is never above the file's length
         self.scanned.min(self.tables.file_len)
     }
 
@@ -187,8 +188,8 @@ impl<L: ItemList> Database<L> {
         self.front.as_slice()
     }
 
-    /// Item `n`. Its head is read again, in time of its length, where the file has changed since it was opened or has many
-    /// short items.
+    /// Item `n`. If the file has changed since it was opened, or has many short items, the item's head is read again, in
+    /// time of its length.
     pub fn item(&self, n: usize) -> ItemView<'_>
         requires { IsItemNumber self.now n }
         ensures { OfReading self.now (λ db. (i : Item) → slice_get db.items n ≡ Some i → result ≡ view_of i) }
@@ -200,7 +201,7 @@ impl<L: ItemList> Database<L> {
         }
     }
 
-    /// Where item `n` begins in the file, or where the file ends: a place in bytes.
+    /// The place at which item `n` begins in the file, or at which the file ends, in bytes.
     pub fn item_place(&self, n: usize) -> usize
         requires { IsItemPlace self.now n }
         ensures { OfReading self.now (λ db. result ≡ start_of db n) }
@@ -250,8 +251,9 @@ impl<L: ItemList> Database<L> {
         self.tables.named.holders_of(key)
     }
 
-    /// Whether it is known that no two entries have one key, folded. It takes a step. Where two had one once, it is not
-    /// known any more. `false` promises nothing: a caller then looks for itself, which costs time alone.
+    /// Whether it is known that no two entries have the same key, folded. It takes one step. Once two entries have had the
+    /// same key, this is no longer known. `false` promises nothing: the caller then has to look for itself, which only
+    /// costs time.
     pub fn are_keys_apart(&self) -> bool
         ensures { IsTrue result → OfReading self.now (λ db. AreApart (keys_of (entries_of db))) }
     {
@@ -288,9 +290,9 @@ impl<L: ItemList> Database<L> {
         }
     }
 
-    /// The number of entry `k`, counted from 0, among those whose crossref texts name this key, in order: its first holder
-    /// is the target of each of them, and where no entry has the key, each dangles. It takes a few steps for each page of
-    /// entries, and time in the key's length, which is at most 255 bytes. (dialect)
+    /// Of the entries whose crossref texts name this key, in order, the number of the one at position `k`, counted from 0.
+    /// The key's first holder is the target of each of them; if no entry has the key, each of them dangles. It takes a few
+    /// steps for each page of entries, and time in the key's length, which is at most 255 bytes. (dialect)
     pub fn referrer(&self, key: &[u8], k: usize) -> Option<usize>
         requires { length key.now ≤ name_limit }
         ensures { OfReading self.now (λ db. result ≡ slice_get (referrers key.now (crossrefs_of db)) k) }
@@ -350,7 +352,7 @@ impl<L: ItemList> Database<L> {
     }
 }
 
-/// The notes of a file of so many bytes, where they take little memory beside it, and else none.
+/// The notes of a file of `file_len` bytes, if they take little memory compared with the file, and otherwise none.
 fn kept_notes(alloc: Global, notes: Seq<Note>, file_len: usize) -> Seq<Note>
     ensures { (result ≡ notes) ⊎ (result ≡ []) }
 {

@@ -20,19 +20,19 @@ use crate::window::Window;
 use bib_items::{ItemList, StoreFault};
 use std::alloc::Global;
 
-/// Tables follow so many items that come, and so many that go, or one in `FOLLOWED_SHARE` of all, but no more than
-/// `FOLLOWED_MOST`. Each takes some steps for each page of the tables, so that for more of them it costs less to make the
-/// tables again.
+/// Tables are updated item by item if at most this many items come, and at most this many go; otherwise they are built
+/// again. Each item takes some steps for each page of the tables, so that for more items it costs less to build them again.
 const FOLLOWED_LIMIT: usize = 64;
 
 const FOLLOWED_SHARE: usize = 16;
+/// In a larger file, the limit is one in this many of all items.
 
 const FOLLOWED_MOST: usize = 2048;
+/// The limit is never above this.
 
-/// Puts the items of a change in place of those in its window, and lets the tables say what holds of all items then. Where
-/// each takes the place of one of its kind, with its key and crossref, the tables stay but for a definition, and the list
-/// may keep the memory of the change's text. It is refused where memory runs out, or where a raw text is too long; nothing
-/// has changed then.
+/// Replaces the items of a change's window by the change's items, and updates the tables. If each item replaces one of its
+/// kind, with the same key and crossref, the tables are unchanged except for a definition, and the list may keep the memory
+/// of the change's text. It is refused if memory runs out or a raw text is too long; nothing has changed then.
 pub(crate) fn exchange<L: ItemList>(
     alloc: Global,
     front_len: usize,
@@ -65,7 +65,8 @@ pub(crate) fn exchange<L: ItemList>(
     }
 }
 
-/// Puts the items of a change in place of those in its window. Where memory is refused, the list is as it was.
+/// Replaces the items of a change's window by the change's items, in the list alone. If memory is refused, the list is
+/// unchanged.
 fn exchange_items<L: ItemList>(items: &mut L, change: Change) -> Result<(), StoreFault>
     requires window { IsWindow (L.items items.old) change.window }
     requires layout { IsLayoutOf change.text change.layout }
@@ -85,7 +86,8 @@ fn exchange_items<L: ItemList>(items: &mut L, change: Change) -> Result<(), Stor
     Ok(())
 }
 
-/// Puts the one item of a change in place of the one in its window. Where memory is refused, the list is as it was.
+/// Replaces the one item of a change's window by the change's one item, in the list alone. If memory is refused, the list
+/// is unchanged.
 fn exchange_one<L: ItemList>(items: &mut L, change: &Change) -> Result<(), StoreFault>
     requires window { IsWindow (L.items items.old) change.now.window }
     requires layout { IsLayoutOf change.now.text change.now.layout }
@@ -101,9 +103,8 @@ fn exchange_one<L: ItemList>(items: &mut L, change: &Change) -> Result<(), Store
     items.replace(change.window.from, body, trail)
 }
 
-/// Puts the items of a change in place of those in its window, and lets the tables say what holds of all items then. It
-/// is refused where memory runs out, or where a raw text is too long; the list is then as it was, and the tables say what
-/// they said.
+/// Replaces the items of a change's window by the change's items, and updates the tables. It is refused if memory runs out
+/// or a raw text is too long; the list is then unchanged, and the tables say what they said.
 fn exchange_all<L: ItemList>(
     alloc: Global,
     front_len: usize,
@@ -136,10 +137,10 @@ fn exchange_all<L: ItemList>(
     }
 }
 
-/// Lets the tables say what holds once the items of a change, of this count, have replaced those of its window, which
-/// stand after them still. Where few come and go, and none defines a macro, the tables follow them; else they are made
-/// again, once all items can be looked up. An item that only gets another trail neither comes nor goes. Where it is
-/// refused, the tables say what they said. No item changes.
+/// Updates the tables for a change whose `count` items are in the list, before the items of the window that they replace.
+/// If few items come and go, and none defines a macro, the tables are updated item by item. Otherwise they are built again,
+/// once the list is prepared for look-ups of all items. An item that only gets another trail neither comes nor goes. If it
+/// is refused, the tables say what they said. No item changes.
 fn renew<L: ItemList>(
     alloc: Global,
     front_len: usize,
@@ -157,7 +158,7 @@ fn renew<L: ItemList>(
     ensures only { IfErr result (λ fault. (fault ≡ BadSplice) ⊎ (fault ≡ Memory)) }
     ensures err { OnErr result ((old : List Item) → (inner : Reading) → Reads change.now.text inner → ArePut change.now old (L.items items.old) count → SayTheSameOf old tables.old tables.new) }
 {
-    let lead = lead_of(&*items, change.window, count);
+    let lead = unchanged_first(&*items, change.window, count);
     if can_follow(&*items, change.window, count, lead) {
         return follow(alloc, &*items, tables, change, count, lead);
     }
@@ -166,14 +167,14 @@ fn renew<L: ItemList>(
     Ok(())
 }
 
-/// How many of the items that come stay as they were but for their trails, with which they come before those of the
-/// window: the first, where it has the body of the first in the window. It takes a step for each byte of that body.
-pub(crate) fn lead_of<L: ItemList>(items: &L, window: Window, count: usize) -> usize
+/// 1 if the first new item differs from the first old one in its trail alone, else 0. The `count` new items are in the
+/// list, before the old ones, those of the window. It takes one step for each byte of that item's body.
+pub(crate) fn unchanged_first<L: ItemList>(items: &L, window: Window, count: usize) -> usize
     requires ordered { window.from ≤ window.to }
     requires within { window.to + count ≤ length (L.items items.now) }
     ensures { IsLead window count result (L.items items.now) }
 {
-    // so many items fit
+    // for the proof: the count fits a usize
     let _ = items.count();
     if count == 0 || window.from == window.to {
         return 0;
@@ -184,7 +185,8 @@ pub(crate) fn lead_of<L: ItemList>(items: &L, window: Window, count: usize) -> u
     0
 }
 
-/// Whether the tables may follow: few of all items come and go, and but for those of the lead none of them defines a macro.
+/// Whether the tables can be updated item by item: few of all items come and go, and none of them defines a macro, except
+/// perhaps the lead.
 pub(crate) fn can_follow<L: ItemList>(items: &L, window: Window, count: usize, lead: usize) -> bool
     requires within { window.to + count ≤ length (L.items items.now) }
     requires lead { IsLead window count lead (L.items items.now) }
@@ -199,8 +201,8 @@ pub(crate) fn can_follow<L: ItemList>(items: &L, window: Window, count: usize, l
         && are_others(items, first_old + lead, window.to + count)
 }
 
-/// Lets the tables follow the items of a change that come, of this count, and those of its window that go. Those of the
-/// lead stay in the tables.
+/// Updates the tables item by item: the change's `count` items come, and those of its window go. The first `lead` items of
+/// both count as the same, and stay in the tables.
 fn follow<L: ItemList>(
     alloc: Global,
     items: &L,
@@ -220,7 +222,7 @@ fn follow<L: ItemList>(
     ensures err { OnErr result ((old : List Item) → (inner : Reading) → Reads change.now.text inner → ArePut change.now old (L.items items.now) count → SayTheSameOf old tables.old tables.new) }
 {
     let window = change.window;
-    // so many items fit
+    // for the proof: the count fits a usize
     let _ = items.count();
     let first = window.from + lead;
     let first_old = window.from + count;
@@ -235,7 +237,7 @@ fn follow<L: ItemList>(
     }
 }
 
-/// The tables of all items but those of the window of a change, before which its own stand, of this count.
+/// The tables of all items except those of a change's window, before which the change's `count` items are in the list.
 fn remake<L: ItemList>(
     alloc: Global,
     front_len: usize,
@@ -251,7 +253,7 @@ fn remake<L: ItemList>(
     ensures only { IfErr result (λ fault. (fault ≡ BadSplice) ⊎ (fault ≡ Memory)) }
 {
     let window = change.window;
-    // so many items fit
+    // for the proof: the count fits a usize
     let _ = items.count();
     let first_old = window.from + count;
     match Tables::of(

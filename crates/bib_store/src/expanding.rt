@@ -9,7 +9,7 @@ use bib_items::{ItemList, StoreFault};
 use bib_scan::{ItemView, Seq, Text};
 use std::alloc::Global;
 
-/// Most entries have fewer fields. Only time rests on it.
+/// Most entries have fewer fields than this. Only time depends on it.
 const FEW: usize = 8;
 
 impl<L: ItemList> Database<L> {
@@ -23,10 +23,11 @@ impl<L: ItemList> Database<L> {
     ghost use Rattle.bib_store.specs.Choosing.{chosen, with_chosen};
     ghost use Rattle.bib_items.specs.declared.fault.StoreFault.TheVariants.{Memory};
 
-    /// The record of entry `n` at this depth, and its parent: the type in lower case, the key, the entry's own fields but
-    /// `crossref`, the first of each name, and then those that are missing of its parent, of that one's parent and so on,
-    /// of as many as the depth is, each time as they stand there. Texts are field texts. It takes memory for the record and
-    /// its names, and time n log n in the bytes of all these entries. The one refusal is want of memory. (btxdoc 2.1)
+    /// The record of entry `n` at this depth, and its parent. The record has the type in lower case, the key, and the
+    /// entry's own fields except `crossref`, the first of each name. Then come the fields that are missing, first from the
+    /// parent, then from that entry's parent, and so on through at most `depth` parents, in the order of each. Texts are
+    /// field texts. It takes memory for the record and its names, and time n log n in the bytes of all these entries. It is
+    /// refused only out of memory. (btxdoc 2.1)
     pub fn expanded(&self, n: usize, depth: u8) -> Result<Expanded, StoreFault>
         requires number { IsEntryNumber self.now n }
         requires depth { IsDepth depth }
@@ -51,9 +52,9 @@ impl<L: ItemList> Database<L> {
         })
     }
 
-    /// The same record with no other fields than those that have one of these names, without regard to ASCII case. It takes
-    /// memory for those alone, and time in the bytes of all these entries, times the number of names. The one refusal is
-    /// want of memory.
+    /// The record that `expanded` gives, with only those fields that have one of these names, without regard to ASCII case.
+    /// It takes memory for those fields alone, and time in the bytes of all entries that it reads, times the number of
+    /// names. It is refused only out of memory.
     pub fn expanded_with(&self, n: usize, depth: u8, names: &[&[u8]]) -> Result<Record, StoreFault>
         requires number { IsEntryNumber self.now n }
         requires depth { IsDepth depth }
@@ -74,9 +75,9 @@ impl<L: ItemList> Database<L> {
         })
     }
 
-    /// The own fields of entry `n` that have one of these names, without regard to ASCII case, as its record has them and its
-    /// children inherit them: the first of each name, and no `crossref`. It takes memory for those alone, and time in the
-    /// bytes of the entry, times the number of names. The one refusal is want of memory.
+    /// The own fields of entry `n` that have one of these names, without regard to ASCII case, as its record has them and
+    /// its children inherit them: the first of each name, and no `crossref`. It takes memory for those fields alone, and
+    /// time in the bytes of the entry, times the number of names. It is refused only out of memory.
     pub fn own_fields_with(
         &self,
         n: usize,
@@ -91,12 +92,12 @@ impl<L: ItemList> Database<L> {
         Ok(Seq::from_vec(fields))
     }
 
-    /// Where its memory comes from.
+    /// The allocator that the database was opened with.
     pub(crate) fn allocator(&self) -> Global {
         self.alloc
     }
 
-    /// The parent of entry `n`: its target, where that is another entry.
+    /// The parent of entry `n`: its target, if that is another entry.
     pub fn parent(&self, n: usize) -> Option<usize>
         requires { IsEntryNumber self.now n }
         ensures parent { OfReading self.now (λ db. result ≡ parent (entries_of db) n) }
@@ -119,7 +120,7 @@ impl<L: ItemList> Database<L> {
         Ok(())
     }
 
-    /// Adds what entry `n` inherits at this depth. Parents may come round again, and then give nothing more.
+    /// Adds what entry `n` inherits at this depth. A parent that comes again gives nothing more.
     fn gather_inherited(&self, n: usize, depth: u8, fields: &mut Gathered) -> Result<(), StoreFault>
         requires number { IsEntryNumber self.now n }
         requires names { AreTaken fields.old.names fields.old.fields.items }
@@ -137,7 +138,7 @@ impl<L: ItemList> Database<L> {
         Ok(())
     }
 
-    /// Adds the own fields of entry `n`, which this is, that are missing and have one of these names.
+    /// Adds the own fields of entry `n` that are missing and have one of these names. `entry` is the entry's item.
     fn choose(
         &self,
         n: usize,
@@ -162,8 +163,7 @@ impl<L: ItemList> Database<L> {
         Ok(())
     }
 
-    /// Adds what entry `n` inherits at this depth and has one of these names. Parents may come round again, and then give
-    /// nothing more.
+    /// Adds what entry `n` inherits at this depth and has one of these names. A parent that comes again gives nothing more.
     fn choose_inherited(
         &self,
         n: usize,

@@ -6,7 +6,7 @@ ghost use Rattle.history_spec.specs.Shifting.{moved_back, FitAfter};
 
 use bib_data::Piece;
 
-/// Whether the piece lies inside the bytes, which begin at `at`, and its old bytes stand there.
+/// Whether the piece lies inside the bytes, which begin at `at`, and its old bytes are there.
 fn stands(piece: &Piece, at: usize, bytes: &[u8]) -> bool
     ensures { IsTrue result ↔ (at ≤ piece.now.place) × Stands bytes.now (moved_back at piece.now) }
 {
@@ -17,7 +17,7 @@ fn stands(piece: &Piece, at: usize, bytes: &[u8]) -> bool
     place <= bytes.len() && bytes[place..].starts_with(piece.old.as_slice())
 }
 
-/// Whether the pieces ascend without overlap, and each stands in the bytes, which begin at `at`.
+/// Whether the pieces ascend without overlap, and each fits the bytes, which begin at `at`.
 pub fn fits(pieces: &[Piece], at: usize, bytes: &[u8]) -> bool
     ensures { IsTrue result ↔ FitAfter at pieces.now bytes.now }
 {

@@ -1,4 +1,4 @@
-//! Tables that follow items that come and go and define no macro.
+//! Updating tables for items that come and go and define no macro.
 
 ghost use Rattle.std.specs.Prelude.{◌≡◌, ◌+◌, ◌≤◌, ◌<◌, ◌^◌, ◌⊎◌, ℕ, List, ◌++◌, length, IsTrue, IfErr, OnOk, OnErr};
 ghost use Rattle.bib_spec.specs.Reading.{Item};
@@ -12,8 +12,8 @@ use bib_items::{ItemList, StoreFault};
 use bib_scan::{ItemView, Kind};
 use std::alloc::Global;
 
-/// Puts items into the tables, before the items that have number `at` and the greater ones: those of the list from
-/// number `from` up to `to`. None is a definition. Where it is refused, the tables say what they said.
+/// Adds the items of the list from number `from` up to `to` to the tables, before the items that have the numbers from `at`
+/// on there. None of them is a definition. If it is refused, the tables say what they said.
 pub(crate) fn learn<L: ItemList>(
     alloc: Global,
     tables: &mut Tables,
@@ -41,8 +41,8 @@ pub(crate) fn learn<L: ItemList>(
     Ok(())
 }
 
-/// Takes items out of the tables, from number `at` on: those of the list from number `from` up to `to`. None is a
-/// definition. It asks for no memory.
+/// Removes the items of the list from number `from` up to `to` from the tables, where they have the numbers from `at` on.
+/// None of them is a definition. It asks for no memory.
 pub(crate) fn forget<L: ItemList>(tables: &mut Tables, items: &L, at: usize, from: usize, to: usize)
     requires ordered { from ≤ to }
     requires within { to ≤ length (L.items items.now) }
@@ -54,7 +54,7 @@ pub(crate) fn forget<L: ItemList>(tables: &mut Tables, items: &L, at: usize, fro
     }
 }
 
-/// Whether none of the items of the list from number `from` up to `to` is a definition.
+/// Whether no item of the list from number `from` up to `to` is a definition.
 pub(crate) fn are_others<L: ItemList>(items: &L, from: usize, to: usize) -> bool
     requires ordered { from ≤ to }
     requires within { to ≤ length (L.items items.now) }

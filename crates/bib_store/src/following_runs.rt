@@ -1,4 +1,4 @@
-//! Runs of pieces that lie apart. The items that they touch come and go run by run, and what stands between them stays.
+//! Runs of pieces that lie apart. The items that they touch come and go run by run; what is between runs is unchanged.
 
 ghost use Rattle.std.specs.Prelude.{◌≡◌, ◌+◌, ◌-◌, ◌≤◌, ◌<◌, ◌++◌, [], length, take, List, Some, None, IfOk, OnOk, OnErr};
 ghost use Rattle.std.specs.List.{between};
@@ -14,7 +14,7 @@ ghost use Rattle.bib_store.specs.Stored.{file_of, IsKept};
 ghost use Rattle.bib_store.specs.Windows.{IsWindow, HasLead, IsLead, ArePut};
 
 use crate::change::{Change, change_near};
-use crate::exchanging::{can_follow, lead_of};
+use crate::exchanging::{can_follow, unchanged_first};
 use crate::following::{forget, learn};
 use crate::redefining::{Former, give_back, redefine};
 use crate::tables::Tables;
@@ -24,7 +24,7 @@ use bib_items::{ItemList, StoreFault};
 use bib_scan::{FILE_LIMIT, ItemView};
 use std::alloc::Global;
 
-/// What replaces the window of a run that touches none but the first `n` items. Refused where the pieces don't serve
+/// The change that a run of pieces makes. It touches only the first `n` items. It is refused if the pieces don't serve
 /// there.
 fn run_change<L: ItemList>(
     alloc: Global,
@@ -47,19 +47,19 @@ fn run_change<L: ItemList>(
     Ok(change)
 }
 
-/// What a change brought before the items of its window.
+/// What was inserted for a change before the items of its window.
 #[derive(Drop)]
 struct Brought {
-    /// How many items.
+    /// How many items were inserted.
     count: usize,
-    /// How many of these are the lead: with them the first of the window go at once, in the tables.
+    /// How many of them are the lead: in the tables, these have replaced the first items of the window.
     lead: usize,
-    /// What the tables kept before, where the lead is a definition that takes the place of another.
+    /// What the tables had before, if the lead is a definition that replaced another.
     former: Option<Former>,
 }
 
-/// Lets the tables follow the items that came for a change, of this count, before those of its window, where none is a
-/// definition but for those of the lead, which stay in the tables. Where it is refused, the tables say what they said.
+/// Adds to the tables the `count` items that were inserted for a change, except the first `lead`, which count as the first
+/// of the window. None of the added items is a definition. If it is refused, the tables say what they said.
 fn learn_others<L: ItemList>(
     alloc: Global,
     tables: &mut Tables,
@@ -81,7 +81,7 @@ fn learn_others<L: ItemList>(
     ensures len { tables.new.file_len ≡ tables.old.file_len }
     ensures back { OnErr result ((old : List Item) (inner : Reading) → Reads change.now.text inner → ArePut change.now old (L.items items.now) count → StayFollowed (length old - change.now.window.to) (take change.now.window.to old) tables.old (take change.now.window.to old) tables.new) }
 {
-    // so many items fit
+    // for the proof: the count fits a usize
     let _ = items.count();
     let first = change.window.from + lead;
     match learn(
@@ -101,8 +101,8 @@ fn learn_others<L: ItemList>(
     }
 }
 
-/// Lets the one item that came for a change take the place of the one in its window, in the tables, where both are
-/// definitions. Where it is refused, the tables stay as they are.
+/// Replaces in the tables the one item of a change's window by the one item that was inserted for the change. It is refused
+/// if one of the two is no definition, or if the tables can't follow; the tables are then unchanged.
 fn learn_definition<L: ItemList>(
     alloc: Global,
     tables: &mut Tables,
@@ -129,7 +129,7 @@ fn learn_definition<L: ItemList>(
     if touched != 1 {
         return Err(StoreFault::BadSplice);
     }
-    // so many items fit
+    // for the proof: the count fits a usize
     let _ = items.count();
     let new = ItemView::of(items.body(n), b"");
     let old = ItemView::of(items.body(n + 1), b"");
@@ -141,8 +141,8 @@ fn learn_definition<L: ItemList>(
     })
 }
 
-/// Lets the tables follow the items that came for a change, of this count, before those of its window. Refused where the
-/// items are many, or where one is a definition that the tables can't follow; the tables then say what they said.
+/// Updates the tables for the `count` items that were inserted for a change. It is refused if these are many, or if one of
+/// them is a definition that the tables can't follow; the tables then say what they said.
 fn learn_few<L: ItemList>(
     alloc: Global,
     tables: &mut Tables,
@@ -162,15 +162,16 @@ fn learn_few<L: ItemList>(
     ensures back { OnErr result ((old : List Item) (inner : Reading) → Reads change.now.text inner → ArePut change.now old (L.items items.now) count → StayFollowed (length old - change.now.window.to) (take change.now.window.to old) tables.old (take change.now.window.to old) tables.new) }
 {
     let window = change.window;
-    let lead = lead_of(items, window, count);
+    let lead = unchanged_first(items, window, count);
     if can_follow(items, window, count, lead) {
         return learn_others(alloc, tables, items, change, count, lead);
     }
     learn_definition(alloc, tables, items, change, count)
 }
 
-/// Puts the items of a change before those of its window. Refused where they are many, one has a text that is too long or
-/// is a definition that the tables can't follow, or the file would be too long; nothing has changed then.
+/// Inserts the items of a change before those of its window, in the list and in the tables. It is refused if these are
+/// many, if one has a text that is too long or is a definition that the tables can't follow, or if the file would be too
+/// long; nothing has changed then.
 fn bring_in<L: ItemList>(
     alloc: Global,
     items: &mut L,
@@ -208,9 +209,9 @@ fn bring_in<L: ItemList>(
     }
 }
 
-/// Takes the items away from one number up to another. Those of the lead, the first, don't stand in the tables; none of the
-/// others is a definition, and these go from the tables too, where they have number `at` and the greater ones.
-/// It asks for no memory.
+/// Removes the items from number `from` up to `to` from the list. The first `lead` of them are not in the tables. The
+/// others are no definitions, and are removed from the tables too, where they have the numbers from `at` on. It asks for no
+/// memory.
 fn take_out<L: ItemList>(
     items: &mut L,
     tables: &mut Tables,
@@ -228,7 +229,7 @@ fn take_out<L: ItemList>(
     ensures measured { StaysMeasured (L.items items.old) tables.old (L.items items.new) tables.new }
     ensures followed { (before : List Item) → length before ≡ at → StayFollowed (length (L.items items.old) - to) (before ++ between (from + lead) to (L.items items.old)) tables.old before tables.new }
 {
-    // so many items fit
+    // for the proof: the count fits a usize
     let _ = items.count();
     let len = items.start(to) - items.start(from);
     forget(tables, &*items, at, from + lead, to);
@@ -236,10 +237,10 @@ fn take_out<L: ItemList>(
     tables.file_len -= len;
 }
 
-/// Replaces what pieces touch among the first `n` items, run by run from the last to the first. The numbers of the pieces
-/// with which the runs begin are given. The items of a run come before those that it touches, and these go only once the
-/// runs before it are done: where one of them is refused, those that came go, and nothing has changed. It tells how many
-/// bytes were read.
+/// Replaces what pieces touch among the first `n` items, run by run, from the last to the first. `starts` has the number of
+/// the piece with which each run begins. The new items of a run are inserted before its old items, which are removed only
+/// after the earlier runs are done. If an earlier run is refused, the new items are removed again, and nothing has changed.
+/// It returns how many bytes were read.
 fn follow_runs<L: ItemList>(
     alloc: Global,
     front: &[u8],
@@ -268,7 +269,7 @@ fn follow_runs<L: ItemList>(
     let touched = change.window.to - from;
     let old_count = items.count();
     let brought = bring_in(alloc, items, tables, &change)?;
-    // so many items fit
+    // for the proof: the count fits a usize
     let _ = items.count();
     match follow_runs(alloc, front, items, tables, from, starts, earlier) {
         Ok(read) => {
@@ -298,8 +299,8 @@ fn follow_runs<L: ItemList>(
     }
 }
 
-/// Replaces what pieces touch, run by run. The numbers of the pieces with which the runs begin are given. It tells how
-/// many bytes were read. Where it is refused, nothing has changed.
+/// Replaces what pieces touch, run by run. `starts` has the number of the piece with which each run begins. It returns how
+/// many bytes were read. If it is refused, nothing has changed.
 pub(crate) fn replace_runs<L: ItemList>(
     alloc: Global,
     front: &[u8],

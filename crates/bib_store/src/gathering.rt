@@ -28,7 +28,7 @@ pub(crate) fn lower(alloc: Global, text: &[u8]) -> Result<Text, AllocError>
     Ok(Seq::from_vec(bytes))
 }
 
-/// The fields gathered so far, and the names that may not follow: theirs, and `crossref`.
+/// The fields gathered so far, and the names that are taken: the fields' own, and `crossref`.
 #[derive(Drop)]
 pub(crate) struct Gathered {
     alloc: Global,

@@ -1,4 +1,4 @@
-//! What an entry's bytes tell before its rows are read.
+//! Quick tests that spare reading an entry's rows.
 
 ghost use Rattle.std.specs.Prelude.{◌≡◌, ◌*◌, ◌≤◌, ◌++◌, true, max};
 ghost use Rattle.bib_spec.specs.Text.{Text as Bytes, same};
@@ -17,12 +17,12 @@ fn ends_in_crossref(text: &[u8]) -> bool
     text.len() >= 8 && same_folded(text.split_at(text.len() - 8).1, b"crossref")
 }
 
-/// Whether `crossref` stands nowhere in the text, in any case. It takes time in the length of the text, and no memory.
+/// Whether `crossref` is nowhere in the text, in any case. It takes time in the length of the text, and no memory.
 pub(crate) fn lacks_crossref(text: &[u8]) -> bool
     ensures { result ≡ true → LacksWord text.now crossref }
 {
     let mut at = 0;
-    // it ends in an f
+    // the word ends in an f
     'search: while let Some(found) = memchr2(b'f', b'F', text.split_at(at).1) {
         let end = at + found + 1;
         if ends_in_crossref(text.split_at(end).0) {
@@ -33,7 +33,7 @@ pub(crate) fn lacks_crossref(text: &[u8]) -> bool
     true
 }
 
-/// Whether so many bytes of values say no text that is too long, where no macro stands for more than `longest` bytes.
+/// Whether values of `len` bytes say no text that is too long, if no macro stands for more than `longest` bytes.
 pub(crate) fn are_short(len: usize, longest: usize) -> bool
     ensures { result ≡ true → len * max longest 1 ≤ raw_limit }
 {

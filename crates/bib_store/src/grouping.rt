@@ -1,4 +1,4 @@
-//! The members that hang together.
+//! Groups of members: of pieces back and on whose bytes touch, directly or through others.
 
 ghost use Rattle.std.specs.Prelude.{◌≡◌, ◌+◌, ◌-◌, ◌<◌, ◌≤◌, Bool, true, false, nat_le, List, ◌∷◌, ◌++◌, length, take, drop, IfOk};
 ghost use Rattle.bib_spec.specs.Bytes.{file_limit};
@@ -9,7 +9,7 @@ use crate::ordering::{is_back_first, place_of_first};
 use bib_data::Piece;
 use std::alloc::{AllocError, Global};
 
-/// Members that hang together: where they begin, the bytes that they cover, and how many of them lead back and on.
+/// A group of members: where it begins, the bytes that it covers, and how many of its members lead back and how many on.
 #[derive(Drop)]
 pub struct Group {
     pub place: u64,
@@ -18,8 +18,8 @@ pub struct Group {
     pub ons: usize,
 }
 
-/// Whether the piece begins by the end of what is covered from this place on; if so, its bytes that are not covered yet
-/// come after it.
+/// Whether the piece begins no later than the bytes covered from `place` on end. If so, those of its old bytes that are not
+/// covered yet are appended to them.
 fn joins(covered: &mut Vec<u8>, place: u64, piece: &Piece) -> Result<bool, AllocError>
     requires covered { place + length covered.old.items ≤ file_limit }
     requires piece { end_of piece.now ≤ file_limit }
@@ -38,7 +38,7 @@ fn joins(covered: &mut Vec<u8>, place: u64, piece: &Piece) -> Result<bool, Alloc
     Ok(true)
 }
 
-/// The first group of the members, of which there is one at least.
+/// The first group of the members. There is at least one member.
 pub fn first_group(alloc: Global, backs: &[Piece], ons: &[Piece]) -> Result<Group, AllocError>
     requires some { 0 < length backs.now + length ons.now }
     requires backs { EndBy file_limit backs.now }

@@ -1,4 +1,4 @@
-//! Items that each take the place of one of their kind, in tables that stay as they are but for one definition.
+//! Items that each replace one of their kind, in tables that are unchanged except for one definition.
 
 ghost use Rattle.std.specs.Prelude.{◌≡◌, ◌+◌, ◌∷◌, [], ℕ, true, Option, None, map, length, IsTrue, IfSome, IfOk, OnOk};
 ghost use Rattle.bib_spec.specs.Bytes.{name_limit};
@@ -18,7 +18,7 @@ ghost use Rattle.bib_store.specs.Windows.{IsWindow};
 
 use crate::bounds::Bounds;
 use crate::change::Change;
-use crate::crossrefs::{Said, crossref_within};
+use crate::crossrefs::{CrossrefText, crossref_within};
 use crate::item_fault::ItemFault;
 use crate::redefining::{Former, give_back, redefine};
 use crate::tables::Tables;
@@ -27,7 +27,7 @@ use bib_items::ItemList;
 use bib_scan::{ItemView, Kind, Text};
 use std::alloc::Global;
 
-/// What the tables kept before items took the places of others.
+/// What the tables had before items were replaced, so that it can be given back.
 #[derive(Drop)]
 pub(crate) struct Kept {
     former: Option<Former>,
@@ -49,15 +49,15 @@ fn have_one_key(old: &ItemView<'_>, new: &ItemView<'_>) -> bool
     are_both(Kind::Entry, old, new) && old.key() == new.key()
 }
 
-/// What the crossref of an entry says that is item `n`, or comes in its place.
+/// What the crossref of an entry says that is item `n`, or replaces it.
 fn crossref_at(
     alloc: Global,
     entry: &ItemView<'_>,
     n: usize,
     definitions: &Definitions,
-) -> Result<Said, ItemFault>
+) -> Result<CrossrefText, ItemFault>
     ensures text { IfOk result (λ said. (i : Item) → IsTree name_limit i.tree → is_entry_tree i.tree ≡ true → entry.now ≡ view_of i → map crossref_text (entry_in (texts_at definitions.now n) i.tree) ≡ said.text ∷ []) }
-    ensures settled { IfOk result (λ said. said.settled ≡ true → IsSettledEntry entry.now said.text) }
+    ensures settled { IfOk result (λ said. said.is_literal ≡ true → IsSettledEntry entry.now said.text) }
     ensures short { OnOk result ((i : Item) → IsTree name_limit i.tree → is_entry_tree i.tree ≡ true → entry.now ≡ view_of i → first_too_long (placed_texts (texts_at definitions.now n) i.tree) ≡ None) }
 {
     match crossref_within(
@@ -72,7 +72,7 @@ fn crossref_at(
     }
 }
 
-/// Whether both crossrefs say the same, or there is none.
+/// Whether both crossrefs say the same, or neither entry has one.
 fn say_the_same(old: &Option<Text>, new: &Option<Text>) -> bool
     ensures { IsTrue result → old.now ≡ new.now }
 {
@@ -83,8 +83,8 @@ fn say_the_same(old: &Option<Text>, new: &Option<Text>) -> bool
     }
 }
 
-/// Lets an entry take the place of item `n`. Gives whether it could: it can't where the key is another, or where what the
-/// crossref says is another.
+/// Replaces the entry that is item `n` in the tables, and returns whether it could. It can't if the keys differ, or what
+/// the crossrefs say.
 fn put_entry(
     alloc: Global,
     tables: &mut Tables,
@@ -107,12 +107,12 @@ fn put_entry(
     if !say_the_same(&was.text, &said.text) {
         return false;
     }
-    tables.bounds.admit(new.body().len(), said.settled);
+    tables.bounds.admit(new.body().len(), said.is_literal);
     true
 }
 
-/// Lets a preamble take the place of another, which is item `n`. Gives whether it could: it can't where one of them is none,
-/// or where its raw text is too long.
+/// Replaces the preamble that is item `n` in the tables, and returns whether it could. It can't if one of the two is no
+/// preamble, or if the new raw text is too long.
 fn put_preamble(
     alloc: Global,
     tables: &mut Tables,
@@ -135,7 +135,7 @@ fn put_preamble(
     }
 }
 
-/// Lets a comment take the place of another. Gives whether both are comments.
+/// Replaces a comment in the tables, and returns whether it could: whether both are comments.
 fn put_comment(tables: &mut Tables, old: &ItemView<'_>, new: &ItemView<'_>) -> bool
     ensures placed { IsTrue result → (n : ℕ) → TakesPlace n old.now new.now tables.old tables.new }
     ensures rest { tables.new ≡ with_bounds tables.new.bounds tables.old }
@@ -147,8 +147,8 @@ fn put_comment(tables: &mut Tables, old: &ItemView<'_>, new: &ItemView<'_>) -> b
     true
 }
 
-/// Lets a definition take the place of another, which is item `n`, where none did before. Gives whether it could. What the
-/// tables kept before is kept.
+/// Replaces the definition that is item `n` in the tables, unless another was replaced before, and returns whether it
+/// could. `former` then has what the tables had before.
 fn put_definition(
     alloc: Global,
     tables: &mut Tables,
@@ -173,7 +173,7 @@ fn put_definition(
     }
 }
 
-/// Lets an item take the place of item `n`. Gives whether it could.
+/// Replaces item `n` in the tables, and returns whether it could.
 fn put(
     alloc: Global,
     tables: &mut Tables,
@@ -197,7 +197,8 @@ fn put(
     }
 }
 
-/// Lets the items of a change each take the place of one in its window, of which there are as many. Gives whether all could.
+/// Replaces each item of a change's window in the tables by the item of the change at the same place, and returns whether
+/// it could for all. Window and change have equally many items.
 fn put_each<L: ItemList>(
     alloc: Global,
     tables: &mut Tables,
@@ -212,7 +213,7 @@ fn put_each<L: ItemList>(
     ensures kept { StayKept former.old tables.old former.new tables.new }
     ensures len { tables.new.file_len ≡ tables.old.file_len }
 {
-    // so many items fit
+    // for the proof: the count fits a usize
     let _ = items.count();
     'each: for k in 0..change.layout.len() {
         let n = change.window.from + k;
@@ -225,11 +226,11 @@ fn put_each<L: ItemList>(
     true
 }
 
-/// Lets the items of a change each take the place of one in its window, in the tables alone. Gives what these kept before,
-/// or nothing where they can't: where there are more or fewer, where one is of another kind, where a key or what a crossref
-/// says is another, where a raw text is too long, or where more than one definition changes, or one on which something may
-/// rest. The tables then stay as they are; only time rests on whether they can. It takes time in the length of these items,
-/// and where a definition changes in that of all definitions.
+/// Replaces each item of a change's window by the item of the change at the same place, in the tables alone. It returns
+/// what the tables had before, or nothing if it can't: if the counts differ, if a kind, a key or what a crossref says
+/// differs, if a raw text is too long, if more than one definition changes, or if something may depend on the one that
+/// does. The tables are then unchanged. Only time depends on whether it can. It takes time in the length of these items,
+/// and if a definition changes, in that of all definitions.
 pub(crate) fn put_in_place<L: ItemList>(
     alloc: Global,
     tables: &mut Tables,
@@ -257,7 +258,7 @@ pub(crate) fn put_in_place<L: ItemList>(
     None
 }
 
-/// Gives the tables back what they kept. It asks for no memory.
+/// Gives the tables back what they had. It asks for no memory.
 pub(crate) fn take_back(tables: &mut Tables, kept: Kept)
     ensures back { tables.new ≡ with_kept kept tables.old }
     ensures len { tables.new.file_len ≡ tables.old.file_len }

@@ -10,8 +10,8 @@ use bib_scan::ReadFault;
 use bib_value::ValueFault;
 use std::alloc::{AllocError, AllocFailed};
 
-/// Why an item's texts are not kept: a raw text is too long, whose value begins at this place of the body, or a request
-/// for memory was refused.
+/// Why an item's texts are not kept: the raw text of the value at this place of the body is too long, or a request for
+/// memory was refused.
 #[derive(Clone, Copy, Debug, PartialEq, Eq)]
 pub(crate) enum ItemFault {
     TooLong(usize),
@@ -30,7 +30,7 @@ impl ItemFault {
         }
     }
 
-    /// Why the pieces that bring the item are refused.
+    /// The fault of a splice that brings the item.
     pub(crate) fn of_splice(self) -> StoreFault
         ensures too_long { result ≡ BadSplice → (place : ℕ) × (self ≡ ItemTooLong place) }
         ensures only { (result ≡ BadSplice) ⊎ (result ≡ Memory) }

@@ -43,7 +43,7 @@ fn keep_all<L: ItemList>(
     Ok((Seq::from_vec(front), items))
 }
 
-/// The front and the items of the file that these bytes are, as they are kept, and what was noted of the items.
+/// The front and the items of the file with these bytes, as they are kept, and what was noted of the items.
 pub(crate) fn take_in<L: ItemList>(
     alloc: Global,
     layout: Layout,
@@ -61,7 +61,7 @@ pub(crate) fn take_in<L: ItemList>(
     }
 }
 
-/// The front and the items of a file, as they are kept. The list may keep the file's memory in place of copies.
+/// The front and the items of a file, as they are kept. The list may keep the file's memory instead of copies.
 fn keep_file<L: ItemList>(
     alloc: Global,
     layout: &Layout,
@@ -81,7 +81,7 @@ fn keep_file<L: ItemList>(
 }
 
 /// The front and the items of this file, as they are kept, and what was noted of the items. The list may keep the file's
-/// memory in place of copies.
+/// memory instead of copies.
 pub(crate) fn take_file<L: ItemList>(
     alloc: Global,
     layout: Layout,

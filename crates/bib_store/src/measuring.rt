@@ -15,7 +15,7 @@ use bib_scan::{Parts, Text, only_part, read_value};
 use bib_value::{MacroTable, RAW_LIMIT, ValueFault, field_text, part_text, raw_len, raw_text};
 use std::alloc::Global;
 
-/// The parts of the value that these bytes are. Bytes of an item's value are refused for want of memory alone.
+/// The parts of the value in these bytes. For the bytes of an item's value, it is refused only out of memory.
 fn parts_of(alloc: Global, bytes: &[u8]) -> Result<Parts, ValueFault>
     ensures parts { IfOk result (λ parts. IsPartsOf bytes.now parts) }
     ensures only { IfErr result (λ fault. fault ≡ Memory) }
@@ -26,7 +26,7 @@ fn parts_of(alloc: Global, bytes: &[u8]) -> Result<Parts, ValueFault>
     }
 }
 
-/// The raw text of the value that these bytes are.
+/// The raw text of the value in these bytes.
 pub(crate) fn value_text<M: MacroTable>(
     alloc: Global,
     bytes: &[u8],
@@ -41,8 +41,7 @@ pub(crate) fn value_text<M: MacroTable>(
     raw_text(alloc, &parts, bytes, macros, own)
 }
 
-/// The raw text of the value that these bytes are, lent, where no `#` stands in them: then it has one part. No memory is
-/// asked for.
+/// The raw text of the value in these bytes, lent, if they have no `#`: the value then has one part. It asks for no memory.
 fn only_text<'a, M: MacroTable>(bytes: &'a [u8], macros: &'a M) -> Option<&'a [u8]>
     ensures { IfSome result (λ text. OfValue bytes.now (λ v. text.now ≡ raw_text (M.macros macros.entry.now) v)) }
 {
@@ -50,7 +49,7 @@ fn only_text<'a, M: MacroTable>(bytes: &'a [u8], macros: &'a M) -> Option<&'a [u
     Some(part_text(part, macros, None))
 }
 
-/// The same, where it is not too long.
+/// The raw text that `only_text` lends, if it is not too long.
 fn short_only_text<'a, M: MacroTable>(bytes: &'a [u8], macros: &'a M) -> Option<&'a [u8]>
     ensures text { IfSome result (λ text. OfValue bytes.now (λ v. text.now ≡ raw_text (M.macros macros.entry.now) v)) }
     ensures short { IfSome result (λ text. length text.now ≤ raw_limit) }
@@ -62,8 +61,8 @@ fn short_only_text<'a, M: MacroTable>(bytes: &'a [u8], macros: &'a M) -> Option<
     Some(text)
 }
 
-/// Refuses the value that these bytes are if its raw text is too long. Most values have one part, and are not taken
-/// apart: no memory is asked for.
+/// Refuses the value in these bytes if its raw text is too long. Most values have one part; these are not taken apart, and
+/// take no memory.
 pub(crate) fn measure<M: MacroTable>(
     alloc: Global,
     bytes: &[u8],
@@ -82,7 +81,7 @@ pub(crate) fn measure<M: MacroTable>(
     Ok(())
 }
 
-/// The field text of the value that these bytes are.
+/// The field text of the value in these bytes.
 pub(crate) fn value_field_text<M: MacroTable>(
     alloc: Global,
     bytes: &[u8],
@@ -99,7 +98,7 @@ pub(crate) fn value_field_text<M: MacroTable>(
     field_text(alloc, raw.as_slice())
 }
 
-/// The raw text of the value that these bytes are, which is not too long.
+/// The raw text of the value in these bytes, which is not too long.
 pub(crate) fn short_text<M: MacroTable>(
     alloc: Global,
     bytes: &[u8],
@@ -117,7 +116,7 @@ pub(crate) fn short_text<M: MacroTable>(
     }
 }
 
-/// The field text of the value that these bytes are, whose raw text is not too long.
+/// The field text of the value in these bytes, whose raw text is not too long.
 pub(crate) fn short_field_text<M: MacroTable>(
     alloc: Global,
     bytes: &[u8],

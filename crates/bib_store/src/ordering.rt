@@ -5,7 +5,7 @@ ghost use Rattle.history_spec.specs.Composing.{in_order, back_is_first, first_pl
 
 use bib_data::Piece;
 
-/// Whether the first member leads back.
+/// Whether the first member, by place, is a piece back.
 pub fn is_back_first(backs: &[Piece], ons: &[Piece]) -> bool
     ensures { result ≡ back_is_first backs.now ons.now }
 {
@@ -16,7 +16,7 @@ pub fn is_back_first(backs: &[Piece], ons: &[Piece]) -> bool
     }
 }
 
-/// The place of the first member, of which there is one at least.
+/// The place of the first member. There is at least one.
 pub fn place_of_first(backs: &[Piece], ons: &[Piece]) -> u64
     requires { 0 < length backs.now + length ons.now }
     ensures { result ≡ first_place (in_order backs.now ons.now) }

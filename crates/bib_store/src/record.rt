@@ -1,4 +1,4 @@
-//! What is told of an entry's record, and of cited lists.
+//! What look-ups of records and of cited lists return.
 
 use bib_data::Record;
 use bib_scan::Seq;

@@ -1,4 +1,4 @@
-//! Definitions that give way to others, where nothing but what macros stand for rests on them.
+//! Definitions that replace others, when only the texts of macros depend on them.
 
 ghost use Rattle.std.specs.Prelude.{◌≡◌, ◌∷◌, true, List, Some, IsTrue, IfSome, IfOk, OnErr};
 ghost use Rattle.bib_spec.specs.Text.{Text as Bytes};
@@ -16,7 +16,7 @@ use bib_items::StoreFault;
 use bib_scan::{FieldView, ItemView, Kind};
 use std::alloc::Global;
 
-/// What the tables kept before a definition gave way to another.
+/// What the tables had before a definition was replaced.
 #[derive(Drop)]
 pub(crate) struct Former {
     names: Names,
@@ -39,7 +39,7 @@ fn may_give_way(tables: &Tables, old: &ItemView<'_>, new: &ItemView<'_>) -> bool
     tables.bounds.settled && is_definition(old) && is_definition(new)
 }
 
-/// The first field of an item, where its value says the same whatever macros stand for.
+/// The first field of an item, if its value says the same whatever macros stand for.
 fn settled_field<'a>(alloc: Global, item: &ItemView<'a>) -> Option<FieldView<'a>>
     ensures first { IfSome result (λ field. (rest : List Field) × (item.now.fields ≡ field_seen field ∷ rest)) }
     ensures settled { IfSome result (λ field. (text : Bytes) × OfValue field.value.now (λ v. (m : Macros) → raw_text m v ≡ text)) }
@@ -51,9 +51,10 @@ fn settled_field<'a>(alloc: Global, item: &ItemView<'a>) -> Option<FieldView<'a>
     Some(field)
 }
 
-/// Lets the definition that is item `n` give way to another. Gives what the tables kept before. Refused where one of them
-/// is no definition, where what a crossref says or a definition gives may rest on macros, or where a raw text may be too
-/// long; the tables then stay as they are. It takes time in the count of definitions, and memory in their length.
+/// Replaces the definition that is item `n` in the tables, and returns what the tables had before. It is refused if one of
+/// the two items is no definition, if what some crossref says or some definition gives may depend on macros, or if some raw
+/// text may be too long. The tables are then unchanged. It takes time in the count of definitions, and memory in their
+/// length.
 pub(crate) fn redefine(
     alloc: Global,
     tables: &mut Tables,
@@ -91,7 +92,7 @@ pub(crate) fn redefine(
     Ok(former)
 }
 
-/// Gives the tables back what they kept before, if anything is given. It asks for no memory.
+/// Gives the tables back what they had before a definition was replaced, if one was. It asks for no memory.
 pub(crate) fn give_back(tables: &mut Tables, former: Option<Former>)
     ensures back { tables.new ≡ with_former former tables.old }
     ensures len { tables.new.file_len ≡ tables.old.file_len }

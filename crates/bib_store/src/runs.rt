@@ -13,21 +13,21 @@ use bib_items::{ItemList, StoreFault};
 use bib_scan::ItemView;
 use std::alloc::Global;
 
-/// So many pieces are sought for runs. Each takes a few steps for each page of items, so that for more of them it costs
-/// less to read what stands between them.
+/// At most this many pieces are split into runs. Each piece takes a few steps for each page of items, so that with more
+/// pieces it costs less to read what is between them.
 const PIECES_LIMIT: usize = 256;
 
-/// So many runs are read apart.
+/// At most this many runs are read apart.
 const RUNS_LIMIT: usize = 64;
 
-/// Whether the window is a definition alone.
+/// Whether the window has one item, which is a definition.
 fn is_one_definition<L: ItemList>(items: &L, window: Window) -> bool
     requires { IsWindow (L.items items.now) window }
 {
     window.to - window.from == 1 && is_definition(&ItemView::of(items.body(window.from), b""))
 }
 
-/// Whether the byte at this place of the file belongs to a definition. Only time rests on it.
+/// Whether the byte at this place of the file belongs to a definition. Only time depends on it.
 fn is_defined_at<L: ItemList>(front: &[u8], items: &L, file_len: usize, place: usize) -> bool
     requires len { file_len ≡ length (file_of front.now (L.items items.now)) }
     requires short { file_len ≤ file_limit }
@@ -39,9 +39,9 @@ fn is_defined_at<L: ItemList>(front: &[u8], items: &L, file_len: usize, place: u
     is_definition(&ItemView::of(items.body(n), b""))
 }
 
-/// The numbers of the pieces with which the runs begin. The pieces of a run touch items that stand side by side; an item
-/// that none touches stands between two runs. Refused where they aren't read apart: there is one run, which is
-/// no definition alone, there are more than 64, or one of them touches the front. Only time rests on where they begin.
+/// The number of the first piece of each run. The pieces of a run touch neighbouring items; between two runs there is an
+/// item that no piece touches. It is refused if runs are not to be read apart: there is only one, which is not a single
+/// definition, there are more than 64, or one of them touches the front. Only time depends on where runs begin.
 pub(crate) fn run_starts<L: ItemList>(
     alloc: Global,
     front: &[u8],

@@ -16,20 +16,11 @@ impl<L: ItemList> Database<L> {
     ghost use Rattle.bib_spec.specs.Pieces.{Fit, applied};
     ghost use Rattle.bib_items.specs.declared.fault.StoreFault.TheVariants.{Memory, BadSplice};
 
-    /// Replaces pieces of the file, all at once. The items that the pieces touch are read again, but for one that they
-    /// touch by its end alone where the rest is read without it: each run of neighbours alone, where at most 256 pieces
-    /// make 2 to 64 runs of few items each, or touch one macro definition alone, none touches the front, and of
-    /// macro definitions only the trails change, where they are the first that a run touches, or one gives way to another
-    /// in a run of its own, while no crossref and no definition is made of macros and the items are short; else all from
-    /// the first to the last; and where that shows no file, the whole file. It takes time in the length of what is read,
-    /// and for each item that comes or goes a few steps for each page of items, entries, preambles and definitions; and
-    /// memory in the length of what is read. Where a definition gives way to another in a run of its own, it takes time
-    /// and memory in the length of all definitions too. Where all is read in one run, the tables stay as they are if each
-    /// item takes the place of one of its kind, with its key and what its crossref says, of definitions one alone changes,
-    /// and no crossref and no definition is made of macros where it does. Else, where more items come or go than 64, and
-    /// than one in sixteen of all or than 2,048, or one defines a macro, the tables of all items are made again: it takes
-    /// time in the file's length, and memory as opening it. A first item of which only the trail changes neither comes nor
-    /// goes.
+    /// Replaces pieces of the file, all at once. It is refused if the pieces don't fit, if they lead to bytes that are no
+    /// file to be opened, or if memory runs out; nothing has changed then. It takes time and memory in the length of what
+    /// it reads again, and a few steps for each page of the tables for each item that comes or goes; if the tables are made
+    /// again, time in the file's length, and memory as opening it. "How a splice follows" in ARCHITECTURE.md has a table of
+    /// the cases.
     pub fn splice(&mut self, pieces: &[Piece]) -> Result<(), StoreFault>
         ensures fit { OnOk result (Fit pieces.now self.old) }
         ensures spliced { OnOk result (self.new ≡ applied pieces.now self.old) }
@@ -43,8 +34,8 @@ impl<L: ItemList> Database<L> {
         spliced
     }
 
-    /// Replaces pieces as `splice` does, where others follow at once. The items after those that are read are looked up in a
-    /// step for each page more, up to the next call of `splice` or `settle`.
+    /// Replaces pieces as `splice` does, when another splice follows at once. Looking up an item after those that were read
+    /// takes one step more for each page, until the next call of `splice` or `settle`.
     pub fn splice_in_turn(&mut self, pieces: &[Piece]) -> Result<(), StoreFault>
         ensures fit { OnOk result (Fit pieces.now self.old) }
         ensures spliced { OnOk result (self.new ≡ applied pieces.now self.old) }
@@ -61,15 +52,15 @@ impl<L: ItemList> Database<L> {
         }
     }
 
-    /// Lets items be looked up without a step for each page. The file stays as it is, and nothing else is promised: it saves
-    /// time alone.
+    /// Prepares the look-up of items, so that it takes no step for each page. The file is unchanged, and nothing else is
+    /// promised: the call only saves time.
     pub fn settle(&mut self)
         ensures { self.new ≡ self.old }
     {
         self.items.prepare(usize::MAX);
     }
 
-    /// Lets the items be looked up that pieces touch. The file stays as it is.
+    /// Prepares the look-up of the items that the pieces touch. The file is unchanged.
     fn prepare(&mut self, pieces: &[Piece])
         ensures { self.new ≡ self.old }
     {
@@ -78,8 +69,8 @@ impl<L: ItemList> Database<L> {
         }
     }
 
-    /// Replaces pieces that touch several runs of items, each read alone. Refused where that doesn't do, which is not to
-    /// say that the pieces don't lead to a file.
+    /// Replaces pieces that touch several runs of items, each run read alone. A refusal means that this can't be done, not
+    /// that the pieces lead to no file.
     fn splice_runs(&mut self, pieces: &[Piece]) -> Result<(), StoreFault>
         ensures fit { OnOk result (Fit pieces.now self.old) }
         ensures spliced { OnOk result (self.new ≡ applied pieces.now self.old) }

@@ -12,7 +12,7 @@ ghost use Rattle.bib_numbers.specs.Numbers.{PartAt, HaveNext};
 ghost use Rattle.bib_entries.specs.EntryTable.{IsTableOf};
 
 use crate::bounds::{Bounds, is_settled_value};
-use crate::crossrefs::{Said, crossref_within};
+use crate::crossrefs::{CrossrefText, crossref_within};
 use crate::item_fault::ItemFault;
 use crate::measuring::{measure, value_text};
 use bib_definitions::Definitions;
@@ -22,7 +22,7 @@ use bib_numbers::Numbers;
 use bib_scan::{FieldView, ItemView, Kind, Layout, NAME_LIMIT, Note, ReadFault, Reader, Text};
 use std::alloc::Global;
 
-/// After so many items it shows about how many a file has.
+/// The item count is estimated once this many items are read.
 const SAMPLE: usize = 64;
 
 /// What is kept beside the items of a file.
@@ -36,7 +36,7 @@ pub(crate) struct Tables {
     pub preambles: Numbers,
     /// The key of each entry, and what its crossref says.
     pub named: EntryTable,
-    /// What macros stand for where each item stands.
+    /// What macros stand for before each item.
     pub definitions: Definitions,
     /// What is known of all items.
     pub bounds: Bounds,
@@ -57,9 +57,9 @@ impl Tables {
     ghost use Rattle.bib_scan.specs.Note.{IsNoteOf};
     ghost use Rattle.bib_spec.specs.Bytes.{file_limit};
 
-    /// The tables of the file that these bytes are, and where everything stands in it: each item is put in when it is
-    /// read. They take memory for the keys, the texts of macros and the texts of crossrefs. The file is refused as reading
-    /// refuses it, with 8 if one of its raw texts is too long, and with 10 where memory ran out.
+    /// The tables of the file with these bytes, and the file's layout. Each item is added when it is read. The tables take
+    /// memory for the keys, the texts of macros and the texts of crossrefs. The file is refused as reading refuses it, with
+    /// 8 if one of its raw texts is too long, and with 10 if memory runs out.
     pub(crate) fn read(alloc: Global, bytes: &[u8]) -> Result<(Tables, Layout), ReadFault>
         ensures tables { IfOk result (λ read. AreTablesOfFile bytes.now read.0) }
         ensures layout { IfOk result (λ read. (length bytes.now ≤ file_limit) × IsLayoutOf bytes.now read.1) }
@@ -70,7 +70,7 @@ impl Tables {
         Ok((tables, layout))
     }
 
-    /// The same, where the tables have no items.
+    /// Fills the tables, which have no items yet, from a file with these bytes, and returns the file's layout.
     fn fill(&mut self, alloc: Global, bytes: &[u8]) -> Result<Layout, ReadFault>
         requires { AreTablesOf [] self.old }
         ensures tables { OnOk result (AreTablesOfFile bytes.now self.new) }
@@ -87,16 +87,16 @@ impl Tables {
             }
             n += 1;
             if n == SAMPLE {
-                self.prepare(items_in(bytes.len(), item.start));
+                self.prepare(estimated_count(bytes.len(), item.start));
             }
         }
         self.file_len = bytes.len();
         reader.finish()
     }
 
-    /// The tables of a file of `file_len` bytes whose front has `front_len`, and whose items are these, but for those from
-    /// number `from` up to `to`. They take memory for the keys, the texts of macros and the texts of crossrefs. The file is
-    /// refused if one of its raw texts is too long.
+    /// The tables of a file of `file_len` bytes. Its front has `front_len` bytes, and its items are these, except those
+    /// from number `from` up to `to`. The tables take memory for the keys, the texts of macros and the texts of crossrefs.
+    /// The file is refused if one of its raw texts is too long.
     pub(crate) fn of<L: ItemList>(
         alloc: Global,
         file_len: usize,
@@ -123,7 +123,7 @@ impl Tables {
             if let Err(fault) = tables.add(alloc, n, body, None) {
                 return Err(fault.in_file(start));
             }
-            start = after(start, body, trail);
+            start = item_end(start, body, trail);
         }
         tables.file_len = file_len;
         Ok(tables)
@@ -146,14 +146,14 @@ impl Tables {
         }
     }
 
-    /// Makes room for so many items more, as far as there is memory for it.
+    /// Makes room for `additional` more items, as far as there is memory for it.
     fn prepare(&mut self, additional: usize)
         ensures { SayTheSame self.old self.new }
     {
         self.named.prepare(additional);
     }
 
-    /// Puts in item `n`, after all others, of which this was noted.
+    /// Adds item `n`, which has this body, after all others. `note` is what was noted of it, if anything.
     fn add(
         &mut self,
         alloc: Global,
@@ -171,7 +171,7 @@ impl Tables {
         }
     }
 
-    /// Puts in item `n`, after all others, of which this was noted.
+    /// Adds item `n` after all others. `note` is what was noted of it, if anything.
     fn add_seen(
         &mut self,
         alloc: Global,
@@ -189,7 +189,7 @@ impl Tables {
         }
     }
 
-    /// Puts in item `n`, which is no definition, after all others.
+    /// Adds item `n`, which is no definition, after all others. `note` is what was noted of it, if anything.
     fn add_other(
         &mut self,
         alloc: Global,
@@ -204,9 +204,9 @@ impl Tables {
         self.insert(alloc, n, view, note)
     }
 
-    /// Puts in item `n`, which is no definition, before the items that had its number and the greater ones; of an entry of
-    /// which something was noted, only a crossref is read. It takes time in the item's length, a few steps for each page of
-    /// entries, preambles and definitions, and some for those of one page. Where it is refused, the tables say what they said.
+    /// Inserts item `n`, which is no definition, before the items with the numbers from `n` on. If it is an entry with a
+    /// note, only its crossref is read. It takes time in the item's length, a few steps for each page of entries, preambles
+    /// and definitions, and some for the members of one page. If it is refused, the tables say what they said.
     pub(crate) fn insert(
         &mut self,
         alloc: Global,
@@ -235,7 +235,7 @@ impl Tables {
         }
     }
 
-    /// Puts in the entry that is item `n`.
+    /// Inserts the entry that is item `n`.
     fn insert_entry(
         &mut self,
         alloc: Global,
@@ -251,7 +251,7 @@ impl Tables {
         ensures err { OnErr result (SayTheSame self.old self.new) }
     {
         let longest = self.definitions.longest();
-        let Said { text, settled } = crossref_within(
+        let CrossrefText { text, is_literal } = crossref_within(
             alloc,
             view,
             &self.definitions.at(n),
@@ -261,11 +261,11 @@ impl Tables {
         insert_named(&mut self.entries, &mut self.named, n, view.key(), text)?;
         self.preambles.make_way(n);
         self.definitions.make_way(n);
-        self.bounds.admit(view.body().len(), settled);
+        self.bounds.admit(view.body().len(), is_literal);
         Ok(())
     }
 
-    /// Takes out item `n`, which is no definition. It asks for no memory.
+    /// Removes item `n`, which is no definition. It asks for no memory.
     pub(crate) fn remove(&mut self, n: usize, view: &ItemView<'_>)
         ensures step { OfOther view.now (λ tree. IsRemoval n tree self.old self.new) }
         ensures len { self.new.file_len ≡ self.old.file_len }
@@ -291,7 +291,7 @@ impl Tables {
         }
     }
 
-    /// Puts in the definition that is item `n`.
+    /// Adds the definition that is item `n`.
     fn add_definition(
         &mut self,
         alloc: Global,
@@ -353,7 +353,7 @@ impl Tables {
         }
     }
 
-    /// Puts in the preamble that is item `n`.
+    /// Inserts the preamble that is item `n`.
     fn insert_preamble(
         &mut self,
         alloc: Global,
@@ -403,7 +403,8 @@ impl Tables {
     }
 }
 
-/// Puts in an entry, as item `n`, with its key and what its crossref says. Where memory is refused, nothing is said anew.
+/// Inserts an entry as item `n`, with its key and what its crossref says. If memory is refused, both tables say what they
+/// said.
 fn insert_named(
     entries: &mut Numbers,
     named: &mut EntryTable,
@@ -432,12 +433,12 @@ fn insert_named(
     }
 }
 
-/// About how many items a file of so many bytes has, of which the last of the first ones begins at `start`.
-fn items_in(file_len: usize, start: usize) -> usize {
+/// Estimates how many items a file of `file_len` bytes has, if the last of its first `SAMPLE` items begins at `start`.
+fn estimated_count(file_len: usize, start: usize) -> usize {
     file_len / (start / SAMPLE).max(1)
 }
 
-/// The number of item `n` in the list from which those from number `from` up to `to` are left out.
+/// The number in the whole list of the item that is item `n` once the items from number `from` up to `to` are left out.
 fn kept_number(n: usize, from: usize, to: usize) -> usize
     requires order { from ≤ to }
     requires within { n + (to - from) < 2 ^ 64 }
@@ -447,7 +448,7 @@ fn kept_number(n: usize, from: usize, to: usize) -> usize
 }
 
 /// The place after an item that begins at `start`.
-fn after(start: usize, body: &[u8], trail: &[u8]) -> usize
+fn item_end(start: usize, body: &[u8], trail: &[u8]) -> usize
     ensures { start + length body.now + length trail.now < 2 ^ 64 → result ≡ start + length body.now + length trail.now }
 {
     start.saturating_add(body.len()).saturating_add(trail.len())

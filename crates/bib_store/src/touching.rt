@@ -11,8 +11,8 @@ use crate::window::Window;
 use bib_data::Piece;
 use bib_items::ItemList;
 
-/// The item that holds the byte before this place of the file, after a front of this length; where the file ends
-/// before it, how many items there are.
+/// The item that has the byte before this place of the file, or the item count if the file ends before that byte. The front
+/// has `front_len` bytes.
 fn holder<L: ItemList>(front_len: usize, file_len: usize, items: &L, place: usize) -> usize
     requires len { file_len ≡ front_len + length (flat_map kept_bytes (L.items items.now)) }
     requires short { file_len ≤ file_limit }
@@ -39,7 +39,7 @@ fn begun_before<L: ItemList>(front_len: usize, file_len: usize, items: &L, place
     items.count().min(holder(front_len, file_len, items, place).saturating_add(1))
 }
 
-/// Whether item `n`, which begins at `start`, has all bytes from there up to this end.
+/// Whether item `n`, which begins at `start`, does not end before `end`.
 fn ends_within<L: ItemList>(items: &L, n: usize, start: usize, end: usize) -> bool
     requires { n ≤ length (L.items items.now) }
     ensures { IsTrue result → n < length (L.items items.now) }
@@ -51,9 +51,9 @@ fn ends_within<L: ItemList>(items: &L, n: usize, start: usize, end: usize) -> bo
     end <= start.saturating_add(body.len()).saturating_add(trail.len())
 }
 
-/// The items from the first that the first piece touches to the last that the last one touches. A piece touches what
-/// holds the byte before it, or a byte that it replaces: the front, the body of an item or its trail. Where pieces fit
-/// no file, it is some window.
+/// The window from the first item that the first piece touches to the last item that the last piece touches. A piece
+/// touches what has the byte before the piece, or a byte that it replaces: the front, an item's body or its trail. If the
+/// pieces fit no file, it is some window.
 pub(crate) fn touched<L: ItemList>(
     front: &[u8],
     items: &L,
@@ -98,7 +98,7 @@ pub(crate) fn touched<L: ItemList>(
     }
 }
 
-/// The window without what its pieces may touch by its end alone: the front, or else the first item.
+/// The window without what its pieces may touch only by its end: the front, or else the first item.
 pub(crate) fn without_first<L: ItemList>(
     front: &[u8],
     items: &L,

@@ -6,7 +6,7 @@ ghost use Rattle.bib_store.specs.Windows.{IsWindow, front_within, bytes_within};
 use bib_items::ItemList;
 use std::alloc::{AllocError, Global};
 
-/// Items that lie together, from one number up to another, and whether the front before them is in the window too. It
+/// Neighbouring items, from one number up to another, and whether the front before them is in the window too. The window
 /// begins at this place of the file.
 #[derive(Clone, Copy, Debug)]
 pub(crate) struct Window {
@@ -16,7 +16,7 @@ pub(crate) struct Window {
     pub(crate) place: usize,
 }
 
-/// The front, where it is in the window.
+/// The front, if it is in the window.
 fn front_of(front: &[u8], window: Window) -> &[u8]
     ensures { result.now ≡ front_within window.with_front front.now }
 {

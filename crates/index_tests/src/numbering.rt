@@ -96,7 +96,7 @@ fn chosen(chance: u64, most: usize) -> Step {
     }
 }
 
-/// Every other of so many items is of the kind, and then so many come and go by chance.
+/// Of twice `count` items, every other one is of the kind; then `steps` items come and go at random.
 fn follow(alloc: Global, count: usize, steps: usize) -> Result<bool, AllocError> {
     let mut numbers = Numbers::new(alloc);
     let mut list = Vec::new(alloc);

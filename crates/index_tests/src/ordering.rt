@@ -7,9 +7,9 @@ use std::test::Fail;
 /// What is done to an order.
 #[derive(Drop)]
 enum Step {
-    /// So many ids come, each after all others.
+    /// This many ids come, each after all others.
     Append(usize),
-    /// So many ids come, each into the middle.
+    /// This many ids come, each into the middle.
     Mix(usize),
     /// An id comes before the one with this number.
     Put(usize),
@@ -17,7 +17,7 @@ enum Step {
     Take(usize),
 }
 
-/// Puts in an id before the one with this number, if there are so many.
+/// Inserts an id before id `n`, or at the end, if the order has `n` ids or more.
 fn put(order: &mut Order, n: usize) -> Result<(), AllocError> {
     if n <= order.count() {
         order.insert(n)?;

@@ -46,7 +46,7 @@ fn is_paged(paged: &Paged) -> bool {
     sum == paged.count()
 }
 
-/// Puts so many items into both lists, at positions that look random.
+/// Inserts `count` items into both lists, at positions that look random.
 fn fill(
     paged: &mut Paged,
     flat: &mut Flat,
@@ -64,7 +64,7 @@ fn fill(
     Ok(())
 }
 
-/// Replaces and takes away so many items of both lists.
+/// Replaces `count` items of both lists, and removes `count`.
 fn thin(
     paged: &mut Paged,
     flat: &mut Flat,

@@ -46,7 +46,7 @@ returns-clause-step c =
     c.make_way-2.ensures.come
     c.in_ok-text.ensures.text
     c.in_ok-text.ensures.short
-    c.in_ok-text.field-0.settled c.in_ok-text.ensures.settled (subst (λ (b : Text). Admits (length b) c.in_ok-text.field-0.settled c.args.self.now.bounds c.admit.new.self) c.body.ensures c.admit.ensures)
+    c.in_ok-text.field-0.is_literal c.in_ok-text.ensures.settled (subst (λ (b : Text). Admits (length b) c.in_ok-text.field-0.is_literal c.args.self.now.bounds c.admit.new.self) c.body.ensures c.admit.ensures)
 
 pub crossref_within-requires-clause-longest : goal.crossref_within-requires-clause-longest
 crossref_within-requires-clause-longest c = subst (AreAtMost c.longest-longest.result) (sym c.at.ensures) (c.longest-longest.ensures c.args.n)

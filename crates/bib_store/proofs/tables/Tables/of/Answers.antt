@@ -15,7 +15,7 @@ walk-preserved g c =
     let all = g.L.ItemList.items c.args.items.now in
     let low : c.walk.n < length all - (c.args.to - c.args.from) = omega (arith, c.walk-test.true, c.count.ensures) in
     walk_more c.args.front_len c.args.from c.args.to all c.walk.n c.kept_number-k.result c.walk.start c.requires.order c.requires.within c.kept_number-k.ensures low
-    c.texts.result.0.now c.texts.result.1.now c.walk.tables c.add.new.self c.after-start.result c.texts.ensures.body c.texts.ensures.trail c.after-start.ensures
+    c.texts.result.0.now c.texts.result.1.now c.walk.tables c.add.new.self c.item_end-start.result c.texts.ensures.body c.texts.ensures.trail c.item_end-start.ensures
     c.in_default.ensures.step c.walk.invariant
 
 pub returns-in-Err-clause-fault : goal.returns-in-Err-clause-fault

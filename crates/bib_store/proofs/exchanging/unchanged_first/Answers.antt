@@ -2,7 +2,7 @@ use Rattle.std.proofs.Common.{◌≡◌, ◌+◌, ◌∙◌, ℕ, ◌∷◌, [],
 use Rattle.std.specs.Cmp.Lexicographic.{same_text}
 use Rattle.bib_spec.specs.Text.{Text}
 use Rattle.bib_store.proofs.Followed.{one_between}
-use Rattle.bib_store.proofs.exchanging.lead_of.Goals as goal
+use Rattle.bib_store.proofs.exchanging.unchanged_first.Goals as goal
 
 pub returns-then-eq : goal.returns-then-eq
 returns-then-eq g c =

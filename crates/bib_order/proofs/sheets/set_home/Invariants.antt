@@ -1,5 +1,5 @@
 use Rattle.bib_order.specs.Orders.{IsTold}
-use Rattle.bib_order.proofs.sheets.tell.Given as goal
+use Rattle.bib_order.proofs.sheets.set_home.Given as goal
 
 abbrev pub invariant-pass : goal.invariant-pass
 invariant-pass l = IsTold l.fn.homes.items l.homes.items
