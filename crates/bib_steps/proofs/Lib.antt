@@ -1,3 +1,4 @@
 pub mod Positions
 mod Renewed
+mod MovedEnds
 mod Turned

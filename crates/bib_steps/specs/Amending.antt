@@ -1,6 +1,8 @@
 -- How an edit changes the pieces of a step. (dialect)
-use Rattle.std.specs.Prelude.{ℕ, zero, suc, ◌+◌, ◌≤◌, Option, Some, None, List, length, take, drop, slice_index_or}
-use Rattle.bib_spec.specs.Pieces.{Piece, reversed_from}
+use Rattle.std.specs.Prelude.{ℕ, zero, suc, ◌≡◌, ◌+◌, ◌-◌, ◌≤◌, Option, Some, None, List, length, map, take, drop, slice_index_or}
+use Rattle.std.specs.List.{AllByRecursion}
+use Rattle.bib_spec.specs.Bytes.{file_limit}
+use Rattle.bib_spec.specs.Pieces.{Piece, end_of, reversed_from}
 use Rattle.history_spec.specs.Composing.{old_end, new_end, BeginsAfter, EndBefore, Replacement, replaced}
 
 -- pieces near the last ones of the edit are replaced, and then, where its others lie far from these, pieces before them
@@ -60,3 +62,25 @@ pub record IsNear (ps part : List Piece) (from to : ℕ) : Type 0 where
   pub inside : to ≤ length ps
   pub front : EndBefore (take from ps) part
   pub back : BeginAfter ps to (old_end 0 part)
+
+-- ---- ends that move
+
+-- where pieces end in the text that they make, if those before them end at `at` in the text before and at `mid` in that one
+abbrev pub ends_from : ℕ → ℕ → List Piece → List ℕ
+ends_from at mid ps = map end_of (reversed_from at mid ps)
+
+-- where the first of them ends
+abbrev pub next_end : ℕ → ℕ → Piece → ℕ
+next_end at mid p = mid + (p.place - at) + length p.new
+
+-- these places are where the pieces end, if those before them end at some places
+abbrev pub AreSomeEnds : List Piece → List ℕ → Type 0
+AreSomeEnds ps ends = (at : ℕ) × (mid : ℕ) × (ends ≡ ends_from at mid ps)
+
+-- the place, moved as one that moves from `old` to `new` and is not after it
+abbrev pub moved : ℕ → ℕ → ℕ → ℕ
+moved old new place = place - old + new
+
+-- each of the places can be moved so, and is in a file then
+abbrev pub CanMove : ℕ → ℕ → List ℕ → Type 0
+CanMove old new places = AllByRecursion (λ place. (old ≤ place) × (moved old new place ≤ file_limit)) places
