@@ -1,5 +1,5 @@
 -- How an edit changes the pieces of a step. (dialect)
-use Rattle.std.specs.Prelude.{ℕ, zero, suc, ◌≡◌, ◌+◌, ◌-◌, ◌≤◌, Option, Some, None, List, length, map, take, drop, slice_index_or}
+use Rattle.std.specs.Prelude.{ℕ, zero, suc, ◌≡◌, ◌+◌, ◌-◌, ◌≤◌, Option, Some, None, List, [], ◌∷◌, ◌++◌, length, map, take, drop, slice_index_or}
 use Rattle.std.specs.List.{AllByRecursion}
 use Rattle.bib_spec.specs.Bytes.{file_limit}
 use Rattle.bib_spec.specs.Pieces.{Piece, end_of, reversed_from}
@@ -84,3 +84,13 @@ moved old new place = place - old + new
 -- each of the places can be moved so, and is in a file then
 abbrev pub CanMove : ℕ → ℕ → List ℕ → Type 0
 CanMove old new places = AllByRecursion (λ place. (old ≤ place) × (moved old new place ≤ file_limit)) places
+
+-- ---- pieces that an edit continues
+
+-- each of both is one piece, and the second begins where the first ends in the text between them
+abbrev pub Continues : ℕ → ℕ → List Piece → List Piece → Type 0
+Continues at mid first second = (p : Piece) × (q : Piece) × (first ≡ p ∷ []) × (second ≡ q ∷ []) × (q.place ≡ next_end at mid p)
+
+-- the piece with the bytes of the other after its own
+abbrev pub longer : Piece → Piece → Piece
+longer p q = record { place = p.place; old = p.old ++ q.old; new = p.new ++ q.new }

@@ -7,10 +7,11 @@ ghost use Rattle.history_spec.specs.Composing.{IsComposable, AreEnds, composed, 
 ghost use Rattle.bib_steps.specs.Amending.{IsNear, AreWithin, amended};
 
 use crate::amendment::{Amendment, Replacement};
+use crate::joining::compose_near;
 use crate::near::{Span, ends_before, near};
 use crate::spans::{end_before, end_of};
 use bib_data::Piece;
-use bib_store::{StoreFault, compose_at};
+use bib_store::StoreFault;
 use std::alloc::Global;
 
 /// What a part of an edit, which lies near these pieces of the step, replaces.
@@ -34,7 +35,7 @@ fn replacement(
     let (middle, _) = rest.split_at(span.to - span.from);
     let end = end_of(front);
     let middle_end = end_before(ends, span.from);
-    let pieces = compose_at(alloc, end, middle_end, middle, part)?;
+    let pieces = compose_near(alloc, end, middle_end, middle, part)?;
     Ok(Replacement {
         from: span.from,
         to: span.to,

@@ -12,7 +12,7 @@ use bib_data::Piece;
 
 /// Where a piece ends in the text that it and those before it make, if these end at `end` in the text before, and at `new_end`
 /// in the one that they make.
-fn end_after(piece: &Piece, end: u64, new_end: u64) -> u64
+pub(crate) fn end_after(piece: &Piece, end: u64, new_end: u64) -> u64
     requires { next_end end new_end piece.now ≤ file_limit }
     ensures { result ≡ next_end end new_end piece.now }
 {

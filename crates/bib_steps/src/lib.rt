@@ -6,6 +6,7 @@
 mod amending;
 mod amendment;
 mod ends;
+mod joining;
 mod near;
 mod placing;
 mod replacing;

@@ -1,4 +1,4 @@
-use Rattle.std.proofs.Common.{◌≡◌, ◌≤◌, ◌+◌, ◌-◌, ◌++◌, length, vec_len, vec_capacity}
+use Rattle.std.proofs.Common.{◌≡◌, ◌≤◌, ◌+◌, ◌++◌, vec_len, vec_capacity}
 use Rattle.bib_steps.specs.Amending.{ends_from}
 use Rattle.bib_steps.proofs.Renewed.{IsRenewed}
 use Rattle.bib_steps.proofs.ends.add_ends.Given as goal

@@ -1,8 +1,8 @@
-use Rattle.std.proofs.Common.{rules, ◌≡◌, ◌≤◌, ℕ, ◌+◌, ◌-◌, List, ◌++◌, length, take, drop, sym, ◌∙◌, ap, ap₂, arith}
-use Rattle.history_spec.specs.Composing.{ends_of, old_end, new_end}
+use Rattle.std.proofs.Common.{ℕ, List, take, ◌∙◌, ap, arith}
+use Rattle.history_spec.specs.Composing.{old_end}
 use Rattle.history_spec.proofs.Near.{length-ends}
 use Rattle.bib_steps.specs.Amending.{end_at, ends_from}
-use Rattle.bib_steps.proofs.MovedEnds.{mid_is, between_is, short_between, ArePut, are_put}
+use Rattle.bib_steps.proofs.MovedEnds.{mid_is, between_is, short_between, are_put}
 use Rattle.bib_steps.proofs.ends.place_ends.Goals as goal
 
 pub add_ends-requires-clause-short_ends : goal.add_ends-requires-clause-short_ends

@@ -1,4 +1,4 @@
-use Rattle.std.proofs.Common.{rules, ◌≡◌, ◌+◌, ◌-◌, List, ℕ, ◌++◌, take, drop, subst, sym, ◌∙◌, ap}
+use Rattle.std.proofs.Common.{◌+◌, ◌-◌, List, ℕ, ◌++◌, take, drop, subst, sym, ◌∙◌, ap}
 use Rattle.history_spec.specs.Composing.{ends_of}
 use Rattle.bib_steps.specs.Amending.{AreSomeEnds}
 use Rattle.bib_steps.proofs.MovedEnds.{put_further}

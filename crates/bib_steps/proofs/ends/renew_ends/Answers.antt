@@ -1,9 +1,7 @@
-use Rattle.std.proofs.Common.{◌≡◌, ◌++◌, length, take, drop, ◌∙◌, ap, ap₂, arith}
+use Rattle.std.proofs.Common.{◌++◌, length, take, ◌∙◌, ap, ap₂, arith}
 use Rattle.std.proofs.lemmas.List.{length-take-le, take-take}
-use Rattle.bib_spec.specs.Bytes.{file_limit}
-use Rattle.history_spec.specs.Composing.{ends_of, old_end, new_end}
+use Rattle.history_spec.specs.Composing.{ends_of, old_end}
 use Rattle.history_spec.proofs.Near.{length-ends}
-use Rattle.bib_steps.specs.Amending.{end_at}
 use Rattle.bib_steps.proofs.Positions.{ends_in_two}
 use Rattle.bib_steps.proofs.MovedEnds.{mid_is, rest_is, rest_short}
 use Rattle.bib_steps.proofs.ends.renew_ends.Goals as goal

@@ -1,11 +1,10 @@
-use Rattle.std.proofs.Common.{rules, ◌≡◌, ◌≤◌, ◌+◌, ◌-◌, ℕ, List, ◌++◌, length, take, drop, subst, sym, ◌∙◌, ap, ap₂, arith, refl}
-use Rattle.std.proofs.lemmas.List.{take_at, drop_at, length-take-le}
+use Rattle.std.proofs.Common.{rules, ◌≡◌, ◌≤◌, ◌+◌, ◌-◌, List, ◌++◌, length, take, drop, subst, sym, ◌∙◌, ap, ap₂, arith, refl}
+use Rattle.std.proofs.lemmas.List.{drop_at, length-take-le}
 use Rattle.bib_spec.specs.Pieces.{Piece}
 use Rattle.history_spec.specs.Composing.{ends_of, Replacement}
 use Rattle.history_spec.proofs.Near.{length-ends}
-use Rattle.bib_steps.specs.Amending.{AreSomeEnds}
 use Rattle.bib_steps.proofs.Positions.{front_kept, length_kept, same_front_ends}
-use Rattle.bib_steps.proofs.MovedEnds.{ReplacedLast, replaced_last, all_ends}
+use Rattle.bib_steps.proofs.MovedEnds.{replaced_last, all_ends}
 use Rattle.bib_steps.proofs.placing.put.Goals as goal
 
 pub put_before-from-requires-clause-ends_inside : goal.put_before-from-requires-clause-ends_inside

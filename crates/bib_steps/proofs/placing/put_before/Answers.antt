@@ -1,8 +1,6 @@
-use Rattle.std.proofs.Common.{rules, ◌≡◌, ◌≤◌, ◌+◌, ◌-◌, ℕ, List, ◌++◌, length, take, drop, subst, sym, ◌∙◌, ap, refl}
+use Rattle.std.proofs.Common.{rules, ◌≡◌, List, length, ◌∙◌, refl}
 use Rattle.bib_spec.specs.Pieces.{Piece}
-use Rattle.history_spec.specs.Composing.{ends_of}
-use Rattle.bib_steps.specs.Amending.{AreSomeEnds}
-use Rattle.bib_steps.proofs.MovedEnds.{ReplacedBefore, replaced_before}
+use Rattle.bib_steps.proofs.MovedEnds.{replaced_before}
 use Rattle.bib_steps.proofs.placing.put_before.Goals as goal
 
 pub put_ends-requires-clause-front : goal.put_ends-requires-clause-front
