@@ -25,7 +25,7 @@ one_group r q e =
     ∙ cond-true (nat_le q.place (group_end begun)) (with_member begun (On q) ∷ []) (begun ∷ alone (On q) ∷ []) (le-leb q.place (group_end begun) (omega (arith, e)))
     ∙ ap (λ n. record { place = r.place; covered = r.old ++ drop n q.old; backs = r ∷ []; ons = q ∷ [] } ∷ []) past
 
--- what stands for it before the step, and after the edit
+-- the bytes of the group before the step, and after the edit
 old_is : (m : ℕ) (old new more : Text) → group_old (record { place = m; covered = new ++ more; backs = record { place = m; old = new; new = old } ∷ []; ons = [] }) ≡ old ++ more
 old_is m old new more =
     let here : m - m ≡ 0 = omega arith in

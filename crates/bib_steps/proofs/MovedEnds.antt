@@ -1,4 +1,4 @@
--- The ends of pieces of which what is before them changes.
+-- The ends of pieces, if what is before these pieces changes.
 use Rattle.std.proofs.Common.{zero, suc, ◌≡◌, ℕ, ◌+◌, ◌-◌, ◌<◌, ◌≤◌, get_or, List, [], ◌∷◌, ◌++◌, length, map, take, drop, refl, sym, subst, ◌∙◌, ap, ap₂, arith, append_assoc, append-nil, take-append-drop, length-append, length-drop}
 use Rattle.std.proofs.lemmas.List.{take_at, drop_at, drop-drop, drop-take, drop_more, length-take-le, map-append, take_all, drop_all, take-take}
 use Rattle.std.proofs.lemmas.Grind.{get_or_default_zero}
@@ -227,8 +227,8 @@ replaced_before ps more new ends from to count position now h k l e n is now_is 
       others = put_further ps more (from + count) to now (omega (arith, now_is)) rest ∙ ap (λ j. drop j ps) there;
     }
 
--- The pieces from a position on are these new ones and then those of a list from `to` on. Up to the position the ends are
--- right, and then they are those of the list from another position on.
+-- From a position on, the pieces are the new ones and then those of a list from `to` on. The ends are right up to the
+-- position. Then they are those of the list from another position on.
 pub record ReplacedLast (ps more : List Piece) (ends : List ℕ) (from cut count len : ℕ) : Type 0 where
   pub inside : from + cut + (len - (from + count)) ≡ length ends
   pub counted : from + count ≤ len

@@ -10,8 +10,8 @@ use crate::replacing::bring;
 use crate::spans::{end_before, end_of};
 use bib_data::Piece;
 
-/// Where a piece ends in the text that it and those before it make, if these end at `end` in the text before, and at `new_end`
-/// in the one that they make.
+/// Where a piece ends in the text that the pieces make. Those before it end at `end` in the text before, and at `new_end` in the
+/// text that they make.
 pub(crate) fn end_after(piece: &Piece, end: u64, new_end: u64) -> u64
     requires { next_end end new_end piece.now ≤ file_limit }
     ensures { result ≡ next_end end new_end piece.now }
@@ -19,8 +19,8 @@ pub(crate) fn end_after(piece: &Piece, end: u64, new_end: u64) -> u64
     new_end + piece.place.saturating_sub(end) + piece.new.as_slice().len() as u64
 }
 
-/// Adds where these pieces end, after others that end at `end` in the text before, and at `new_end` in the one that all of
-/// them make. There is room, so that it asks for no memory.
+/// Adds the ends of these pieces. Those before them end at `end` in the text before, and at `new_end` in the text that they
+/// make. There is room, so it asks for no memory.
 fn add_ends(ends: &mut Vec<u64>, pieces: &[Piece], end: u64, new_end: u64)
     requires room { vec_len ends.old + length pieces.now ≤ vec_capacity ends.old }
     requires short { EndBy file_limit pieces.now }
@@ -40,7 +40,7 @@ fn add_ends(ends: &mut Vec<u64>, pieces: &[Piece], end: u64, new_end: u64)
     }
 }
 
-/// Has the ends be those of these pieces, where they are so up to a position, and there is room. It asks for no memory.
+/// Makes the ends those of these pieces, which they are already up to a position. There is room, so it asks for no memory.
 pub fn renew_ends(ends: &mut Vec<u64>, pieces: &[Piece], from: usize)
     requires within { from ≤ length pieces.now }
     requires front { take from ends.old.items ≡ take from (ends_of pieces.now) }
@@ -56,8 +56,8 @@ pub fn renew_ends(ends: &mut Vec<u64>, pieces: &[Piece], from: usize)
     add_ends(ends, rest, end, new_end);
 }
 
-/// Puts where pieces end, `count` of them from a position on, in place of the ends from there up to another. There is room, so
-/// that it asks for no memory.
+/// Puts the ends of `count` pieces, from a position on, in place of the ends from there up to another position. There is room,
+/// so it asks for no memory.
 fn place_ends(ends: &mut Vec<u64>, pieces: &[Piece], from: usize, to: usize, count: usize)
     requires ordered { from ≤ to }
     requires inside { to ≤ vec_len ends.old }
@@ -79,7 +79,7 @@ fn place_ends(ends: &mut Vec<u64>, pieces: &[Piece], from: usize, to: usize, cou
     bring(ends, from, to, count);
 }
 
-/// Moves all places as one that moves from `old` to `new`.
+/// Moves all places as a place moves from `old` to `new`.
 fn move_places(places: &mut [u64], old: u64, new: u64)
     requires { CanMove old new places.old }
     ensures { places.new ≡ map (moved old new) places.old }
@@ -92,7 +92,7 @@ fn move_places(places: &mut [u64], old: u64, new: u64)
     }
 }
 
-/// Moves the places from one position up to another.
+/// Moves the places from one position up to another in the same way.
 fn move_between(places: &mut Vec<u64>, from: usize, to: usize, old: u64, new: u64)
     requires ordered { from ≤ to }
     requires inside { to ≤ vec_len places.old }
@@ -104,8 +104,8 @@ fn move_between(places: &mut Vec<u64>, from: usize, to: usize, old: u64, new: u6
     move_places(&mut places[from..to], old, new);
 }
 
-/// Moves the ends of the pieces from one position up to another, which are right but for what is before them: all move as
-/// the first does.
+/// Moves the ends of the pieces from one position up to another, since what is before these pieces has changed. All ends move
+/// as the first one does.
 fn move_ends(ends: &mut Vec<u64>, pieces: &[Piece], from: usize, until: usize)
     requires ordered { from ≤ until }
     requires within { until ≤ length pieces.now }
@@ -129,9 +129,9 @@ fn move_ends(ends: &mut Vec<u64>, pieces: &[Piece], from: usize, until: usize)
     move_between(ends, from, until, old, new);
 }
 
-/// Has the ends up to a position be those of these pieces, where `count` of them, from `from` on, are new. There were others
-/// in their place, the ends of which are those from `from` up to `to`, and those after them only moved. There is room, so
-/// that it asks for no memory.
+/// Makes the ends up to `until` those of these pieces. The first `from` ends are right. Then come `count` new pieces, in place
+/// of others whose ends are those from `from` up to `to`. After the new pieces the ends have only moved. There is room, so it
+/// asks for no memory.
 pub(crate) fn put_ends(
     ends: &mut Vec<u64>,
     pieces: &[Piece],

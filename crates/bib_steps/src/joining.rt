@@ -21,7 +21,7 @@ fn joined(alloc: Global, first: &[u8], second: &[u8]) -> Result<Text, AllocError
     Ok(Seq::from_vec(text))
 }
 
-/// The piece with the bytes of another after its own.
+/// The piece, with the bytes of another after its own.
 fn longer(alloc: Global, piece: &Piece, more: &Piece) -> Result<Piece, AllocError>
     ensures { IfOk result (λ p. p ≡ longer piece.now more.now) }
 {
@@ -34,7 +34,7 @@ fn longer(alloc: Global, piece: &Piece, more: &Piece) -> Result<Piece, AllocErro
     })
 }
 
-/// Whether each of both is one piece, and the second begins where the first ends in the text between them.
+/// Whether each edit is one piece, and the second begins where the first ends in the text between them.
 fn continues(end: u64, middle_end: u64, first: &[Piece], second: &[Piece]) -> bool
     requires { IsComposableAt end middle_end first.now second.now }
     ensures { result ≡ true → Continues end middle_end first.now second.now }
@@ -46,9 +46,9 @@ fn continues(end: u64, middle_end: u64, first: &[Piece], second: &[Piece]) -> bo
     more.place == end_after(&first[0], end, middle_end)
 }
 
-/// The pieces of a step and of an edit near them, as those of one, after pieces that end at `end` in the text before the step,
-/// and at `middle_end` in the text between the two. Where the edit continues the one piece at its end, the bytes of both are
-/// copied once.
+/// The pieces of a step and of an edit near them, as those of one edit. The step's pieces before them end at `end` in the text
+/// before the step, and at `middle_end` in the text between the two. If the edit continues the one piece at its end, the
+/// bytes of both are copied once.
 pub(crate) fn compose_near(
     alloc: Global,
     end: u64,

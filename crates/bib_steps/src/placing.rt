@@ -11,8 +11,8 @@ use crate::ends::put_ends;
 use crate::replacing::replace;
 use bib_data::Piece;
 
-/// Changes pieces before a position, where there is room, and their ends up to it; at which position the piece that was there
-/// is then.
+/// Changes pieces before a position, and the ends up to it. There is room for the new ones. It returns the position that the
+/// piece from there has then.
 fn put_before(
     pieces: &mut Vec<Piece>,
     ends: &mut Vec<u64>,
@@ -47,8 +47,8 @@ fn put_before(
     now
 }
 
-/// Changes the pieces of a step and their ends as an edit does, where there is room for both. It asks for no memory. It moves
-/// what is after the new pieces as memory, and the ends by one number.
+/// Changes the pieces of a step and their ends as an edit does. There is room for both, so it asks for no memory. It moves the
+/// pieces after the new ones as memory, and their ends by one number.
 pub fn put(pieces: &mut Vec<Piece>, ends: &mut Vec<u64>, change: Amendment)
     requires within { AreWithin (length pieces.old.items) change }
     requires ends { ends.old.items ≡ ends_of pieces.old.items }

@@ -2,7 +2,7 @@
 
 ghost use Rattle.std.specs.Prelude.{◌≡◌, ◌+◌, ◌-◌, ◌≤◌, ◌++◌, List, length, take, drop, vec_len, vec_capacity};
 
-/// Turns the items from a position on, so that the first of them, as many as `count`, come last.
+/// Rotates the items from a position on: the first `count` of them come last.
 fn turn<T>(items: &mut Vec<T>, from: usize, count: usize)
     requires { from + count ≤ vec_len items.old }
     ensures items { items.new.items ≡ take from items.old.items ++ (drop count (drop from items.old.items) ++ take count (drop from items.old.items)) }
@@ -23,8 +23,7 @@ fn exchange<T>(items: &mut Vec<T>, from: usize, others: &mut Vec<T>)
     items[from..to].swap_with_slice(others.as_mut_slice());
 }
 
-/// Puts the last items, as many as `count`, in place of those from one position up to another, and moves the items after
-/// these as memory.
+/// Puts the last `count` items in place of those from one position up to another. It moves the items after these as memory.
 pub(crate) fn bring<T: Drop>(items: &mut Vec<T>, from: usize, to: usize, count: usize)
     requires ordered { from ≤ to }
     requires inside { to + count ≤ vec_len items.old }
@@ -38,8 +37,8 @@ pub(crate) fn bring<T: Drop>(items: &mut Vec<T>, from: usize, to: usize, count: 
     turn(items, from, len - from - count);
 }
 
-/// Puts these in place of the items from one position up to another, where there is room. It asks for no memory, and moves
-/// the items after them as memory.
+/// Puts new items in place of those from one position up to another. There is room for them, so it asks for no memory. It
+/// moves the items after them as memory.
 pub(crate) fn replace<T: Drop>(items: &mut Vec<T>, from: usize, to: usize, new: Vec<T>)
     requires ordered { from ≤ to }
     requires inside { to ≤ vec_len items.old }
