@@ -11,11 +11,14 @@ use bib_scan::{Seq, Text};
 use bib_store::{StoreFault, compose_at};
 use std::alloc::{AllocError, Global};
 
-/// Both texts as one.
+/// Both texts as one. There is room for a power of two of bytes: a text that grows by many edits is then copied between the
+/// same two blocks of memory for a while, and the system need not clear new ones.
 fn joined(alloc: Global, first: &[u8], second: &[u8]) -> Result<Text, AllocError>
     ensures { IfOk result (λ text. text ≡ first.now ++ second.now) }
 {
-    let mut text = Vec::with_capacity(alloc, first.len() + second.len())?;
+    let len = first.len() + second.len();
+    let room = len.checked_next_power_of_two().unwrap_or(len);
+    let mut text = Vec::with_capacity(alloc, room)?;
     text.extend_from_slice(first)?;
     text.extend_from_slice(second)?;
     Ok(Seq::from_vec(text))
