@@ -92,11 +92,12 @@ def one_macro_among_words(count):
     return b"@string{m = {text}}\n" + b"".join(b"@misc{k%06d, t = m, n = {some words}}\n" % n for n in range(count))
 
 
-def articles_of_one_journal(count):
-    """So many articles, in each of which one and the same macro stands for the journal."""
+def articles_of_one_journal(count, others=0):
+    """So many articles, in each of which one and the same macro stands for the journal, and then others of another journal."""
     return b"@string{m = {Annals of Examples}}\n" + b"".join(
-        ("@article{key%d,\n  author = {%s},\n  title = {%s},\n  journal = m,\n  year = %d\n}\n" % (n, NAMES[n % len(NAMES)], text_of(n, 6), 1950 + n % 75)).encode()
-        for n in range(count))
+        ("@article{key%d,\n  author = {%s},\n  title = {%s},\n  journal = %s,\n  year = %d\n}\n"
+         % (n, NAMES[n % len(NAMES)], text_of(n, 6), "m" if n < count else "{Letters}", 1950 + n % 75)).encode()
+        for n in range(count + others))
 
 
 def articles_of_one_publisher(count):
@@ -196,6 +197,11 @@ def many_sets(count):
     return b"".join(b"set\tk0\tt\t{%d}\n" % n for n in range(count))
 
 
+def first_sets(count):
+    """A script of `count` edits: each sets the year of one of the first articles of a file whose keys are counted."""
+    return b"".join(b"set\tkey%d\tyear\t{%d}\n" % (n, 1500 + n % 500) for n in range(count))
+
+
 def in_order(script, order):
     """The script's lines sorted by the place in the file that they are about, from the end to the front, or mixed."""
     lines = sorted(script.splitlines(keepends=True), key=place_of)
@@ -215,6 +221,25 @@ def place_of(line):
 def one_step(script):
     """The same edits as one step."""
     return b"group\tall\n" + script + b"end\n"
+
+
+def first_version(journal):
+    """The journal of version 2 as one of version 1, which has no labels."""
+    head, place = [], 0
+    for _ in range(3):
+        end = journal.index(b"\n", place) + 1
+        head.append(journal[place:end])
+        place = end
+    texts = [b"bibkeep 1\n"] + head[1:]
+    while place < len(journal):
+        start = journal.index(b"\n", place) + 1
+        place = journal.index(b"\n", start) + 1
+        for _ in range(int(journal[start:place])):
+            end = journal.index(b"\n", place) + 1
+            _, old, new = map(int, journal[place:end].split())
+            place = end + old + new + 1
+        texts.append(journal[start:place])
+    return b"".join(texts)
 
 
 def all_kinds(count):
@@ -321,6 +346,7 @@ CONTENTS = {
     "use 100": lambda: one_macro(100000),
     "use 100 in 4": lambda: one_macro_among_words(100000),
     "journal 100": lambda: articles_of_one_journal(100000),
+    "journal 5 of 23": lambda: articles_of_one_journal(5000, others=18000),
     "publisher 11": lambda: articles_of_one_publisher(11112),
     "base 50": lambda: one_base(50000),
     "base 100": lambda: one_base(100000),

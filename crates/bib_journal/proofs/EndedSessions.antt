@@ -46,7 +46,7 @@ none_is NoStep e = refl
 none_is (NewStep label) e = absurd (false≢true (sym e))
 none_is LastStep e = absurd (false≢true (sym e))
 
--- a session of which no step is open is told by its steps
+-- a session with no step open is known by its steps
 pub closed_is_idle : (state : SessionState) → is_open state.current ≡ false → state ≡ idle state.steps
 closed_is_idle state e = ap (λ (o : OpenStep). record { steps = state.steps; current = o }) (none_is state.current e)
 

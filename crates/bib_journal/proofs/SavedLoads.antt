@@ -30,7 +30,7 @@ open_fault file kind place opens (inl fault) = read_fault file kind place opens 
 open_fault file kind place opens (inr fault) =
     absurd (some_is_none place (sym fault.first ∙ ap too_long_at (one_reading name_limit file fault.db opens.0 fault.reads opens.1.reads) ∙ opens.1.texts))
 
--- a session that opens is not refused, but for memory
+-- a session that opens is refused for want of memory alone
 start_refused : (file : Text) → IsOpenable file → (fault : SessionFault) → RefusesStart fault file → fault ≡ Memory
 start_refused file opens Memory why = refl
 start_refused file opens (Unopened fault) why = absurd (why.0 (open_fault file fault.kind fault.place opens why.1))

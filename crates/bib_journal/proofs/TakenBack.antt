@@ -73,7 +73,7 @@ undoes_all past (s ∷ ss) future file w =
     subst (λ (rs : List Request). DoesAll rs (idle old) (idle new)) (once_more (length ss) request.Undo)
     (does_last (replicate (length ss) request.Undo) request.Undo (idle old) (idle mid) (idle new) did (record { step = s; closed = refl; still = refl; carried = goes; file = both.1 }))
 
--- so many undos lead to what is kept after so many changes were taken back
+-- `done` undos lead to what is kept once the last `done` changes are taken back
 undos_take_back : (done : ℕ) (opened : KeptSteps) → IsSound opened → done ≤ length opened.past
     → DoesAll (replicate done request.Undo) (idle opened) (idle (taken_back done opened))
 undos_take_back done opened w within =
@@ -123,7 +123,7 @@ told_of n done fault turned within full short told is = ⊎_elim
     (λ (less : done < n). let no : Some NothingToUndo ≡ Some Memory = sym (short less) ∙ sym told ∙ is in absurd (cc (no)))
     (eq-or-lt_of_le within)
 
--- the file before the last changes, and the journal with these in its future, are what so many undos leave
+-- the file before the last changes, and the journal with these in its future, are what `done` undos leave
 pub undos_leave : (file text there : Text) (c : Contents) (n done : ℕ) (fault : Option SessionFault) (turned : Turned) → SaysOf file text c
     → there ≡ first_of (drop (length c.past - done) c.past) file → done ≡ min n (length c.past) → (n ≤ done → fault ≡ None) → (done < n → fault ≡ Some NothingToUndo)
     → turned.performed.done ≡ done → turned.performed.fault ≡ fault → turned.saved.file ≡ there → IsDigest (digest_of there)

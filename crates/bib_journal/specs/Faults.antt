@@ -9,6 +9,7 @@ use Rattle.journal_format.specs.declared.fault.JournalFault.TheVariants as journ
 use Rattle.bib_journal.specs.declared.fault.SessionFault.{SessionFault}
 use Rattle.bib_journal.specs.declared.fault.SessionFault.TheVariants.{Unopened, Refused, JournalFull, NothingToUndo, NothingToRedo, BadJournal, JournalMismatch, StepOpen, NoOpenStep, Memory}
 
+-- the number under which docs/FAULTS.md explains the fault
 abbrev pub fault_number : SessionFault → ℕ
 fault_number (Unopened fault) = fault.kind
 fault_number (Refused fault) = edit.fault_number fault

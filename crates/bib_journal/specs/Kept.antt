@@ -7,10 +7,11 @@ use Rattle.bib_journal.specs.OpenSteps.{SessionState, IsOpenIn}
 use Rattle.bib_journal.specs.declared.open_step.OpenStep.{OpenStep}
 use Rattle.bib_journal.specs.declared.open_step.OpenStep.TheVariants.{NoStep, NewStep, LastStep}
 
+-- what a session keeps, from its fields: the past steps, the present file, and the future steps
 abbrev pub kept : List Step → Text → List Step → KeptSteps
 kept past present future = record { past = past; present = present; future = future }
 
--- while a step with edits is open, the places are none, or those where its pieces end, which stand apart
+-- while a step with edits is open, there are no places, or those where its pieces end, no two of which touch
 abbrev pub KnowsEnds : OpenStep → List Step → List ℕ → Type 0
 KnowsEnds NoStep past ends = Unit {0}
 KnowsEnds (NewStep label) past ends = Unit {0}

@@ -12,7 +12,7 @@ pub record SessionState : Type 0 where
   pub steps : KeptSteps
   pub current : OpenStep
 
--- a session that keeps these steps, of which none is open
+-- a session that keeps these steps and has none open
 abbrev pub idle : KeptSteps → SessionState
 idle steps = record { steps = steps; current = NoStep }
 

@@ -23,7 +23,7 @@ use Rattle.bib_journal.specs.Session.{MakesEdit, RefusesEdit, Performs}
 -- ---- one renaming
 
 -- What a renaming keeps: each entry's record and parent, each preamble, what each macro stands for, and each cited list are
--- what they were, but for the names that it gives. Keys that are made all differ. Of other edits nothing is said here.
+-- what they were, except the names that it gives. Keys that are made all differ. Nothing is said here about other edits.
 abbrev pub Keeps : Edit → Reading → Reading → Type 0
 Keeps (RenameKey from to) old new = KeepsEntries (key_for (entry_named (entries_of old) from) to) old new × KeepsMacros old new × KeepsCitationsByKey old new
 Keeps (RegenerateKeys depth) old new =
@@ -48,12 +48,13 @@ pub record MakesNothingAgain (depth : ℕ) (state : SessionState) : Type 0 where
   pub allowed : (fault : EditFault) → RefusesEdit (Refused fault) (RegenerateKeys depth) state → ⊥
   pub file : (again : SessionState) → MakesEdit (RegenerateKeys depth) state again → again.steps.present ≡ state.steps.present
 
+-- once the keys were made, the same request has no reason against it and changes nothing
 abbrev pub keys_are_made_once : Type 0
 keys_are_made_once = (depth : ℕ) (old new : SessionState) → IsSound old.steps → MakesEdit (RegenerateKeys depth) old new → MakesNothingAgain depth new
 
 -- ---- many renamings
 
--- the request renames a key or a macro, makes all keys anew, writes a macro's text for its uses, or gives a text a name; or it
+-- the request renames a key or a macro, makes all keys again, writes a macro's text for its uses, or gives a text a name; or it
 -- begins or ends a step of such edits
 abbrev pub is_renaming : Request → Bool
 is_renaming (request.Edit (RenameKey from to)) = true
@@ -76,7 +77,7 @@ pub record KeepsTexts (old new : Reading) : Type 0 where
   pub parents : (n : ℕ) → parent (entries_of new) n ≡ parent (entries_of old) n
   pub preambles : preambles_of new ≡ preambles_of old
 
--- However many renamings are asked for, one after another and up to the first that is refused, every record is kept but for
+-- However many renamings are requested, one after another and up to the first that is refused, every record is kept except
 -- its key.
 abbrev pub requests_keep : Type 0
 requests_keep = (requests : List Request) (done : ℕ) (fault : Option SessionFault) (old new : SessionState) → list_all is_renaming requests ≡ true →

@@ -17,7 +17,7 @@ use Rattle.bib_journal.specs.Session.{Opens, DoesAll}
 use Rattle.bib_journal.specs.declared.open_step.OpenStep.{OpenStep}
 use Rattle.bib_journal.specs.declared.open_step.OpenStep.TheVariants.{NoStep, NewStep}
 
--- what stands on the disk: a file, and its journal if it has one
+-- what is on the disk: a file, and its journal if it has one
 pub record OnDisk : Type 0 where
   pub file : Text
   pub journal : Option Text
@@ -64,6 +64,7 @@ pub record Course : Type 0 where
   pub history : History
   pub current : OpenStep
 
+-- the history of the session's steps, and which step is open
 abbrev pub course_of : SessionState → Course
 course_of state = record { history = history_of state.steps; current = state.current }
 

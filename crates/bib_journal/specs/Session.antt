@@ -1,4 +1,4 @@
--- What a session answers to what it is asked.
+-- What a session answers to a request.
 use Rattle.std.specs.Prelude.{ℕ, ◌≡◌, ◌≢◌, ◌≤◌, List, [], ◌∷◌, length, take, drop, Option, Some, None}
 use Rattle.bib_spec.specs.Bytes.{file_limit}
 use Rattle.bib_spec.specs.Text.{Text}
@@ -209,7 +209,7 @@ StopsAt None (request ∷ requests) state = ⊥
 StopsAt (Some fault) [] state = ⊥
 StopsAt (Some fault) (request ∷ requests) state = Refuses fault request state
 
--- so many requests are accepted, one after another; the next one, if there is one, is refused and changes nothing
+-- the first `done` requests are accepted, one after another; the next one, if there is one, is refused and changes nothing
 pub record Performs (requests : List Request) (done : ℕ) (fault : Option SessionFault) (old new : SessionState) : Type 0 where
   pub within : done ≤ length requests
   pub did : DoesAll (take done requests) old new

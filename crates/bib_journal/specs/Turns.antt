@@ -10,7 +10,7 @@ use Rattle.bib_journal.specs.OpenSteps.{SessionState, idle}
 use Rattle.bib_journal.specs.Loading.{Saves}
 use Rattle.bib_journal.specs.Session.{Opens, Performs}
 
--- the request is done so many times, up to the first refusal, of a session that keeps these steps, and what is kept then is left
+-- a session that keeps these steps does the request `n` times, up to the first refusal, and leaves what it keeps then
 pub record HasTurned (request : Request) (n : ℕ) (opened : SessionState) (turned : Turned) : Type 0 where
   pub closed : SessionState
   pub told : turned.performed.fault ≢ Some Memory

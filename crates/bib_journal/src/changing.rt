@@ -42,7 +42,7 @@ pub struct Turned {
 
 /// The changes of a file with its journal. The list that is handed in holds no item. It refuses as `Session::open` does.
 /// It takes time as opening the file and reading both texts, and a splice for each past step and two for each future one,
-/// since no session is left that stands at the file.
+/// since it leaves no session that is at the file.
 pub fn read_changes<L: ItemList>(
     alloc: Global,
     file: Vec<u8>,
@@ -145,7 +145,7 @@ fn fit_once<L: ItemList>(
 
 // ---- turning
 
-/// Takes so many changes of a file with its journal back, or as many as there are. It does what `Session::open`, `repeat`
+/// Undoes the last `n` changes of a file with its journal, or all if there are fewer. It does what `Session::open`, `repeat`
 /// and `Session::saved` do, and refuses as the first of them. It takes time as `read_changes` does, and in the length of the
 /// file and the journal that are left.
 pub fn undo_changes<L: ItemList>(
@@ -165,8 +165,8 @@ pub fn undo_changes<L: ItemList>(
     }
 }
 
-/// Makes so many changes of a file with its journal again, or as many as were taken back: what `Session::open`, `repeat` and
-/// `Session::saved` do. It refuses as the first of them.
+/// Redoes the next `n` changes of a file with its journal, or all that were undone if there are fewer. It does what
+/// `Session::open`, `repeat` and `Session::saved` do, and refuses as the first of them.
 pub fn redo_changes<L: ItemList>(
     alloc: Global,
     file: Vec<u8>,
@@ -181,7 +181,7 @@ pub fn redo_changes<L: ItemList>(
     turn_opened(alloc, file, journal, &Request::Redo, n, empty)
 }
 
-/// Opens a session, does the request so many times, up to the first refusal, and saves it.
+/// Opens a session, does the request `n` times, up to the first refusal, and saves the session.
 fn turn_opened<L: ItemList>(
     alloc: Global,
     file: Vec<u8>,
@@ -205,7 +205,7 @@ fn turn_opened<L: ItemList>(
     }
 }
 
-/// Does the request so many times, up to the first refusal, and saves the session.
+/// Does the request `n` times, up to the first refusal, and saves the session.
 fn turn<L: ItemList>(
     session: &mut Session<L>,
     request: &Request,
@@ -223,7 +223,7 @@ fn turn<L: ItemList>(
     Ok(Turned { performed, saved })
 }
 
-/// Takes so many changes back that the journal says, or as many as there are.
+/// Undoes the last `n` changes that the journal says, or all if there are fewer.
 fn undo_in<L: ItemList>(
     alloc: Global,
     file: Vec<u8>,
@@ -270,7 +270,7 @@ fn undo_of<L: ItemList>(
     }
 }
 
-/// So many changes were taken back of as many as were to be.
+/// What is said of an undo of `n` changes, if `done` of them could be undone.
 fn undone(done: usize, n: usize) -> Performed
     ensures done { result.done ≡ done }
     ensures all { n ≤ done → result.fault ≡ None }

@@ -18,7 +18,7 @@ use journal_format::{STEP_TEXTS_LIMIT, Step, step_text_len};
 use std::alloc::{AllocError, Global};
 use std::mem::replace;
 
-/// The length, if the texts of all steps may be so long.
+/// The length, if it is allowed for the texts of all steps.
 fn allowed_len(len: u64) -> Result<u64, SessionFault>
     ensures len { IfOk result (λ allowed. allowed ≡ len) }
     ensures short { OnOk result (len ≤ 67174399) }
@@ -60,7 +60,7 @@ fn amendment(
     }
 }
 
-/// Makes pieces that lead to a file, and changes the pieces of a step and their ends so.
+/// Makes pieces that lead to a file, and changes the pieces of a step and their ends accordingly.
 fn make<L: ItemList>(
     db: &mut Database<L>,
     list: &mut Vec<Piece>,
@@ -87,7 +87,7 @@ fn make<L: ItemList>(
     Ok(())
 }
 
-/// Makes the pieces and adds them to a step whose ends are known, near the pieces of it that they touch.
+/// Makes the pieces and adds them to a step whose ends are known. Only the pieces of the step that they are near change.
 fn grow_near<L: ItemList>(
     alloc: Global,
     db: &mut Database<L>,
@@ -158,9 +158,10 @@ fn grow_whole<L: ItemList>(
 }
 
 /// Makes pieces that lead to a file, and adds them to a step that led to the present one, if the texts of all steps are no
-/// longer than `STEP_TEXTS_LIMIT` then; how long they are. `len` is how long they were, and `ends` are where the step's
-/// pieces end in the present file, or none. It takes time and memory as the splice does and, if there are ends, in the number
-/// of the pieces that these lie near; it moves the others as memory.
+/// longer than `STEP_TEXTS_LIMIT` then. It returns their length, which was `len` before. `ends` are the places where the
+/// step's pieces end in the present file, or none. It takes time and memory as the splice does and, if there are ends, in the
+/// number and the bytes of the step's pieces that the new ones are near. It moves the others as memory, and their ends by one
+/// number.
 pub(crate) fn grow<L: ItemList>(
     alloc: Global,
     db: &mut Database<L>,

@@ -14,10 +14,10 @@ pub fn requests_have_one_result()
     ensures { one_result }
 {}
 
-/// Several runs, each from the file and journal that the one before left, do what one session does that is asked for all
-/// their requests: the file after each accepted request is that of the history of whole files. As many undos as there is
-/// past, in whatever runs, lead to the first file, and as many redos as there is future to the last. So are two sessions of
-/// which the second opens what the first one left.
+/// Several runs, each from the file and journal that the one before left, do what one session does with all their requests:
+/// the file after each accepted request is that of the history of whole files. As many undos as the history has past files,
+/// in whatever runs, lead to the first file. As many redos as it has future files lead to the last. The same holds of two
+/// sessions, if the second opens what the first one left.
 pub fn several_runs_are_one_session()
     ensures one { runs_are_one_session }
     ensures joined { sessions_are_one }

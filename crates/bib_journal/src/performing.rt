@@ -1,4 +1,4 @@
-//! Doing what is asked of a session, one request after another.
+//! Doing the requests to a session, one after another.
 
 ghost use Rattle.std.specs.Prelude.{◌≡◌, replicate, All, IfErr, OnOk, OnErr};
 ghost use Rattle.bib_data.specs.Depths.{AsksWithDepth};
@@ -32,7 +32,7 @@ fn obey<L: ItemList>(session: &mut Session<L>, request: &Request) -> Result<(), 
     }
 }
 
-/// Does one request so many times, up to the first refusal, which changes nothing.
+/// Does one request `times` times, up to the first refusal, which changes nothing.
 pub fn repeat<L: ItemList>(session: &mut Session<L>, request: &Request, times: usize) -> Performed
     requires { AsksWithDepth request.now }
     ensures { Performs (replicate times request.now) result.done result.fault session.old session.new }
@@ -51,7 +51,7 @@ pub fn repeat<L: ItemList>(session: &mut Session<L>, request: &Request, times: u
     }
 }
 
-/// Does the requests in order, up to the first that is refused; those before it stand, and it changes nothing.
+/// Does the requests in order, up to the first that is refused. What those before it did is kept, and it changes nothing.
 pub fn perform<L: ItemList>(session: &mut Session<L>, requests: &[Request]) -> Performed
     requires { All AsksWithDepth requests.now }
     ensures { Performs requests.now result.done result.fault session.old session.new }

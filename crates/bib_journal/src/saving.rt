@@ -29,7 +29,7 @@ pub(crate) fn journal_of(
     write_journal(alloc, digest.as_slice(), past, undone)
 }
 
-/// Moves so many steps from the top of one stack to another.
+/// Moves `n` steps from the top of one stack to another.
 fn turn_over(from: &mut Vec<Step>, to: &mut Vec<Step>, n: usize) -> Result<(), AllocError>
     requires { n ≤ length from.old.items }
     ensures from { OnOk result (from.new.items ≡ take (length from.old.items - n) from.old.items) }

@@ -116,8 +116,8 @@ impl<L: ItemList> Session<L> {
         }
     }
 
-    /// Closes the file, and forgets its steps, as dropping the session does. Nothing is left of which a clause could speak, so
-    /// it has none.
+    /// Closes the file, and forgets its steps, as dropping the session does. Nothing is left that a clause could be about, so it
+    /// has none.
     pub fn close(self) {
         let Session {
             alloc: _,
@@ -265,9 +265,9 @@ impl<L: ItemList> Session<L> {
         Ok(())
     }
 
-    /// Makes an edit: a step by itself, or one of the edits of the step that is open. What could be made again is forgotten. It
-    /// takes time and memory as `plan` and `Database::splice` do; where the step that is open has edits, also for those of its
-    /// pieces that the edit lies near, and it moves the others as memory.
+    /// Makes an edit: a step by itself, or one of the edits of the step that is open. It forgets what could be made again. It
+    /// takes time and memory as `plan` and `Database::splice` do. If the step that is open has edits, it also takes them for
+    /// those of its pieces that the edit is near. It moves the others as memory, and their ends by one number.
     pub fn edit(&mut self, edit: &Edit) -> Result<(), SessionFault>
         requires { HasDepth edit.now }
         ensures made { OnOk result (MakesEdit edit.now self.old self.new) }

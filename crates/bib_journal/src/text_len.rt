@@ -10,7 +10,7 @@ use bib_steps::{Amendment, Replacement};
 use bib_store::Piece;
 use journal_format::{decimal_len, piece_texts_len};
 
-/// How long the texts of the pieces are that a replacement takes away, or the greatest number.
+/// The length of the texts of the pieces that a replacement takes away, or the greatest number.
 fn removed_len(pieces: &[Piece], change: &Replacement) -> u64
     requires { IsWithin (length pieces.now) change.now }
     ensures { result ≡ min (length (flat_map piece_text (take (change.now.to - change.now.from) (drop change.now.from pieces.now)))) (2 ^ 64 - 1) }
@@ -20,8 +20,8 @@ fn removed_len(pieces: &[Piece], change: &Replacement) -> u64
     piece_texts_len(removed)
 }
 
-/// How long texts are, or the greatest number, if so many bytes of pieces go and so many come, and the number of the pieces
-/// changes.
+/// The length of texts, or the greatest number, once `gone` bytes of pieces are taken away and `come` bytes are added. The
+/// texts say the number of the pieces, which was `before` and is `now`.
 fn changed_len(len: u64, gone: u64, come: u64, before: usize, now: usize) -> u64
     ensures { result ≡ min (min (len - min (gone + length (decimal before)) (2 ^ 64 - 1) + come) (2 ^ 64 - 1) + length (decimal now)) (2 ^ 64 - 1) }
 {
@@ -30,8 +30,8 @@ fn changed_len(len: u64, gone: u64, come: u64, before: usize, now: usize) -> u64
         .saturating_add(decimal_len(now as u64))
 }
 
-/// How long texts are, or the greatest number, once an edit has joined one of their steps, which has these pieces; `len` is
-/// how long they are before.
+/// The length of the texts of steps, or the greatest number, once an edit has joined one of them, which has these pieces. It
+/// was `len` before.
 pub(crate) fn amended_len(len: u64, pieces: &[Piece], change: &Amendment) -> u64
     requires within { AreWithin (length pieces.now) change.now }
     requires few { length pieces.now ≤ 67174399 }

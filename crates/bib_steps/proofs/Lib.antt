@@ -1,3 +1,5 @@
 pub mod Positions
 mod Renewed
+mod MovedEnds
+mod Lengthened
 mod Turned

@@ -1,9 +1,11 @@
 -- How an edit changes the pieces of a step. (dialect)
-use Rattle.std.specs.Prelude.{ℕ, zero, suc, ◌+◌, ◌≤◌, Option, Some, None, List, length, take, drop, slice_index_or}
-use Rattle.bib_spec.specs.Pieces.{Piece, reversed_from}
+use Rattle.std.specs.Prelude.{ℕ, zero, suc, ◌≡◌, ◌+◌, ◌-◌, ◌≤◌, Option, Some, None, List, [], ◌∷◌, ◌++◌, length, map, take, drop, slice_index_or}
+use Rattle.std.specs.List.{AllByRecursion}
+use Rattle.bib_spec.specs.Bytes.{file_limit}
+use Rattle.bib_spec.specs.Pieces.{Piece, end_of, reversed_from}
 use Rattle.history_spec.specs.Composing.{old_end, new_end, BeginsAfter, EndBefore, Replacement, replaced}
 
--- pieces near the last ones of the edit are replaced, and then, where its others lie far from these, pieces before them
+-- what an edit replaces: the pieces near its last ones, and also pieces before them if its others are far from these
 pub record Amendment : Type 0 where
   pub last : Replacement
   pub others : Option Replacement
@@ -34,15 +36,16 @@ pub record AreWithin (n : ℕ) (a : Amendment) : Type 0 where
   pub last : IsWithin n a.last
   pub others : IsBefore a.last.from a.others
 
--- how many pieces both bring
+-- how many new pieces the replacement has, if there is one
 abbrev pub count_in : Option Replacement → ℕ
 count_in None = 0
 count_in (Some r) = length r.pieces
 
+-- how many new pieces the amendment has
 abbrev pub added_count : Amendment → ℕ
 added_count a = length a.last.pieces + count_in a.others
 
--- ---- what an edit lies near
+-- ---- what an edit is near
 
 -- where the pieces before this position end, if these are the ends of all
 abbrev pub end_at : List ℕ → ℕ → ℕ
@@ -60,3 +63,35 @@ pub record IsNear (ps part : List Piece) (from to : ℕ) : Type 0 where
   pub inside : to ≤ length ps
   pub front : EndBefore (take from ps) part
   pub back : BeginAfter ps to (old_end 0 part)
+
+-- ---- ends that move
+
+-- where pieces end in the text that they make, if those before them end at `at` in the text before and at `mid` in that text
+abbrev pub ends_from : ℕ → ℕ → List Piece → List ℕ
+ends_from at mid ps = map end_of (reversed_from at mid ps)
+
+-- where one piece ends in the text that it makes, after pieces that end at `at` and `mid`
+abbrev pub next_end : ℕ → ℕ → Piece → ℕ
+next_end at mid p = mid + (p.place - at) + length p.new
+
+-- the places are right up to one number: the pieces end there if the pieces before them end at some `at` and `mid`
+abbrev pub AreSomeEnds : List Piece → List ℕ → Type 0
+AreSomeEnds ps ends = (at : ℕ) × (mid : ℕ) × (ends ≡ ends_from at mid ps)
+
+-- a place from `old` on, moved as a place moves from `old` to `new`
+abbrev pub moved : ℕ → ℕ → ℕ → ℕ
+moved old new place = place - old + new
+
+-- each of the places is one from `old` on, and is in a file once it is moved
+abbrev pub CanMove : ℕ → ℕ → List ℕ → Type 0
+CanMove old new places = AllByRecursion (λ place. (old ≤ place) × (moved old new place ≤ file_limit)) places
+
+-- ---- pieces that an edit continues
+
+-- each edit is one piece, and the second begins where the first ends in the text between them
+abbrev pub Continues : ℕ → ℕ → List Piece → List Piece → Type 0
+Continues at mid first second = (p : Piece) × (q : Piece) × (first ≡ p ∷ []) × (second ≡ q ∷ []) × (q.place ≡ next_end at mid p)
+
+-- the piece, with the bytes of the other after its own
+abbrev pub longer : Piece → Piece → Piece
+longer p q = record { place = p.place; old = p.old ++ q.old; new = p.new ++ q.new }

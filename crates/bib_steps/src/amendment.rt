@@ -7,7 +7,7 @@ use bib_data::Piece;
 use bib_scan::Seq;
 use std::marker::Model;
 
-/// What replaces pieces of a list: those from one position up to another.
+/// Pieces that replace those of a list from one position up to another.
 #[derive(Debug, Drop)]
 pub struct Replacement {
     pub from: usize,
@@ -23,7 +23,8 @@ impl Model for Replacement {
     ghost view = { λ r. record { from = r.from; to = r.to; pieces = r.pieces } };
 }
 
-/// What an edit replaces: pieces near its last ones, and then, where its others lie far from these, pieces before them.
+/// What an edit replaces: the pieces near its last ones. If its other pieces are far from these, it also replaces pieces
+/// before them.
 #[derive(Debug, Drop)]
 pub struct Amendment {
     pub last: Replacement,
@@ -39,7 +40,7 @@ impl Model for Amendment {
 }
 
 impl Amendment {
-    /// How many pieces it brings.
+    /// How many new pieces the amendment has.
     pub fn added_count(&self) -> usize
         ensures { result ≡ added_count self.now }
     {

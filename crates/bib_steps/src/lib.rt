@@ -5,6 +5,8 @@
 
 mod amending;
 mod amendment;
+mod ends;
+mod joining;
 mod near;
 mod placing;
 mod replacing;
@@ -12,4 +14,5 @@ mod spans;
 
 pub use amending::amend;
 pub use amendment::{Amendment, Replacement};
-pub use placing::{put, renew_ends};
+pub use ends::renew_ends;
+pub use placing::put;

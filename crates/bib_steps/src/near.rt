@@ -1,4 +1,4 @@
-//! Which pieces of a step an edit lies near.
+//! Which pieces of a step an edit is near.
 
 ghost use Rattle.std.specs.Prelude.{◌≡◌, ◌<◌, ◌≤◌, length, take, true, false};
 ghost use Rattle.bib_spec.specs.Bytes.{file_limit};
@@ -9,7 +9,7 @@ ghost use Rattle.bib_steps.specs.Amending.{BeginAfter, IsNear, end_at};
 use crate::spans::{begin_of, count_before, end_before, end_of};
 use bib_data::Piece;
 
-/// Pieces that stand next to each other in a list: from one position up to another.
+/// Neighbouring pieces of a list: those from one position up to another.
 #[derive(Debug, Clone, Copy)]
 pub(crate) struct Span {
     pub from: usize,
@@ -31,8 +31,8 @@ fn is_after(pieces: &[Piece], ends: &[u64], position: usize, place: u64) -> bool
     ends[position] > place + piece.new.as_slice().len() as u64
 }
 
-/// The pieces that this part of an edit lies near: all but those that end before it begins, and those that begin after it
-/// ends. The former are found by halves, and the latter one by one.
+/// The pieces that this part of an edit is near: all except those that end before it begins and those that begin after it
+/// ends. The first are found by halves, the last one by one.
 pub(crate) fn near(pieces: &[Piece], ends: &[u64], part: &[Piece]) -> Span
     requires ends { AreEnds pieces.now ends.now }
     requires short { EndBy file_limit part.now }
@@ -47,8 +47,7 @@ pub(crate) fn near(pieces: &[Piece], ends: &[u64], part: &[Piece]) -> Span
     Span { from, to }
 }
 
-/// Whether a part of an edit, which lies near these pieces, ends before the other pieces of the edit begin, as these
-/// pieces do.
+/// Whether a part of an edit, and the pieces that it is near, end before the other pieces of the edit begin.
 pub(crate) fn ends_before(ends: &[u64], span: Span, part: &[Piece], others: &[Piece]) -> bool
     requires within { span.to ≤ length ends.now }
     requires short { EndBy file_limit part.now }

@@ -1,8 +1,8 @@
 //! Replacing items of a list in place.
 
-ghost use Rattle.std.specs.Prelude.{◌≡◌, ◌+◌, ◌-◌, ◌≤◌, ◌++◌, take, drop, vec_len, vec_capacity};
+ghost use Rattle.std.specs.Prelude.{◌≡◌, ◌+◌, ◌-◌, ◌≤◌, ◌++◌, List, length, take, drop, vec_len, vec_capacity};
 
-/// Turns the items from a position on, so that the first of them, as many as `count`, come last.
+/// Rotates the items from a position on: the first `count` of them come last.
 fn turn<T>(items: &mut Vec<T>, from: usize, count: usize)
     requires { from + count ≤ vec_len items.old }
     ensures items { items.new.items ≡ take from items.old.items ++ (drop count (drop from items.old.items) ++ take count (drop from items.old.items)) }
@@ -23,8 +23,22 @@ fn exchange<T>(items: &mut Vec<T>, from: usize, others: &mut Vec<T>)
     items[from..to].swap_with_slice(others.as_mut_slice());
 }
 
-/// Puts these in place of the items from one position up to another, where there is room. It asks for no memory, and moves
-/// the items after them as memory.
+/// Puts the last `count` items in place of those from one position up to another. It moves the items after these as memory.
+pub(crate) fn bring<T: Drop>(items: &mut Vec<T>, from: usize, to: usize, count: usize)
+    requires ordered { from ≤ to }
+    requires inside { to + count ≤ vec_len items.old }
+    ensures items { (old new : List T) → items.old.items ≡ old ++ new → length new ≡ count → items.new.items ≡ take from old ++ (new ++ drop to old) }
+    ensures len { vec_len items.new + (to - from) ≡ vec_len items.old }
+    ensures capacity { vec_capacity items.new ≡ vec_capacity items.old }
+{
+    turn(items, from, to - from);
+    let len = items.len() - (to - from);
+    items.truncate(len);
+    turn(items, from, len - from - count);
+}
+
+/// Puts new items in place of those from one position up to another. There is room for them, so it asks for no memory. It
+/// moves the items after them as memory.
 pub(crate) fn replace<T: Drop>(items: &mut Vec<T>, from: usize, to: usize, new: Vec<T>)
     requires ordered { from ≤ to }
     requires inside { to ≤ vec_len items.old }
@@ -41,8 +55,5 @@ pub(crate) fn replace<T: Drop>(items: &mut Vec<T>, from: usize, to: usize, new: 
     if items.append(&mut new).is_err() {
         unreachable!()
     }
-    turn(items, from, to - from);
-    let len = items.len() - (to - from);
-    items.truncate(len);
-    turn(items, from, len - from - count);
+    bring(items, from, to, count);
 }

@@ -1,32 +1,84 @@
-use Rattle.std.proofs.Common.{rules, ◌≡◌, ◌≤◌, length, take, sym, ◌∙◌, ap, ap₂, arith}
-use Rattle.history_spec.specs.Composing.{ends_of, Replacement, replaced}
+use Rattle.std.proofs.Common.{rules, ◌≡◌, ◌≤◌, ◌+◌, ◌-◌, List, ◌++◌, length, take, drop, subst, sym, ◌∙◌, ap, ap₂, arith, refl}
+use Rattle.std.proofs.lemmas.List.{drop_at, length-take-le}
+use Rattle.bib_spec.specs.Pieces.{Piece}
+use Rattle.history_spec.specs.Composing.{ends_of, Replacement}
+use Rattle.history_spec.proofs.Near.{length-ends}
 use Rattle.bib_steps.proofs.Positions.{front_kept, length_kept, same_front_ends}
+use Rattle.bib_steps.proofs.MovedEnds.{replaced_last, all_ends}
 use Rattle.bib_steps.proofs.placing.put.Goals as goal
-use Rattle.bib_steps.proofs.placing.put.Goals.{in-Some, in_default}
 
-pub renew_ends-requires-clause-front : goal.renew_ends-requires-clause-front
-renew_ends-requires-clause-front c =
-    let last : Replacement = record { from = c.last.inside.from; to = c.last.inside.to; pieces = c.into_vec.result.items } in
+pub put_before-from-requires-clause-ends_inside : goal.put_before-from-requires-clause-ends_inside
+put_before-from-requires-clause-ends_inside c =
     let inside : c.last.inside.from ≤ length c.args.pieces.now.items = search rules in
-    elim c.match-change.branch [
-      | in-Some w ↦
-          let first : Replacement = record { from = w.first.inside.from; to = w.first.inside.to; pieces = w.into_vec-in-Some.result.items } in
-          let before : w.first.inside.from ≤ c.last.inside.from = search rules in
-          let long : w.first.inside.from ≤ length (replaced last c.args.pieces.now.items) = length_kept last c.args.pieces.now.items w.first.inside.from before inside in
-          let is : c.as_slice.result.now ≡ replaced first (replaced last c.args.pieces.now.items)
-          = c.as_slice.ensures.value ∙ ap (λ v. v.items) w.pieces-is ∙ w.replace-in-Some.ensures.items ∙ ap (replaced first) c.replace.ensures.items in
-          ap₂ (λ n es. take n es) w.from-is c.requires.ends
-          ∙ same_front_ends c.args.pieces.now.items (replaced first (replaced last c.args.pieces.now.items)) w.first.inside.from (omega (arith, before, inside))
-          (length_kept first (replaced last c.args.pieces.now.items) w.first.inside.from (omega arith) long)
-          (sym (front_kept first (replaced last c.args.pieces.now.items) w.first.inside.from (omega arith) long
-          ∙ front_kept last c.args.pieces.now.items w.first.inside.from before inside))
-          ∙ sym (ap₂ (λ n ps. take n (ends_of ps)) w.from-is is)
-      | in_default w ↦
-          let is : c.as_slice.result.now ≡ replaced last c.args.pieces.now.items
-          = c.as_slice.ensures.value ∙ ap (λ v. v.items) w.pieces-is ∙ c.replace.ensures.items in
-          ap₂ (λ n es. take n es) w.from-is c.requires.ends
-          ∙ same_front_ends c.args.pieces.now.items (replaced last c.args.pieces.now.items) c.last.inside.from inside
-          (length_kept last c.args.pieces.now.items c.last.inside.from (omega arith) inside)
-          (sym (front_kept last c.args.pieces.now.items c.last.inside.from (omega arith) inside))
-          ∙ sym (ap₂ (λ n ps. take n (ends_of ps)) w.from-is is)
-    ]
+    omega (arith, inside, ap length c.requires.ends, length-ends 0 0 c.args.pieces.now.items)
+
+pub put_before-from-requires-clause-front : goal.put_before-from-requires-clause-front
+put_before-from-requires-clause-front c =
+    let last : Replacement = record { from = c.last.inside.from; to = c.last.inside.to; pieces = c.into_vec-new.result.items } in
+    let inside : c.last.inside.from ≤ length c.args.pieces.now.items = search rules in
+    ap (take c.last.inside.from) c.requires.ends
+    ∙ same_front_ends c.args.pieces.now.items c.replace.new.items.items c.last.inside.from inside
+    (subst (λ (ps : List Piece). c.last.inside.from ≤ length ps) (sym c.replace.ensures.items) (length_kept last c.args.pieces.now.items c.last.inside.from (omega arith) inside))
+    (sym (ap (take c.last.inside.from) c.replace.ensures.items ∙ front_kept last c.args.pieces.now.items c.last.inside.from (omega arith) inside))
+
+pub put_before-from-requires-clause-ends_room : goal.put_before-from-requires-clause-ends_room
+put_before-from-requires-clause-ends_room c =
+    let same : length c.args.ends.now.items ≡ length c.args.pieces.now.items = ap length c.requires.ends ∙ length-ends 0 0 c.args.pieces.now.items in
+    search rules
+
+pub put_ends-requires-clause-inside : goal.put_ends-requires-clause-inside
+put_ends-requires-clause-inside c =
+    let inside : c.last.inside.from ≤ length c.args.pieces.now.items = search rules in
+    let there : c.put_before-from.result + (c.last.inside.to - c.last.inside.from) + (c.len-len.result - (c.put_before-from.result + c.len-count.result)) ≡ length c.put_before-from.new.ends.items
+    = (replaced_last c.args.pieces.now.items c.as_slice.result.now c.into_vec-new.result.items c.put_before-from.new.ends.items c.put_before-from.result c.last.inside.from c.last.inside.to
+    (c.last.inside.to - c.last.inside.from) c.len-count.result c.len-len.result
+    (search rules) (search rules) refl (search rules) (search rules) (search rules)
+    (ap (drop c.put_before-from.result) c.as_slice.ensures.value ∙ c.put_before-from.ensures.others ∙ ap (drop c.last.inside.from) c.replace.ensures.items
+    ∙ drop_at (take c.last.inside.from c.args.pieces.now.items) (c.into_vec-new.result.items ++ drop c.last.inside.to c.args.pieces.now.items) c.last.inside.from
+    (length-take-le c.last.inside.from c.args.pieces.now.items inside))
+    (c.put_before-from.ensures.ends
+    ∙ ap₂ (λ ps es. take c.put_before-from.result (ends_of ps) ++ drop c.last.inside.from es) (sym c.as_slice.ensures.value) c.requires.ends)).inside in
+    search rules
+
+pub put_ends-requires-clause-room : goal.put_ends-requires-clause-room
+put_ends-requires-clause-room c =
+    let same : length c.args.ends.now.items ≡ length c.args.pieces.now.items = ap length c.requires.ends ∙ length-ends 0 0 c.args.pieces.now.items in
+    search rules
+
+pub put_ends-requires-clause-front : goal.put_ends-requires-clause-front
+put_ends-requires-clause-front c =
+    let inside : c.last.inside.from ≤ length c.args.pieces.now.items = search rules in
+    (replaced_last c.args.pieces.now.items c.as_slice.result.now c.into_vec-new.result.items c.put_before-from.new.ends.items c.put_before-from.result c.last.inside.from c.last.inside.to
+    (c.last.inside.to - c.last.inside.from) c.len-count.result c.len-len.result
+    (search rules) (search rules) refl (search rules) (search rules) (search rules)
+    (ap (drop c.put_before-from.result) c.as_slice.ensures.value ∙ c.put_before-from.ensures.others ∙ ap (drop c.last.inside.from) c.replace.ensures.items
+    ∙ drop_at (take c.last.inside.from c.args.pieces.now.items) (c.into_vec-new.result.items ++ drop c.last.inside.to c.args.pieces.now.items) c.last.inside.from
+    (length-take-le c.last.inside.from c.args.pieces.now.items inside))
+    (c.put_before-from.ensures.ends
+    ∙ ap₂ (λ ps es. take c.put_before-from.result (ends_of ps) ++ drop c.last.inside.from es) (sym c.as_slice.ensures.value) c.requires.ends)).front
+
+pub put_ends-requires-clause-moves : goal.put_ends-requires-clause-moves
+put_ends-requires-clause-moves c =
+    let inside : c.last.inside.from ≤ length c.args.pieces.now.items = search rules in
+    (replaced_last c.args.pieces.now.items c.as_slice.result.now c.into_vec-new.result.items c.put_before-from.new.ends.items c.put_before-from.result c.last.inside.from c.last.inside.to
+    (c.last.inside.to - c.last.inside.from) c.len-count.result c.len-len.result
+    (search rules) (search rules) refl (search rules) (search rules) (search rules)
+    (ap (drop c.put_before-from.result) c.as_slice.ensures.value ∙ c.put_before-from.ensures.others ∙ ap (drop c.last.inside.from) c.replace.ensures.items
+    ∙ drop_at (take c.last.inside.from c.args.pieces.now.items) (c.into_vec-new.result.items ++ drop c.last.inside.to c.args.pieces.now.items) c.last.inside.from
+    (length-take-le c.last.inside.from c.args.pieces.now.items inside))
+    (c.put_before-from.ensures.ends
+    ∙ ap₂ (λ ps es. take c.put_before-from.result (ends_of ps) ++ drop c.last.inside.from es) (sym c.as_slice.ensures.value) c.requires.ends)).moves
+
+pub returns-clause-ends : goal.returns-clause-ends
+returns-clause-ends c =
+    let inside : c.last.inside.from ≤ length c.args.pieces.now.items = search rules in
+    all_ends c.put_before-from.new.pieces.items c.put_before-from.new.ends.items c.put_ends.new.ends.items c.len-len.result _ (search rules)
+    ((replaced_last c.args.pieces.now.items c.as_slice.result.now c.into_vec-new.result.items c.put_before-from.new.ends.items c.put_before-from.result c.last.inside.from c.last.inside.to
+    (c.last.inside.to - c.last.inside.from) c.len-count.result c.len-len.result
+    (search rules) (search rules) refl (search rules) (search rules) (search rules)
+    (ap (drop c.put_before-from.result) c.as_slice.ensures.value ∙ c.put_before-from.ensures.others ∙ ap (drop c.last.inside.from) c.replace.ensures.items
+    ∙ drop_at (take c.last.inside.from c.args.pieces.now.items) (c.into_vec-new.result.items ++ drop c.last.inside.to c.args.pieces.now.items) c.last.inside.from
+    (length-take-le c.last.inside.from c.args.pieces.now.items inside))
+    (c.put_before-from.ensures.ends
+    ∙ ap₂ (λ ps es. take c.put_before-from.result (ends_of ps) ++ drop c.last.inside.from es) (sym c.as_slice.ensures.value) c.requires.ends)).inside)
+    (c.put_ends.ensures.items ∙ ap (λ ps. take c.len-len.result (ends_of ps) ++ drop (c.put_before-from.result + (c.last.inside.to - c.last.inside.from) + (c.len-len.result - (c.put_before-from.result + c.len-count.result))) c.put_before-from.new.ends.items) c.as_slice.ensures.value)

@@ -1,0 +1,6 @@
+use Rattle.std.proofs.Common.{◌≡◌, ◌++◌, map, take, drop}
+use Rattle.bib_steps.specs.Amending.{moved}
+use Rattle.bib_steps.proofs.ends.move_places.Given as goal
+
+abbrev pub invariant-all : goal.invariant-all
+invariant-all l = l.places ≡ map (moved l.old l.new) (take l.i l.initial.places) ++ drop l.i l.initial.places
