@@ -217,6 +217,11 @@ def one_step(script):
     return b"group\tall\n" + script + b"end\n"
 
 
+def words_of(script):
+    """The words of a script of one edit, as they are given at the keyboard."""
+    return script.decode().removesuffix("\n").split("\t")
+
+
 def all_kinds(count):
     """A script of so many edits of all kinds but those that look at the whole file, which are one in a thousand."""
     lines, keys = [], articles(count // 8 + 1)
