@@ -242,6 +242,11 @@ def first_version(journal):
     return b"".join(texts)
 
 
+def words_of(script):
+    """The words of a script of one edit, as they are given at the keyboard."""
+    return script.decode().removesuffix("\n").split("\t")
+
+
 def all_kinds(count):
     """A script of so many edits of all kinds but those that look at the whole file, which are one in a thousand."""
     lines, keys = [], articles(count // 8 + 1)

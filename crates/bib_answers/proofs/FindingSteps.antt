@@ -109,7 +109,7 @@ uses_alone bytes says p start alone v ok same =
 
 -- ---- fields
 
--- the fields left, in which nothing is found yet, and the names before them, which were seen
+-- the fields left, in which nothing is found yet, after fields whose names were seen
 pub record IsLeft (own : Text → Option Text) (macros : Macros) (crossrefs : ℕ → List Finding) (whole out : Written) (seen : List Text → Type 0) (fields : List Field) : Type 0 where
   pub names : List Text
   pub values : List Assigned

@@ -18,7 +18,7 @@ use Rattle.bib_answers.specs.Outcome.{answer_of}
 abbrev pub is_unsaid : Told → Bool
 is_unsaid one = not (is_told_utf8 one)
 
--- of the first n entries of the list all texts are UTF-8, and these are their lines
+-- all texts of the first i entries of the list are UTF-8, and `lines` has their lines
 pub record IsToldTo (depth : ℕ) (entries : List EntryTexts) (list : List ℕ) (i : ℕ) (lines : Text) : Type 0 where
   pub said : find is_unsaid (told_of depth entries (take i list)) ≡ None
   pub lines_are : lines ≡ flat_map json_line (told_of depth entries (take i list))

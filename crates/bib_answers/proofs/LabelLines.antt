@@ -7,7 +7,7 @@ use Rattle.std.proofs.lemmas.Slice.Zip.{get_or-zip}
 use Rattle.bib_spec.specs.Text.{Text}
 use Rattle.bib_spec.specs.Records.{EntryTexts, Record, record_of, expanded}
 use Rattle.bib_names.specs.Label.{label_base, labels_of}
-use Rattle.bib_answers.specs.Labels.{label_line, labelled, keyed_line, records_at, AreToldOf}
+use Rattle.bib_answers.specs.Labels.{label_line, labelled, keyed_line, records_at, AreLabelRows}
 use Rattle.bib_answers.specs.Entries.{key_at}
 use Rattle.bib_answers.proofs.LineLists.{lines_more}
 
@@ -33,17 +33,17 @@ lines_keyed [] records = refl
 lines_keyed (label ∷ labels) [] = refl
 lines_keyed (label ∷ labels) (r ∷ records) = ap (λ (t : Text). label_line (label, r) ++ t) (lines_keyed labels records)
 
-pub lines_told : (records : List Record) (bases keys : List Text) → AreToldOf records bases keys → flat_map keyed_line (zip (labels_of bases) keys) ≡ flat_map label_line (labelled records)
-lines_told records bases keys told =
-    ap₂ (λ (bs ks : List Text). flat_map keyed_line (zip (labels_of bs) ks)) told.bases_are told.keys_are
+pub lines_of_rows : (records : List Record) (bases keys : List Text) → AreLabelRows records bases keys → flat_map keyed_line (zip (labels_of bases) keys) ≡ flat_map label_line (labelled records)
+lines_of_rows records bases keys rows =
+    ap₂ (λ (bs ks : List Text). flat_map keyed_line (zip (labels_of bs) ks)) rows.bases_are rows.keys_are
     ∙ lines_keyed (labels_of (map (λ (r : Record). label_base r.fields) records)) records
 
 -- one more record
-told_more : (records more : List Record) (r : Record) (bases keys : List Text) (base key : Text) → base ≡ label_base r.fields → key ≡ r.key → records ++ r ∷ [] ≡ more → AreToldOf records bases keys → AreToldOf more (bases ++ base ∷ []) (keys ++ key ∷ [])
-told_more records more r bases keys base key is also next told = record {
-  bases_are = ap₂ (λ (bs : List Text) (b : Text). bs ++ b ∷ []) told.bases_are is
+rows_more : (records more : List Record) (r : Record) (bases keys : List Text) (base key : Text) → base ≡ label_base r.fields → key ≡ r.key → records ++ r ∷ [] ≡ more → AreLabelRows records bases keys → AreLabelRows more (bases ++ base ∷ []) (keys ++ key ∷ [])
+rows_more records more r bases keys base key is also next rows = record {
+  bases_are = ap₂ (λ (bs : List Text) (b : Text). bs ++ b ∷ []) rows.bases_are is
       ∙ sym (map-append (λ (x : Record). label_base x.fields) records (r ∷ [])) ∙ ap (map (λ (x : Record). label_base x.fields)) next;
-  keys_are = ap₂ (λ (ks : List Text) (k : Text). ks ++ k ∷ []) told.keys_are also
+  keys_are = ap₂ (λ (ks : List Text) (k : Text). ks ++ k ∷ []) rows.keys_are also
       ∙ sym (map-append (λ (x : Record). x.key) records (r ∷ [])) ∙ ap (map (λ (x : Record). x.key)) next;
 }
 
@@ -56,11 +56,11 @@ filter_map-append f (z ∷ xs) x y e = ap (cons_option (f z)) (filter_map-append
     apart (Some x) ys zs = refl
 
 -- one more entry
-pub told_one : (depth : ℕ) (entries : List EntryTexts) (list : List ℕ) (n : ℕ) (entry : EntryTexts) (bases keys : List Text) (base key : Text) → slice_get entries n ≡ Some entry
+pub rows_with_one : (depth : ℕ) (entries : List EntryTexts) (list : List ℕ) (n : ℕ) (entry : EntryTexts) (bases keys : List Text) (base key : Text) → slice_get entries n ≡ Some entry
     → base ≡ label_base (record_of depth entries n entry).fields → key ≡ key_at entries n
-    → AreToldOf (records_at depth entries list) bases keys → AreToldOf (records_at depth entries (list ++ n ∷ [])) (bases ++ base ∷ []) (keys ++ key ∷ [])
-told_one depth entries list n entry bases keys base key at is also told =
+    → AreLabelRows (records_at depth entries list) bases keys → AreLabelRows (records_at depth entries (list ++ n ∷ [])) (bases ++ base ∷ []) (keys ++ key ∷ [])
+rows_with_one depth entries list n entry bases keys base key at is also rows =
     let rec : Record = record_of depth entries n entry in
     let next : records_at depth entries (list ++ n ∷ []) ≡ records_at depth entries list ++ rec ∷ [] = filter_map-append (expanded depth entries) list n rec (ap (option_map (record_of depth entries n)) at) in
-    told_more (records_at depth entries list) (records_at depth entries (list ++ n ∷ [])) rec bases keys base key is
-    (also ∙ ap (λ (o : Option EntryTexts). option_map_or (λ e. e.key) o []) at) (sym next) told
+    rows_more (records_at depth entries list) (records_at depth entries (list ++ n ∷ [])) rec bases keys base key is
+    (also ∙ ap (λ (o : Option EntryTexts). option_map_or (λ e. e.key) o []) at) (sym next) rows

@@ -43,7 +43,7 @@ uses_alone bytes line part start alone v ok same =
 
 -- ---- fields
 
--- the fields left, of which nothing is reported yet, and the names before them, which were seen
+-- the fields left, on which nothing is reported yet, after fields whose names were seen
 pub record IsLeft (own : Text → Option Text) (macros : Macros) (key whole out : Text) (seen : List Text → Type 0) (fields : List Field) : Type 0 where
   pub names : List Text
   pub values : List Assigned

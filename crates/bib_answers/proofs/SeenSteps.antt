@@ -5,14 +5,14 @@ use Rattle.std.proofs.lemmas.Bool.{cases_Bool, both_ways}
 use Rattle.std.proofs.lemmas.List.Folds.{list_any-append}
 use Rattle.bib_spec.specs.Text.{Text, folded, same}
 use Rattle.folded_map.specs.FoldedMap.{value_at, IsWith}
-use Rattle.bib_answers.specs.declared.marks.Marks.{Marks}
+use Rattle.bib_answers.specs.declared.name_filter.NameFilter.{NameFilter}
 use Rattle.bib_answers.specs.Recurring.{may_recur}
 use Rattle.bib_answers.specs.Seen.{is_other}
 use Rattle.bib_answers.proofs.Recurrences.{recur_same}
 
--- of the names that may recur, these are among the few or the others, and no others
-abbrev pub AreSeen : Option Marks → List (Bor (List ℕ)) → List (Text × Unit {0}) → List Text → Type 0
-AreSeen marks few others names = (name : Text) → may_recur marks name ≡ true → (list_any (λ one. same name one.now) few || is_other others name) ≡ list_any (same name) names
+-- of the names that may recur, exactly `names` are among the few or the others
+abbrev pub AreSeen : Option NameFilter → List (Bor (List ℕ)) → List (Text × Unit {0}) → List Text → Type 0
+AreSeen filter few others names = (name : Text) → may_recur filter name ≡ true → (list_any (λ one. same name one.now) few || is_other others name) ≡ list_any (same name) names
 
 last_first : (a b c : Bool) → ((a || (b || false)) || c) ≡ (b || (a || c))
 last_first true true c = refl
@@ -27,8 +27,8 @@ middle_first false true c = refl
 middle_first false false c = refl
 
 -- among the few
-pub few_more : (marks : Option Marks) (few : List (Bor (List ℕ))) (others : List (Text × Unit {0})) (names : List Text) (one : Bor (List ℕ)) → AreSeen marks few others names → AreSeen marks (few ++ one ∷ []) others (one.now ∷ names)
-few_more marks few others names one seen name may =
+pub few_more : (filter : Option NameFilter) (few : List (Bor (List ℕ))) (others : List (Text × Unit {0})) (names : List Text) (one : Bor (List ℕ)) → AreSeen filter few others names → AreSeen filter (few ++ one ∷ []) others (one.now ∷ names)
+few_more filter few others names one seen name may =
     ap (λ b. b || is_other others name) (list_any-append (λ (f : Bor (List ℕ)). same name f.now) few (one ∷ []))
     ∙ last_first (list_any (λ (f : Bor (List ℕ)). same name f.now) few) (same name one.now) (is_other others name)
     ∙ ap (λ b. same name one.now || b) (seen name may)
@@ -38,8 +38,8 @@ with_one true v o = refl
 with_one false v o = refl
 
 -- among the others
-pub others_more : (marks : Option Marks) (few : List (Bor (List ℕ))) (old new : List (Text × Unit {0})) (names : List Text) (one : Text) (unit : Unit {0}) → IsWith old one unit new → AreSeen marks few old names → AreSeen marks few new (one ∷ names)
-others_more marks few old new names one unit with seen name may =
+pub others_more : (filter : Option NameFilter) (few : List (Bor (List ℕ))) (old new : List (Text × Unit {0})) (names : List Text) (one : Text) (unit : Unit {0}) → IsWith old one unit new → AreSeen filter few old names → AreSeen filter few new (one ∷ names)
+others_more filter few old new names one unit with seen name may =
     ap (λ b. list_any (λ (f : Bor (List ℕ)). same name f.now) few || b) (ap is_some (with (folded name)) ∙ with_one (same name one) unit (value_at old (folded name)))
     ∙ middle_first (list_any (λ (f : Bor (List ℕ)). same name f.now) few) (same name one) (is_some (value_at old (folded name)))
     ∙ ap (λ b. same name one || b) (seen name may)
@@ -48,15 +48,15 @@ or_none : (a b : Bool) → a ≡ false → b ≡ (a || b)
 or_none true b h = absurd (both_ways true h refl)
 or_none false b h = refl
 
--- a name that does not recur is the same as none that may
-pub none_more : (marks : Option Marks) (few : List (Bor (List ℕ))) (others : List (Text × Unit {0})) (names : List Text) (one : Text) → may_recur marks one ≡ false → AreSeen marks few others names → AreSeen marks few others (one ∷ names)
-none_more marks few others names one lone seen name may =
+-- a name that does not recur is the same as no name that may
+pub none_more : (filter : Option NameFilter) (few : List (Bor (List ℕ))) (others : List (Text × Unit {0})) (names : List Text) (one : Text) → may_recur filter one ≡ false → AreSeen filter few others names → AreSeen filter few others (one ∷ names)
+none_more filter few others names one lone seen name may =
     seen name may ∙ or_none (same name one) (list_any (same name) names) (⊎_elim
-    (λ t. absurd (both_ways (may_recur marks one) lone (sym (recur_same marks name one t) ∙ may)))
+    (λ t. absurd (both_ways (may_recur filter one) lone (sym (recur_same filter name one t) ∙ may)))
     (λ f. f)
     (cases_Bool (same name one)))
 
--- what is told of a name that was seen or may not recur
+-- a name may recur and was seen exactly if it was seen
 pub seen_is : (may few other any : Bool) → (may ≡ true → (few || other) ≡ any) → (any ≡ true → may ≡ true) → (may && (few || other)) ≡ any
 seen_is true few other any seen told = seen refl
 seen_is false few other true seen told = absurd (both_ways false refl (told refl))

@@ -34,17 +34,17 @@ count_lines items entries definitions preambles comments =
 
 -- ---- lines
 
--- words and a name or key
+-- a report: words, and a name or key, a line
 abbrev pub report : Text → Text → Text
 report said name = said ++ (codes " " ++ (name ++ codes "\n"))
 
--- words, a key, and a name or text
+-- a report: words, a key, and a name or text, a line
 abbrev pub report_both : Text → Text → Text → Text
 report_both said key name = said ++ (codes " " ++ (key ++ (codes " " ++ (name ++ codes "\n"))))
 
 -- ---- uses
 
--- A use of the macro that is being defined, or else of one that stands for nothing there. (dialect)
+-- a part uses the macro that is being defined, or else a macro that has no text there (dialect)
 abbrev pub use_report : Option Text → Macros → Part → Text
 use_report own macros (Macro name) =
     if is_own own (folded name) then report (codes "own macro") name
@@ -54,7 +54,7 @@ use_report own macros (Braced t) = []
 use_report own macros (Quoted t) = []
 use_report own macros (Digits t) = []
 
--- the uses in a value, in order
+-- the reports on a value's uses of macros, in order
 abbrev pub use_reports : Option Text → Macros → Value → Text
 use_reports own macros v = flat_map (use_report own macros) (parts_of v)
 
@@ -64,6 +64,7 @@ use_reports own macros v = flat_map (use_report own macros) (parts_of v)
 abbrev pub Assigned : Type 0
 Assigned = Text × Value
 
+-- the field that a row gives
 abbrev pub row_assigned : Row → Assigned
 row_assigned row = (row.assignment.name, row.assignment.value)
 
@@ -85,7 +86,7 @@ defined_in kind.Comment name = None
 abbrev pub extra_report : Text → List Text → Text → Text
 extra_report key earlier name = if list_any (same name) earlier then report_both (codes "extra field") key name else []
 
--- the reports on fields, where fields of these names stand before them
+-- the reports on fields that come after fields with the names `earlier`
 abbrev pub field_reports : (Text → Option Text) → Macros → Text → List Text → List Assigned → Text
 field_reports own macros key earlier [] = []
 field_reports own macros key earlier (field ∷ fields) =
@@ -93,7 +94,7 @@ field_reports own macros key earlier (field ∷ fields) =
 
 -- ---- entries
 
--- of an entry alone
+-- the text if the item is an entry, and else nothing
 abbrev pub of_entry : Kind → Text → Text
 of_entry kind.Entry text = text
 of_entry kind.Macro text = []
@@ -119,14 +120,14 @@ crossref_report key n (Some text) target = if is_empty text then [] else target_
 
 -- ---- items
 
--- the reports on an item, where these macros stand before it, and which has this number if it is an entry
+-- the reports on an item, at which the macros have these texts; if it is an entry, it is entry n
 abbrev pub item_reports : List EntryTexts → Macros → ℕ → Tree → Text
 item_reports entries macros n tree =
     of_entry (kind_of tree) (repeated_report (is_repeated entries n) (key_of tree))
     ++ (field_reports (defined_in (kind_of tree)) macros (key_of tree) [] (assigned tree)
     ++ of_entry (kind_of tree) (crossref_report (key_of tree) n (option_and_then crossref_text (slice_get entries n)) (target entries n)))
 
--- how many entries stand before item n
+-- how many entries come before item n
 abbrev pub entries_before : Reading → ℕ → ℕ
 entries_before db n = length (entry_items (take n db.items))
 
@@ -139,11 +140,12 @@ reports_on db n =
 abbrev pub all_reports : Reading → Text
 all_reports db = flat_map (reports_on db) (range_with_len 0 (length db.items))
 
+-- the output of `check`: the counts, and then the reports
 abbrev pub checked : Reading → Text
 checked db =
     count_lines (length db.items) (length (entries_of db)) (count_items is_definition_tree db) (length (preambles_of db)) (count_items is_comment db)
     ++ all_reports db
 
--- `check F` (dialect)
+-- `check F`: the counts and reports, with status 0 (dialect)
 abbrev pub check_answer : Reading → Answer
 check_answer db = answer_of (checked db) [] 0

@@ -20,7 +20,7 @@ IsKeyed file k = OfReading file (λ db. k.key.now ≡ key_at (entries_of db) k.n
 abbrev pub parent_bytes : Option Keyed → Text
 parent_bytes parent = option_map_or (λ (k : Keyed). codes "\t" ++ k.key.now) parent []
 
--- a key and, after a tab, that of a parent, a line
+-- a key and, after a tab, the key of a parent, if there is one, a line
 abbrev pub line_bytes : Line → Text
 line_bytes line = line.key.now ++ (parent_bytes line.parent ++ codes "\n")
 
@@ -28,7 +28,7 @@ line_bytes line = line.key.now ++ (parent_bytes line.parent ++ codes "\n")
 abbrev pub with_listed : List EntryTexts → List ℕ → ℕ → Text
 with_listed entries list m = if list_any (λ n. n == m) list then codes "\t" ++ key_at entries m else []
 
--- the key of an entry and, after a tab, that of its parent where that is in the list too, a line
+-- the key of entry n and, after a tab, the key of its parent, if the parent is in the list too, a line
 abbrev pub listed_line : List EntryTexts → List ℕ → ℕ → Text
 listed_line entries list n =
     key_at entries n ++ (option_map_or (with_listed entries list) (parent entries n) [] ++ codes "\n")
@@ -41,7 +41,7 @@ unknown_line keys place = codes "? " ++ (slice_index_or keys place [] ++ codes "
 abbrev pub listed_lines : List EntryTexts → List ℕ → Text
 listed_lines entries list = flat_map (listed_line entries list) list
 
--- `cite F KEY..`, where that many children list a parent: the entries listed, and then the keys that find none (dialect)
+-- `cite F KEY..`: the entries listed, and then the keys that find none; a parent is listed too if `min` listed entries refer to it (dialect)
 abbrev pub cite_answer : List Text → ℕ → Reading → Answer
 cite_answer keys min db =
     let entries = entries_of db in

@@ -1,4 +1,4 @@
--- Fields as views tell them, and as the grammar has them.
+-- An item's fields by its view, and by its tree.
 use Rattle.std.specs.Prelude.{ℕ, ◌≡◌, ◌≤◌, List, Some, length, slice_get}
 use Rattle.std.specs.List.{AllByRecursion, AllZip}
 use Rattle.bib_spec.specs.Bytes.{name_limit}
@@ -10,7 +10,7 @@ use Rattle.bib_spec.specs.Reading.{Item, Reading}
 use Rattle.bib_scan.specs.View.{View, Field, view_of}
 use Rattle.bib_answers.specs.Check.{Assigned}
 
--- item n is seen so
+-- this is the view of item n
 abbrev pub Views : Reading → ℕ → View → Type 0
 Views db n view = (item : Item) → slice_get db.items n ≡ Some item → view ≡ view_of item
 
@@ -34,5 +34,6 @@ pub record IsSound (field : Field) : Type 0 where
   pub short : length field.name ≤ name_limit
   pub value : IsValueWithin name_limit field.value
 
+-- each of the fields is so
 abbrev pub AreSound : List Field → Type 0
 AreSound = AllByRecursion IsSound

@@ -1,4 +1,4 @@
--- Lines that are written, as the code keeps them.
+-- The lines of findings, as the code keeps them.
 use Rattle.std.specs.Prelude.{ℕ, List, ◌++◌}
 use Rattle.std.specs.List.{flat_map}
 use Rattle.bib_spec.specs.Text.{Text}
@@ -11,10 +11,10 @@ pub record Written : Type 0 where
   pub start : ℕ
   pub text : Text
 
--- the same, at an item that begins there
+-- the same lines, at an item that begins there
 abbrev pub at_item : Written → ℕ → Written
 at_item w start = record w { start = start }
 
--- the same, with the lines of these findings
+-- with the lines of these findings added
 abbrev pub with_findings : Written → List Finding → Written
 with_findings w findings = record w { text = w.text ++ flat_map (finding_line w.name w.file w.start) findings }

@@ -12,11 +12,11 @@ use Rattle.bib_answers.specs.Entries.{key_at}
 use Rattle.bib_answers.specs.Messages.{no_such_entry_line}
 use Rattle.bib_answers.specs.Outcome.{answer_of}
 
--- entry n: its record at this depth, and the key of its parent
+-- what is told of entry n: its record at this depth, and the key of its parent
 abbrev pub told_at : ℕ → List EntryTexts → ℕ → Option Told
 told_at depth entries n = option_map (λ rec. (rec, option_map (key_at entries) (parent entries n))) (expanded depth entries n)
 
--- the same of these entries
+-- what is told of the entries with these numbers
 abbrev pub told_of : ℕ → List EntryTexts → List ℕ → List Told
 told_of depth entries list = filter_map (told_at depth entries) list
 
@@ -24,12 +24,12 @@ told_of depth entries list = filter_map (told_at depth entries) list
 abbrev pub not_utf8_line : Text → Text
 not_utf8_line key = codes "bibkeep: 24 NotUtf8 in " ++ (key ++ codes "\n")
 
--- a line for each of them; or, with nothing written, the key of the first of which a text is not UTF-8
+-- a line for each entry; or, with nothing written, the key of the first entry with a text that is not UTF-8
 abbrev pub told_answer : List Told → Answer
 told_answer told =
     option_map_or (λ one. answer_of [] (not_utf8_line one.0.key) 1) (find (λ one. not (is_told_utf8 one)) told) (answer_of (flat_map json_line told) [] 0)
 
--- `json F KEY..`: the entries that the keys cite, with their records at this depth
+-- `json F KEY..`: the entries that the keys cite, with their records at this depth; or that a key finds none
 abbrev pub json_answer : ℕ → List Text → Reading → Answer
 json_answer depth keys db =
     option_map_or (λ list. told_answer (told_of depth (entries_of db) list)) (all_cited (entries_of db) keys) (answer_of [] no_such_entry_line 1)

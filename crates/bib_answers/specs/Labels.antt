@@ -8,7 +8,7 @@ use Rattle.bib_names.specs.Label.{label_base, labels_of}
 use Rattle.bib_answers.specs.declared.answers.Answer.{Answer}
 use Rattle.bib_answers.specs.Cited.{cited_answer}
 
--- the records of these entries at this depth
+-- the records of the entries with these numbers, at this depth
 abbrev pub records_at : ℕ → List EntryTexts → List ℕ → List Record
 records_at depth entries list = filter_map (expanded depth entries) list
 
@@ -35,6 +35,6 @@ abbrev pub keyed_line : Text × Text → Text
 keyed_line labelled = labelled.0 ++ (codes "\t" ++ (labelled.1 ++ codes "\n"))
 
 -- the label bases of these records, and their keys
-pub record AreToldOf (records : List Record) (bases keys : List Text) : Type 0 where
+pub record AreLabelRows (records : List Record) (bases keys : List Text) : Type 0 where
   pub bases_are : bases ≡ map (λ r. label_base r.fields) records
   pub keys_are : keys ≡ map (λ r. r.key) records

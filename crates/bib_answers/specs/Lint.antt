@@ -1,4 +1,4 @@
--- `lint`: what is wrong with a file, as compilers write it: of each finding a line with its position.
+-- `lint`: what is wrong with a file, as compilers write it: a line for each finding, with its position.
 use Rattle.std.specs.Prelude.{ℕ, ◌≡◌, ◌≢◌, Bool, ◌==◌, ◌+◌, nat_lt, List, [], ◌∷◌, ◌++◌, length, map, Option, None, Some, is_none, if◌then◌else◌, option_and_then, slice_get, codes, zip}
 use Rattle.std.specs.Fmt.{decimal}
 use Rattle.std.specs.List.{flat_map, list_any, range_with_len}
@@ -24,11 +24,11 @@ use Rattle.bib_answers.specs.Positions.{position_of}
 
 -- ---- findings
 
--- a finding in an item: its place in the item's body, and what is said there
+-- a finding in an item: its place in the item's body, and its words
 abbrev pub Finding : Type 0
 Finding = ℕ × Text
 
--- words, a name, key or text, and words
+-- one finding at a place, whose words are `before`, a name, key or text, and `after`
 abbrev pub found : ℕ → Text → Text → Text → List Finding
 found at before name after = (at, before ++ (name ++ after)) ∷ []
 
@@ -38,7 +38,7 @@ found at before name after = (at, before ++ (name ++ after)) ∷ []
 abbrev pub placed_parts : Value → List (ℕ × Part)
 placed_parts v = zip (map span_start (spans_of v)) (parts_of v)
 
--- a use of the macro that is being defined, or else of one that stands for nothing there (dialect)
+-- a part at this place uses the macro that is being defined, or else a macro that has no text there (dialect)
 abbrev pub use_findings : Option Text → Macros → ℕ → Part → List Finding
 use_findings own macros at (Macro name) =
     if is_own own (folded name) then found at (codes "macro ") name (codes " is used in its own definition")
@@ -48,20 +48,20 @@ use_findings own macros at (Braced t) = []
 use_findings own macros at (Quoted t) = []
 use_findings own macros at (Digits t) = []
 
--- the uses in a value that stands at this place
+-- the findings in a value at this place, part by part
 abbrev pub value_findings : Option Text → Macros → ℕ → Value → List Finding
 value_findings own macros at v = flat_map (λ placed. use_findings own macros (at + placed.0) placed.1) (placed_parts v)
 
 -- ---- fields
 
--- an earlier field of the item has the name; or else, at the crossref of an entry, what is said of that
+-- an earlier field of the item has the name; or else, if the field is the crossref, the findings on it
 abbrev pub name_findings : (ℕ → List Finding) → List Text → Field → List Finding
 name_findings crossrefs earlier field =
     if list_any (same field.name) earlier then found field.name_at (codes "field ") field.name (codes " is there already")
     else if same field.name crossref then crossrefs field.value_at
     else []
 
--- fields with their values, where fields of these names stand before them
+-- the findings in fields with these values, which come after fields with the names `earlier`
 abbrev pub field_findings : (Text → Option Text) → Macros → (ℕ → List Finding) → List Text → List Field → List Assigned → List Finding
 field_findings own macros crossrefs earlier [] values = []
 field_findings own macros crossrefs earlier (field ∷ fields) [] = []
@@ -72,11 +72,11 @@ field_findings own macros crossrefs earlier (field ∷ fields) (a ∷ values) =
 
 -- ---- entries
 
--- the parent of entry n's parent, where that is another entry than n: at depth 1 entry n gets nothing from it
+-- the parent of entry n's parent, unless it is entry n: at depth 1 entry n inherits nothing from it
 abbrev pub grandparent : List EntryTexts → ℕ → Option ℕ
 grandparent entries n = option_and_then (other_than n) (option_and_then (parent entries) (parent entries n))
 
--- the target stands before the entry (dialect)
+-- the target comes before the entry (dialect)
 abbrev pub order_findings : ℕ → ℕ → Text → ℕ → List Finding
 order_findings at n text m = if nat_lt m n then found at (codes "parent ") text (codes " stands before its child") else []
 
@@ -85,19 +85,19 @@ abbrev pub nested_findings : ℕ → Text → Option ℕ → List Finding
 nested_findings at text None = []
 nested_findings at text (Some k) = found at (codes "parent ") text (codes " has a parent itself, whose fields are not inherited")
 
--- a crossref of entry n with this text at this place, which has this target, that has this parent
+-- entry n has a crossref with this text at this place, and this target; `grand` is the target's parent
 abbrev pub target_findings : ℕ → ℕ → Text → Option ℕ → Option ℕ → List Finding
 target_findings at n text None grand = found at (codes "crossref ") text (codes " names no entry")
 target_findings at n text (Some m) grand =
     if m == n then found at (codes "crossref ") text (codes " names its own entry")
     else order_findings at n text m ++ nested_findings at text grand
 
--- an empty crossref text is no finding (dialect)
+-- the findings on a crossref; none if its text is empty (dialect)
 abbrev pub crossref_findings : ℕ → Option Text → Option ℕ → Option ℕ → ℕ → List Finding
 crossref_findings n None target grand at = []
 crossref_findings n (Some text) target grand at = if is_empty text then [] else target_findings at n text target grand
 
--- the crossref of entry n
+-- the findings on the crossref of entry n, by the place of its value
 abbrev pub crossrefs_of : List EntryTexts → ℕ → ℕ → List Finding
 crossrefs_of entries n = crossref_findings n (option_and_then crossref_text (slice_get entries n)) (target entries n) (grandparent entries n)
 
@@ -112,19 +112,20 @@ unusual_findings at key =
     else if is_new_key key then []
     else found at (codes "key ") key (codes " is none that an edit could write")
 
+-- the findings in an entry's key at this place
 abbrev pub key_findings : ℕ → Bool → Text → List Finding
 key_findings at repeated key = repeated_findings at repeated key ++ unusual_findings at key
 
 -- ---- items
 
--- of an entry alone
+-- the list if the item is an entry, and else nothing
 abbrev pub for_entry : {X : Type 0} → Kind → List X → List X
 for_entry kind.Entry xs = xs
 for_entry kind.Macro xs = []
 for_entry kind.Preamble xs = []
 for_entry kind.Comment xs = []
 
--- the findings in an item, where these macros stand before it, and which has this number if it is an entry
+-- the findings in an item, at which the macros have these texts; if it is an entry, it is entry n
 abbrev pub item_findings : List EntryTexts → Macros → ℕ → Tree → List Finding
 item_findings entries macros n tree =
     for_entry (kind_of tree) (key_findings (key_place tree) (is_repeated entries n) (key_of tree))
@@ -145,7 +146,7 @@ placed_at name at = name ++ (codes ":" ++ (decimal at.line ++ (codes ":" ++ (dec
 abbrev pub warning_line : Text → Position → Text → Text
 warning_line name at words = placed_at name at ++ (codes "warning: " ++ (words ++ codes "\n"))
 
--- a finding in an item that begins at this place of the file, which has this name
+-- the line of a finding in an item that begins at `start`, in a file with this name
 abbrev pub finding_line : Text → Text → ℕ → Finding → Text
 finding_line name file start finding = warning_line name (position_of file (start + finding.0)) finding.1
 
@@ -161,6 +162,7 @@ lint_lines name file db = flat_map (item_lines name file db) (range_with_len 0 (
 abbrev pub lint_status : Text → ℕ
 lint_status lines = if is_empty lines then 0 else 1
 
+-- `lint F` for a valid file: the lines, and the status that goes with them (dialect)
 abbrev pub lint_answer : Text → Text → Reading → Answer
 lint_answer name file db = answer_of (lint_lines name file db) [] (lint_status (lint_lines name file db))
 

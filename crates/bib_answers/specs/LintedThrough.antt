@@ -1,4 +1,4 @@
--- No promise rests on this page: it says what was written where a part of a file's items was looked through.
+-- No promise rests on this page: it says what `lint` has written after the first items of a file.
 use Rattle.std.specs.Prelude.{ℕ, ◌≡◌, ◌≤◌}
 use Rattle.std.specs.List.{flat_map, range_with_len}
 use Rattle.bib_spec.specs.Text.{Text}
@@ -7,7 +7,7 @@ use Rattle.bib_answers.specs.Check.{entries_before}
 use Rattle.bib_answers.specs.Lint.{item_lines}
 use Rattle.bib_answers.specs.declared.lint.Found.{Found}
 
--- the items before item n were looked through
+-- the lines of the first n items of the file were written
 pub record IsLintedBefore (file name bytes : Text) (n : ℕ) (found : Found) : Type 0 where
   pub name_is : found.lines.name ≡ name
   pub bytes_are : found.lines.file ≡ bytes

@@ -1,4 +1,4 @@
--- No promise rests on this page: it says what was found where a part of a file's items was looked through.
+-- No promise rests on this page: it says what `check` has found after the first items of a file.
 use Rattle.std.specs.Prelude.{ℕ, ◌≡◌, ◌≤◌, take, count_by}
 use Rattle.std.specs.List.{flat_map, range_with_len}
 use Rattle.bib_spec.specs.Text.{Text}
@@ -8,7 +8,7 @@ use Rattle.bib_definitions.specs.Definitions.{is_definition_tree}
 use Rattle.bib_answers.specs.Check.{entries_before, reports_on}
 use Rattle.bib_answers.specs.declared.check.Found.{Found}
 
--- what is found in the items before item n of the file
+-- what was found in the first n items of the file
 pub record IsFoundBefore (file : Text) (n : ℕ) (found : Found) : Type 0 where
   pub reports : OfReading file (λ r. found.reports.items ≡ flat_map (reports_on r) (range_with_len 0 n))
   pub entries : OfReading file (λ r. found.entries ≡ entries_before r n)

@@ -5,7 +5,7 @@ use Rattle.bib_spec.specs.Text.{Text}
 use Rattle.bib_spec.specs.Records.{entries_of}
 use Rattle.bib_store.specs.Meaning.{OfReading}
 
--- each number below the count is marked where it is in the list
+-- the mark of each number below the count says whether it is in the list
 pub record AreMarks (count : ℕ) (list : List ℕ) (marks : List Bool) : Type 0 where
   pub all : length marks ≡ count
   pub marked : (m : ℕ) → m < count → slice_index_or marks m false ≡ list_any (λ n. n == m) list

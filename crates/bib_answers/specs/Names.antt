@@ -21,6 +21,7 @@ use Rattle.bib_answers.specs.Opened.{AnswersFile}
 
 -- ---- refusals
 
+-- the printed name of a fault in names and templates (dialect)
 abbrev pub name_fault_name : NameFault → Text
 name_fault_name Memory = codes "Memory"
 name_fault_name TooManyCommas = codes "TooManyCommas"
@@ -37,13 +38,13 @@ name_fault_line fault = codes "bibkeep: " ++ (decimal (number_of fault) ++ (code
 abbrev pub listed_in : Text → Result (List Text) NameFault
 listed_in text = if balances text then Ok (names_of text) else Err UnbalancedName
 
--- the names of a list and, where it has none, those of another
+-- the names of a list; or, if it has none, the names of another text
 abbrev pub or_listed_in : Text → Result (List Text) NameFault → Result (List Text) NameFault
 or_listed_in other (Ok []) = listed_in other
 or_listed_in other (Ok (name ∷ names)) = Ok (name ∷ names)
 or_listed_in other (Err fault) = Err fault
 
--- the names of the author and, where there are none, those of the editor
+-- the names of the authors; or, if there is none, the names of the editors
 abbrev pub persons : Fields → Result (List Text) NameFault
 persons fields = or_listed_in (text_in fields (codes "editor")) (listed_in (text_in fields (codes "author")))
 
@@ -58,46 +59,48 @@ given_parts None = Err TooManyCommas
 abbrev pub parts_in : Text → Result Name NameFault
 parts_in name = if balances name then given_parts (parts_of name) else Err UnbalancedName
 
--- the print of a name with these parts, a line
+-- the print of a name with these parts, a line; or why there are no parts
 abbrev pub line_of : Pattern → Result Name NameFault → Result Text NameFault
 line_of t (Ok parts) = Ok (printed t parts ++ codes "\n")
 line_of t (Err fault) = Err fault
 
+-- the print of a name, a line; or why the name is refused
 abbrev pub name_line : Pattern → Text → Result Text NameFault
 name_line t name = line_of t (parts_in name)
 
--- the text with those lines after it
+-- the text with the lines after it, if there are lines
 abbrev pub before_lines : Text → Result Text NameFault → Result Text NameFault
 before_lines text (Ok lines) = Ok (text ++ lines)
 before_lines text (Err fault) = Err fault
 
--- a line, if there is one, and those lines after it
+-- a line with the lines after it; or why the line, or else why a later one, is refused
 abbrev pub joined_lines : Result Text NameFault → Result Text NameFault → Result Text NameFault
 joined_lines (Ok line) lines = before_lines line lines
 joined_lines (Err fault) lines = Err fault
 
--- the prints of names, a line each, or why the first of them that is refused is
+-- the prints of names, a line each; or why the first refused name is refused
 abbrev pub name_lines : Pattern → List Text → Result Text NameFault
 name_lines t [] = Ok []
 name_lines t (name ∷ names) = joined_lines (name_line t name) (name_lines t names)
 
+-- a line for each name of a list, or why there is no list
 abbrev pub lines_of : Pattern → Result (List Text) NameFault → Result Text NameFault
 lines_of t (Ok names) = name_lines t names
 lines_of t (Err fault) = Err fault
 
 -- ---- answers
 
--- these lines, or with nothing written why there are none
+-- the lines; or, with nothing written, why there are none
 abbrev pub lines_answer : Result Text NameFault → Answer
 lines_answer (Ok lines) = answer_of lines [] 0
 lines_answer (Err fault) = answer_of [] (name_fault_line fault) 1
 
--- the names of a record by a template, if there is one
+-- the names of a record, printed by a template; BadTemplate without one
 abbrev pub record_answer : Option Pattern → Record → Answer
 record_answer None r = lines_answer (Err BadTemplate)
 record_answer (Some t) r = lines_answer (lines_of t (persons r.fields))
 
--- the answer where an entry has this record at this depth, if there is an entry
+-- the names of the first entry with this key, from its record at this depth; or that no entry has the key
 abbrev pub names_answer : ℕ → Text → Option Pattern → Reading → Answer
 names_answer depth key pattern db =
     let entries = entries_of db in

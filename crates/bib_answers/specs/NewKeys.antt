@@ -13,7 +13,7 @@ use Rattle.bib_answers.specs.Outcome.{answer_of}
 abbrev pub new_key_line : Text × Text → Text
 new_key_line keys = keys.0 ++ (codes "\t" ++ (keys.1 ++ codes "\n"))
 
--- a line for each of these keys, with the new key that goes with it
+-- a line for each old key, with the new key at the same place in its list
 abbrev pub new_key_lines : List Text → List Text → Text
 new_key_lines old new = flat_map new_key_line (zip old new)
 

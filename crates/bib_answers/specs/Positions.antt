@@ -1,12 +1,17 @@
--- Where a byte stands in a file, as editors and compilers say it. (dialect)
-use Rattle.std.specs.Prelude.{ℕ, ◌≡◌, ◌+◌, ◌≤◌, ◌==◌, List, length, take, fold, if◌then◌else◌}
+-- Where a byte is in a file, as editors and compilers say it. (dialect)
+use Rattle.std.specs.Prelude.{ℕ, ◌≡◌, ◌+◌, ◌≤◌, ◌==◌, Bool, List, length, take, fold, if◌then◌else◌}
 use Rattle.bib_spec.specs.Bytes.{line_feed}
 use Rattle.bib_spec.specs.Text.{Text}
 use Rattle.bib_answers.specs.declared.positions.Position.{Position}
 use Rattle.bib_answers.specs.declared.positions.Known.{Known}
 
+-- a line and a column, both counted from 1
 abbrev pub position : ℕ → ℕ → Position
 position line column = record { line = line; column = column }
+
+-- the byte ends a line
+abbrev pub is_line_feed : ℕ → Bool
+is_line_feed b = b == line_feed
 
 -- the position after a byte that has this position: a line feed is the last byte of its line
 abbrev pub position_after : Position → ℕ → Position

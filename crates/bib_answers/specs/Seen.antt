@@ -10,13 +10,13 @@ use Rattle.bib_answers.specs.declared.seen_names.SeenNames.{SeenNames}
 abbrev pub is_other : List (Text × Unit {0}) → Text → Bool
 is_other others name = is_some (value_at others (folded name))
 
--- of the names that may recur, these were seen, and no others
+-- of the names that may recur, exactly `names` were seen
 abbrev pub HaveSeen : SeenNames → List Text → Type 0
-HaveSeen seen names = (name : Text) → may_recur seen.marks name ≡ true
+HaveSeen seen names = (name : Text) → may_recur seen.filter name ≡ true
     → (list_any (λ few. same name few.now) seen.few.items || is_other seen.others name) ≡ list_any (same name) names
 
--- of all names of the item these were seen, the last first, and those are left
+-- `earlier` are the names of the item that were seen, the last first, and `rest` are the names left
 pub record IsAt (seen : SeenNames) (all earlier rest : List Text) : Type 0 where
   pub have : HaveSeen seen earlier
-  pub told : AreTold seen.marks earlier rest
+  pub told : AreTold seen.filter earlier rest
   pub joined : unrolled earlier rest ≡ all

@@ -26,7 +26,7 @@ record_lines r = head_line r ++ flat_map shown_field r.fields
 abbrev pub parent_line : List EntryTexts → Option ℕ → Text
 parent_line entries parent = option_map_or (λ m. shown_field (crossref, key_at entries m)) parent []
 
--- entry n: its record at this depth, and its parent
+-- what `show` writes of entry n: its record at this depth, and its parent
 abbrev pub shown : ℕ → List EntryTexts → ℕ → Text
 shown depth entries n = option_map_or record_lines (expanded depth entries n) [] ++ parent_line entries (parent entries n)
 

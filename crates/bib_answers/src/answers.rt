@@ -10,10 +10,10 @@ use bib_scan::{FILE_LIMIT, ReadFault, Text};
 use bib_words::status;
 use std::alloc::{AllocError, Global};
 
-/// The number of the fault that is want of memory.
+/// The number of the fault that memory ran out.
 pub const MEMORY: u8 = 10;
 
-/// What the program has to write besides the output, and the status in which it ends.
+/// What the program writes besides its output, and its exit status.
 #[derive(Drop)]
 pub struct Outcome {
     pub file: Option<Text>,
@@ -29,7 +29,7 @@ pub struct Answer {
     pub outcome: Outcome,
 }
 
-/// The outcome that says this, and leaves no file and no journal to be written.
+/// The outcome with this message and status, which leaves file and journal unwritten.
 pub fn outcome_of(message: Text, status: u8) -> Outcome
     ensures { result ≡ outcome_of message status }
 {
@@ -41,7 +41,7 @@ pub fn outcome_of(message: Text, status: u8) -> Outcome
     }
 }
 
-/// The bytes are the output, and there is nothing to say.
+/// The answer with this output, and no message.
 pub fn done(alloc: Global, output: Text) -> Answer
     ensures { result ≡ answer_of output [] 0 }
 {
@@ -51,7 +51,7 @@ pub fn done(alloc: Global, output: Text) -> Answer
     }
 }
 
-/// Nothing is output, and the message says why.
+/// The answer with this message and no output.
 pub fn refused(alloc: Global, message: Text) -> Answer
     ensures { result ≡ answer_of [] message 1 }
 {
@@ -61,7 +61,7 @@ pub fn refused(alloc: Global, message: Text) -> Answer
     }
 }
 
-/// Nothing is output, and the message says that no entry has the key.
+/// The answer whose message says that no entry has the key.
 pub fn no_such_entry(alloc: Global) -> Result<Answer, AllocError>
     ensures { IfOk result (λ answer. answer ≡ answer_of [] no_such_entry_line 1) }
 {
@@ -69,7 +69,7 @@ pub fn no_such_entry(alloc: Global) -> Result<Answer, AllocError>
     Ok(refused(alloc, message))
 }
 
-/// Nothing is output, and the message says that the input is too long.
+/// The answer whose message says that the input is too long.
 pub fn too_long(alloc: Global) -> Result<Answer, AllocError>
     ensures { IfOk result (λ answer. answer ≡ answer_of [] (refusal_line 9 file_limit) 1) }
 {
@@ -80,7 +80,7 @@ pub fn too_long(alloc: Global) -> Result<Answer, AllocError>
     Ok(refused(alloc, refusal_line(alloc, fault)?))
 }
 
-/// Nothing is output, and the message says why the file is not read; want of memory is no answer.
+/// The answer whose message says why the file is not read. If memory ran out, there is no answer.
 pub fn unread(alloc: Global, fault: ReadFault) -> Result<Answer, AllocError>
     ensures { IfOk result (λ answer. (fault.kind ≢ 10) × (answer ≡ answer_of [] (refusal_line fault.kind fault.place) 1)) }
 {

@@ -7,7 +7,7 @@ use crate::answers::{Answer, done, unread};
 use bib_scan::{Text, read};
 use std::alloc::{AllocError, Global};
 
-/// The file again, or why it is no file.
+/// The file again, or why it is not valid.
 pub fn answer_cat(alloc: Global, file: Vec<u8>) -> Result<Answer, AllocError>
     ensures { IfOk result (IsCatAnswer file.items) }
 {

@@ -123,8 +123,8 @@ fn look_at<'a>(
     Ok(())
 }
 
-/// No reports. Where a key is repeated there is room for a report on each entry, as far as there is memory for it: reports
-/// that outgrow their memory are copied, and stand there twice.
+/// No reports yet. If a key is repeated, there is room for a report on each entry, as far as memory allows: while reports that
+/// outgrow their memory are copied, they take memory twice.
 fn room_for_reports(alloc: Global, db: &Database<Paged>) -> Vec<u8>
     ensures { result.items ≡ [] }
 {
@@ -135,7 +135,7 @@ fn room_for_reports(alloc: Global, db: &Database<Paged>) -> Vec<u8>
     reports
 }
 
-/// The count, with one more where this is one.
+/// The count, and one more if this is one.
 pub(crate) fn counted(count: usize, is_one: bool) -> usize
     requires { count + 1 < 2 ^ 64 }
     ensures { result ≡ count + (if is_one then 1 else 0) }

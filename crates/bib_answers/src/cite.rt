@@ -17,7 +17,8 @@ use bib_scan::Text;
 use bib_store::{Database, Paged};
 use std::alloc::{AllocError, Global};
 
-/// The entries that the keys cite, where `min` children list a parent, and the keys that find none.
+/// The entries that the keys cite, and the keys that find none. A parent that at least `min` listed entries refer to is listed
+/// too.
 pub fn answer_cite(
     alloc: Global,
     file: Vec<u8>,
@@ -43,7 +44,7 @@ fn cite(alloc: Global, db: &Database<Paged>, keys: &[Text], min: u32) -> Result<
     Ok(done(alloc, Text::from_vec(out)))
 }
 
-/// The key of entry `n`, which the last one may be: the children of a parent mostly stand together.
+/// The key of entry `n`. It is taken from `last`, if that is entry `n`: the children of a parent are mostly together.
 fn with_key<'a>(db: &'a Database<Paged>, n: usize, last: Option<Keyed<'a>>) -> Keyed<'a>
     requires number { IsEntryNumber db.now n }
     requires last { IfSome last (IsKeyed db.now) }

@@ -1,4 +1,4 @@
-//! The entries that keys cite, each of which has to find one.
+//! The entries that keys cite, if each key finds one.
 
 ghost use Rattle.std.specs.Prelude.{◌≡◌, IfOk, IfSome};
 ghost use Rattle.bib_spec.specs.Records.{entries_of};
@@ -10,10 +10,10 @@ use bib_scan::{Seq, Text};
 use bib_store::{Database, Paged};
 use std::alloc::AllocError;
 
-/// How many children list a parent. (btxdoc 2.1)
+/// How many children of a parent must be cited before the parent is listed too. (btxdoc 2.1)
 const MIN_CROSSREFS: u32 = 2;
 
-/// The numbers of the entries that the keys cite, unless a key finds none.
+/// The numbers of the entries that the keys cite, or `None` if a key finds no entry.
 pub fn all_cited(db: &Database<Paged>, keys: &[Text]) -> Result<Option<Seq<usize>>, AllocError>
     ensures list { IfOk result (λ list. OfReading db.now (λ r. list ≡ all_cited (entries_of r) keys.now)) }
     ensures numbers { IfOk result (λ list. IfSome list (AreEntryNumbers db.now)) }

@@ -6,15 +6,15 @@ ghost use Rattle.bib_answers.specs.Lint.{placed_at, warning_line, error_line};
 use crate::lines::add_all;
 use crate::messages::fault_name;
 use crate::positions::{Known, Position, first_known, known_at};
+use itoa::Buffer;
 use std::alloc::{AllocError, Global};
 use std::marker::Model;
 
-/// The lines of findings in a file. Its places are looked up one after another: where they come in order, all of them
+/// The lines of findings in a file. Each position is counted from the last one: if the places come in order, all of them
 /// together take time in the file's length. A contract sees the file's name and bytes, the place of the item in which
 /// something is found, and the lines so far.
 #[derive(Drop)]
 pub struct FindingLines<'a> {
-    alloc: Global,
     name: &'a [u8],
     file: &'a [u8],
     start: usize,
@@ -38,12 +38,11 @@ impl<'a> FindingLines<'a> {
     ghost use Rattle.bib_answers.specs.Lint.{found};
     ghost use Rattle.bib_answers.specs.FindingLines.{Written, at_item, with_findings};
 
-    /// No line, of a file with this name and these bytes.
+    /// No lines yet, of a file with this name and these bytes.
     pub fn new(alloc: Global, name: &'a [u8], file: &'a [u8]) -> Self
         ensures { result ≡ (record { name = name.now; file = file.now; start = 0; text = [] }) }
     {
         FindingLines {
-            alloc,
             name,
             file,
             start: 0,
@@ -52,15 +51,14 @@ impl<'a> FindingLines<'a> {
         }
     }
 
-    /// What is found next is in the item that begins at this place.
+    /// Begins an item at this place: the places of what is found next count from there.
     pub fn begin_item(&mut self, start: usize)
         ensures { self.new ≡ at_item self.old start }
     {
         self.start = start;
     }
 
-    /// Adds the line of a finding at a place in the item, or this much after it, which says these words with a name or text
-    /// between them.
+    /// Adds the line of a finding `more` bytes after a place in the item. It says these words with a name or text between them.
     pub fn add_after(
         &mut self,
         at: usize,
@@ -74,7 +72,6 @@ impl<'a> FindingLines<'a> {
         let place = self.start.saturating_add(at).saturating_add(more);
         self.known = known_at(self.file, self.known, place);
         add_warning(
-            self.alloc,
             &mut self.text,
             self.name,
             self.known.at,
@@ -105,9 +102,8 @@ impl<'a> FindingLines<'a> {
     }
 }
 
-/// Adds a line: the file's name, a position, and these words with a name or text between them.
+/// Adds a line: the file's name, a position, and these words, with a name or text between them.
 fn add_warning(
-    alloc: Global,
     out: &mut Vec<u8>,
     file: &[u8],
     at: Position,
@@ -117,17 +113,19 @@ fn add_warning(
 ) -> Result<(), AllocError>
     ensures { OnOk result (out.new.items ≡ out.old.items ++ warning_line file.now at (before.now ++ (name.now ++ after.now))) }
 {
-    add_place(alloc, out, file, at)?;
+    add_place(out, file, at)?;
     add_all(out, &[b"warning: ", before, name, after, b"\n"])
 }
 
 /// Adds the file's name and a position.
-fn add_place(alloc: Global, out: &mut Vec<u8>, file: &[u8], at: Position) -> Result<(), AllocError>
+fn add_place(out: &mut Vec<u8>, file: &[u8], at: Position) -> Result<(), AllocError>
     ensures { OnOk result (out.new.items ≡ out.old.items ++ placed_at file.now at) }
 {
-    let numbers = format!(in alloc; ":{}:{}: ", at.line, at.column)?;
-    out.extend_from_slice(file)?;
-    out.extend_from_slice(numbers.as_bytes())
+    let mut line = Buffer::new();
+    let mut column = Buffer::new();
+    let line = line.format(at.line).as_bytes();
+    let column = column.format(at.column).as_bytes();
+    add_all(out, &[file, b":", line, b":", column, b": "])
 }
 
 /// The line of a fault of reading: the file's name, a position, and the number and name of the fault.
@@ -136,7 +134,7 @@ pub fn error_line(alloc: Global, file: &[u8], at: Position, kind: u8) -> Result<
 {
     let said = format!(in alloc; "error: {} {}\n", kind, fault_name(kind))?;
     let mut out = Vec::new(alloc);
-    add_place(alloc, &mut out, file, at)?;
+    add_place(&mut out, file, at)?;
     out.extend_from_slice(said.as_bytes())?;
     Ok(out)
 }

@@ -31,7 +31,7 @@ use bib_store::{Database, Paged};
 use bib_value::MacroTable;
 use std::alloc::{AllocError, Global};
 
-/// Adds the lines of item `n`, which is seen so, and before which there are so many entries. It takes time in the item's
+/// Adds the findings in item `n`, whose view is `item`, and which comes after `entries` entries. It takes time in the item's
 /// length. `names` lends its memory for the names of the fields.
 pub fn add_item_findings<'a>(
     alloc: Global,
@@ -60,7 +60,7 @@ pub fn add_item_findings<'a>(
 
 // ---- keys
 
-/// An earlier entry has the key, and no edit could write it.
+/// Adds what is found in an entry's key: an earlier entry has it, and no edit could write it.
 fn add_key_findings(
     lines: &mut FindingLines<'_>,
     at: usize,
@@ -101,7 +101,7 @@ fn add_unusual(lines: &mut FindingLines<'_>, at: usize, key: &[u8]) -> Result<()
 
 // ---- crossrefs
 
-/// The text of an entry's crossref, the entry's number, its target, and the parent of that.
+/// The crossref of entry `n`: its text, its target, and the parent of the target.
 #[derive(Clone, Copy)]
 pub struct Crossref<'a> {
     n: usize,
@@ -113,7 +113,7 @@ pub struct Crossref<'a> {
 impl<'a> Crossref<'a> {
     ghost use Rattle.std.specs.Prelude.{◌≡◌, None};
 
-    /// That of an item that has none.
+    /// No crossref, of an item that is no entry.
     fn none() -> Self
         ensures { result.text ≡ None }
     {
@@ -139,7 +139,7 @@ fn crossref_of(db: &Database<Paged>, n: usize) -> Crossref<'_>
     }
 }
 
-/// The parent of an entry's parent, where that is another entry.
+/// The parent of entry `n`'s parent, unless it is entry `n` itself.
 fn grandparent(db: &Database<Paged>, n: usize) -> Option<usize>
     requires { IsEntryNumber db.now n }
     ensures { OfReading db.now (λ r. result ≡ grandparent (entries_of r) n) }
@@ -152,7 +152,7 @@ fn grandparent(db: &Database<Paged>, n: usize) -> Option<usize>
     Some(grandparent)
 }
 
-/// What is wrong with a crossref whose value stands at this place.
+/// Adds what is wrong with a crossref whose value is at this place.
 fn add_crossref(
     lines: &mut FindingLines<'_>,
     at: usize,
@@ -230,8 +230,8 @@ fn add_nested(
 
 // ---- fields
 
-/// What is found in an item's fields: on each, that an earlier one has its name, what is wrong with the crossref, and the
-/// macros that it uses.
+/// Adds what is found in an item's fields: for each field, that an earlier one has its name, what is wrong with the crossref,
+/// and the macros that are used wrongly.
 fn add_field_findings<'a, M: MacroTable>(
     alloc: Global,
     lines: &mut FindingLines<'_>,
@@ -248,7 +248,7 @@ fn add_field_findings<'a, M: MacroTable>(
     earlier.clear();
     let mut fields = item.fields();
     'fields: while let Some(field) = fields.next() {
-        earlier.mark(item)?;
+        earlier.fill_filter(item)?;
         add_name(lines, earlier, field, crossref)?;
         add_uses(
             alloc,
@@ -263,14 +263,14 @@ fn add_field_findings<'a, M: MacroTable>(
     Ok(())
 }
 
-/// An earlier field has this name, or what is wrong with the crossref where it is that.
+/// Adds that an earlier field has this name; or else, if the field is the crossref, what is wrong with it.
 fn add_name(
     lines: &mut FindingLines<'_>,
     earlier: &SeenNames<'_>,
     field: FieldView<'_>,
     crossref: Crossref<'_>,
 ) -> Result<(), AllocError>
-    ensures { OnOk result ((names rest : List Text) → HaveSeen earlier.now names → AreTold earlier.now.marks names (field.entry.name.now ∷ rest)
+    ensures { OnOk result ((names rest : List Text) → HaveSeen earlier.now names → AreTold earlier.now.filter names (field.entry.name.now ∷ rest)
         → lines.new ≡ with_findings lines.old (name_findings (crossref_findings crossref.entry.n (option_copied crossref.entry.text) crossref.entry.target crossref.entry.grandparent) names (field_seen field.entry))) }
 {
     if earlier.has(field.name) {
@@ -284,7 +284,7 @@ fn add_name(
 
 // ---- uses
 
-/// The macros that are wrongly used in a value at this place. Most values have one part, and are not taken apart.
+/// Adds the macros that are used wrongly in a value at this place. Most values have one part, and are not taken apart.
 fn add_uses<M: MacroTable>(
     alloc: Global,
     lines: &mut FindingLines<'_>,
@@ -339,7 +339,7 @@ fn add_part_uses<M: MacroTable>(
     Ok(())
 }
 
-/// A use of a macro, this much after the value's place.
+/// Adds a wrong use of a macro, `more` bytes after the value's place.
 fn add_use<M: MacroTable>(
     lines: &mut FindingLines<'_>,
     at: usize,

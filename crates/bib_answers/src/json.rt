@@ -21,7 +21,7 @@ use bib_store::{Database, Paged};
 use entry_json::{JsonFault, add_line};
 use std::alloc::{AllocError, Global};
 
-/// The entries that the keys cite, with their records at this depth, or that a key finds none, or that a text is not UTF-8.
+/// The entries that the keys cite, with their records at this depth; or that a key finds none, or that a text is not UTF-8.
 pub fn answer_json(
     alloc: Global,
     file: Vec<u8>,
@@ -75,7 +75,7 @@ fn not_utf8(alloc: Global, key: &[u8]) -> Result<Answer, AllocError>
     Ok(refused(alloc, Text::from_vec(message)))
 }
 
-/// The lines, and that of entry `n`.
+/// The lines, with the line of entry `n` after them.
 fn with_entry(
     lines: Vec<u8>,
     db: &Database<Paged>,

@@ -7,7 +7,7 @@ ghost use Rattle.bib_answers.specs.Kinds.{is_of_kind};
 
 use bib_scan::Kind;
 
-/// Whether the two kinds are one.
+/// Whether the two kinds are the same.
 pub fn is_same_kind(one: Kind, other: Kind) -> bool
     ensures { (tree : Tree) → kind_of tree ≡ one → result ≡ is_of_kind other tree }
 {

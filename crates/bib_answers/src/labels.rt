@@ -6,7 +6,7 @@ ghost use Rattle.bib_spec.specs.Records.{entries_of, IsDepth};
 ghost use Rattle.bib_store.specs.Meaning.{OfReading};
 ghost use Rattle.bib_answers.specs.Opened.{AnswersFile};
 ghost use Rattle.bib_names.specs.Label.{labels_of};
-ghost use Rattle.bib_answers.specs.Labels.{label_lines, records_at, keyed_line, AreToldOf, labels_answer};
+ghost use Rattle.bib_answers.specs.Labels.{label_lines, records_at, keyed_line, AreLabelRows, labels_answer};
 ghost use Rattle.bib_answers.specs.Marks.{AreEntryNumbers};
 
 use crate::answers::{Answer, done, no_such_entry};
@@ -58,26 +58,26 @@ fn lines_of(
     requires depth { IsDepth depth }
     ensures { IfOk result (λ text. OfReading db.now (λ r. text ≡ label_lines depth (entries_of r) list.now)) }
 {
-    let told = told_of(alloc, db, list, depth)?;
-    label_lines(alloc, told.bases.as_slice(), told.keys.as_slice())
+    let rows = label_rows(alloc, db, list, depth)?;
+    label_lines(alloc, rows.bases.as_slice(), rows.keys.as_slice())
 }
 
 /// The label bases of entries, and their keys.
 #[derive(Drop)]
-struct Told {
+struct LabelRows {
     bases: Vec<Text>,
     keys: Vec<Text>,
 }
 
-impl Told {
+impl LabelRows {
     ghost use Rattle.std.specs.Prelude.{[], IfOk};
-    ghost use Rattle.bib_answers.specs.Labels.{AreToldOf};
+    ghost use Rattle.bib_answers.specs.Labels.{AreLabelRows};
 
-    /// Those of no entries, with room for so many.
-    fn with_room(alloc: Global, count: usize) -> Result<Told, AllocError>
-        ensures { IfOk result (λ told. AreToldOf [] told.bases.items told.keys.items) }
+    /// No rows, with room for `count` of them.
+    fn with_room(alloc: Global, count: usize) -> Result<LabelRows, AllocError>
+        ensures { IfOk result (λ rows. AreLabelRows [] rows.bases.items rows.keys.items) }
     {
-        Ok(Told {
+        Ok(LabelRows {
             bases: Vec::with_capacity(alloc, count)?,
             keys: Vec::with_capacity(alloc, count)?,
         })
@@ -85,34 +85,39 @@ impl Told {
 }
 
 /// The label bases of these entries, and their keys. What many of them inherit is read once.
-fn told_of(
+fn label_rows(
     alloc: Global,
     db: &Database<Paged>,
     list: &[usize],
     depth: u8,
-) -> Result<Told, AllocError>
+) -> Result<LabelRows, AllocError>
     requires numbers { AreEntryNumbers db.now list.now }
     requires depth { IsDepth depth }
-    ensures { IfOk result (λ told. OfReading db.now (λ r. AreToldOf (records_at depth (entries_of r) list.now) told.bases.items told.keys.items)) }
+    ensures { IfOk result (λ rows. OfReading db.now (λ r. AreLabelRows (records_at depth (entries_of r) list.now) rows.bases.items rows.keys.items)) }
 {
     let names = label_names(alloc)?;
     let mut parents = Parents::none(alloc);
-    let mut told = Told::with_room(alloc, list.len())?;
-    'tell: for n in list {
+    let mut rows = LabelRows::with_room(alloc, list.len())?;
+    'rows: for n in list {
         let base = parents.label_base(alloc, db, *n, depth, names.as_slice())?;
-        add_told(alloc, &mut told, base, db.entry(*n).key())?;
+        add_label_row(alloc, &mut rows, base, db.entry(*n).key())?;
     }
-    Ok(told)
+    Ok(rows)
 }
 
 /// Adds a label base, and the key of its entry.
-fn add_told(alloc: Global, told: &mut Told, base: Text, key: &[u8]) -> Result<(), AllocError>
-    ensures keys { OnOk result (told.new.keys.items ≡ told.old.keys.items ++ key.now ∷ []) }
-    ensures bases { OnOk result (told.new.bases.items ≡ told.old.bases.items ++ base ∷ []) }
+fn add_label_row(
+    alloc: Global,
+    rows: &mut LabelRows,
+    base: Text,
+    key: &[u8],
+) -> Result<(), AllocError>
+    ensures keys { OnOk result (rows.new.keys.items ≡ rows.old.keys.items ++ key.now ∷ []) }
+    ensures bases { OnOk result (rows.new.bases.items ≡ rows.old.bases.items ++ base ∷ []) }
 {
-    told.keys
+    rows.keys
         .push(Text::from_vec(Vec::from_slice(alloc, key)?))?;
-    told.bases.push(base)?;
+    rows.bases.push(base)?;
     Ok(())
 }
 

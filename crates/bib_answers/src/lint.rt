@@ -20,7 +20,7 @@ use bib_store::{Database, Paged};
 use bib_words::status;
 use std::alloc::{AllocError, Global};
 
-/// What is wrong with the file that has this name and these bytes, or where it cannot be read.
+/// What is wrong with the file that has this name and these bytes, or where it is not valid.
 pub fn answer_lint(alloc: Global, name: &[u8], file: &[u8]) -> Result<Answer, AllocError>
     ensures { IfOk result (IsLintAnswer name.now file.now) }
 {
@@ -42,7 +42,7 @@ fn unread(alloc: Global, name: &[u8], file: &[u8], fault: ReadFault) -> Result<A
     Ok(told(alloc, line, status::REFUSED))
 }
 
-/// These lines are the output, and this is the status.
+/// The answer with these lines as output, and this status.
 fn told(alloc: Global, lines: Vec<u8>, status: u8) -> Answer
     ensures { result ≡ answer_of lines.items [] status }
 {
@@ -52,7 +52,7 @@ fn told(alloc: Global, lines: Vec<u8>, status: u8) -> Answer
     }
 }
 
-/// The status in which a run ends that found these lines.
+/// The status of a run that found these lines.
 fn status_of(lines: &[u8]) -> u8
     ensures { result ≡ lint_status lines.now }
 {

@@ -10,7 +10,7 @@ use std::marker::Model;
 /// As long as most lines are, in bytes.
 const LINE: usize = 16;
 
-/// How many lines are found before they are written.
+/// How many lines wait before they are written.
 const BATCH: usize = 64;
 
 /// An entry's number, and its key.
@@ -27,9 +27,8 @@ pub(crate) struct Line<'a> {
     pub parent: Option<Keyed<'a>>,
 }
 
-/// A text to which lines are added. Lines are written 64 at a time, since their keys lie far apart in the file: a processor
-/// waits for the memory of several of them at once then, and not for one after another. A contract sees the text with all
-/// lines.
+/// A text to which lines are added. Lines are written 64 at a time, since their keys lie far apart in the file: the processor
+/// then waits for several keys at once, and not for one after another. A contract sees the text with all lines.
 #[derive(Drop)]
 pub(crate) struct Listing<'a> {
     text: Vec<u8>,
@@ -51,7 +50,7 @@ impl<'a> Listing<'a> {
     ghost use Rattle.std.specs.Prelude.{◌≡◌, ◌++◌, [], IfOk, OnOk};
     ghost use Rattle.bib_answers.specs.Cite.{line_bytes};
 
-    /// No text, with room for so many lines.
+    /// No text, with room for `lines` lines of the usual length.
     pub(crate) fn new(alloc: Global, lines: usize) -> Result<Self, AllocError>
         ensures { IfOk result (λ listing. listing ≡ []) }
     {

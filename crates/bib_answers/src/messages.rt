@@ -6,7 +6,7 @@ ghost use Rattle.bib_answers.specs.Messages.{fault_name, placed_line, refusal_li
 use bib_scan::{ReadFault, Text};
 use std::alloc::{AllocError, Global};
 
-/// The message of a key that no entry has.
+/// The message that no entry has the key.
 pub const NO_SUCH_ENTRY: &[u8] = b"bibkeep: 11 NoSuchEntry\n";
 
 /// `bibkeep: N Name at P`, a line.

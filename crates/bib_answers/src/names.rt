@@ -16,8 +16,8 @@ use bib_scan::{Seq, Text};
 use bib_store::{Database, Paged, Record};
 use std::alloc::{AllocError, Global};
 
-/// The names of the first entry with this key, of its record at this depth, printed by the template that the bytes spell, or
-/// why they are not.
+/// The names in the first entry with this key, from its record at this depth, printed by the template that the bytes spell; or
+/// why they are not printed.
 pub fn answer_names(
     alloc: Global,
     file: Vec<u8>,
@@ -94,7 +94,7 @@ fn record_answer(
     }
 }
 
-/// Nothing is output, and the message says why no name is printed; want of memory is no answer.
+/// The answer whose message says why no name is printed. If memory ran out, there is no answer.
 fn fault_answer(alloc: Global, fault: NameFault) -> Result<Answer, AllocError>
     ensures { IfOk result (λ answer. (fault ≢ Memory) × (answer ≡ lines_answer (Err fault))) }
 {
@@ -118,7 +118,7 @@ fn name_fault_name(fault: NameFault) -> &'static str
     }
 }
 
-/// A line for each name of the author, or where there is none of the editor.
+/// A line for each author; or for each editor, if there is no author.
 fn record_lines(alloc: Global, template: &Template, rec: &Record) -> Result<Text, NameFault>
     ensures lines { IfOk result (λ text. lines_of template.now (persons rec.now.fields) ≡ Ok text) }
     ensures fault { IfErr result (λ fault. fault ≢ Memory → lines_of template.now (persons rec.now.fields) ≡ Err fault) }
@@ -127,7 +127,7 @@ fn record_lines(alloc: Global, template: &Template, rec: &Record) -> Result<Text
     name_lines(alloc, template, names.as_slice())
 }
 
-/// The names of the author, or where there are none of the editor.
+/// The authors; or the editors, if there is no author.
 fn persons<'a>(alloc: Global, fields: &'a [(Text, Text)]) -> Result<Seq<&'a [u8]>, NameFault>
     ensures names { IfOk result (λ names. persons fields.now ≡ Ok (map (λ n. n.now) names)) }
     ensures fault { IfErr result (λ fault. fault ≢ Memory → persons fields.now ≡ Err fault) }

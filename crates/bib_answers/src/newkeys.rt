@@ -14,7 +14,7 @@ use bib_scan::Text;
 use bib_store::{Database, Paged};
 use std::alloc::{AllocError, Global};
 
-/// The key of each entry, and the key that `regenerate` gives it, from its record at this depth. It changes nothing.
+/// For each entry its key and the key that `regenerate` at this depth would give it. The file stays as it is.
 pub fn answer_newkeys(alloc: Global, file: Vec<u8>, depth: u8) -> Result<Answer, AllocError>
     requires { IsDepth depth }
     ensures { IfOk result (AnswersFile (newkeys_answer depth) file.items) }

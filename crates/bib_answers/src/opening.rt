@@ -1,4 +1,4 @@
-//! A file that is open, and what is answered to it.
+//! Answers to what an open file says.
 
 ghost use Rattle.std.specs.Prelude.{◌≡◌, IfOk, IfErr, OnOk};
 ghost use Rattle.bib_spec.specs.Reading.{Reading};
@@ -12,7 +12,7 @@ use bib_scan::ReadFault;
 use bib_store::{Database, Paged};
 use std::alloc::{AllocError, Global};
 
-/// What this answers to the file, once it is open, or why it is not read.
+/// Opens the file, and gives what `answer` makes of it; or says why the file is not read.
 pub(crate) fn answer_file<F: FnOnce(&Database<Paged>) -> Result<Answer, AllocError>>(
     alloc: Global,
     file: Vec<u8>,

@@ -1,7 +1,13 @@
 //! Lines and columns.
 
 ghost use Rattle.std.specs.Prelude.{◌≡◌, ◌+◌, ◌<◌, ◌≤◌, ◌^◌, ℕ, List, length, fold};
-ghost use Rattle.bib_answers.specs.Positions.{position_after, position_of, IsKnown};
+ghost use Rattle.std.specs.List.{count_by};
+ghost use Rattle.bib_answers.specs.Positions.{position_after, position_of, is_line_feed, IsKnown};
+
+use memchr::memrchr;
+
+/// How many bytes a run has at most: the count of its line feeds fits a byte.
+const RUN: usize = 255;
 
 /// Where a byte stands in a file, counted from 1. Columns count bytes.
 #[derive(Clone, Copy, Debug, PartialEq, Eq)]
@@ -17,7 +23,7 @@ pub struct Known {
     pub at: Position,
 }
 
-/// The first place of a file.
+/// The first place of a file: line 1, column 1.
 pub fn first_known() -> Known
     ensures known { (file : List ℕ) → IsKnown file result }
     ensures place { result.place ≡ 0 }
@@ -28,7 +34,7 @@ pub fn first_known() -> Known
     }
 }
 
-/// A known place that is not after this one.
+/// The known place, or the first place of the file if the known place is after this one.
 fn known_before(known: Known, place: usize) -> Known
     ensures known { (file : List ℕ) → IsKnown file known → IsKnown file result }
     ensures place { result.place ≤ place }
@@ -40,27 +46,55 @@ fn known_before(known: Known, place: usize) -> Known
     }
 }
 
-/// The position after these bytes, the first of which has this position.
+/// The position after the bytes, if `from` is the position of the first byte.
 fn moved(from: Position, bytes: &[u8]) -> Position
     requires line { from.line + length bytes.now < 2 ^ 64 }
     requires column { from.column + length bytes.now < 2 ^ 64 }
     ensures { result ≡ fold position_after from bytes.now }
 {
-    let mut line = from.line;
-    let mut column = from.column;
-    'bytes: for byte in bytes {
-        if *byte == b'\n' {
-            line += 1;
-            column = 1;
-        } else {
-            column += 1;
-        }
+    match memrchr(b'\n', bytes) {
+        Some(last) => Position {
+            line: from.line + feed_count(bytes),
+            column: bytes.len() - last,
+        },
+        None => Position {
+            line: from.line,
+            column: from.column + bytes.len(),
+        },
     }
-    Position { line, column }
 }
 
-/// This place of the file, or its end where the place is after that, with the position. It takes time in the length of what
-/// stands between the known place and this one; where this one is before the known place, all that stands before it.
+/// How many of the bytes are line feeds. They are counted run by run: while a count fits a byte, the processor counts many bytes
+/// at once.
+fn feed_count(bytes: &[u8]) -> usize
+    ensures { result ≡ count_by is_line_feed bytes.now }
+{
+    let mut count = 0;
+    let mut rest = bytes;
+    'runs: while rest.len() > RUN {
+        let (run, more) = rest.split_at(RUN);
+        count += usize::from(count_in_run(run));
+        rest = more;
+    }
+    count + usize::from(count_in_run(rest))
+}
+
+/// How many bytes of a run are line feeds.
+fn count_in_run(run: &[u8]) -> u8
+    requires { length run.now ≤ 255 }
+    ensures { result ≡ count_by is_line_feed run.now }
+{
+    let mut count = 0;
+    'bytes: for byte in run {
+        if *byte == b'\n' {
+            count += 1;
+        }
+    }
+    count
+}
+
+/// This place of the file, or the file's end if the place is after it, with its position. It takes time in the number of bytes
+/// from the known place to this one. If this one is before the known place, it is counted from the beginning of the file.
 pub fn known_at(file: &[u8], known: Known, place: usize) -> Known
     requires { IsKnown file.now known }
     ensures known { IsKnown file.now result }

@@ -25,8 +25,8 @@ use bib_store::{Database, Paged};
 use bib_value::MacroTable;
 use std::alloc::{AllocError, Global};
 
-/// The reports on item `n`, which is seen so, and before which there are so many entries. It takes time in the item's length.
-/// `names` lends its memory for the names of the fields.
+/// Adds the reports on item `n`, whose view is `item`, and which comes after `entries` entries. It takes time in the item's
+/// length. `names` lends its memory for the names of the fields.
 pub fn add_item_reports<'a>(
     alloc: Global,
     out: &mut Vec<u8>,
@@ -61,7 +61,7 @@ pub fn add_item_reports<'a>(
 
 // ---- fields
 
-/// The reports on an item's fields: on each, that an earlier one has its name, and on the macros that it uses.
+/// Adds the reports on an item's fields: for each field, that an earlier one has its name, and on the macros that it uses.
 fn add_field_reports<'a, M: MacroTable>(
     alloc: Global,
     out: &mut Vec<u8>,
@@ -76,7 +76,7 @@ fn add_field_reports<'a, M: MacroTable>(
     earlier.clear();
     let mut fields = item.fields();
     'fields: while let Some(field) = fields.next() {
-        earlier.mark(item)?;
+        earlier.fill_filter(item)?;
         add_extra(out, earlier, item.key(), field.name)?;
         add_uses(
             alloc,
@@ -100,14 +100,14 @@ pub(crate) fn defined_in(kind: Kind, name: &[u8]) -> Option<&[u8]>
     }
 }
 
-/// An earlier field has this name.
+/// Adds a report if an earlier field has this name.
 fn add_extra(
     out: &mut Vec<u8>,
     earlier: &SeenNames<'_>,
     key: &[u8],
     name: &[u8],
 ) -> Result<(), AllocError>
-    ensures { OnOk result ((names rest : List Text) → HaveSeen earlier.now names → AreTold earlier.now.marks names (name.now ∷ rest) → out.new.items ≡ out.old.items ++ extra_report key.now names name.now) }
+    ensures { OnOk result ((names rest : List Text) → HaveSeen earlier.now names → AreTold earlier.now.filter names (name.now ∷ rest) → out.new.items ≡ out.old.items ++ extra_report key.now names name.now) }
 {
     if earlier.has(name) {
         return add_report_both(out, b"extra field", key, name);
@@ -117,8 +117,8 @@ fn add_extra(
 
 // ---- uses
 
-/// The reports on the macros that a value uses. Most values have one part, and are not taken apart: no memory is asked for
-/// but for reports.
+/// Adds the reports on the macros that a value uses. Most values have one part and are not taken apart, so that only reports
+/// take memory.
 fn add_uses<M: MacroTable>(
     alloc: Global,
     out: &mut Vec<u8>,
@@ -136,7 +136,7 @@ fn add_uses<M: MacroTable>(
     add_each_use(alloc, out, macros, own, value)
 }
 
-/// The reports on the macros that the parts of a value use.
+/// The same, of a value that is taken apart.
 fn add_each_use<M: MacroTable>(
     alloc: Global,
     out: &mut Vec<u8>,
@@ -191,7 +191,7 @@ fn add_use<M: MacroTable>(
     Ok(())
 }
 
-/// Whether the name is that of the macro being defined.
+/// Whether this is the name of the macro that is being defined.
 pub(crate) fn is_own(name: &[u8], own: Option<&[u8]>) -> bool
     ensures { result ≡ is_own (option_copied own.entry) (folded name.now) }
 {
@@ -203,7 +203,8 @@ pub(crate) fn is_own(name: &[u8], own: Option<&[u8]>) -> bool
 
 // ---- entries
 
-/// Whether an earlier entry has the key of this one, folded. The key is at hand: the entry is not looked up again.
+/// Whether an entry before entry `number`, whose key this is, has the same key, folded. The caller has the key, so that the entry
+/// is not looked up again.
 pub(crate) fn is_repeated(db: &Database<Paged>, number: usize, key: &[u8]) -> bool
     requires { OfReading db.now (λ r. IsKeyOf r number key.now) }
     ensures { OfReading db.now (λ r. result ≡ is_repeated (entries_of r) number) }
@@ -226,7 +227,7 @@ fn add_repeated(out: &mut Vec<u8>, repeated: bool, key: &[u8]) -> Result<(), All
     Ok(())
 }
 
-/// The report on the crossref of entry `n`, which has this text and this target.
+/// Adds the report on the crossref of entry `n`, which has this text and this target.
 fn add_crossref(
     out: &mut Vec<u8>,
     key: &[u8],

@@ -6,25 +6,25 @@ ghost use Rattle.bib_spec.specs.Bytes.{name_limit};
 ghost use Rattle.bib_spec.specs.Text.{Text, same};
 ghost use Rattle.bib_answers.specs.Recurring.{may_recur, AreTold, names_of};
 
-use crate::marks::Marks;
+use crate::name_filter::NameFilter;
 use bib_scan::{ItemView, same_folded};
 use folded_map::FoldedMap;
 use std::alloc::{AllocError, Global};
 
-/// How many names are compared one by one. More names than most items have.
+/// How many names are compared one by one: more than most items have.
 const FEW: usize = 64;
 
-/// How many bytes of an item there are for each mark.
-const BYTES_A_MARK: usize = 2;
+/// How many bytes of an item there are for each bucket of its filter.
+const BYTES_A_BUCKET: usize = 2;
 
-/// The names of an item's fields that were seen, without regard to ASCII case. The first ones are kept where they stand and
-/// compared one by one, which takes memory for their places alone. Where there are more, all names of the item are marked,
-/// and of the others only those have a place in a map that may stand there twice.
+/// The names of an item's fields that were seen, without regard to ASCII case. The first 64 are compared one by one, and take
+/// memory for their places alone. If there are more, a filter of all names of the item is made, and a map takes only those
+/// later names that the item may have twice by the filter.
 #[derive(Drop)]
 pub struct SeenNames<'a> {
     alloc: Global,
     few: Vec<&'a [u8]>,
-    marks: Option<Marks>,
+    filter: Option<NameFilter>,
     others: FoldedMap<()>,
 }
 
@@ -38,7 +38,7 @@ impl<'a> SeenNames<'a> {
         SeenNames {
             alloc,
             few: Vec::new(alloc),
-            marks: None,
+            filter: None,
             others: FoldedMap::new(alloc),
         }
     }
@@ -48,60 +48,60 @@ impl<'a> SeenNames<'a> {
         ensures { (all : List Text) → IsAt self.new all [] all }
     {
         self.few.clear();
-        self.marks = None;
+        self.filter = None;
         if self.others.len() > 0 {
             self.others = FoldedMap::new(self.alloc);
         }
     }
 
-    /// Marks the names of all fields of the item, once as many were seen as are compared one by one.
-    pub fn mark(&mut self, item: &ItemView<'_>) -> Result<(), AllocError>
+    /// Makes the filter of all names of the item, once 64 names were seen.
+    pub fn fill_filter(&mut self, item: &ItemView<'_>) -> Result<(), AllocError>
         ensures { OnOk result ((earlier rest : List Text) → IsAt self.old (names_of item.now.fields) earlier rest → IsAt self.new (names_of item.now.fields) earlier rest) }
     {
-        if self.few.len() < FEW || self.marks.is_some() {
+        if self.few.len() < FEW || self.filter.is_some() {
             return Ok(());
         }
-        let count = item.body().len() / BYTES_A_MARK;
-        self.marks = Some(Marks::of(self.alloc, item.fields(), count)?);
+        let count = item.body().len() / BYTES_A_BUCKET;
+        self.filter = Some(NameFilter::of(self.alloc, item.fields(), count)?);
         Ok(())
     }
 
-    /// Whether the name was seen, which is one of those that were marked.
+    /// Whether the name was seen. It is a name of the item, and so counted by the filter, if there is one.
     pub fn has(&self, name: &[u8]) -> bool
-        ensures { (earlier rest : List Text) → HaveSeen self.now earlier → AreTold self.now.marks earlier (name.now ∷ rest) → result ≡ list_any (same name.now) earlier }
+        ensures { (earlier rest : List Text) → HaveSeen self.now earlier → AreTold self.now.filter earlier (name.now ∷ rest) → result ≡ list_any (same name.now) earlier }
     {
         self.may_recur(name) && (self.is_few(name) || self.is_other(name))
     }
 
-    /// Whether the item may have the name twice.
+    /// Whether the item may have the name twice, as far as the filter tells.
     fn may_recur(&self, name: &[u8]) -> bool
-        ensures { result ≡ may_recur self.now.marks name.now }
+        ensures { result ≡ may_recur self.now.filter name.now }
     {
-        match &self.marks {
-            Some(marks) => marks.is_shared(name),
+        match &self.filter {
+            Some(filter) => filter.is_shared(name),
             None => true,
         }
     }
 
-    /// Whether the name is one of those that are compared one by one.
+    /// Whether the name is one of the first 64 that were seen.
     fn is_few(&self, name: &[u8]) -> bool
         ensures { result ≡ list_any (λ few. same name.now few.now) self.now.few.items }
     {
         self.few.iter().any(|few| same_folded(name, few))
     }
 
-    /// Whether the name is one of those in the map.
+    /// Whether the name is in the map.
     fn is_other(&self, name: &[u8]) -> bool
         ensures { result ≡ is_other self.now.others name.now }
     {
         self.others.get(name).is_some()
     }
 
-    /// The name is seen.
+    /// Adds the name to those that were seen.
     pub fn add(&mut self, name: &'a [u8]) -> Result<(), AllocError>
         requires { length name.now ≤ name_limit }
         ensures seen { OnOk result ((names : List Text) → HaveSeen self.old names → HaveSeen self.new (name.now ∷ names)) }
-        ensures marks { self.new.marks ≡ self.old.marks }
+        ensures filter { self.new.filter ≡ self.old.filter }
     {
         if self.few.len() < FEW {
             self.few.push(name)?;

@@ -5,7 +5,7 @@ use Rattle.bib_scan.specs.View.{Field, field_seen}
 use Rattle.bib_answers.specs.Check.{defined_in}
 use Rattle.bib_answers.specs.Lint.{crossref_findings, value_findings}
 use Rattle.bib_answers.specs.FindingLines.{with_findings}
-use Rattle.bib_answers.specs.declared.marks.Marks.{Marks}
+use Rattle.bib_answers.specs.declared.name_filter.NameFilter.{NameFilter}
 use Rattle.bib_answers.specs.Recurring.{AreTold, names_of}
 use Rattle.bib_answers.specs.Seen.{IsAt}
 use Rattle.bib_answers.proofs.FindingSteps.{IsFinding, finding_start, finding_more, finding_all}
@@ -19,19 +19,19 @@ fields-init g c =
 
 pub fields-preserved : goal.fields-preserved
 fields-preserved g c =
-    let marked : (names : List Text) → IsAt c.fields.earlier (names_of c.args.item.now.fields) names (c.in-Some.field.name.now ∷ names_of c.next.new.self)
-    → IsAt c.mark.new.self (names_of c.args.item.now.fields) names (c.in-Some.field.name.now ∷ names_of c.next.new.self)
-    = λ names is. c.in_ok-mark.ensures names (c.in-Some.field.name.now ∷ names_of c.next.new.self) is in
+    let filled : (names : List Text) → IsAt c.fields.earlier (names_of c.args.item.now.fields) names (c.in-Some.field.name.now ∷ names_of c.next.new.self)
+    → IsAt c.fill_filter.new.self (names_of c.args.item.now.fields) names (c.in-Some.field.name.now ∷ names_of c.next.new.self)
+    = λ names is. c.in_ok-fill_filter.ensures names (c.in-Some.field.name.now ∷ names_of c.next.new.self) is in
     finding_more (defined_in c.args.item.now.kind) (g.M.MacroTable.macros c.args.macros.now) (crossref_findings c.args.crossref.n (option_copied c.args.crossref.text) c.args.crossref.target c.args.crossref.grandparent) c.args.item.now.fields c.args.lines.now
     c.fields.lines c.add_name.new.lines c.add_uses.new.lines
     (λ names. IsAt c.fields.earlier (names_of c.args.item.now.fields) names (c.in-Some.field.name.now ∷ names_of c.next.new.self))
     (λ names. IsAt c.add.new.self (names_of c.args.item.now.fields) names (names_of c.next.new.self))
     (field_seen c.in-Some.field) c.next.new.self
-    (λ names is. let at = marked names is in c.in_ok-add_name.ensures names (names_of c.next.new.self) at.have at.told)
+    (λ names is. let at = filled names is in c.in_ok-add_name.ensures names (names_of c.next.new.self) at.have at.told)
     (λ x ok same. c.in_ok-add_uses.ensures x ok same ∙ ap (λ o. with_findings c.add_name.new.lines (value_findings o (g.M.MacroTable.macros c.args.macros.now) c.in-Some.field.value_at x)) (c.defined_in.ensures ∙ ap (λ k. defined_in k c.in-Some.field.name.now) c.kind.ensures))
-    (λ names is. let at = marked names is in record {
+    (λ names is. let at = filled names is in record {
       have = c.in_ok-add.ensures.seen names at.have;
-      told = subst (λ (marks : Option Marks). AreTold marks (c.in-Some.field.name.now ∷ names) (names_of c.next.new.self)) (sym c.add.ensures.marks) at.told.1;
+      told = subst (λ (filter : Option NameFilter). AreTold filter (c.in-Some.field.name.now ∷ names) (names_of c.next.new.self)) (sym c.add.ensures.filter) at.told.1;
       joined = at.joined;
     })
     (subst (λ (fields : List Field). IsFinding (defined_in c.args.item.now.kind) (g.M.MacroTable.macros c.args.macros.now) (crossref_findings c.args.crossref.n (option_copied c.args.crossref.text) c.args.crossref.target c.args.crossref.grandparent) c.args.item.now.fields c.args.lines.now c.fields.lines (λ names. IsAt c.fields.earlier (names_of c.args.item.now.fields) names (names_of fields)) fields) c.in-Some.ensures.steps c.fields.invariant)

@@ -1,7 +1,12 @@
-use Rattle.std.proofs.Common.{◌≡◌, ◌∙◌, rules, refl, ap, arith}
-use Rattle.bib_answers.specs.Positions.{position_after}
-use Rattle.bib_answers.proofs.PositionSteps.{after_more, after_all}
+use Rattle.std.proofs.Common.{◌∙◌, ◌+◌, ◌-◌, length, ap}
+use Rattle.bib_answers.specs.Positions.{position}
+use Rattle.bib_answers.proofs.PositionSteps.{after_feed, after_none}
 use Rattle.bib_answers.proofs.positions.moved.Goals as goal
 
-pub returns : goal.returns
-returns c = c.bytes.invariant.0 ∙ after_all c.args.from c.args.bytes.now c.bytes.byte-index (omega (arith, c.bytes-test.false))
+pub returns-in-Some : goal.returns-in-Some
+returns-in-Some c =
+    ap (λ count. position (c.args.from.line + count) (length c.args.bytes.now - c.in-Some.last)) c.feed_count.ensures
+    ∙ after_feed c.args.from c.args.bytes.now c.in-Some.last c.in-Some.ensures.0 c.in-Some.ensures.1
+
+pub returns-in-None : goal.returns-in-None
+returns-in-None c = after_none c.args.from c.args.bytes.now c.in-None.ensures

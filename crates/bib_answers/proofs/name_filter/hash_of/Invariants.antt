@@ -1,7 +1,7 @@
 use Rattle.std.proofs.Common.{◌≡◌, drop}
 use Rattle.bib_spec.specs.Text.{folded}
 use Rattle.bib_answers.specs.Recurring.{hash_of, hash_from}
-use Rattle.bib_answers.proofs.marks.hash_of.Given as goal
+use Rattle.bib_answers.proofs.name_filter.hash_of.Given as goal
 
 abbrev pub invariant-bytes : goal.invariant-bytes
 invariant-bytes l = hash_from l.hash (folded (drop l.byte-index l.name)) ≡ hash_of l.name

@@ -3,11 +3,11 @@ use Rattle.bib_spec.specs.Text.{Text}
 use Rattle.bib_scan.specs.View.{Field}
 use Rattle.bib_answers.specs.Recurring.{names_of}
 use Rattle.bib_answers.proofs.Recurrences.{AreCounting, counting_more, told_counted}
-use Rattle.bib_answers.proofs.marks.Marks.of.Goals as goal
+use Rattle.bib_answers.proofs.name_filter.NameFilter.of.Goals as goal
 
 pub fields-preserved : goal.fields-preserved
 fields-preserved c =
-    subst (λ (counts : Text). AreCounting (names_of c.args.fields) c.args.count counts (names_of c.next.new.self)) (sym c.count_mark.ensures)
+    subst (λ (counts : Text). AreCounting (names_of c.args.fields) c.args.count counts (names_of c.next.new.self)) (sym c.count_name.ensures)
     (counting_more (names_of c.args.fields) c.args.count c.fields.counts.items c.in-Some.field.name.now (names_of c.next.new.self)
     (subst (λ (fields : List Field). AreCounting (names_of c.args.fields) c.args.count c.fields.counts.items (names_of fields)) c.in-Some.ensures.steps c.fields.invariant))
 

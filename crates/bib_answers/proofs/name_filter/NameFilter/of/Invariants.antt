@@ -1,7 +1,7 @@
 use Rattle.std.proofs.Common.{length}
 use Rattle.bib_answers.specs.Recurring.{names_of}
 use Rattle.bib_answers.proofs.Recurrences.{AreCounting}
-use Rattle.bib_answers.proofs.marks.Marks.of.Given as goal
+use Rattle.bib_answers.proofs.name_filter.NameFilter.of.Given as goal
 
 abbrev pub invariant-fields : goal.invariant-fields
 invariant-fields l = AreCounting (names_of l.initial.rest) l.count l.counts.items (names_of l.rest)

@@ -2,7 +2,7 @@ use Rattle.std.proofs.Common.{[], Some, List, rules, sym, subst}
 use Rattle.bib_scan.specs.View.{Field}
 use Rattle.bib_answers.specs.Recurring.{AreTold, names_of}
 use Rattle.bib_answers.proofs.Recurrences.{told_at}
-use Rattle.bib_answers.proofs.seen_names.SeenNames.mark.Goals as goal
+use Rattle.bib_answers.proofs.seen_names.SeenNames.fill_filter.Goals as goal
 
 pub returns : goal.returns
 returns c earlier rest is = record {
