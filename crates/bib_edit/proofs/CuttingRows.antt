@@ -1,5 +1,6 @@
 -- The piece that drops a field is the one piece of the edit's chunks.
-use Rattle.std.proofs.Common.{◌≡◌, ℕ, suc, ◌+◌, ◌-◌, ◌≤◌, ◌<◌, ◌==◌, ◌&&◌, Bool, true, false, List, [], ◌∷◌, ◌++◌, Some, length, take, drop, find, slice_get, ⊎_elim, refl, sym, ◌∙◌, ap, ap₂, arith, append_assoc, append-nil, length-append, ne_eqb}
+use Rattle.std.proofs.Common.{◌≡◌, ℕ, suc, ◌+◌, ◌-◌, ◌≤◌, ◌<◌, ◌==◌, ◌&&◌, true, false, List, [], ◌∷◌, ◌++◌, Some, length, take, drop, find, slice_get, ⊎_elim, refl, sym, ◌∙◌, ap, ap₂, arith, append_assoc, append-nil, length-append, ne_eqb}
+use Rattle.std.proofs.Math.Bool.{and-false}
 use Rattle.std.specs.List.{flat_map, between}
 use Rattle.std.specs.Option.{option_map_or}
 use Rattle.std.specs.Str.{bytes_eq}
@@ -137,17 +138,13 @@ nonempty_eq : (xs : Text) → 0 < length xs → bytes_eq xs [] ≡ false
 nonempty_eq [] h = absurd (omega (arith, h))
 nonempty_eq (x ∷ xs) h = refl
 
-and_false : (b : Bool) → (b && false) ≡ false
-and_false true = refl
-and_false false = refl
-
 -- the text is the parenthesis alone exactly where nothing stands before its rest, and the rest is the parenthesis
 joined : (k a r : Text) → 0 < length r → bytes_eq (a ++ r) (close_paren ∷ []) ≡ ((length (k ++ a) == length k) && bytes_eq r (close_paren ∷ []))
 joined k [] r h = sym (ap (λ b. b && bytes_eq r (close_paren ∷ [])) (eq-eqb (length (k ++ [])) (length k) (ap length (append-nil k))))
 joined k (x ∷ a) r h =
     let long : length (k ++ x ∷ a) ≡ length k + suc (length a) = length-append k (x ∷ a) in
     let rest : 0 < length (a ++ r) = let l = length-append a r in omega (arith, h, l) in
-    ap (λ b. (x == close_paren) && b) (nonempty_eq (a ++ r) rest) ∙ and_false (x == close_paren)
+    ap (λ b. (x == close_paren) && b) (nonempty_eq (a ++ r) rest) ∙ and-false (x == close_paren)
     ∙ sym (ap (λ b. b && bytes_eq r (close_paren ∷ [])) (ne_eqb (length (k ++ x ∷ a)) (length k) (λ e. omega (arith, e, long))))
 
 module _ (name : Text) (e : Entry) (trail : Text) (field : Field) (found : Some field ≡ find (is_field name) (view_of (item_at (EntryTree e) trail)).fields) where

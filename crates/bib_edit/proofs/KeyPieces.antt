@@ -97,7 +97,7 @@ module _ (start : ℕ) (key named : Option Text) (e : Entry) (trail : Text) wher
 
 -- ---- what an entry's pieces replace lies in it
 
--- each piece lies within so many bytes of the place
+-- each piece lies within this many bytes after the place
 abbrev EndWithin : ℕ → List Piece → Type 0
 EndWithin end [] = Unit {0}
 EndWithin end (p ∷ ps) = (end_of p ≤ end) × EndWithin end ps

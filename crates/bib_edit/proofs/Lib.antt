@@ -31,9 +31,8 @@ pub mod DroppingFields
 pub mod NewFields
 pub mod SpelledEntries
 pub mod SpelledLists
-pub mod Added
 pub mod ManyEntries
-pub mod ManyAdded
+pub mod Added
 -- ---- entries that go or move
 pub mod EntryPieces
 pub mod Parents

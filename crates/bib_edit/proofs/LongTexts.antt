@@ -1,5 +1,6 @@
 -- Where an edit changes one entry, the only raw texts that are new are those of its new values.
 use Rattle.std.proofs.Common.{◌≡◌, ℕ, zero, suc, ◌+◌, Bool, true, false, ◌||◌, nat_lt, List, [], ◌∷◌, ◌++◌, Some, None, is_some, option_map, slice_get, length, map, find, ⊎_elim, refl, sym, ◌∙◌, ap, subst}
+use Rattle.std.proofs.Math.Bool.{or-false}
 use Rattle.std.specs.List.{list_any, zip}
 use Rattle.std.proofs.lemmas.Bool.{cases_Bool, cond-true, cond-false, or_parts}
 use Rattle.std.proofs.lemmas.Option.{none-some, same_Some}
@@ -69,10 +70,6 @@ too_long-any db = found-any (length db.front) months db.items
 
 -- ---- one entry changed
 
-or_none : (b : Bool) → (b || false) ≡ b
-or_none true = refl
-or_none false = refl
-
 module _ (key : Text) (change : Entry → Entry) where
   abbrev changed_items : List Item → List Item
   changed_items items = from_first (is_entry key) (with_first_tree (of_entry change)) items
@@ -95,7 +92,7 @@ module _ (key : Text) (change : Entry → Entry) where
       ap (any_long m) (cond-true (is_entry key tree) (item_at (of_entry change tree) trail ∷ items) (item_at tree trail ∷ changed_items items) named)
       ∙ ap (λ t. list_any is_long (raw_texts_in m (of_entry change t)) || any_long (macros_after m (of_entry change t)) items) is
       ∙ ap (λ b. list_any is_long (raw_texts_in m (EntryTree (change e))) || b) (sym (ap (λ t. any_long (macros_after m t) items) is) ∙ short)
-      ∙ or_none (list_any is_long (raw_texts_in m (EntryTree (change e))))
+      ∙ or-false (list_any is_long (raw_texts_in m (EntryTree (change e))))
 
   any_long-changed : (m : Macros) (items : List Item) (n : ℕ) (e : Entry) (trail : Text) → first_item (is_entry key) items ≡ Some n → slice_get items n ≡ Some (item_at (EntryTree e) trail) → any_long m items ≡ false →
       IsOfChanged m items n e
@@ -142,13 +139,13 @@ module _ (m : Macros) where
 
   module _ (name : Text) (value : Value) where
     set_long : (before : Text) (rows : List Row) → rows_long rows ≡ false → rows_long (with_field name value before rows).1 ≡ is_long (raw_text m value)
-    set_long before [] short = or_none (is_long (raw_text m value))
+    set_long before [] short = or-false (is_long (raw_text m value))
     set_long before (row ∷ rows) short =
         let rest = with_field name value row.assignment.space_after rows in
         let both = or_parts (is_long (raw_text m row.assignment.value)) (rows_long rows) short in
         ⊎_elim
         (λ e. ap (λ (r : Text × List Row). rows_long r.1) (cond-true (same row.assignment.name name) (before, row_to value row ∷ rows) (before, row_before rest.0 row ∷ rest.1) e)
-        ∙ ap (λ b. is_long (raw_text m value) || b) both.1 ∙ or_none (is_long (raw_text m value)))
+        ∙ ap (λ b. is_long (raw_text m value) || b) both.1 ∙ or-false (is_long (raw_text m value)))
         (λ e. ap (λ (r : Text × List Row). rows_long r.1) (cond-false (same row.assignment.name name) (before, row_to value row ∷ rows) (before, row_before rest.0 row ∷ rest.1) e)
         ∙ ap (λ b. b || rows_long rest.1) both.0 ∙ set_long row.assignment.space_after rows both.1)
         (cases_Bool (same row.assignment.name name))

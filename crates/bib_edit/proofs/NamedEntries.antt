@@ -15,7 +15,7 @@ use Rattle.bib_store.specs.Meaning.{OfReading, is_entry_tree, entry_numbers}
 use Rattle.bib_tokens.specs.FirstItem.{first_item}
 use Rattle.bib_edit.specs.Addressing.{item_named}
 
--- the numbers of the entries among items, of which the first has this number
+-- the numbers of the entries among items; the first item has this number
 abbrev numbers_from : ℕ → List Item → List ℕ
 numbers_from at items = map (λ p. p.0) (filter (λ p. is_entry_tree p.1.tree) (enumerate_from at items))
 

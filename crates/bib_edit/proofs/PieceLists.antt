@@ -72,11 +72,6 @@ lengths-edited base db e =
 -- ---- an edit of one piece
 
 module _ (base : Record → Text) (db : Reading) (e : Edit) (p : Piece) (is : pieces_of base db e ≡ p ∷ []) where
-  pub length-one_piece : length (bytes_of (edited base db e)) + length p.old ≡ length (bytes_of db) + length p.new
-  length-one_piece =
-      let lengths = subst (λ (ps : List Piece). length (bytes_of (edited base db e)) + olds_len ps ≡ length (bytes_of db) + news_len ps) is (lengths-edited base db e) in
-      omega (arith, lengths)
-
   pub within-one_piece : end_of p ≤ length (bytes_of db)
   within-one_piece =
       let fit : Fit (p ∷ []) (bytes_of db) = subst (λ (ps : List Piece). Fit ps (bytes_of db)) is (pieces-lead base db e).0 in

@@ -1,5 +1,6 @@
 -- What a removal, an insertion and new entries at the end make of the raw texts that are too long.
-use Rattle.std.proofs.Common.{◌≡◌, ℕ, zero, suc, Bool, true, false, ◌||◌, List, [], ◌∷◌, ◌++◌, insert, length, map, ⊎_elim, refl, ◌∙◌, ap}
+use Rattle.std.proofs.Common.{◌≡◌, ℕ, zero, suc, Bool, false, ◌||◌, List, [], ◌∷◌, ◌++◌, insert, length, map, ⊎_elim, refl, ◌∙◌, ap}
+use Rattle.std.proofs.Math.Bool.{or-false}
 use Rattle.std.specs.List.{list_any}
 use Rattle.std.proofs.lemmas.Bool.{cases_Bool, cond-true, cond-false, or_parts, or_from}
 use Rattle.bib_spec.specs.Text.{Text}
@@ -57,16 +58,8 @@ after_entry m tree e is = ap (macros_after m) is
 -- an entry is put in before item n, or after the last
 pub inserted-long : (m : Macros) (items : List Item) (n : ℕ) (item : Item) (e : Entry) → item.tree ≡ EntryTree e → any_long m items ≡ false →
     any_long m (insert items n item) ≡ is_long_in (macros_at m items n) item.tree
-inserted-long m items zero item e is none = ap (λ b. is_long_in m item.tree || b) (ap (λ (a : Macros). any_long a items) (after_entry m item.tree e is) ∙ none) ∙ or_none (is_long_in m item.tree)
-  where
-    or_none : (b : Bool) → (b || false) ≡ b
-    or_none true = refl
-    or_none false = refl
-inserted-long m [] (suc n) item e is none = or_none (is_long_in m item.tree)
-  where
-    or_none : (b : Bool) → (b || false) ≡ b
-    or_none true = refl
-    or_none false = refl
+inserted-long m items zero item e is none = ap (λ b. is_long_in m item.tree || b) (ap (λ (a : Macros). any_long a items) (after_entry m item.tree e is) ∙ none) ∙ or-false (is_long_in m item.tree)
+inserted-long m [] (suc n) item e is none = or-false (is_long_in m item.tree)
 inserted-long m (first ∷ items) (suc n) item e is none =
     let both = or_parts (is_long_in m first.tree) (any_long (macros_after m first.tree) items) none in
     ap (λ b. b || any_long (macros_after m first.tree) (insert items n item)) both.0

@@ -9,7 +9,7 @@ use Rattle.bib_spec.proofs.Counts.{count-yes, count-no}
 use Rattle.bib_scan.specs.View.{Field}
 use Rattle.bib_edit.specs.Addressing.{is_field}
 
--- so many fields, with this one
+-- the count of fields with the name, with this one
 abbrev pub count_with : Option Field → ℕ → ℕ
 count_with None n = n
 count_with (Some field) n = 1 + n

@@ -1,5 +1,6 @@
 -- Entries as they are asked for: their fields, their raw texts, and what is written.
 use Rattle.std.proofs.Common.{◌≡◌, ℕ, zero, suc, ◌<◌, Bool, true, false, ◌||◌, List, [], ◌∷◌, ◌++◌, Some, codes, length, map, slice_get, refl, sym, ◌∙◌, ap, ap₂, All, append_assoc, append-nil, suc-le-suc, zero-lt-suc}
+use Rattle.std.proofs.Math.Bool.{or-true}
 use Rattle.std.specs.List.{list_any, flat_map}
 use Rattle.std.proofs.lemmas.Option.{same_Some, none-some}
 use Rattle.std.proofs.lemmas.List.Elements.{All-nil, All-cons, All-head, All-tail}
@@ -70,11 +71,7 @@ module _ (db : Reading) (n : ℕ) where
       ap (λ b. b || some_long fields) (long field.1 (All-head (IsValue name_limit) field.1 (map (λ field. field.1) fields) are) (s.1.bytes ∙ ap (λ (p : Text × Text). p.1) (same_Some a f e)))
   one-long (a ∷ asked) (field ∷ fields) s are (suc j) f e long =
       ap (λ b. is_long (raw_text m field.1) || b) (one-long asked fields s.2 (All-tail (IsValue name_limit) field.1 (map (λ field. field.1) fields) are) j f e long)
-      ∙ or_true (is_long (raw_text m field.1))
-    where
-      or_true : (b : Bool) → (b || true) ≡ true
-      or_true true = refl
-      or_true false = refl
+      ∙ or-true (is_long (raw_text m field.1))
 
   pub any-long : (long : Bool) (asked : List (Text × Text)) (fields : Fields) → SpellFields asked fields → All (IsValue name_limit) (map (λ field. field.1) fields) → IsAnyLong long db n asked → some_long fields ≡ long
   any-long false asked fields s are h = all-short asked fields s are h

@@ -1,5 +1,6 @@
 -- Many entries as they are asked for: what they are given, their raw texts, and what is written.
 use Rattle.std.proofs.Common.{◌≡◌, ℕ, Bool, true, false, ◌||◌, List, [], ◌∷◌, map, ⊎_elim, refl, sym, ◌∙◌, ap, ap₂, All}
+use Rattle.std.proofs.Math.Bool.{or-true}
 use Rattle.std.specs.List.{list_any, flat_map}
 use Rattle.std.proofs.lemmas.List.Folds.{flat_map-map}
 use Rattle.std.proofs.lemmas.List.Elements.{All-nil, All-append}
@@ -92,12 +93,8 @@ module _ (db : Reading) (n : ℕ) where
       let both = all_split (IsValue name_limit) (field_values new) (flat_map field_values news) are in
       ⊎_elim
       (λ here. ap (λ b. b || list_any is_entry_long news) (entry-long a new s.0 both.0 true here))
-      (λ later. ap (λ b. is_entry_long new || b) (any_entry-long true asked news s.1 both.1 later) ∙ or_true (is_entry_long new))
+      (λ later. ap (λ b. is_entry_long new || b) (any_entry-long true asked news s.1 both.1 later) ∙ or-true (is_entry_long new))
       h
-    where
-      or_true : (b : Bool) → (b || true) ≡ true
-      or_true true = refl
-      or_true false = refl
 
 -- ---- what is written
 

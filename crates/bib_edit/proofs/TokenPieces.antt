@@ -24,7 +24,7 @@ module _ (test : Part → Bool) (parts : Part → Option Part) (new : Text) wher
   abbrev pub Becomes : Type 0
   Becomes = (p : Part) → option_map part_bytes (parts p) ≡ (if test p then Some new else None)
 
-  -- chunks that begin at this place have so many bytes, and their pieces are the tokens of these parts
+  -- chunks that begin at this place have this length, and their pieces are the tokens of these parts
   abbrev pub HasTokens : ℕ → List Chunk → List (ℕ × Part) → ℕ → Type 0
   HasTokens at chunks placed len = (rest : List Chunk) → pieces_from at (chunks ++ rest) ≡ map (replaced_by new) (tokens_of test placed) ++ pieces_from (at + len) rest
 

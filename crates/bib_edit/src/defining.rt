@@ -22,7 +22,7 @@ pub(crate) fn lone_definition<L: ItemList>(
     name: &[u8],
 ) -> Result<usize, EditFault>
     ensures lone { IfOk result (λ n. OfReading db.now (λ r. IsDefinedAt name.now r n)) }
-    ensures refused { IfErr result (λ fault. OfReading db.now (λ r. IsDefinitionFault name.now r fault)) }
+    ensures refused { IfErr result (IsDefinitionFault db.now name.now) }
 {
     if db.definition_count(name) > 1 {
         return Err(EditFault::Ambiguous);

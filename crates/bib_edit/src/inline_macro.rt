@@ -49,7 +49,7 @@ pub(crate) fn inline_macro<L: ItemList>(
     if is_result_too_long(
         db,
         tokens.as_slice(),
-        text.as_slice().len(),
+        text.as_slice(),
         body_of(db, n).len(),
         0,
     ) {

@@ -8,7 +8,7 @@ ghost use Rattle.bib_data.specs.declared.edit.Edit.TheVariants.{IntroduceMacro};
 
 use crate::defining::is_given;
 use crate::fault::EditFault;
-use crate::new_entry::insertion_of;
+use crate::pieces::insertion_of;
 use crate::replacing::{is_result_too_long, replaced_after};
 use bib_scan::{Seq, Text, is_balanced, is_name, one_reading};
 use bib_store::{Database, ItemList, Piece};
@@ -49,13 +49,7 @@ pub(crate) fn introduce_macro<L: ItemList>(
         return Err(EditFault::NameInUse);
     }
     let definition = definition_text(alloc, name, text)?;
-    if is_result_too_long(
-        db,
-        tokens.as_slice(),
-        name.len(),
-        0,
-        definition.as_slice().len(),
-    ) {
+    if is_result_too_long(db, tokens.as_slice(), name, 0, definition.as_slice().len()) {
         return Err(EditFault::FileTooLong);
     }
     let insertion = insertion_of(alloc, db, n, definition);

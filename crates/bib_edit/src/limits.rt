@@ -12,7 +12,7 @@ use bib_scan::{FILE_LIMIT, Parts};
 use bib_store::{Database, ItemList, Piece};
 use bib_value::{RAW_LIMIT, raw_len};
 
-/// Whether the file would be too long if so many of its bytes went and so many others came.
+/// Whether the file would be too long if `old_len` of its bytes went and `new_len` others came.
 pub(crate) fn is_file_too_long<L: ItemList>(
     db: &Database<L>,
     old_len: usize,

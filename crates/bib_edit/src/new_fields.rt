@@ -1,18 +1,18 @@
 //! The fields of an entry to be added, and how they are judged.
 
-ghost use Rattle.std.specs.Prelude.{◌≡◌, length, IfOk, IfErr, OnOk, IsTrue};
+ghost use Rattle.std.specs.Prelude.{◌≡◌, ◌↔◌, length, IfOk, IfErr, IsTrue};
 ghost use Rattle.std.specs.List.{list_all, list_any};
 ghost use Rattle.bib_spec.specs.Bytes.{name_limit};
 ghost use Rattle.bib_spec.specs.Text.{is_name, same};
 ghost use Rattle.bib_spec.specs.Reading.{IsValueWithin};
 ghost use Rattle.edit_spec.specs.Edits.{has_same};
 ghost use Rattle.bib_store.specs.Meaning.{OfReading, IsItemPlace};
-ghost use Rattle.bib_edit.specs.NewEntries.{names_of, HaveValues, IsFieldFault, IsLong, IsAnyLong};
+ghost use Rattle.bib_edit.specs.NewEntries.{names_of, HaveValues, IsLong, IsAnyLong};
 ghost use Rattle.bib_edit.specs.declared.fault.EditFault.TheVariants.{Memory};
 
 use crate::fault::EditFault;
 use crate::limits::is_text_too_long;
-use crate::values::{judge_value, value_parts};
+use crate::values::{is_value, value_parts};
 use bib_scan::{Text, is_name, only_part, same_folded};
 use bib_store::{Database, ItemList};
 use bib_value::{FoldedMap, RAW_LIMIT, part_text};
@@ -30,15 +30,16 @@ pub(crate) fn are_named(fields: &[(Text, Text)]) -> bool
     true
 }
 
-/// Refuses a field whose value is not valid.
-pub(crate) fn judge_values(alloc: Global, fields: &[(Text, Text)]) -> Result<(), EditFault>
-    ensures values { OnOk result (HaveValues fields.now) }
-    ensures refused { IfErr result (IsFieldFault fields.now) }
+/// Whether each field has a value.
+pub(crate) fn are_values(alloc: Global, fields: &[(Text, Text)]) -> Result<bool, AllocError>
+    ensures { IfOk result (λ are. IsTrue are ↔ HaveValues fields.now) }
 {
     for field in fields {
-        judge_value(alloc, field.1.as_slice())?;
+        if !is_value(alloc, field.1.as_slice())? {
+            return Ok(false);
+        }
     }
-    Ok(())
+    Ok(true)
 }
 
 /// How many names are compared each with each: a map of them would cost more.
@@ -88,7 +89,7 @@ pub(crate) fn has_same_name(alloc: Global, fields: &[(Text, Text)]) -> Result<bo
 
 /// Whether the raw text of a value would be too long before item `n`. Most values have one part, and are not taken
 /// apart: no memory is asked for.
-fn is_long<L: ItemList>(
+pub(crate) fn is_long<L: ItemList>(
     alloc: Global,
     db: &Database<L>,
     n: usize,
@@ -102,8 +103,10 @@ fn is_long<L: ItemList>(
     if let Some(part) = only_part(value) {
         return Ok(part_text(part, &db.macros_at(n), None).len() > RAW_LIMIT as usize);
     }
-    let parts = value_parts(alloc, value)?;
-    Ok(is_text_too_long(db, n, &parts, value))
+    match value_parts(alloc, value)? {
+        Some(parts) => Ok(is_text_too_long(db, n, &parts, value)),
+        None => Ok(false),
+    }
 }
 
 /// Whether the raw text of a field would be too long before item `n`. Each field has a value.

@@ -53,15 +53,6 @@ fn push_entry(text: &mut Vec<u8>, entry: &NewEntry) -> Result<(), AllocError>
     Ok(())
 }
 
-/// The entry as it is written.
-pub(crate) fn entry_text(alloc: Global, entry: &NewEntry) -> Result<Text, AllocError>
-    ensures { IfOk result (λ text. text ≡ entry_text entry.now) }
-{
-    let mut text = Vec::new(alloc);
-    push_entry(&mut text, entry)?;
-    Ok(Seq::from_vec(text))
-}
-
 /// The entries as they are written, one after another.
 pub(crate) fn entries_text(alloc: Global, entries: &[NewEntry]) -> Result<Text, AllocError>
     ensures { IfOk result (λ text. text ≡ entries_text entries.now) }

@@ -231,13 +231,14 @@ pub(crate) fn renaming<L: ItemList>(
     let mut pieces = Vec::new(alloc);
     let before = push_referrers(alloc, db, new, key, 0, n, &mut pieces)?;
     push_entry(alloc, db, new, n, &mut pieces)?;
-    let after = after_itself(db, key, before, n);
+    let after = skip_self(db, key, before, n);
     push_referrers(alloc, db, new, key, after, db.entry_count(), &mut pieces)?;
     Ok(Seq::from_vec(pieces))
 }
 
-/// How many entries up to entry `n`, itself included, refer to the key, where `k` of those before it do.
-fn after_itself<L: ItemList>(db: &Database<L>, key: &[u8], k: usize, n: usize) -> usize
+/// `k`, or `k + 1` if entry `n` refers to its own key: how many of the entries up to it, itself included, refer to the key,
+/// if `k` of those before it do.
+fn skip_self<L: ItemList>(db: &Database<L>, key: &[u8], k: usize, n: usize) -> usize
     requires { length key.now ≤ name_limit }
     ensures { OfReading db.now (λ r. ArePassed r key.now k n → ArePassed r key.now result (n + 1)) }
 {

@@ -46,7 +46,7 @@ pub(crate) fn rename_macro<L: ItemList>(
     if names.is_taken {
         return Err(EditFault::NameInUse);
     }
-    if is_result_too_long(db, names.tokens.as_slice(), to.len(), 0, 0) {
+    if is_result_too_long(db, names.tokens.as_slice(), to, 0, 0) {
         return Err(EditFault::FileTooLong);
     }
     let mut pieces = Vec::new(alloc);

@@ -12,7 +12,7 @@ ghost use Rattle.bib_edit.specs.declared.fault.EditFault.TheVariants.{Ambiguous,
 
 use crate::address::{lone_entry, sought_fields};
 use crate::fault::EditFault;
-use crate::limits::{is_file_too_long, is_text_too_long};
+use crate::limits::{are_too_long, is_text_too_long};
 use crate::pieces::{copied, one_piece};
 use crate::values::value_parts;
 use bib_scan::{FieldView, ItemView, Seq, Text, is_name};
@@ -35,16 +35,19 @@ pub(crate) fn set_field<L: ItemList>(
     if !is_name(field) {
         return Err(EditFault::BadName);
     }
-    let parts = value_parts(alloc, value)?;
+    let Some(parts) = value_parts(alloc, value)? else {
+        return Err(EditFault::BadValue);
+    };
     let n = lone_entry(db, key)?;
     let piece = setting(alloc, db, n, field, value)?;
-    if is_file_too_long(db, piece.old.as_slice().len(), piece.new.as_slice().len()) {
+    let pieces = one_piece(alloc, piece)?;
+    if are_too_long(db, pieces.as_slice()) {
         return Err(EditFault::FileTooLong);
     }
     if is_text_too_long(db, n, &parts, value) {
         return Err(EditFault::TextTooLong);
     }
-    one_piece(alloc, piece)
+    Ok(pieces)
 }
 
 /// The piece that gives the field of item `n`, which is an entry, this value. Refused where it has two fields of the name.
