@@ -1,26 +1,10 @@
 -- Why an addition is refused, and that it is not.
-use Rattle.std.proofs.Common.{◌≡◌, ◌↔◌, ℕ, ◌<◌, ◌≤◌, ◌+◌, Bool, true, false, ◌&&◌, ◌||◌, List, [], ◌∷◌, is_some, length, map, refl, sym, ◌∙◌, ap, ap₂, arith, subst, append-nil, All}
-use Rattle.std.proofs.Math.Bool.{or-false}
-use Rattle.std.specs.List.{list_any, list_all, flat_map}
-use Rattle.std.proofs.lemmas.Bool.{both_ways, and_parts}
-use Rattle.bib_spec.specs.Bytes.{file_limit, name_limit}
-use Rattle.bib_spec.specs.Text.{Text, same, is_name, is_new_key}
-use Rattle.bib_spec.specs.Tree.{is_type, IsValue}
-use Rattle.bib_spec.specs.Reading.{Reading, Reads, item_bytes}
-use Rattle.bib_spec.specs.Texts.{months, too_long_at}
-use Rattle.bib_spec.specs.Records.{entries_of, keys_of}
-use Rattle.bib_spec.specs.Pieces.{Piece}
+use Rattle.bib_edit.proofs.Words.{◌≡◌, ◌↔◌, ℕ, ◌<◌, ◌≤◌, ◌+◌, Bool, true, false, ◌&&◌, ◌||◌, List, [], ◌∷◌, is_some, length, map, refl, sym, ◌∙◌, ap, ap₂, arith, subst, append-nil, All, or-false, list_any, list_all, flat_map, both_ways, and_parts, file_limit, name_limit, Text, same, is_name}
+use Rattle.bib_edit.proofs.Words.{is_new_key, is_type, IsValue, Reading, Reads, item_bytes, months, too_long_at, entries_of, keys_of, Piece, Edit, BadKey, BadName, BadValue, BadPosition, NotFound, Ambiguous, KeyInUse, NameInUse, Referred, WouldMerge, FileTooLong, TextTooLong}
+use Rattle.bib_edit.proofs.Words.{Refuses, IsPositionTooHigh, IsMissing, IsAmbiguous, IsKeyInUse, IsNameInUse, MergesText, given_keys, given_names, given_types, given_values, has_same, field_names, field_values, entry_of, item_of, edited, IsAccepted, IsFirstRefusal, pieces_of, any_mapped, NewEntry}
+use Rattle.bib_edit.proofs.Words.{made_base, SpellsEntry, SpellEntries, OfEdit, olds_len, news_len, entry_text, insertion_of, keys_given, AllHaveValues, are_named, has_field_twice, is_any_held, AreAddable, AreAnyLong, entries_text, put_in, Adds, one, many}
 use Rattle.edit_spec.specs.Edits as edits
-use Rattle.edit_spec.specs.Edits.{Edit, EditFault, BadKey, BadName, BadValue, BadPosition, NotFound, Ambiguous, KeyInUse, NameInUse, Referred, WouldMerge, FileTooLong, TextTooLong, rank, Refuses, IsPositionTooHigh, IsMissing, IsAmbiguous, IsKeyInUse, IsNameInUse, MergesText, given_keys, given_names, given_types, given_values, has_same, field_names, field_values, entry_of, item_of, edited, IsAccepted, IsFirstRefusal}
-use Rattle.edit_spec.specs.EditChunks.{pieces_of}
-use Rattle.bib_store.proofs.ChosenFields.{any_mapped}
 use Rattle.bib_data.specs.declared.edit.Edit.{Edit as Asked}
-use Rattle.bib_data.specs.declared.edit.NewEntry.{NewEntry}
-use Rattle.bib_keys.specs.MadeBase.{made_base}
-use Rattle.bib_edit.specs.Asking.{SpellsEntry, SpellEntries, OfEdit}
-use Rattle.bib_edit.specs.Limits.{olds_len, news_len}
-use Rattle.bib_edit.specs.NewEntries.{entry_text, insertion_of}
-use Rattle.bib_edit.specs.ManyEntries.{keys_given, AllHaveValues, are_named, has_field_twice, is_any_held, AreAddable, AreAnyLong, entries_text, put_in, Adds, one, many}
 use Rattle.bib_edit.proofs.AskedEdits.{of-add_entry, of-add_many}
 use Rattle.bib_edit.proofs.Ranks.{Passes, no_reason, more, is_first, all_clear}
 use Rattle.bib_edit.proofs.PiecePlaces.{insertion-pieces, appending-pieces, no-pieces}

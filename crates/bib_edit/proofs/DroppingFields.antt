@@ -1,33 +1,10 @@
 -- When dropping a field is refused, and for which reason.
-use Rattle.std.proofs.Common.{◌≡◌, ℕ, ◌+◌, ◌<◌, ◌≤◌, ◌&&◌, Bool, true, false, List, [], ◌∷◌, Some, None, is_some, find, slice_get, length, count_by, inl, inr, ⊎_elim, true≢false, refl, sym, ◌∙◌, ap, subst, arith, option_and_then}
-use Rattle.std.specs.Option.{option_map_or}
-use Rattle.std.proofs.lemmas.Bool.{cases_Bool, cond-true, cond-false, false≢true}
-use Rattle.std.proofs.lemmas.Option.{none-some}
-use Rattle.std.proofs.lemmas.List.Elements.{All-nil}
-use Rattle.bib_spec.specs.Bytes.{name_limit, file_limit}
-use Rattle.bib_spec.specs.Text.{Text, is_name}
-use Rattle.bib_spec.specs.Tree.{EntryTree, IsValue}
-use Rattle.bib_spec.specs.Reading.{Item, Reading, bytes_of, Reads}
-use Rattle.bib_spec.specs.Texts.{months, macros_at, too_long_at}
-use Rattle.bib_spec.specs.Texts.{IsOpenable}
-use Rattle.bib_spec.specs.Records.{entries_of, has_name, entry_named}
-use Rattle.bib_spec.specs.Pieces.{end_of}
+use Rattle.bib_edit.proofs.Words.{◌≡◌, ℕ, ◌+◌, ◌<◌, ◌≤◌, ◌&&◌, Bool, true, false, List, [], ◌∷◌, Some, None, is_some, find, slice_get, length, count_by, inl, inr, ⊎_elim, true≢false, refl, sym, ◌∙◌, ap, subst, arith, option_and_then, option_map_or, cases_Bool, cond-true, cond-false, false≢true}
+use Rattle.bib_edit.proofs.Words.{none-some, All-nil, name_limit, file_limit, Text, is_name, EntryTree, IsValue, Item, Reading, bytes_of, Reads, months, macros_at, too_long_at, IsOpenable, entries_of, has_name, entry_named, end_of, holders, fields_named, entry_without_field, IsAccepted}
+use Rattle.bib_edit.proofs.Words.{IsFirstRefusal, pieces_of, count-yes, count-no, Field, View, view_of, start_of, one_reading, OfReading, entry_numbers, DropField, made_base, IsAllowedEdit, ArePiecesOf, IsRefusal, field_end, item_named, is_field, cut_piece, joins_key, OfItem}
 use Rattle.edit_spec.specs.Edits as edits
-use Rattle.edit_spec.specs.Edits.{holders, fields_named, entry_without_field, IsAccepted, IsFirstRefusal}
-use Rattle.edit_spec.specs.EditChunks.{pieces_of}
-use Rattle.bib_spec.proofs.Counts.{count-yes, count-no}
-use Rattle.bib_scan.specs.View.{Field, View, view_of}
-use Rattle.bib_scan.specs.Layout.{start_of}
-use Rattle.bib_scan.proofs.OneReading.{one_reading}
-use Rattle.bib_store.specs.Meaning.{OfReading, entry_numbers}
 use Rattle.bib_data.specs.declared.edit.Edit.{Edit}
-use Rattle.bib_data.specs.declared.edit.Edit.TheVariants.{DropField}
 use Rattle.bib_edit.specs.declared.fault.EditFault.TheVariants.{BadName, NotFound, Ambiguous, WouldMerge}
-use Rattle.bib_keys.specs.MadeBase.{made_base}
-use Rattle.bib_edit.specs.Planning.{IsAllowedEdit, ArePiecesOf, IsRefusal}
-use Rattle.bib_tokens.specs.PlacedParts.{field_end}
-use Rattle.bib_edit.specs.Addressing.{item_named, is_field}
-use Rattle.bib_edit.specs.FieldPieces.{cut_piece, joins_key, OfItem}
 use Rattle.bib_edit.proofs.Ranks.{Passes, no_reason, more, is_first, all_clear}
 use Rattle.bib_edit.proofs.NamedEntries.{IsNamedEntry, named-entry, held-item}
 use Rattle.bib_edit.proofs.PieceLists.{within-one_piece}

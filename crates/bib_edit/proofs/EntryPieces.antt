@@ -1,29 +1,11 @@
 -- The pieces of entries that get new keys, entry by entry.
-use Rattle.std.proofs.Common.{◌≡◌, ℕ, zero, suc, ◌+◌, ◌-◌, ◌≤◌, ◌<◌, Bool, true, List, [], ◌∷◌, ◌++◌, Option, Some, None, length, filter, take, slice_get, option_and_then, ⊎_elim, refl, sym, ◌∙◌, ap, ap₂, subst, arith, append_assoc, append-nil, length-append, zero-add, add-zero}
-use Rattle.std.specs.List.{flat_map, range_with_len}
-use Rattle.std.specs.Option.{option_map_or}
-use Rattle.std.proofs.lemmas.Bool.{cases_Bool, cond-true, cond-false, cases_lt}
-use Rattle.std.proofs.lemmas.List.{length-map}
-use Rattle.std.proofs.lemmas.Option.{none-some, same_Some, slice_get_within}
+use Rattle.bib_edit.proofs.Words.{◌≡◌, ℕ, zero, suc, ◌+◌, ◌-◌, ◌≤◌, ◌<◌, Bool, true, List, [], ◌∷◌, ◌++◌, Option, Some, None, length, filter, take, slice_get, option_and_then, ⊎_elim, refl, sym, ◌∙◌, ap, ap₂, subst, arith, append_assoc, append-nil, length-append, zero-add, add-zero, flat_map}
+use Rattle.bib_edit.proofs.Words.{range_with_len, option_map_or, cases_Bool, cond-true, cond-false, cases_lt, length-map, none-some, same_Some, slice_get_within, Text, tree_bytes, file_limit, Item, Reading, Reads, item_bytes, entries_of, entry_named, target, crossref_text, Piece, pieces_from}
+use Rattle.bib_edit.proofs.Words.{option_cases, View, view_of, start_of, refers, referrers, numbers_from, numbered_first, numbered_later, is_entry_tree, entry_items, entry_numbers, length-entry_items, length-entry_numbers, entry_at, entry_stands, key_of, new_target, key_piece, crossref_piece}
+use Rattle.bib_edit.proofs.Words.{IsEntrySeen, rekeying, entry_pieces, pieces_at, pieces_after, RefersAt, ArePassed, AreQuiet, HavePieces, NewKeys, item-ends}
 use Rattle.std.proofs.lemmas.Grind.{flat_map-append}
-use Rattle.bib_spec.specs.Text.{Text}
-use Rattle.bib_spec.specs.Tree.{tree_bytes}
-use Rattle.bib_spec.specs.Bytes.{file_limit}
-use Rattle.bib_spec.specs.Reading.{Item, Reading, Reads, item_bytes}
-use Rattle.bib_spec.specs.Records.{entries_of, entry_named, target, crossref_text}
-use Rattle.bib_spec.specs.Pieces.{Piece, pieces_from}
-use Rattle.bib_spec.proofs.Keys.{option_cases}
-use Rattle.bib_scan.specs.View.{View, view_of}
-use Rattle.bib_scan.specs.Layout.{start_of}
-use Rattle.bib_entries.specs.EntryTable.{refers, referrers}
-use Rattle.bib_entries.proofs.Tables.{numbers_from, numbered_first, numbered_later}
-use Rattle.bib_store.specs.Meaning.{is_entry_tree, entry_items, entry_numbers}
 use Rattle.bib_store.specs.Tables.{crossrefs_of}
-use Rattle.bib_store.proofs.EntryItems.{length-entry_items, length-entry_numbers, entry_at, entry_stands}
-use Rattle.bib_edit.specs.NewKeys.{key_of, new_target, key_piece, crossref_piece, IsEntrySeen, rekeying, entry_pieces, pieces_at, pieces_after, RefersAt, ArePassed, AreQuiet, HavePieces}
-use Rattle.bib_edit.specs.declared.new_keys.NewKeys.{NewKeys}
 use Rattle.bib_edit.proofs.KeyPieces.{keyed_chunks, pieces-other, pieces-more, entry-is}
-use Rattle.bib_tokens.proofs.PlacedItems.{item-ends}
 use Rattle.bib_edit.proofs.Referrers.{numbers-ascend, none-after, target-referrer}
 
 -- ---- the number of an entry

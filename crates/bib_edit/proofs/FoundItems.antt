@@ -1,16 +1,6 @@
 -- The first item that passes a test, by its number.
-use Rattle.std.proofs.Common.{◌≡◌, ℕ, zero, suc, ◌<◌, Bool, List, [], ◌∷◌, Some, option_map, length, ⊎_elim, sym, ◌∙◌, subst, suc-le-suc, zero-lt-suc}
-use Rattle.std.proofs.lemmas.Bool.{cases_Bool, cond-true, cond-false}
-use Rattle.std.proofs.lemmas.Option.{none-some, same_Some}
-use Rattle.bib_spec.specs.Text.{Text}
-use Rattle.bib_spec.specs.Tree.{Tree}
-use Rattle.bib_spec.specs.Reading.{Item, Reading}
-use Rattle.bib_spec.proofs.Places.{suc_some}
-use Rattle.edit_spec.specs.Edits.{is_entry, defines}
-use Rattle.bib_tokens.specs.FirstItem.{first_item}
-use Rattle.bib_edit.specs.Addressing.{IsHeldAt}
-use Rattle.bib_edit.specs.Definitions.{IsDefinedAt}
-use Rattle.bib_edit.specs.Removal.{IsFirstAt}
+use Rattle.bib_edit.proofs.Words.{◌≡◌, ℕ, zero, suc, ◌<◌, Bool, List, [], ◌∷◌, Some, option_map, length, ⊎_elim, sym, ◌∙◌, subst, suc-le-suc, zero-lt-suc, cases_Bool, cond-true, cond-false, none-some, same_Some, Text, Tree, Item, Reading, suc_some, is_entry, defines, first_item, IsHeldAt}
+use Rattle.bib_edit.proofs.Words.{IsDefinedAt, IsFirstAt}
 
 pub first-within : (test : Tree → Bool) (items : List Item) (n : ℕ) → IsFirstAt test items n → n < length items
 first-within test [] n f = absurd f

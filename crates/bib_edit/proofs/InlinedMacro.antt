@@ -1,26 +1,9 @@
 -- Why the inlining of a macro is refused, and that it is not.
-use Rattle.std.proofs.Common.{◌≡◌, ℕ, ◌+◌, ◌<◌, ◌≤◌, true, false, List, ◌∷◌, length, drop, refl, sym, ◌∙◌, ap, arith}
-use Rattle.std.proofs.lemmas.Bool.{true≢false, both_ways}
-use Rattle.std.proofs.lemmas.List.Elements.{All-nil}
-use Rattle.bib_spec.specs.Bytes.{name_limit, file_limit}
-use Rattle.bib_spec.specs.Text.{Text, is_name}
-use Rattle.bib_spec.specs.Tree.{IsValue}
-use Rattle.bib_spec.specs.Reading.{Reading, Reads}
-use Rattle.bib_spec.specs.Texts.{months, Opens}
-use Rattle.edit_spec.specs.Edits.{InlineMacro, BadKey, BadName, BadValue, BadPosition, NotFound, Ambiguous, KeyInUse, NameInUse, Referred, WouldMerge, FileTooLong, TextTooLong, definitions, uses, text_of_macro, inline_macro, IsAccepted, IsFirstRefusal}
-use Rattle.edit_spec.specs.EditChunks.{pieces_of}
-use Rattle.bib_scan.specs.Layout.{start_of}
-use Rattle.bib_store.specs.Meaning.{OfReading}
-use Rattle.bib_keys.specs.MadeBase.{made_base}
+use Rattle.bib_edit.proofs.Words.{◌≡◌, ℕ, ◌+◌, ◌<◌, ◌≤◌, true, false, List, ◌∷◌, length, drop, refl, sym, ◌∙◌, ap, arith, true≢false, both_ways, All-nil, name_limit, file_limit, Text, is_name, IsValue, Reading, Reads, months, Opens, InlineMacro, BadKey, BadName, BadValue, BadPosition, NotFound}
+use Rattle.bib_edit.proofs.Words.{Ambiguous, KeyInUse, NameInUse, Referred, WouldMerge, FileTooLong, TextTooLong, definitions, uses, text_of_macro, inline_macro, IsAccepted, IsFirstRefusal, pieces_of, start_of, OfReading, made_base, IsRefusal, IsDefinedAt, IsDefinitionFault, none_defines}
+use Rattle.bib_edit.proofs.Words.{many_define, braced, items_placed, tokens_of, replaced, JoinsCleanly, removal_of, Piece, olds_len, news_len}
 use Rattle.bib_data.specs.declared.edit.Edit.TheVariants as asked
 use Rattle.bib_edit.specs.declared.fault.EditFault.{EditFault as Fault}
-use Rattle.bib_edit.specs.Planning.{IsRefusal}
-use Rattle.bib_edit.specs.Definitions.{IsDefinedAt, IsDefinitionFault, none_defines, many_define, braced}
-use Rattle.bib_tokens.specs.PlacedParts.{items_placed, tokens_of}
-use Rattle.bib_edit.specs.Replacing.{replaced}
-use Rattle.bib_edit.specs.Removal.{JoinsCleanly, removal_of}
-use Rattle.bib_spec.specs.Pieces.{Piece}
-use Rattle.bib_edit.specs.Limits.{olds_len, news_len}
 use Rattle.bib_edit.proofs.PieceLengths.{makes-long, makes-short}
 use Rattle.bib_edit.proofs.MacroPieces.{inlined-pieces}
 use Rattle.bib_edit.proofs.InlinedTexts.{long-inlined}

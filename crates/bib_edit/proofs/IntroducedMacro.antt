@@ -1,33 +1,11 @@
 -- Why the introducing of a macro is refused, and that it is not.
-use Rattle.std.proofs.Common.{◌≡◌, ℕ, ◌+◌, ◌<◌, ◌≤◌, ◌||◌, Bool, true, false, is_some, List, [], ◌∷◌, Option, Some, None, option_map, length, take, drop, sym, ◌∙◌, ap, subst}
-use Rattle.std.specs.Option.{IfSome}
-use Rattle.std.specs.List.{list_any}
-use Rattle.std.proofs.lemmas.Bool.{true≢false, both_ways, or_parts}
-use Rattle.std.proofs.lemmas.List.Elements.{All-nil, All-cons, All-head}
-use Rattle.bib_spec.specs.Bytes.{name_limit, file_limit}
-use Rattle.bib_spec.specs.Text.{Text, folded, is_name, IsBalanced}
-use Rattle.bib_spec.specs.Tree.{IsLink, IsValue}
-use Rattle.bib_spec.specs.Tree.{Tree}
-use Rattle.bib_spec.specs.Reading.{Item, Reading, Reads}
-use Rattle.bib_spec.specs.Texts.{months, Opens}
-use Rattle.edit_spec.specs.Edits.{IntroduceMacro, BadKey, BadName, BadValue, BadPosition, NotFound, Ambiguous, KeyInUse, NameInUse, Referred, WouldMerge, FileTooLong, TextTooLong, in_braces, defines, uses, holds, any_part, is_in_use, introduce_macro, IsAccepted, IsFirstRefusal}
-use Rattle.edit_spec.specs.EditChunks.{pieces_of}
-use Rattle.edit_spec.proofs.Simulation.{InItems}
+use Rattle.bib_edit.proofs.Words.{◌≡◌, ℕ, ◌+◌, ◌<◌, ◌≤◌, ◌||◌, Bool, true, false, is_some, List, [], ◌∷◌, Option, Some, None, option_map, length, take, drop, sym, ◌∙◌, ap, subst, IfSome, list_any, true≢false, both_ways, or_parts, All-nil, All-cons, All-head, name_limit, file_limit, Text, folded}
+use Rattle.bib_edit.proofs.Words.{is_name, IsBalanced, IsLink, IsValue, Tree, Item, Reading, Reads, months, Opens, IntroduceMacro, BadKey, BadName, BadValue, BadPosition, NotFound, Ambiguous, KeyInUse, NameInUse, Referred, WouldMerge, FileTooLong, TextTooLong, in_braces, defines, uses, holds}
+use Rattle.bib_edit.proofs.Words.{any_part, is_in_use, introduce_macro, IsAccepted, IsFirstRefusal, pieces_of, InItems, start_of, OfReading, made_base, first_item, definition_text, is_used, insertion_of, items_placed, tokens_of, replaced, Piece, olds_len, news_len, first-any}
 use Rattle.edit_spec.proofs.InUse.{InItems_none}
 use Rattle.edit_spec.proofs.IntroduceMacro.{IsUnused, IsOther}
-use Rattle.bib_scan.specs.Layout.{start_of}
-use Rattle.bib_store.specs.Meaning.{OfReading}
-use Rattle.bib_keys.specs.MadeBase.{made_base}
-use Rattle.bib_tokens.specs.FirstItem.{first_item}
-use Rattle.bib_edit.specs.Definitions.{definition_text, is_used}
 use Rattle.bib_tokens.specs.declared.tokens.First.{First}
-use Rattle.bib_edit.specs.NewEntries.{insertion_of}
-use Rattle.bib_tokens.specs.PlacedParts.{items_placed, tokens_of}
-use Rattle.bib_edit.specs.Replacing.{replaced}
-use Rattle.bib_spec.specs.Pieces.{Piece}
-use Rattle.bib_edit.specs.Limits.{olds_len, news_len}
 use Rattle.bib_edit.proofs.PieceLengths.{makes-long, makes-short}
-use Rattle.bib_tokens.proofs.FirstFound.{first-any}
 use Rattle.bib_edit.proofs.MacroPieces.{introduced-pieces}
 use Rattle.bib_edit.proofs.MacroTexts.{long-introduced}
 use Rattle.bib_edit.proofs.OpenFiles.{none-long}

@@ -1,3 +1,5 @@
+-- ---- the words of the proofs
+pub mod Words
 -- ---- items, fields and values by their places
 pub mod TabledDefinitions
 pub mod FirstItems

@@ -1,16 +1,7 @@
 -- Where an edit changes one entry, the only raw texts that are new are those of its new values.
-use Rattle.std.proofs.Common.{◌≡◌, ℕ, zero, suc, ◌+◌, Bool, true, false, ◌||◌, nat_lt, List, [], ◌∷◌, ◌++◌, Some, None, is_some, option_map, slice_get, length, map, find, ⊎_elim, refl, sym, ◌∙◌, ap, subst}
-use Rattle.std.proofs.Math.Bool.{or-false}
-use Rattle.std.specs.List.{list_any, zip}
-use Rattle.std.proofs.lemmas.Bool.{cases_Bool, cond-true, cond-false, or_parts}
-use Rattle.std.proofs.lemmas.Option.{none-some, same_Some}
-use Rattle.bib_spec.specs.Text.{Text, same}
-use Rattle.bib_spec.specs.Tree.{Value, Row, Entry, Tree, CommentTree, DefinitionTree, PreambleTree, EntryTree, row_bytes}
-use Rattle.bib_spec.specs.Reading.{Item, Reading, item_bytes}
-use Rattle.bib_spec.specs.Texts.{Macros, months, raw_text, raw_limit, macros_after, macros_at, raw_texts_in, raw_texts_from, value_places, row_places, too_long_at}
-use Rattle.edit_spec.specs.Edits.{is_entry, from_first, with_first_tree, of_entry, with_entry, row_before, row_to, with_field, without_field, entry_with_field, entry_without_field}
-use Rattle.bib_spec.proofs.Places.{suc_some}
-use Rattle.bib_tokens.specs.FirstItem.{first_item}
+use Rattle.bib_edit.proofs.Words.{◌≡◌, ℕ, zero, suc, ◌+◌, Bool, true, false, ◌||◌, nat_lt, List, [], ◌∷◌, ◌++◌, Some, None, is_some, option_map, slice_get, length, map, find, ⊎_elim, refl, sym, ◌∙◌, ap, subst, or-false, list_any, zip, cases_Bool, cond-true, cond-false, or_parts, none-some}
+use Rattle.bib_edit.proofs.Words.{same_Some, Text, same, Value, Row, Entry, Tree, CommentTree, DefinitionTree, PreambleTree, EntryTree, row_bytes, Item, Reading, item_bytes, Macros, months, raw_text, raw_limit, macros_after, macros_at, raw_texts_in, raw_texts_from, value_places, row_places}
+use Rattle.bib_edit.proofs.Words.{too_long_at, is_entry, from_first, with_first_tree, of_entry, with_entry, row_before, row_to, with_field, without_field, entry_with_field, entry_without_field, suc_some, first_item}
 
 abbrev pub is_long : Text → Bool
 is_long t = nat_lt raw_limit (length t)

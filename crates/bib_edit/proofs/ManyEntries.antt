@@ -1,13 +1,5 @@
 -- Entries that are added together, judged one after another.
-use Rattle.std.proofs.Common.{◌≡◌, ◌<◌, ℕ, Bool, true, false, ◌&&◌, List, [], ◌∷◌, length, get_or, ⊎_elim, refl, sym, ◌∙◌, ap, inr}
-use Rattle.std.specs.List.{list_all, flat_map}
-use Rattle.std.proofs.lemmas.List.Folds.{list_all-append, list_all-map, list_all_at}
-use Rattle.std.proofs.lemmas.Bool.{cases_Bool, both_ways}
-use Rattle.bib_spec.specs.Text.{is_new_key}
-use Rattle.bib_spec.specs.Reading.{Reading}
-use Rattle.bib_data.specs.declared.edit.NewEntry.{NewEntry}
-use Rattle.bib_edit.specs.NewEntries.{IsAnyLong}
-use Rattle.bib_edit.specs.ManyEntries.{keys_given, AreAnyLong}
+use Rattle.bib_edit.proofs.Words.{◌≡◌, ◌<◌, ℕ, Bool, true, false, ◌&&◌, List, [], ◌∷◌, length, get_or, ⊎_elim, refl, sym, ◌∙◌, ap, inr, list_all, flat_map, list_all-append, list_all-map, list_all_at, cases_Bool, both_ways, is_new_key, Reading, NewEntry, IsAnyLong, keys_given, AreAnyLong}
 
 -- a test of all that members give is one of each member
 pub all-given : {X Y : Type 0} (p : Y → Bool) (f : X → List Y) (xs : List X) → list_all p (flat_map f xs) ≡ list_all (λ x. list_all p (f x)) xs

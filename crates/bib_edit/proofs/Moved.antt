@@ -1,31 +1,12 @@
 -- Why a move is refused, and that it is not.
-use Rattle.std.proofs.Common.{◌≡◌, ℕ, ◌<◌, ◌≤◌, ◌+◌, ◌-◌, Bool, true, false, List, Some, is_some, length, find, slice_get, sym, ◌∙◌, ap, subst, arith}
-use Rattle.std.specs.Option.{option_map_or}
-use Rattle.std.proofs.lemmas.Bool.{cond-true, true≢false, both_ways}
-use Rattle.std.proofs.lemmas.List.Elements.{All-nil}
-use Rattle.bib_spec.specs.Bytes.{name_limit, file_limit}
-use Rattle.bib_spec.specs.Text.{Text}
-use Rattle.bib_spec.specs.Tree.{IsTree, IsValue}
-use Rattle.bib_spec.specs.Reading.{Item, Reading, Reads}
-use Rattle.bib_spec.specs.Texts.{months, too_long_at}
-use Rattle.bib_spec.specs.Records.{entries_of, keys_of, entry_named}
-use Rattle.edit_spec.specs.Edits.{Edit, MoveEntry, BadKey, BadName, BadValue, BadPosition, NotFound, Ambiguous, KeyInUse, NameInUse, Referred, WouldMerge, FileTooLong, TextTooLong, holders, is_entry, in_line, with_item, remove_entry, edited, last_position, IsAccepted, IsFirstRefusal}
-use Rattle.edit_spec.specs.EditChunks.{pieces_of}
-use Rattle.edit_spec.proofs.RenameKey.{only}
+use Rattle.bib_edit.proofs.Words.{◌≡◌, ℕ, ◌<◌, ◌≤◌, ◌+◌, ◌-◌, Bool, true, false, List, Some, is_some, length, find, slice_get, sym, ◌∙◌, ap, subst, arith, option_map_or, cond-true, true≢false, both_ways, All-nil, name_limit, file_limit, Text, IsTree, IsValue, Item, Reading, Reads, months}
+use Rattle.bib_edit.proofs.Words.{too_long_at, entries_of, keys_of, entry_named, Edit, MoveEntry, BadKey, BadName, BadValue, BadPosition, NotFound, Ambiguous, KeyInUse, NameInUse, Referred, WouldMerge, FileTooLong, TextTooLong, holders, is_entry, in_line, with_item, remove_entry, edited}
+use Rattle.bib_edit.proofs.Words.{last_position, IsAccepted, IsFirstRefusal, pieces_of, only, Field, fields_of, made_base, OfReading, IsRefusal, IsHeldAt, IsHolderFault, none_holds, many_hold, IsFirstAt, JoinsCleanly, next_item, moved_pieces, IsFieldLong, IsMovable, Piece, olds_len, news_len}
 use Rattle.edit_spec.proofs.EditedItems.{found-is, trees_of}
-use Rattle.bib_scan.specs.View.{Field, fields_of}
-use Rattle.bib_keys.specs.MadeBase.{made_base}
 use Rattle.bib_data.specs.declared.edit.Edit.TheVariants as asked
 use Rattle.bib_edit.specs.declared.fault.EditFault.{EditFault as Fault}
-use Rattle.bib_store.specs.Meaning.{OfReading}
-use Rattle.bib_edit.specs.Planning.{IsRefusal}
-use Rattle.bib_edit.specs.Addressing.{IsHeldAt, IsHolderFault, none_holds, many_hold}
-use Rattle.bib_edit.specs.Removal.{IsFirstAt, JoinsCleanly}
-use Rattle.bib_edit.specs.Moving.{next_item, moved_pieces, IsFieldLong, IsMovable}
 use Rattle.bib_edit.proofs.FoundItems.{held-at, held-within}
 use Rattle.bib_edit.proofs.PieceLengths.{makes-long, makes-short}
-use Rattle.bib_spec.specs.Pieces.{Piece}
-use Rattle.bib_edit.specs.Limits.{olds_len, news_len}
 use Rattle.bib_edit.proofs.JoinedTexts.{joins-clean, clean-joins}
 use Rattle.bib_edit.proofs.LongTexts.{any_long, too_long-any}
 use Rattle.bib_edit.proofs.PlacedTexts.{is_long_in, removed-short, inserted-long}

@@ -1,19 +1,7 @@
 -- What a moved entry says where it then stands.
-use Rattle.std.proofs.Common.{◌≡◌, ℕ, zero, suc, ◌+◌, ◌<◌, ◌≤◌, nat_lt, Bool, true, false, ◌||◌, List, [], ◌∷◌, ◌++◌, map, ⊎_elim, inr, refl, sym, ◌∙◌, ap, ap₂, subst, arith, All, le_of_suc-le-suc, not-suc-le-zero}
-use Rattle.std.proofs.Math.Bool.{or-true}
-use Rattle.std.specs.List.{list_any}
-use Rattle.std.proofs.lemmas.Bool.{cases_Bool, cond-true, cond-false, false≢true, ltb-true, ltb-false}
-use Rattle.std.proofs.lemmas.List.Elements.{All-head, All-tail}
-use Rattle.bib_spec.specs.Bytes.{name_limit}
-use Rattle.bib_spec.specs.Text.{Text}
-use Rattle.bib_spec.specs.Tree.{Row, Entry, Tree, CommentTree, DefinitionTree, PreambleTree, EntryTree, IsTree, IsRow, row_bytes}
-use Rattle.bib_spec.specs.Reading.{Item, Reading}
-use Rattle.bib_spec.specs.Texts.{Macros, months, macros_at, macros_after, raw_text}
-use Rattle.edit_spec.specs.Edits.{is_entry, without_first}
-use Rattle.bib_scan.specs.View.{Field, fields_after, fields_of}
-use Rattle.bib_edit.specs.Removal.{IsFirstAt}
-use Rattle.bib_edit.specs.NewEntries.{IsLong}
-use Rattle.bib_edit.specs.Moving.{next_item, FieldsHaveValues, IsFieldLong}
+use Rattle.bib_edit.proofs.Words.{◌≡◌, ℕ, zero, suc, ◌+◌, ◌<◌, ◌≤◌, nat_lt, Bool, true, false, ◌||◌, List, [], ◌∷◌, ◌++◌, map, ⊎_elim, inr, refl, sym, ◌∙◌, ap, ap₂, subst, arith, All, le_of_suc-le-suc, not-suc-le-zero, or-true, list_any, cases_Bool, cond-true, cond-false, false≢true, ltb-true}
+use Rattle.bib_edit.proofs.Words.{ltb-false, All-head, All-tail, name_limit, Text, Row, Entry, Tree, CommentTree, DefinitionTree, PreambleTree, EntryTree, IsTree, IsRow, row_bytes, Item, Reading, Macros, months, macros_at, macros_after, raw_text, is_entry, without_first, Field, fields_after}
+use Rattle.bib_edit.proofs.Words.{fields_of, IsFirstAt, IsLong, next_item, FieldsHaveValues, IsFieldLong}
 use Rattle.bib_edit.proofs.LongTexts.{is_long}
 use Rattle.bib_edit.proofs.PlacedTexts.{is_long_in}
 

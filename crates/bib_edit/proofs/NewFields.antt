@@ -1,17 +1,9 @@
 -- The fields of an entry to be added, judged one after another.
-use Rattle.std.proofs.Common.{◌≡◌, ℕ, ◌+◌, ◌<◌, ◌≤◌, ◌==◌, Bool, true, false, ◌&&◌, ◌||◌, nat_lt, nat_le, List, [], ◌∷◌, ◌++◌, Some, slice_get, get_or, length, take, drop, ⊎_elim, refl, sym, ◌∙◌, ap, ap₂, subst, arith, append-nil, take-append-drop}
-use Rattle.std.proofs.Math.Bool.{and-false}
-use Rattle.std.specs.List.{list_all, list_any}
-use Rattle.std.proofs.lemmas.Bool.{cases_Bool, and_parts, both_ways, eqb-true, eqb-false, leb-true}
-use Rattle.std.proofs.lemmas.Option.{slice_get_read, same_Some}
-use Rattle.std.proofs.lemmas.List.{take_all, map-append}
+use Rattle.bib_spec.specs.Text.{is_name_within}
+use Rattle.bib_edit.proofs.Words.{◌≡◌, ℕ, ◌+◌, ◌<◌, ◌≤◌, ◌==◌, Bool, true, false, ◌&&◌, ◌||◌, nat_lt, nat_le, List, [], ◌∷◌, ◌++◌, Some, slice_get, get_or, length, take, drop, ⊎_elim, refl, sym, ◌∙◌, ap, ap₂, subst, arith, append-nil, take-append-drop, and-false, list_all, list_any, cases_Bool}
+use Rattle.bib_edit.proofs.Words.{and_parts, both_ways, eqb-true, eqb-false, leb-true, slice_get_read, same_Some, take_all, map-append, list_all-append, name_limit, Text, same, is_name, does_not_begin_with, Reading, IsValueWithin, has_same, names_of, HaveValuesTo, IsLong, AreShortTo}
+use Rattle.bib_edit.proofs.Words.{field_line, lines_of}
 use Rattle.std.proofs.lemmas.List.Concat.{flat_map-append}
-use Rattle.std.proofs.lemmas.List.Folds.{list_all-append}
-use Rattle.bib_spec.specs.Bytes.{name_limit}
-use Rattle.bib_spec.specs.Text.{Text, same, is_name, is_name_within, does_not_begin_with}
-use Rattle.bib_spec.specs.Reading.{Reading, IsValueWithin}
-use Rattle.edit_spec.specs.Edits.{has_same}
-use Rattle.bib_edit.specs.NewEntries.{names_of, HaveValuesTo, IsLong, AreShortTo, field_line, lines_of}
 use Rattle.bib_edit.proofs.SeenNames.{take-read}
 
 -- ---- lines

@@ -1,9 +1,5 @@
 -- What holds of a file that opens, of each of its readings.
-use Rattle.std.proofs.Common.{◌≡◌, false, is_some, sym, ◌∙◌, ap, subst}
-use Rattle.bib_spec.specs.Text.{Text}
-use Rattle.bib_spec.specs.Reading.{Reading, Reads}
-use Rattle.bib_spec.specs.Texts.{months, Opens}
-use Rattle.bib_spec.specs.Texts.{IsOpenable}
+use Rattle.bib_edit.proofs.Words.{◌≡◌, false, is_some, sym, ◌∙◌, ap, subst, Text, Reading, Reads, months, Opens, IsOpenable}
 use Rattle.bib_scan.specs.Laws.{OneReading}
 use Rattle.bib_edit.proofs.LongTexts.{any_long, too_long-any}
 

@@ -1,22 +1,9 @@
 -- Lengths of pieces, added up from the front, and of the file that they make.
-use Rattle.std.proofs.Common.{◌≡◌, ℕ, ◌+◌, ◌<◌, ◌≤◌, List, [], ◌∷◌, drop, length, get_or, sym, ◌∙◌, ap, ap₂, subst, subst₂, arith, length-append}
-use Rattle.std.proofs.Math.ListN.{drop_of_length-le}
-use Rattle.bib_spec.specs.Bytes.{file_limit}
-use Rattle.bib_spec.specs.Text.{Text}
-use Rattle.bib_spec.specs.Reading.{Reading, Reads, bytes_of}
-use Rattle.bib_spec.specs.Records.{Record}
-use Rattle.bib_spec.specs.Pieces.{Piece, Chunk, Kept, Replaced, old_of, pieces_from}
-use Rattle.edit_spec.specs.Edits.{Edit, FileTooLong, Refuses, edited}
-use Rattle.edit_spec.specs.EditChunks.{chunks, pieces_of}
-use Rattle.edit_spec.proofs.EditFiles.{chunks-are-files}
-use Rattle.bib_edit.specs.Limits.{olds_len, news_len}
-use Rattle.bib_keys.specs.MadeBase.{made_base}
-use Rattle.bib_spec.specs.Texts.{IsOpenable}
+use Rattle.bib_edit.proofs.Words.{◌≡◌, ℕ, ◌+◌, ◌<◌, ◌≤◌, List, [], ◌∷◌, drop, length, get_or, sym, ◌∙◌, ap, ap₂, subst, subst₂, arith, length-append, drop_of_length-le, file_limit, Text, Reading, Reads, bytes_of, Record, Piece, Chunk, Kept, Replaced, old_of, pieces_from, Edit, FileTooLong, Refuses}
+use Rattle.bib_edit.proofs.Words.{edited, chunks, pieces_of, chunks-are-files, olds_len, news_len, made_base, IsOpenable, ArePiecesOf, next-read}
 use Rattle.bib_data.specs.declared.edit.Edit.{Edit as Asked}
-use Rattle.bib_edit.specs.Planning.{ArePiecesOf}
 use Rattle.bib_edit.proofs.AskedEdits.{asked_for}
 use Rattle.bib_edit.proofs.PieceLists.{lengths-edited}
-use Rattle.bib_keys.proofs.Walks.{next-read}
 
 olds-within : (at : ℕ) (chunks : List Chunk) → olds_len (pieces_from at chunks) ≤ length (old_of chunks)
 olds-within at [] = omega arith

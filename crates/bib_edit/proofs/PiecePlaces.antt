@@ -1,16 +1,6 @@
 -- The pieces of chunks that mostly are kept, with their places; and the length of what pieces make.
-use Rattle.std.proofs.Common.{◌≡◌, ℕ, zero, suc, ◌+◌, Bool, List, [], ◌∷◌, ◌++◌, length, take, drop, sym, ◌∙◌, ap, ap₂, zero-add, append-nil, le_refl}
-use Rattle.std.specs.List.{flat_map}
-use Rattle.std.proofs.Math.ListN.{drop_of_length-le}
-use Rattle.std.proofs.lemmas.List.{take_all}
-use Rattle.std.proofs.lemmas.Bool.{cond-true, cond-false}
-use Rattle.bib_spec.specs.Text.{Text}
-use Rattle.bib_spec.specs.Tree.{Tree}
-use Rattle.bib_spec.specs.Reading.{Item, Reading, item_bytes}
-use Rattle.bib_spec.specs.Pieces.{Kept, Replaced, pieces_from, pieces_of_chunks}
-use Rattle.edit_spec.specs.EditChunks.{kept_item, kept_items, chunks_from_first, without_body}
-use Rattle.bib_scan.specs.Layout.{start_of}
-use Rattle.bib_edit.specs.Removal.{IsFirstAt, body_at, trail_at}
+use Rattle.bib_edit.proofs.Words.{◌≡◌, ℕ, zero, suc, ◌+◌, Bool, List, [], ◌∷◌, ◌++◌, length, take, drop, sym, ◌∙◌, ap, ap₂, zero-add, append-nil, le_refl, flat_map, drop_of_length-le, take_all, cond-true, cond-false, Text, Tree, Item, Reading, item_bytes, Kept, Replaced, pieces_from}
+use Rattle.bib_edit.proofs.Words.{pieces_of_chunks, kept_item, kept_items, chunks_from_first, without_body, start_of, IsFirstAt, body_at, trail_at}
 use Rattle.bib_edit.proofs.PieceLists.{pieces-after_items, pieces-kept_items}
 
 abbrev pub items_bytes : List Item → Text

@@ -1,13 +1,7 @@
 -- What a removal, an insertion and new entries at the end make of the raw texts that are too long.
-use Rattle.std.proofs.Common.{◌≡◌, ℕ, zero, suc, Bool, false, ◌||◌, List, [], ◌∷◌, ◌++◌, insert, length, map, ⊎_elim, refl, ◌∙◌, ap}
-use Rattle.std.proofs.Math.Bool.{or-false}
-use Rattle.std.specs.List.{list_any}
-use Rattle.std.proofs.lemmas.Bool.{cases_Bool, cond-true, cond-false, or_parts, or_from}
-use Rattle.bib_spec.specs.Text.{Text}
-use Rattle.bib_spec.specs.Tree.{Entry, Tree, CommentTree, DefinitionTree, PreambleTree, EntryTree}
-use Rattle.bib_spec.specs.Reading.{Item, Reading}
-use Rattle.bib_spec.specs.Texts.{Macros, macros_after, macros_at, raw_texts_in}
-use Rattle.edit_spec.specs.Edits.{NewEntry, is_entry, without_first, entry_of, item_of}
+use Rattle.bib_edit.proofs.Words.{◌≡◌, ℕ, zero, suc, Bool, false, ◌||◌, List, [], ◌∷◌, ◌++◌, insert, length, map, ⊎_elim, refl, ◌∙◌, ap, or-false, list_any, cases_Bool, cond-true, cond-false, or_parts, or_from, Text, Entry, Tree, CommentTree, DefinitionTree, PreambleTree, EntryTree, Item, Reading}
+use Rattle.bib_edit.proofs.Words.{Macros, macros_after, macros_at, raw_texts_in, is_entry, without_first, entry_of, item_of}
+use Rattle.edit_spec.specs.Edits.{NewEntry}
 use Rattle.bib_edit.proofs.LongTexts.{is_long, any_long}
 
 -- some raw text of the item is too long, where these macros stand before it

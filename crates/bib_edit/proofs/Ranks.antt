@@ -1,10 +1,6 @@
 -- The reasons in their order: an edit that the first n of them do not refuse.
-use Rattle.std.proofs.Common.{◌≡◌, ℕ, zero, suc, ◌<◌, ◌==◌, ⊎_elim, refl, sym, ◌∙◌, ap, subst, arith, not-suc-le-zero}
-use Rattle.std.proofs.lemmas.Bool.{cases_Bool, eqb-true, eqb-false}
-use Rattle.bib_spec.specs.Reading.{Reading}
-use Rattle.bib_spec.specs.Records.{Record}
-use Rattle.bib_spec.specs.Text.{Text}
-use Rattle.edit_spec.specs.Edits.{Edit, EditFault, BadKey, BadName, BadValue, BadPosition, NotFound, Ambiguous, KeyInUse, NameInUse, Referred, WouldMerge, FileTooLong, TextTooLong, rank, Refuses, IsAccepted, IsFirstRefusal}
+use Rattle.bib_edit.proofs.Words.{◌≡◌, ℕ, zero, suc, ◌<◌, ◌==◌, ⊎_elim, refl, sym, ◌∙◌, ap, subst, arith, not-suc-le-zero, cases_Bool, eqb-true, eqb-false, Reading, Record, Text, Edit, EditFault, BadKey, BadName, BadValue, BadPosition, NotFound, Ambiguous, KeyInUse, NameInUse, Referred, WouldMerge}
+use Rattle.bib_edit.proofs.Words.{FileTooLong, TextTooLong, rank, Refuses, IsAccepted, IsFirstRefusal}
 
 fault_at : ℕ → EditFault
 fault_at zero = BadKey

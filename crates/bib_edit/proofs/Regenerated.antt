@@ -1,25 +1,8 @@
 -- When making all keys anew is refused, and for which reason.
-use Rattle.std.proofs.Common.{◌≡◌, ℕ, zero, suc, ◌+◌, ◌-◌, ◌<◌, ◌≤◌, nat_lt, List, [], ◌∷◌, Option, None, slice_get, length, true≢false, sym, ◌∙◌, ap, ap₂, subst, arith}
-use Rattle.std.specs.List.{AllByRecursion}
-use Rattle.std.proofs.Math.Path.{fun_ext}
-use Rattle.std.proofs.lemmas.Bool.{cond-false, false≢true, le-ltb}
-use Rattle.std.proofs.lemmas.Option.{none-some, same_Some}
-use Rattle.std.proofs.lemmas.List.Elements.{All-nil}
-use Rattle.bib_spec.specs.Bytes.{name_limit, file_limit}
-use Rattle.bib_spec.specs.Text.{Text}
-use Rattle.bib_spec.specs.Tree.{IsValue}
-use Rattle.bib_spec.specs.Reading.{Reading, Reads}
-use Rattle.bib_spec.specs.Texts.{Opens}
-use Rattle.bib_spec.specs.Records.{entries_of}
-use Rattle.bib_spec.specs.Pieces.{Piece, Kept, pieces_of_chunks}
+use Rattle.bib_edit.proofs.Words.{◌≡◌, ℕ, zero, suc, ◌+◌, ◌-◌, ◌<◌, ◌≤◌, nat_lt, List, [], ◌∷◌, Option, None, slice_get, length, true≢false, sym, ◌∙◌, ap, ap₂, subst, arith, AllByRecursion, fun_ext, cond-false, false≢true, le-ltb, none-some, same_Some, All-nil, name_limit, file_limit, Text, IsValue}
+use Rattle.bib_edit.proofs.Words.{Reading, Reads, Opens, entries_of, Piece, Kept, pieces_of_chunks, IsAccepted, IsFirstRefusal, key_chunks, pieces_of, made_base, olds_len, news_len, key_of, rekeying, NewKeys}
 use Rattle.bib_spec.specs.MadeKeys.{new_keys}
 use Rattle.edit_spec.specs.Edits as edits
-use Rattle.edit_spec.specs.Edits.{IsAccepted, IsFirstRefusal}
-use Rattle.edit_spec.specs.EditChunks.{key_chunks, pieces_of}
-use Rattle.bib_keys.specs.MadeBase.{made_base}
-use Rattle.bib_edit.specs.Limits.{olds_len, news_len}
-use Rattle.bib_edit.specs.NewKeys.{key_of, rekeying}
-use Rattle.bib_edit.specs.declared.new_keys.NewKeys.{NewKeys}
 use Rattle.bib_edit.proofs.PieceLengths.{makes-long, makes-short}
 use Rattle.bib_edit.proofs.Ranks.{Passes, no_reason, more, is_first, all_clear}
 use Rattle.bib_edit.proofs.RekeyedTexts.{AreShort, too_long-rekeyed}

@@ -1,21 +1,8 @@
 -- Why a removal is refused, and that it is not.
-use Rattle.std.proofs.Common.{◌≡◌, ℕ, ◌<◌, [], ◌∷◌, refl, sym, ◌∙◌, arith}
-use Rattle.std.proofs.lemmas.Bool.{true≢false, both_ways}
-use Rattle.std.proofs.lemmas.List.Elements.{All-nil}
-use Rattle.bib_spec.specs.Bytes.{name_limit}
-use Rattle.bib_spec.specs.Text.{Text}
-use Rattle.bib_spec.specs.Tree.{IsValue}
-use Rattle.bib_spec.specs.Reading.{Reading}
-use Rattle.bib_spec.specs.Texts.{months, Opens}
-use Rattle.bib_spec.specs.Records.{entries_of}
-use Rattle.edit_spec.specs.Edits.{RemoveEntry, BadKey, BadName, BadValue, BadPosition, NotFound, Ambiguous, KeyInUse, NameInUse, Referred, WouldMerge, FileTooLong, TextTooLong, holders, is_entry, remove_entry, IsReferred, IsAccepted, IsFirstRefusal}
-use Rattle.edit_spec.specs.EditChunks.{pieces_of}
-use Rattle.bib_keys.specs.MadeBase.{made_base}
+use Rattle.bib_edit.proofs.Words.{◌≡◌, ℕ, ◌<◌, [], ◌∷◌, refl, sym, ◌∙◌, arith, true≢false, both_ways, All-nil, name_limit, Text, IsValue, Reading, months, Opens, entries_of, RemoveEntry, BadKey, BadName, BadValue, BadPosition, NotFound, Ambiguous, KeyInUse, NameInUse, Referred, WouldMerge}
+use Rattle.bib_edit.proofs.Words.{FileTooLong, TextTooLong, holders, is_entry, remove_entry, IsReferred, IsAccepted, IsFirstRefusal, pieces_of, made_base, IsRefusal, IsHeldAt, IsHolderFault, none_holds, many_hold, JoinsCleanly, removal_of}
 use Rattle.bib_data.specs.declared.edit.Edit.TheVariants as asked
 use Rattle.bib_edit.specs.declared.fault.EditFault.{EditFault as Fault}
-use Rattle.bib_edit.specs.Planning.{IsRefusal}
-use Rattle.bib_edit.specs.Addressing.{IsHeldAt, IsHolderFault, none_holds, many_hold}
-use Rattle.bib_edit.specs.Removal.{JoinsCleanly, removal_of}
 use Rattle.bib_edit.proofs.PiecePlaces.{removal-pieces}
 use Rattle.bib_edit.proofs.FoundItems.{held-at}
 use Rattle.bib_edit.proofs.PieceLengths.{makes-no-longer}

@@ -1,30 +1,10 @@
 -- When renaming a key is refused, and for which reason.
-use Rattle.std.proofs.Common.{◌≡◌, ℕ, ◌+◌, ◌-◌, ◌<◌, ◌≤◌, ◌==◌, ◌&&◌, nat_lt, true, false, List, [], ◌∷◌, Option, Some, None, slice_get, length, ⊎_elim, true≢false, sym, ◌∙◌, ap, ap₂, subst, arith, ne_eqb}
-use Rattle.std.proofs.Math.Path.{fun_ext}
-use Rattle.std.proofs.lemmas.Bool.{cases_Bool, cond-true, cond-false, false≢true, ltb-true, ltb-false, eqb-true, eqb-false}
-use Rattle.std.proofs.lemmas.Option.{cond_some, slice_get_past}
-use Rattle.std.proofs.lemmas.List.Elements.{All-nil}
-use Rattle.bib_spec.specs.Bytes.{name_limit, file_limit}
-use Rattle.bib_spec.specs.Text.{Text, is_new_key}
-use Rattle.bib_spec.specs.Tree.{IsValue}
-use Rattle.bib_spec.specs.Reading.{Reading, Reads}
-use Rattle.bib_spec.specs.Texts.{Opens}
-use Rattle.bib_spec.specs.Records.{entries_of, entry_named}
-use Rattle.bib_spec.specs.Pieces.{Piece, Kept, pieces_of_chunks}
+use Rattle.bib_edit.proofs.Words.{◌≡◌, ℕ, ◌+◌, ◌-◌, ◌<◌, ◌≤◌, ◌==◌, ◌&&◌, nat_lt, true, false, List, [], ◌∷◌, Option, Some, None, slice_get, length, ⊎_elim, true≢false, sym, ◌∙◌, ap, ap₂, subst, arith, ne_eqb, fun_ext, cases_Bool, cond-true, cond-false, false≢true, ltb-true, ltb-false, eqb-true}
+use Rattle.bib_edit.proofs.Words.{eqb-false, cond_some, slice_get_past, All-nil, name_limit, file_limit, Text, is_new_key, IsValue, Reading, Reads, Opens, entries_of, entry_named, Piece, Kept, pieces_of_chunks, holders, key_for, IsAccepted, IsFirstRefusal, key_chunks, pieces_of}
+use Rattle.bib_edit.proofs.Words.{new_key-length, OfReading, made_base, IsRefusal, IsLoneNumber, IsHolderFault, none_holds, many_hold, olds_len, news_len, key_of, rekeying, NewKeys, RenameKey}
 use Rattle.edit_spec.specs.Edits as edits
-use Rattle.edit_spec.specs.Edits.{holders, key_for, Refuses, IsAccepted, IsFirstRefusal}
-use Rattle.edit_spec.specs.EditChunks.{key_chunks, pieces_of}
-use Rattle.edit_spec.proofs.WrittenRows.{new_key-length}
-use Rattle.bib_store.specs.Meaning.{OfReading}
-use Rattle.bib_keys.specs.MadeBase.{made_base}
-use Rattle.bib_edit.specs.Planning.{IsRefusal}
-use Rattle.bib_edit.specs.Addressing.{IsLoneNumber, IsHolderFault, none_holds, many_hold}
 use Rattle.bib_edit.specs.Dangling.{is_in_use}
-use Rattle.bib_edit.specs.Limits.{olds_len, news_len}
-use Rattle.bib_edit.specs.NewKeys.{key_of, rekeying}
-use Rattle.bib_edit.specs.declared.new_keys.NewKeys.{NewKeys}
 use Rattle.bib_data.specs.declared.edit.Edit.{Edit}
-use Rattle.bib_data.specs.declared.edit.Edit.TheVariants.{RenameKey}
 use Rattle.bib_edit.specs.declared.fault.EditFault.{EditFault}
 use Rattle.bib_edit.specs.declared.fault.EditFault.TheVariants.{BadKey, KeyInUse}
 use Rattle.bib_edit.proofs.AskedEdits.{of-rename_key}

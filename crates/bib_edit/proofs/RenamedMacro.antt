@@ -1,27 +1,11 @@
 -- Why a renaming of a macro is refused, and that it is not.
-use Rattle.std.proofs.Common.{◌≡◌, ℕ, ◌+◌, ◌<◌, ◌≤◌, ◌&&◌, true, false, not, List, ◌∷◌, length, drop, sym, ◌∙◌, ap, arith}
-use Rattle.std.proofs.lemmas.Bool.{true≢false, both_ways}
-use Rattle.std.proofs.lemmas.List.Elements.{All-nil}
-use Rattle.bib_spec.specs.Bytes.{name_limit, file_limit}
-use Rattle.bib_spec.specs.Text.{Text, same, is_name}
-use Rattle.bib_spec.specs.Tree.{Definition, IsValue}
-use Rattle.bib_spec.specs.Reading.{Reading, Reads}
-use Rattle.bib_spec.specs.Texts.{months, Opens}
-use Rattle.edit_spec.specs.Edits.{RenameMacro, BadKey, BadName, BadValue, BadPosition, NotFound, Ambiguous, KeyInUse, NameInUse, Referred, WouldMerge, FileTooLong, TextTooLong, definitions, uses, is_in_use, rename_macro, IsAccepted, IsFirstRefusal}
-use Rattle.edit_spec.specs.EditChunks.{pieces_of}
+use Rattle.bib_edit.proofs.Words.{◌≡◌, ℕ, ◌+◌, ◌<◌, ◌≤◌, ◌&&◌, true, false, not, List, ◌∷◌, length, drop, sym, ◌∙◌, ap, arith, true≢false, both_ways, All-nil, name_limit, file_limit, Text, same, is_name, Definition, IsValue, Reading, Reads, months, Opens, RenameMacro, BadKey, BadName, BadValue}
+use Rattle.bib_edit.proofs.Words.{BadPosition, NotFound, Ambiguous, KeyInUse, NameInUse, Referred, WouldMerge, FileTooLong, TextTooLong, definitions, uses, is_in_use, rename_macro, IsAccepted, IsFirstRefusal, pieces_of, start_of, made_base, OfReading, IsRefusal, IsDefinedAt, IsDefinitionAt}
+use Rattle.bib_edit.proofs.Words.{IsDefinitionFault, none_defines, many_define, name_token, items_placed, tokens_of, replaced, Piece, olds_len, news_len}
 use Rattle.edit_spec.proofs.MacroLaws.{all_free}
-use Rattle.bib_scan.specs.Layout.{start_of}
 use Rattle.bib_edit.proofs.DefinedNames.{first-definition}
-use Rattle.bib_keys.specs.MadeBase.{made_base}
 use Rattle.bib_data.specs.declared.edit.Edit.TheVariants as asked
 use Rattle.bib_edit.specs.declared.fault.EditFault.{EditFault as Fault}
-use Rattle.bib_store.specs.Meaning.{OfReading}
-use Rattle.bib_edit.specs.Planning.{IsRefusal}
-use Rattle.bib_edit.specs.Definitions.{IsDefinedAt, IsDefinitionAt, IsDefinitionFault, none_defines, many_define, name_token}
-use Rattle.bib_tokens.specs.PlacedParts.{items_placed, tokens_of}
-use Rattle.bib_edit.specs.Replacing.{replaced}
-use Rattle.bib_spec.specs.Pieces.{Piece}
-use Rattle.bib_edit.specs.Limits.{olds_len, news_len}
 use Rattle.bib_edit.proofs.PieceLengths.{makes-long, makes-short}
 use Rattle.bib_edit.proofs.MacroPieces.{renamed-pieces}
 use Rattle.bib_edit.proofs.MacroTexts.{long-renamed}

@@ -1,5 +1,6 @@
 -- What is known of a result, of another that it is.
-use Rattle.std.proofs.Common.{Result, Ok, Err, IfOk, IfErr, OnOk, Option, Some, None, IfSome, IfNone, ◌≡◌, subst}
+use Rattle.bib_edit.proofs.Words.{Result, Ok, Err, IfOk, IfErr, OnOk, Option, Some, None, IfNone, ◌≡◌, subst}
+use Rattle.std.proofs.Common.{IfSome}
 
 pub if_ok-as : {X E : Type 0} (P Q : X → Type 0) → ((x : X) → P x → Q x) → (r : Result X E) → IfOk r P → IfOk r Q
 if_ok-as P Q f (Ok x) h = f x h

@@ -1,15 +1,6 @@
 -- Names that are seen one after another, until one is seen a second time.
-use Rattle.std.proofs.Common.{◌≡◌, ℕ, ◌+◌, ◌<◌, ◌≤◌, Bool, true, false, ◌||◌, List, [], ◌∷◌, ◌++◌, Some, None, is_some, get_or, length, map, take, drop, ⊎_elim, refl, sym, ◌∙◌, ap, ap₂, take-append-drop}
-use Rattle.std.proofs.Math.Bool.{or-false, or-true}
-use Rattle.std.specs.List.{list_any}
-use Rattle.std.specs.Str.{bytes_eq}
-use Rattle.std.proofs.lemmas.Bool.{cases_Bool, cond-true, cond-false}
-use Rattle.std.proofs.lemmas.List.{take_more, take_all, map-append}
-use Rattle.bib_spec.specs.Text.{Text, folded, same}
-use Rattle.edit_spec.specs.Edits.{has_same}
-use Rattle.bib_spec.proofs.Names.{same_comm}
-use Rattle.bib_value.specs.FoldedMap.{value_at, IsWith}
-use Rattle.std.proofs.lemmas.List.Folds.{list_any-append}
+use Rattle.bib_edit.proofs.Words.{◌≡◌, ℕ, ◌+◌, ◌<◌, ◌≤◌, Bool, true, false, ◌||◌, List, [], ◌∷◌, ◌++◌, Some, None, is_some, get_or, length, map, take, drop, ⊎_elim, refl, sym, ◌∙◌, ap, ap₂, take-append-drop, or-false, or-true, list_any, bytes_eq, cases_Bool, cond-true, cond-false, take_more}
+use Rattle.bib_edit.proofs.Words.{take_all, map-append, Text, folded, same, has_same, same_comm, value_at, IsWith, list_any-append}
 
 pub take-read : {X : Type 0} (xs : List X) (i : ℕ) (x : X) → i < length xs → x ≡ get_or xs i x → take (i + 1) xs ≡ take i xs ++ x ∷ []
 take-read xs i x lt e = take_more xs i x lt ∙ ap (λ y. take i xs ++ y ∷ []) (sym e)

@@ -1,34 +1,13 @@
 -- When setting a field is refused, and for which reason.
-use Rattle.std.proofs.Common.{◌≡◌, ℕ, ◌+◌, ◌<◌, ◌≤◌, ◌&&◌, nat_lt, Bool, true, false, List, [], ◌∷◌, is_some, length, count_by, ◌⊎◌, inl, inr, ⊎_elim, true≢false, sym, ◌∙◌, ap, subst, arith}
-use Rattle.std.proofs.lemmas.Bool.{false≢true}
-use Rattle.std.proofs.lemmas.List.Elements.{All-nil, All-cons, All-head}
-use Rattle.bib_spec.specs.Bytes.{name_limit, file_limit}
-use Rattle.bib_spec.specs.Text.{Text, is_name}
-use Rattle.bib_spec.specs.Tree.{Value, EntryTree, IsValue}
-use Rattle.bib_spec.specs.Reading.{Item, Reading, Reads, IsValueWithin}
-use Rattle.bib_spec.specs.Texts.{months, macros_at, raw_text, raw_limit, too_long_at, Opens}
-use Rattle.bib_spec.specs.Texts.{IsOpenable}
-use Rattle.bib_spec.specs.Pieces.{Piece}
+use Rattle.bib_edit.proofs.Words.{◌≡◌, ℕ, ◌+◌, ◌<◌, ◌≤◌, ◌&&◌, nat_lt, Bool, true, false, List, [], ◌∷◌, is_some, length, count_by, ◌⊎◌, inl, inr, ⊎_elim, true≢false, sym, ◌∙◌, ap, subst, arith, false≢true, All-nil, All-cons, All-head, name_limit, file_limit, Text, is_name, Value, EntryTree}
+use Rattle.bib_edit.proofs.Words.{IsValue, Item, Reading, Reads, IsValueWithin, months, macros_at, raw_text, raw_limit, too_long_at, Opens, IsOpenable, Piece, Spells, holders, fields_named, entry_with_field, IsAccepted, IsFirstRefusal, pieces_of, view_of, start_of, IsPartsOf, OfReading}
+use Rattle.bib_edit.proofs.Words.{SetField, Memory, made_base, set_field, one_reading, IsAllowedEdit, ArePiecesOf, IsRefusal, IsHeldAt, IsHolderFault, none_holds, many_hold, is_field, olds_len, news_len, set_piece, OfItem}
 use Rattle.edit_spec.specs.Edits as edits
-use Rattle.edit_spec.specs.Edits.{Spells, holders, fields_named, entry_with_field, Refuses, IsAccepted, IsFirstRefusal}
-use Rattle.edit_spec.specs.EditChunks.{pieces_of}
-use Rattle.bib_scan.specs.View.{view_of}
-use Rattle.bib_scan.specs.Layout.{start_of}
-use Rattle.bib_scan.specs.ValueParts.{IsPartsOf}
 use Rattle.bib_scan.specs.declared.parts.PartSpan.{PartSpan}
 use Rattle.bib_value.specs.Raw.{OfValue}
-use Rattle.bib_store.specs.Meaning.{OfReading}
 use Rattle.bib_data.specs.declared.edit.Edit.{Edit}
-use Rattle.bib_data.specs.declared.edit.Edit.TheVariants.{SetField}
 use Rattle.bib_edit.specs.declared.fault.EditFault.{EditFault}
-use Rattle.bib_edit.specs.declared.fault.EditFault.TheVariants.{BadName, BadValue, Ambiguous, FileTooLong, TextTooLong, Memory}
-use Rattle.bib_keys.specs.MadeBase.{made_base}
-use Rattle.bib_edit.specs.Asking.{set_field}
-use Rattle.bib_scan.proofs.OneReading.{one_reading}
-use Rattle.bib_edit.specs.Planning.{IsAllowedEdit, ArePiecesOf, IsRefusal}
-use Rattle.bib_edit.specs.Addressing.{IsHeldAt, IsHolderFault, none_holds, many_hold, is_field}
-use Rattle.bib_edit.specs.Limits.{olds_len, news_len}
-use Rattle.bib_edit.specs.FieldPieces.{set_piece, OfItem}
+use Rattle.bib_edit.specs.declared.fault.EditFault.TheVariants.{BadName, BadValue, Ambiguous, FileTooLong, TextTooLong}
 use Rattle.bib_edit.proofs.Ranks.{Passes, no_reason, more, is_first, all_clear}
 use Rattle.bib_edit.proofs.NamedEntries.{named-entry}
 use Rattle.bib_edit.proofs.PieceLengths.{makes-long, makes-short}

@@ -1,7 +1,4 @@
-use Rattle.std.proofs.Common.{sym, subst}
-use Rattle.bib_data.specs.declared.edit.Edit.TheVariants.{AddEntry}
-use Rattle.bib_edit.specs.Planning.{ArePiecesOf, IsAllowedEdit, IsRefusal}
-use Rattle.bib_edit.specs.ManyEntries.{Adds, one}
+use Rattle.bib_edit.proofs.Words.{sym, subst, AddEntry, ArePiecesOf, IsAllowedEdit, IsRefusal, Adds, one}
 use Rattle.bib_edit.proofs.Results.{if_ok-as, on_ok-as, if_err-as}
 use Rattle.bib_edit.proofs.add_entry.add_entry.Goals as goal
 

@@ -1,6 +1,4 @@
-use Rattle.bib_data.specs.declared.edit.Edit.TheVariants.{AddMany}
-use Rattle.bib_edit.specs.Planning.{ArePiecesOf, IsAllowedEdit, IsRefusal}
-use Rattle.bib_edit.specs.ManyEntries.{many}
+use Rattle.bib_edit.proofs.Words.{AddMany, ArePiecesOf, IsAllowedEdit, IsRefusal, many}
 use Rattle.bib_edit.proofs.Results.{if_ok-as, on_ok-as, if_err-as}
 use Rattle.bib_edit.proofs.add_many.add_many.Goals as goal
 

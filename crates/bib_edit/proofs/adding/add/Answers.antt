@@ -1,9 +1,4 @@
-use Rattle.std.proofs.Common.{◌≡◌, ◌≤◌, List, sym, ◌∙◌, ap, subst}
-use Rattle.std.proofs.lemmas.Result.{err_from_is_err_and}
-use Rattle.bib_spec.specs.Bytes.{file_limit}
-use Rattle.bib_spec.specs.Pieces.{Piece}
-use Rattle.bib_edit.specs.Limits.{olds_len}
-use Rattle.bib_edit.specs.ManyEntries.{AreAnyLong, entries_text, put_in}
+use Rattle.bib_edit.proofs.Words.{◌≡◌, ◌≤◌, List, sym, ◌∙◌, ap, subst, err_from_is_err_and, file_limit, Piece, olds_len, AreAnyLong, entries_text, put_in}
 use Rattle.bib_edit.proofs.LimitTests.{not_over}
 use Rattle.bib_edit.proofs.OpenFiles.{opens-as, none-long}
 use Rattle.bib_edit.proofs.Added.{olds-put_in, of-addition, add-long_file, add-long_text, add-accepted}

@@ -1,6 +1,4 @@
-use Rattle.std.proofs.Common.{◌≤◌, ◌||◌, length, sym, ◌∙◌, ap, ap₂, arith}
-use Rattle.std.proofs.lemmas.Bool.{both_ways}
-use Rattle.bib_edit.specs.ManyEntries.{keys_given, is_any_held}
+use Rattle.bib_edit.proofs.Words.{◌≤◌, ◌||◌, length, sym, ◌∙◌, ap, ap₂, arith, both_ways, keys_given, is_any_held}
 use Rattle.bib_edit.proofs.Added.{of-addition, add-bad_key, add-bad_name, add-bad_value, add-high, add-twice, add-in_use}
 use Rattle.bib_edit.proofs.adding.judge.Goals as goal
 

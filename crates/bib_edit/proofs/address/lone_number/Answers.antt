@@ -1,5 +1,4 @@
-use Rattle.std.proofs.Common.{sym, arith}
-use Rattle.bib_edit.specs.Addressing.{none_holds, many_hold}
+use Rattle.bib_edit.proofs.Words.{sym, arith, none_holds, many_hold}
 use Rattle.bib_edit.proofs.LoneNumbers.{lone-number, no-number}
 use Rattle.bib_edit.proofs.address.lone_number.Goals as goal
 

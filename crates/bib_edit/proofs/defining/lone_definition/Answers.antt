@@ -1,8 +1,4 @@
-use Rattle.std.proofs.Common.{◌≡◌, ◌∙◌, Some, sym, arith}
-use Rattle.edit_spec.specs.Edits.{defines}
-use Rattle.bib_tokens.specs.FirstItem.{first_item}
-use Rattle.bib_tokens.proofs.FirstFound.{none-count, first-count}
-use Rattle.bib_edit.specs.Definitions.{none_defines, many_define}
+use Rattle.bib_edit.proofs.Words.{◌≡◌, ◌∙◌, Some, sym, arith, defines, first_item, none-count, first-count, none_defines, many_define}
 use Rattle.bib_edit.proofs.TabledDefinitions.{tabled-count, tabled-first}
 use Rattle.bib_edit.proofs.defining.lone_definition.Goals as goal
 

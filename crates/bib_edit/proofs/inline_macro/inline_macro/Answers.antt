@@ -1,23 +1,10 @@
-use Rattle.std.proofs.Common.{◌≡◌, ◌∷◌, ◌+◌, ◌<◌, ◌≤◌, length, sym, ◌∙◌, ap, ap₂, subst₂, arith}
-use Rattle.std.proofs.lemmas.Bool.{both_ways}
-use Rattle.std.proofs.lemmas.Result.{err_from_is_err_and, IfOk-weaker}
-use Rattle.bib_spec.proofs.Results.{ok_always}
-use Rattle.bib_spec.specs.Bytes.{file_limit}
-use Rattle.bib_spec.specs.Text.{Text}
+use Rattle.bib_edit.proofs.Words.{◌≡◌, ◌∷◌, ◌+◌, ◌<◌, ◌≤◌, length, sym, ◌∙◌, ap, ap₂, subst₂, arith, both_ways, err_from_is_err_and, IfOk-weaker, ok_always, file_limit, Text, Piece, pieces_of, olds_len, news_len, ArePiecesOf, made_base, tokens_seen, replaced, only-tokens}
 use Rattle.edit_spec.specs.Edits as edits
-use Rattle.bib_spec.specs.Pieces.{Piece}
-use Rattle.edit_spec.specs.EditChunks.{pieces_of}
 use Rattle.bib_data.specs.declared.edit.Edit.TheVariants.{InlineMacro}
-use Rattle.bib_edit.specs.Limits.{olds_len, news_len}
-use Rattle.bib_edit.specs.Planning.{ArePiecesOf}
-use Rattle.bib_keys.specs.MadeBase.{made_base}
-use Rattle.bib_tokens.specs.PlacedParts.{tokens_seen}
-use Rattle.bib_edit.specs.Replacing.{replaced}
 use Rattle.bib_edit.proofs.FoundItems.{defined-within}
 use Rattle.bib_edit.proofs.LimitTests.{not_over}
 use Rattle.bib_edit.proofs.PieceLengths.{goes-within}
 use Rattle.bib_edit.proofs.OpenFiles.{opens-as}
-use Rattle.bib_tokens.proofs.PlacedItems.{only-tokens}
 use Rattle.bib_edit.proofs.AskedEdits.{of-inline_macro}
 use Rattle.bib_edit.proofs.InlinedMacro.{inline-merges, inline-long_file, inline-accepted, refused-definition, inlining-pieces}
 use Rattle.bib_edit.proofs.inline_macro.inline_macro.Goals as goal

@@ -1,26 +1,11 @@
-use Rattle.std.proofs.Common.{◌≡◌, ◌∷◌, ◌+◌, ◌<◌, ◌≤◌, length, sym, ◌∙◌, ap, subst, arith}
-use Rattle.std.proofs.lemmas.Bool.{both_ways}
-use Rattle.std.proofs.lemmas.Result.{IfOk-weaker}
-use Rattle.bib_spec.specs.Bytes.{file_limit}
-use Rattle.bib_spec.specs.Text.{Text}
+use Rattle.bib_edit.proofs.Words.{◌≡◌, ◌∷◌, ◌+◌, ◌<◌, ◌≤◌, length, sym, ◌∙◌, ap, subst, arith, both_ways, IfOk-weaker, file_limit, Text, holds, any_part, Piece, ok_always, olds_len, news_len, ArePiecesOf, pieces_of, made_base, insertion_of, tokens_seen, replaced, only-tokens}
 use Rattle.edit_spec.specs.Edits as edits
-use Rattle.edit_spec.specs.Edits.{holds, any_part}
-use Rattle.bib_spec.specs.Pieces.{Piece}
-use Rattle.bib_spec.proofs.Results.{ok_always}
 use Rattle.bib_data.specs.declared.edit.Edit.TheVariants.{IntroduceMacro}
-use Rattle.bib_edit.specs.Limits.{olds_len, news_len}
-use Rattle.bib_edit.specs.Planning.{ArePiecesOf}
-use Rattle.edit_spec.specs.EditChunks.{pieces_of}
-use Rattle.bib_keys.specs.MadeBase.{made_base}
-use Rattle.bib_edit.specs.NewEntries.{insertion_of}
-use Rattle.bib_tokens.specs.PlacedParts.{tokens_seen}
-use Rattle.bib_edit.specs.Replacing.{replaced}
 use Rattle.bib_edit.proofs.FoundItems.{first-at, first-within}
 use Rattle.bib_edit.proofs.LimitTests.{not_over}
 use Rattle.bib_edit.proofs.NamesInUse.{in-use-told}
 use Rattle.bib_edit.proofs.PieceLengths.{goes-within}
 use Rattle.bib_edit.proofs.OpenFiles.{opens-as}
-use Rattle.bib_tokens.proofs.PlacedItems.{only-tokens}
 use Rattle.bib_edit.proofs.AskedEdits.{of-introduce_macro}
 use Rattle.bib_edit.proofs.IntroducedMacro.{introduce-unbalanced, introduce-missing, introduce-in_use, introduce-long_file, introduce-accepted, introducing-pieces, found-first, found-none, met-first}
 use Rattle.bib_edit.proofs.introduce_macro.introduce_macro.Goals as goal

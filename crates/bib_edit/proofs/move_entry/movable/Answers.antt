@@ -1,7 +1,4 @@
-use Rattle.std.proofs.Common.{◌≡◌, arith}
-use Rattle.std.proofs.lemmas.Bool.{both_ways}
-use Rattle.std.proofs.lemmas.Result.{err_from_is_err_and}
-use Rattle.edit_spec.specs.Edits.{MoveEntry, last_position}
+use Rattle.bib_edit.proofs.Words.{◌≡◌, arith, both_ways, err_from_is_err_and, MoveEntry, last_position}
 use Rattle.bib_edit.proofs.FoundItems.{held-within}
 use Rattle.bib_edit.proofs.AskedEdits.{of-move_entry}
 use Rattle.bib_edit.proofs.Moved.{move-high, move-merges, refused_address}

@@ -1,9 +1,5 @@
-use Rattle.std.proofs.Common.{◌≡◌, ◌≤◌, length, sym, ◌∙◌, ap, subst}
-use Rattle.std.proofs.lemmas.Result.{err_from_is_err_and}
-use Rattle.bib_spec.specs.Reading.{Reading, Reads}
+use Rattle.bib_edit.proofs.Words.{◌≡◌, ◌≤◌, length, sym, ◌∙◌, ap, subst, err_from_is_err_and, Reading, Reads, View, fields_of, FieldsHaveValues, IsFieldLong}
 use Rattle.bib_data.specs.declared.edit.Edit.TheVariants as asked
-use Rattle.bib_scan.specs.View.{View, fields_of}
-use Rattle.bib_edit.specs.Moving.{FieldsHaveValues, IsFieldLong}
 use Rattle.bib_edit.proofs.LimitTests.{not_over}
 use Rattle.bib_edit.proofs.PieceLengths.{asked-short}
 use Rattle.bib_edit.proofs.OpenFiles.{opens-as, none-long}

@@ -1,7 +1,4 @@
-use Rattle.std.proofs.Common.{true, false, sym, subst, inl}
-use Rattle.bib_scan.specs.View.{field_seen}
-use Rattle.bib_edit.specs.NewEntries.{IsLong}
-use Rattle.bib_edit.specs.Moving.{FieldsHaveValues, IsFieldLong}
+use Rattle.bib_edit.proofs.Words.{true, false, sym, subst, inl, field_seen, IsLong, FieldsHaveValues, IsFieldLong}
 use Rattle.bib_edit.proofs.MovedTexts.{no-field-long, field-short}
 use Rattle.bib_edit.proofs.moving.is_field_long.Goals as goal
 

@@ -1,9 +1,4 @@
-use Rattle.std.proofs.Common.{◌↔◌, List, sym, subst}
-use Rattle.std.proofs.lemmas.Bool.{both_ways, false≢true}
-use Rattle.bib_data.specs.declared.edit.NewEntry.{NewEntry}
-use Rattle.bib_edit.specs.ManyEntries.{AllHaveValues}
-use Rattle.bib_edit.specs.NewEntries.{HaveValues}
-use Rattle.bib_keys.proofs.Walks.{next-read}
+use Rattle.bib_edit.proofs.Words.{◌↔◌, List, sym, subst, both_ways, false≢true, NewEntry, AllHaveValues, HaveValues, next-read}
 use Rattle.bib_edit.proofs.new_entries.have_values.Goals as goal
 
 pub returns-then-not-branch : goal.returns-then-not-branch

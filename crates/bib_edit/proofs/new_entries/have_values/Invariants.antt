@@ -1,5 +1,4 @@
-use Rattle.std.proofs.Common.{◌↔◌, drop}
-use Rattle.bib_edit.specs.ManyEntries.{AllHaveValues}
+use Rattle.bib_edit.proofs.Words.{◌↔◌, drop, AllHaveValues}
 use Rattle.bib_edit.proofs.new_entries.have_values.Given as goal
 
 abbrev pub invariant-entries : goal.invariant-entries

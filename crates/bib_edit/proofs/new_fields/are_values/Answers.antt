@@ -1,8 +1,4 @@
-use Rattle.std.proofs.Common.{sym, subst}
-use Rattle.std.proofs.lemmas.Bool.{both_ways, false≢true}
-use Rattle.bib_spec.specs.Bytes.{name_limit}
-use Rattle.bib_spec.specs.Text.{Text}
-use Rattle.bib_spec.specs.Reading.{IsValueWithin}
+use Rattle.bib_edit.proofs.Words.{sym, subst, both_ways, false≢true, name_limit, Text, IsValueWithin}
 use Rattle.bib_edit.proofs.NewFields.{values-more, stands}
 use Rattle.bib_edit.proofs.new_fields.are_values.Goals as goal
 

@@ -1,4 +1,4 @@
-use Rattle.bib_edit.specs.NewEntries.{HaveValuesTo}
+use Rattle.bib_edit.proofs.Words.{HaveValuesTo}
 use Rattle.bib_edit.proofs.new_fields.are_values.Given as goal
 
 abbrev pub invariant-loop-field : goal.invariant-loop-field

@@ -1,4 +1,4 @@
-use Rattle.bib_spec.specs.Records.{entries_of}
+use Rattle.bib_edit.proofs.Words.{entries_of}
 use Rattle.bib_edit.proofs.Parents.{referred-iff, unnamed-iff}
 use Rattle.bib_edit.proofs.Referrers.{key-short}
 use Rattle.bib_edit.proofs.referring.is_referred.Goals as goal

@@ -1,8 +1,6 @@
-use Rattle.std.proofs.Common.{refl, ◌∙◌}
-use Rattle.bib_edit.specs.declared.new_keys.NewKeys.{NewKeys}
+use Rattle.bib_edit.proofs.Words.{refl, ◌∙◌, NewKeys, RegenerateKeys}
 use Rattle.bib_edit.proofs.AskedEdits.{of-regenerate_keys}
 use Rattle.bib_edit.proofs.LimitTests.{not_over}
-use Rattle.bib_data.specs.declared.edit.Edit.TheVariants.{RegenerateKeys}
 use Rattle.bib_edit.proofs.PieceLengths.{asked-short}
 use Rattle.bib_edit.proofs.OpenFiles.{opens-as}
 use Rattle.bib_edit.proofs.Regenerated.{pieces-are, refused-file, accepted}

@@ -1,7 +1,4 @@
-use Rattle.std.proofs.Common.{◌≡◌, ℕ, ◌≤◌, ◌<◌, ◌+◌, ◌∙◌, length, sym, subst, arith}
-use Rattle.bib_spec.specs.Records.{entries_of}
-use Rattle.bib_spec.proofs.Parents.{named_within}
-use Rattle.bib_edit.specs.NewKeys.{AreQuiet, HavePieces}
+use Rattle.bib_edit.proofs.Words.{◌≡◌, ℕ, ◌≤◌, ◌<◌, ◌+◌, ◌∙◌, length, sym, subst, arith, entries_of, named_within, AreQuiet, HavePieces}
 use Rattle.bib_edit.proofs.EntryPieces.{first-pieces, next-pieces, all-pieces, none-passed, quiet-before, quiet-after}
 use Rattle.bib_edit.proofs.Referrers.{key-short}
 use Rattle.bib_edit.proofs.rekeying.renaming.Goals as goal

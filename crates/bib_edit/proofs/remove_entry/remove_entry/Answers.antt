@@ -1,14 +1,8 @@
-use Rattle.std.proofs.Common.{◌≡◌, List, ◌∙◌, sym, ap, [], ◌∷◌}
-use Rattle.std.proofs.lemmas.Bool.{both_ways}
-use Rattle.std.proofs.lemmas.Result.{err_from_is_err_and}
-use Rattle.edit_spec.specs.EditChunks.{pieces_of}
-use Rattle.bib_keys.specs.MadeBase.{made_base}
+use Rattle.bib_edit.proofs.Words.{◌≡◌, List, ◌∙◌, sym, ap, [], ◌∷◌, both_ways, err_from_is_err_and, pieces_of, made_base, Piece, ArePiecesOf, IsAllowedEdit}
 use Rattle.bib_edit.proofs.FoundItems.{held-within}
 use Rattle.bib_edit.proofs.OpenFiles.{opens-as}
 use Rattle.bib_edit.proofs.AskedEdits.{of-remove_entry}
 use Rattle.bib_edit.proofs.Removed.{remove-referred, remove-merges, remove-pieces, remove-accepted, refused_address}
-use Rattle.bib_spec.specs.Pieces.{Piece}
-use Rattle.bib_edit.specs.Planning.{ArePiecesOf, IsAllowedEdit}
 use Rattle.bib_data.specs.declared.edit.Edit.TheVariants as asked
 use Rattle.bib_edit.proofs.Results.{if_ok-as, on_ok-of}
 use Rattle.bib_edit.proofs.remove_entry.remove_entry.Goals as goal

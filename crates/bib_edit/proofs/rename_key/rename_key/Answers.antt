@@ -1,9 +1,6 @@
-use Rattle.std.proofs.Common.{◌≡◌, true, sym, ◌∙◌}
-use Rattle.std.proofs.lemmas.Result.{err_from_is_err_and}
-use Rattle.bib_spec.specs.Text.{is_new_key}
+use Rattle.bib_edit.proofs.Words.{◌≡◌, true, sym, ◌∙◌, err_from_is_err_and, is_new_key, RenameKey}
 use Rattle.bib_edit.proofs.AskedEdits.{of-rename_key}
 use Rattle.bib_edit.proofs.LimitTests.{not_over}
-use Rattle.bib_data.specs.declared.edit.Edit.TheVariants.{RenameKey}
 use Rattle.bib_edit.proofs.PieceLengths.{asked-short}
 use Rattle.bib_edit.proofs.OpenFiles.{opens-as}
 use Rattle.bib_edit.proofs.RenamedKeys.{one-alone, refused-holders, refused-use, pieces-are, refused-file, accepted}

@@ -1,11 +1,4 @@
-use Rattle.std.proofs.Common.{◌≡◌, ◌++◌, sym, ◌∙◌, ap, arith, List}
-use Rattle.std.proofs.lemmas.Result.{err_from_is_err_and}
-use Rattle.bib_spec.specs.Pieces.{Piece}
-use Rattle.edit_spec.specs.Edits.{RenameMacro}
-use Rattle.edit_spec.specs.EditChunks.{pieces_of}
-use Rattle.bib_keys.specs.MadeBase.{made_base}
-use Rattle.bib_tokens.specs.PlacedParts.{tokens_seen}
-use Rattle.bib_edit.specs.Replacing.{replaced}
+use Rattle.bib_edit.proofs.Words.{◌≡◌, ◌++◌, sym, ◌∙◌, ap, arith, List, err_from_is_err_and, Piece, RenameMacro, pieces_of, made_base, tokens_seen, replaced}
 use Rattle.bib_edit.proofs.FoundItems.{defined-within}
 use Rattle.bib_edit.proofs.NamesInUse.{taken-before, taken-from, taken-never}
 use Rattle.bib_edit.proofs.PieceLengths.{goes-within}

@@ -1,6 +1,4 @@
-use Rattle.std.proofs.Common.{◌*◌, length, ap, arith}
-use Rattle.std.proofs.lemmas.List.{length-map}
-use Rattle.bib_tokens.specs.PlacedParts.{token_seen, tokens_seen}
+use Rattle.bib_edit.proofs.Words.{◌*◌, length, ap, arith, length-map, token_seen, tokens_seen}
 use Rattle.bib_edit.proofs.MacroPieces.{olds-tokens, news-tokens}
 use Rattle.bib_edit.proofs.replacing.is_result_too_long.Goals as goal
 

@@ -1,10 +1,5 @@
-use Rattle.std.proofs.Common.{sym, ◌∙◌, arith}
-use Rattle.std.proofs.lemmas.Result.{err_from_is_err_and}
-use Rattle.bib_spec.specs.Bytes.{name_limit}
-use Rattle.bib_spec.specs.Reading.{IsValueWithin}
-use Rattle.bib_scan.specs.ValueParts.{IsPartsOf}
+use Rattle.bib_edit.proofs.Words.{sym, ◌∙◌, arith, err_from_is_err_and, name_limit, IsValueWithin, IsPartsOf, SetField}
 use Rattle.bib_edit.proofs.Results.{if_some-at, if_none-at}
-use Rattle.bib_data.specs.declared.edit.Edit.TheVariants.{SetField}
 use Rattle.bib_edit.proofs.LimitTests.{not_over}
 use Rattle.bib_edit.proofs.PieceLengths.{asked-short}
 use Rattle.bib_edit.proofs.SettingPieces.{item-within}
