@@ -18,7 +18,7 @@ use bib_scan::{Seq, one_reading};
 use bib_store::{Database, ItemList, Piece};
 use std::alloc::Global;
 
-/// Refuses entries that are not valid, or can't come together before item `position`. All keys are judged first, then
+/// Refuses entries that are not valid, or can't come together before item `position`. It judges all keys first, then
 /// all names and types, and then all values.
 fn judge<L: ItemList>(
     alloc: Global,
@@ -54,8 +54,8 @@ fn judge<L: ItemList>(
 }
 
 /// The piece that puts these entries before item `position`, in order, or the first reason against it; no piece for no
-/// entries. It takes time and memory in the length of the entries. Dangling crossrefs may have waited for their keys: then
-/// the entries are their targets from now on.
+/// entries. It takes time and memory in the length of the entries. Dangling crossrefs may name their keys: the
+/// entries become the targets.
 pub(crate) fn add<L: ItemList>(
     alloc: Global,
     db: &Database<L>,

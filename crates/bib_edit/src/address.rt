@@ -31,12 +31,12 @@ pub(crate) fn lone_entry<L: ItemList>(db: &Database<L>, key: &[u8]) -> Result<us
     Ok(db.entry_item(n))
 }
 
-/// The fields of an entry in which those of one name were sought.
+/// What was found of the fields with one name.
 #[derive(Clone, Copy)]
 pub(crate) struct SoughtFields<'a> {
     /// The first field that has the name.
     pub(crate) first: Option<FieldView<'a>>,
-    /// Whether another has it too.
+    /// Whether another field has the name too.
     pub(crate) is_repeated: bool,
     /// The last field of all.
     pub(crate) last: Option<FieldView<'a>>,

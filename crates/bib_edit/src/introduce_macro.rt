@@ -15,9 +15,10 @@ use bib_store::{Database, ItemList, Piece};
 use bib_tokens::{Sought, first_with, push_from};
 use std::alloc::{AllocError, Global};
 
-/// The pieces that define the macro as this text before the first item that has it, in braces or in quotes, as a part, and
-/// put its name for each such part, or the first reason against it. It looks at each field once, but for those of that
-/// item, at which it looks twice, and takes time and memory in the length of the file.
+/// The pieces that define the macro as this text and replace each part that is the text, in braces or in quotes, by its
+/// name, or the first reason against it. The definition comes before the first item with such a part. It looks at each
+/// field once, except at those of that item, at which it looks twice. It takes time and memory in the length of the
+/// file.
 pub(crate) fn introduce_macro<L: ItemList>(
     alloc: Global,
     db: &Database<L>,
@@ -56,7 +57,7 @@ pub(crate) fn introduce_macro<L: ItemList>(
     replaced_after(alloc, insertion, tokens.as_slice(), name)
 }
 
-/// Whether the name is in use, where this says whether it is used.
+/// Whether the name is in use, given whether a part uses it.
 fn is_taken<L: ItemList>(db: &Database<L>, name: &[u8], is_used: bool) -> bool
     ensures { OfReading db.now (λ r. result ≡ (is_used || is_given name.now r.items)) }
 {

@@ -36,7 +36,7 @@ fn old_len(pieces: &[Piece]) -> usize
     len
 }
 
-/// Whether the file would be too long with these pieces' new bytes in the place of their old ones.
+/// Whether the file would be too long if the new bytes of these pieces replaced the old ones.
 pub(crate) fn are_too_long<L: ItemList>(db: &Database<L>, pieces: &[Piece]) -> bool
     requires { olds_len pieces.now ≤ file_limit }
     ensures { IsTrue result ↔ file_limit + olds_len pieces.now < length db.now + news_len pieces.now }

@@ -37,8 +37,8 @@ fn movable<L: ItemList>(
     Ok(n)
 }
 
-/// The pieces that take this entry's body out and put it before item `position` of what remains, in a line of its own, or
-/// the first reason against it. It takes time and memory in the length of the entry and of the texts beside it.
+/// The pieces that take this entry's body out and put it before item `position` of what remains, in a line of its own,
+/// or the first reason against it. It takes time and memory in the length of the entry and of the texts beside it.
 pub(crate) fn move_entry<L: ItemList>(
     alloc: Global,
     db: &Database<L>,

@@ -1,4 +1,4 @@
-//! The body of an item goes, and stands elsewhere in a line of its own.
+//! An item's body goes, and comes elsewhere in a line of its own.
 
 ghost use Rattle.std.specs.Prelude.{◌≡◌, [], ◌∷◌, IfOk, IfErr};
 ghost use Rattle.edit_spec.specs.Edits.{MoveEntry, last_position};
@@ -14,7 +14,7 @@ use bib_scan::{Fields, Seq, Text};
 use bib_store::{Database, ItemList, Piece};
 use std::alloc::{AllocError, Global};
 
-/// The highest position before which a moved entry can stand: where the key is there, its entry is not counted.
+/// The highest position that a moved entry can have. If an entry has the key, it is not counted.
 pub(crate) fn last_position<L: ItemList>(db: &Database<L>, key: &[u8]) -> usize
     ensures { OfReading db.now (λ r. result ≡ last_position r (MoveEntry key.now 0)) }
 {
@@ -29,7 +29,7 @@ pub(crate) fn next_item<L: ItemList>(db: &Database<L>, n: usize, position: usize
     requires { IsItemNumber db.now position }
     ensures { result ≡ next_item n position }
 {
-    // A position below the count of the items can grow by one.
+    // for the proof: a position below the count of the items can grow by one
     db.opens();
     let _ = db.item_count();
     if position < n { position } else { position + 1 }
@@ -77,8 +77,8 @@ pub(crate) fn moved_pieces<L: ItemList>(
     two_pieces(alloc, removal, insertion)
 }
 
-/// Whether the raw text of a field would be too long before item `n`. It takes time in the number of parts, and memory for
-/// those of one value at a time.
+/// Whether the raw text of a field would be too long before item `n`. It takes time in the number of parts, and memory
+/// for the parts of one value at a time.
 pub(crate) fn is_field_long<L: ItemList>(
     alloc: Global,
     db: &Database<L>,

@@ -75,7 +75,7 @@ pub(crate) fn has_field_twice(alloc: Global, entries: &[NewEntry]) -> Result<boo
     Ok(false)
 }
 
-/// Whether a key is an earlier one too, folded. It takes memory for the keys, and time in their number.
+/// Whether two keys are the same, folded. It takes memory for the keys, and time in their number.
 pub(crate) fn has_same_key(alloc: Global, entries: &[NewEntry]) -> Result<bool, AllocError>
     requires { list_all is_new_key (keys_given entries.now) ≡ true }
     ensures { IfOk result (λ same. same ≡ has_same (keys_given entries.now)) }
@@ -91,7 +91,8 @@ pub(crate) fn has_same_key(alloc: Global, entries: &[NewEntry]) -> Result<bool, 
     Ok(false)
 }
 
-/// Whether an entry has this key, folded. A dangling crossref may name it: the entry may be what that waits for.
+/// Whether an entry of the file has this key, folded. A dangling crossref may name the key: the new entry becomes its
+/// target.
 fn is_held<L: ItemList>(db: &Database<L>, key: &[u8]) -> bool
     ensures { OfReading db.now (λ r. result ≡ nat_lt 0 (holders key.now r)) }
 {

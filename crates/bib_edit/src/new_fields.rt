@@ -18,7 +18,7 @@ use bib_store::{Database, ItemList};
 use bib_value::{FoldedMap, RAW_LIMIT, part_text};
 use std::alloc::{AllocError, Global};
 
-/// Whether each field's name is one.
+/// Whether each field's name is valid.
 pub(crate) fn are_named(fields: &[(Text, Text)]) -> bool
     ensures { result ≡ list_all is_name (names_of fields.now) }
 {
@@ -42,7 +42,7 @@ pub(crate) fn are_values(alloc: Global, fields: &[(Text, Text)]) -> Result<bool,
     Ok(true)
 }
 
-/// How many names are compared each with each: a map of them would cost more.
+/// Up to this many names are compared each with each: a map of them would cost more.
 const FEW: usize = 16;
 
 /// Whether one of the fields has this name, folded.
@@ -54,7 +54,7 @@ fn has_name(fields: &[(Text, Text)], name: &[u8]) -> bool
         .any(|field| same_folded(name, field.0.as_slice()))
 }
 
-/// Whether a name stands for an earlier one too, folded: each is compared with those after it.
+/// Whether two names are the same, folded. Each is compared with those after it.
 fn has_same_among(fields: &[(Text, Text)]) -> bool
     ensures { result ≡ has_same (names_of fields.now) }
 {
@@ -68,7 +68,7 @@ fn has_same_among(fields: &[(Text, Text)]) -> bool
     false
 }
 
-/// Whether a name stands for an earlier one too, folded. It takes memory for the names, where they are many.
+/// Whether two names are the same, folded. It takes memory for the names if they are many.
 pub(crate) fn has_same_name(alloc: Global, fields: &[(Text, Text)]) -> Result<bool, AllocError>
     requires { IsTrue (list_all is_name (names_of fields.now)) }
     ensures { IfOk result (λ same. same ≡ has_same (names_of fields.now)) }

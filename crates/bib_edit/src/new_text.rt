@@ -29,7 +29,7 @@ fn push_lines(text: &mut Vec<u8>, fields: &[(Text, Text)]) -> Result<(), AllocEr
     Ok(())
 }
 
-/// The line's end before the close, where there are fields.
+/// The line's end before the close, if there are fields.
 fn line_before_close(fields: &[(Text, Text)]) -> &'static [u8]
     ensures { result.now ≡ line_before_close fields.now }
 {

@@ -1,4 +1,4 @@
-//! Bytes that stand for many tokens.
+//! The replacement of many tokens by the same bytes.
 
 ghost use Rattle.std.specs.Prelude.{◌≡◌, ◌↔◌, ◌+◌, ◌<◌, ◌≤◌, ◌^◌, ◌++◌, ◌∷◌, length, IsTrue, IfOk, OnOk, IfErr};
 ghost use Rattle.bib_spec.specs.Bytes.{file_limit};
@@ -15,8 +15,8 @@ use bib_store::{Database, ItemList, Piece};
 use bib_tokens::Token;
 use std::alloc::Global;
 
-/// Adds a piece for each token, for which the new bytes stand. It takes memory for a copy of the new
-/// bytes for each.
+/// Adds a piece for each token, which replaces it by the new bytes. It takes memory for a copy of the new bytes for
+/// each token.
 pub(crate) fn push_replaced(
     alloc: Global,
     pieces: &mut Vec<Piece>,
@@ -37,7 +37,7 @@ pub(crate) fn push_replaced(
     Ok(())
 }
 
-/// This piece, and after it one for each token, for which the new bytes stand.
+/// This piece, and after it a piece for each token, which replaces it by the new bytes.
 pub(crate) fn replaced_after(
     alloc: Global,
     first: Piece,
@@ -65,7 +65,7 @@ fn covered(tokens: &[Token<'_>]) -> usize
     len
 }
 
-/// Whether the file would be too long if the new bytes stood for each token, and beside these `gone` bytes went and `come`
+/// Whether the file would be too long if the new bytes replaced each token, `gone` other bytes went and `come` other
 /// bytes came. Nothing is built.
 pub(crate) fn is_result_too_long<L: ItemList>(
     db: &Database<L>,

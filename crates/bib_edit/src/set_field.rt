@@ -50,7 +50,7 @@ pub(crate) fn set_field<L: ItemList>(
     Ok(pieces)
 }
 
-/// The piece that gives the field of item `n`, which is an entry, this value. Refused where it has two fields of the name.
+/// The piece that gives the field of item `n`, which is an entry, this value. Two fields with the name are refused.
 fn setting<L: ItemList>(
     alloc: Global,
     db: &Database<L>,
@@ -85,7 +85,7 @@ fn setting<L: ItemList>(
     }
 }
 
-/// The place in the body after the value of the last field, or after the key where there is none.
+/// The place in the body after the value of the last field, or after the key if there is no field.
 fn rows_end(view: &ItemView<'_>, last: Option<FieldView<'_>>) -> usize
     requires last { option_map field_seen last ≡ last_or None view.now.fields }
     requires place { rows_end view.now < 2 ^ 64 }

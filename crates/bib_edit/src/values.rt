@@ -9,7 +9,7 @@ ghost use Rattle.bib_scan.specs.ValueParts.{IsPartsOf};
 use bib_scan::{Parts, is_balanced, read_value};
 use std::alloc::{AllocError, Global};
 
-/// The number of the fault of reading that is want of memory.
+/// The number of the reading fault that is want of memory.
 const WANT_OF_MEMORY: u8 = 10;
 
 /// The parts of a text that is one value and nothing else, if it is.
@@ -24,7 +24,7 @@ pub(crate) fn value_parts(alloc: Global, text: &[u8]) -> Result<Option<Parts>, A
     }
 }
 
-/// What stands between the braces at the two ends of a text, if they are there.
+/// The text between the braces at the two ends, if they are there.
 fn inside_braces(text: &[u8]) -> Option<&[u8]>
     ensures { IfSome result (λ inside. text.now ≡ open_brace ∷ (inside.now ++ close_brace ∷ [])) }
 {
@@ -44,7 +44,7 @@ fn is_braced(text: &[u8]) -> bool
     }
 }
 
-/// Whether the text is a value. One that stands in braces is not taken apart: no memory is asked for.
+/// Whether the text is a value. A text in braces is not taken apart: no memory is asked for.
 pub(crate) fn is_value(alloc: Global, text: &[u8]) -> Result<bool, AllocError>
     ensures { IfOk result (λ is. IsTrue is ↔ IsValueWithin name_limit text.now) }
 {
