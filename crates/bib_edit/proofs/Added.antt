@@ -1,160 +1,190 @@
 -- Why an addition is refused, and that it is not.
-use Rattle.std.proofs.Common.{◌≡◌, ℕ, suc, ◌<◌, ◌≤◌, ◌+◌, Bool, true, false, ◌&&◌, [], ◌∷◌, is_some, length, map, count_by, refl, sym, ◌∙◌, ap, ap₂, arith, All}
-use Rattle.std.specs.List.{list_any, list_all}
-use Rattle.std.proofs.lemmas.Bool.{both_ways}
-use Rattle.bib_spec.specs.Bytes.{name_limit, file_limit}
-use Rattle.bib_spec.specs.Text.{Text, same, is_name, is_new_key}
-use Rattle.bib_spec.specs.Tree.{IsValue, is_type}
-use Rattle.bib_spec.specs.Reading.{Reading, Reads, bytes_of, item_bytes}
-use Rattle.bib_spec.specs.Texts.{months, macros_at, raw_text, too_long_at}
-use Rattle.bib_spec.specs.Records.{entries_of, keys_of, is_named}
+use Rattle.bib_edit.proofs.Words.{◌≡◌, ◌↔◌, ℕ, ◌<◌, ◌≤◌, ◌+◌, Bool, true, false, ◌&&◌, ◌||◌, List, [], ◌∷◌, is_some, length, map, refl, sym, ◌∙◌, ap, ap₂, arith, subst, append-nil, All, or-false, list_any, list_all, flat_map, both_ways, and_parts, file_limit, name_limit, Text, same, is_name}
+use Rattle.bib_edit.proofs.Words.{is_new_key, is_type, IsValue, Reading, Reads, item_bytes, months, too_long_at, entries_of, keys_of, Piece, Edit, BadKey, BadName, BadValue, BadPosition, NotFound, Ambiguous, KeyInUse, NameInUse, Referred, WouldMerge, FileTooLong, TextTooLong}
+use Rattle.bib_edit.proofs.Words.{Refuses, IsPositionTooHigh, IsMissing, IsAmbiguous, IsKeyInUse, IsNameInUse, MergesText, given_keys, given_names, given_types, given_values, has_same, field_names, field_values, entry_of, item_of, edited, IsAccepted, IsFirstRefusal, pieces_of, any_mapped, NewEntry}
+use Rattle.bib_edit.proofs.Words.{made_base, SpellsEntry, SpellEntries, OfEdit, olds_len, news_len, entry_text, insertion_of, keys_given, AllHaveValues, are_named, has_field_twice, is_any_held, AreAddable, AreAnyLong, entries_text, put_in, Adds, one, many}
 use Rattle.edit_spec.specs.Edits as edits
-use Rattle.edit_spec.specs.Edits.{Edit, EditFault, BadKey, BadName, BadValue, BadPosition, NotFound, Ambiguous, KeyInUse, NameInUse, Referred, WouldMerge, FileTooLong, TextTooLong, rank, Refuses, has_same, field_names, field_values, entry_of, item_of, edited, IsAccepted, IsFirstRefusal}
-use Rattle.edit_spec.specs.EditChunks.{pieces_of}
-use Rattle.edit_spec.proofs.RenameKey.{new_key_parts}
-use Rattle.bib_keys.specs.MadeBase.{made_base}
-use Rattle.bib_edit.specs.Asking.{SpellsEntry}
-use Rattle.bib_data.specs.declared.edit.NewEntry.{NewEntry}
-use Rattle.bib_data.specs.declared.edit.Edit.TheVariants as asked
-use Rattle.bib_edit.specs.declared.fault.EditFault.{EditFault as Fault}
-use Rattle.bib_edit.specs.declared.fault.EditFault.TheVariants as code
-use Rattle.bib_edit.specs.Planning.{IsRefusal}
-use Rattle.bib_edit.specs.NewEntries.{names_of, HaveValues, IsAnyLong, entry_text, IsGoodEntry, IsEntryFault, insertion_of}
-use Rattle.bib_edit.proofs.PiecePlaces.{insertion-pieces, length-edited}
-use Rattle.bib_edit.specs.Limits.{olds_len, news_len}
-use Rattle.bib_edit.proofs.LongTexts.{is_long, any_long, too_long-any}
-use Rattle.bib_edit.proofs.PlacedTexts.{inserted-long}
-use Rattle.bib_edit.proofs.AskedEdits.{of-add_entry}
-use Rattle.bib_edit.proofs.Ranks.{IsClear, clear_none, clear_more, first_refusal, all_clear}
-use Rattle.bib_edit.proofs.SpelledEntries.{names-spelled, values-spelled, spelled-values, any-long, rows-values, entry-written}
-use Rattle.bib_edit.proofs.HeldKeys.{named-any, counted-none, counted-some}
+use Rattle.bib_data.specs.declared.edit.Edit.{Edit as Asked}
+use Rattle.bib_edit.proofs.AskedEdits.{of-add_entry, of-add_many}
+use Rattle.bib_edit.proofs.Ranks.{Passes, no_reason, more, is_first, all_clear}
+use Rattle.bib_edit.proofs.PiecePlaces.{insertion-pieces, appending-pieces, no-pieces}
+use Rattle.bib_edit.proofs.PieceLengths.{makes-long, makes-short}
+use Rattle.bib_edit.proofs.LongTexts.{any_long, too_long-any}
+use Rattle.bib_edit.proofs.PlacedTexts.{inserted-long, appended-long}
+use Rattle.bib_edit.proofs.HeldKeys.{held-any}
+use Rattle.bib_edit.proofs.SpelledEntries.{entry-written}
+use Rattle.bib_edit.proofs.SpelledLists.{keys-spelled, types-spelled, all_names-spelled, twice-spelled, all_values-spelled, spelled-all_values, is_entry_long, any_entry-long, entries-written}
+
+-- ---- keys
+
+any-held : (keys : List Text) (db : Reading) → list_all is_new_key keys ≡ true → is_any_held keys db ≡ list_any (λ key. list_any (same key) (keys_of (entries_of db))) keys
+any-held [] db good = refl
+any-held (key ∷ keys) db good =
+    let both = and_parts (is_new_key key) (list_all is_new_key keys) good in
+    ap₂ ◌||◌ (held-any key db both.0) (any-held keys db both.1)
+
+-- ---- pieces
+
+pieces-many : (a : List NewEntry) (news : List edits.NewEntry) → SpellEntries a news → (db : Reading) → pieces_of made_base db (edits.AddMany news) ≡ put_in db (length db.items) (entries_text a)
+pieces-many [] [] s db = no-pieces db
+pieces-many [] (new ∷ news) s db = absurd s
+pieces-many (first ∷ a) [] s db = absurd s
+pieces-many (first ∷ a) (new ∷ news) s db =
+    appending-pieces (flat_map item_bytes (map item_of (new ∷ news))) db
+    ∙ ap (λ (t : Text). insertion_of db (length db.items) t ∷ []) (entries-written (first ∷ a) (new ∷ news) s)
+
+pub olds-put_in : (db : Reading) (n : ℕ) (text : Text) → olds_len (put_in db n text) ≤ file_limit
+olds-put_in db n [] = omega arith
+olds-put_in db n (byte ∷ text) = omega arith
+
+-- ---- one entry and many alike
+
+-- one of these keys is an entry's
+abbrev are_used : List edits.NewEntry → Reading → Bool
+are_used news db = list_any (λ new. list_any (same new.key) (keys_of (entries_of db))) news
+
+-- what refuses an edit that adds these entries before item n, and what it makes
+pub record IsAddition (E : Edit) (n : ℕ) (a : List NewEntry) (news : List edits.NewEntry) (db : Reading) : Type 0 where
+  pub spells : SpellEntries a news
+  pub keys : given_keys E ≡ map (λ new. new.key) news
+  pub names : given_names E ≡ flat_map field_names news
+  pub types : given_types E ≡ map (λ new. new.kind_name) news
+  pub values : given_values E ≡ flat_map field_values news
+  pub high : IsPositionTooHigh db E → length db.items < n
+  pub too_high : length db.items < n → IsPositionTooHigh db E
+  pub there : IsMissing db E → ⊥
+  pub twice : IsAmbiguous db E ↔ (list_any (λ new. has_same (field_names new)) news ≡ true)
+  pub used : IsKeyInUse db E ↔ ((has_same (map (λ new. new.key) news) || are_used news db) ≡ true)
+  pub unnamed : IsNameInUse db E → ⊥
+  pub unreferred : Refuses made_base Referred db E → ⊥
+  pub unmerged : MergesText db E → ⊥
+  pub pieces : pieces_of made_base db E ≡ put_in db n (entries_text a)
+  pub longs : any_long months db.items ≡ false → any_long months (edited made_base db E).items ≡ list_any (is_entry_long db n) news
+
+one-addition : (n : ℕ) (a : NewEntry) (new : edits.NewEntry) → SpellsEntry a new → (db : Reading) → IsAddition (edits.AddEntry n new) n (a ∷ []) (new ∷ []) db
+one-addition n a new spells db = record {
+  spells = (spells, tt);
+  keys = refl;
+  names = sym (append-nil (field_names new));
+  types = refl;
+  values = sym (append-nil (field_values new));
+  high = λ h. h;
+  too_high = λ h. h;
+  there = λ h. h;
+  twice = (λ h. or-false (has_same (field_names new)) ∙ h, λ h. sym (or-false (has_same (field_names new))) ∙ h);
+  used = (λ h. or-false (list_any (same new.key) (keys_of (entries_of db))) ∙ h, λ h. sym (or-false (list_any (same new.key) (keys_of (entries_of db)))) ∙ h);
+  unnamed = λ h. h;
+  unreferred = λ h. h;
+  unmerged = λ h. h;
+  pieces = insertion-pieces (item_bytes (item_of new)) db n ∙ ap (λ (t : Text). insertion_of db n t ∷ []) (entry-written a new spells ∙ sym (append-nil (entry_text a)));
+  longs = λ none. inserted-long months db.items n (item_of new) (entry_of new) refl none ∙ sym (or-false (is_entry_long db n new));
+}
+
+many-addition : (a : List NewEntry) (news : List edits.NewEntry) → SpellEntries a news → (db : Reading) → IsAddition (edits.AddMany news) (length db.items) a news db
+many-addition a news spells db = record {
+  spells = spells;
+  keys = refl;
+  names = refl;
+  types = refl;
+  values = refl;
+  high = λ h. absurd h;
+  too_high = λ h. absurd (omega (arith, h));
+  there = λ h. h;
+  twice = (λ h. h, λ h. h);
+  used = (λ h. h, λ h. h);
+  unnamed = λ h. h;
+  unreferred = λ h. h;
+  unmerged = λ h. h;
+  pieces = pieces-many a news spells db;
+  longs = appended-long months db.items news;
+}
+
+-- what holds of each addition of these entries holds of the edit that is asked for
+pub of-addition : (file : Text) (asked : Asked) (n : ℕ) (a : List NewEntry) → Adds file asked n a → (db : Reading) → Reads file db → (P : Edit → Type 0) →
+    ((E : Edit) (news : List edits.NewEntry) → IsAddition E n a news db → P E) → OfEdit asked P
+of-addition file asked n a (one k new) db reads P h = of-add_entry k new P (λ it spells. h (edits.AddEntry k it) (it ∷ []) (one-addition k new it spells db))
+of-addition file asked n a (many news k end) db reads P h = of-add_many news P
+    (λ its spells. h (edits.AddMany its) its (subst (λ j. IsAddition (edits.AddMany its) j news its db) (sym (end db reads)) (many-addition news its spells db)))
 
 -- ---- the reasons
 
-module _ (position : ℕ) (a : NewEntry) (new : edits.NewEntry) (spells : SpellsEntry a new) (db : Reading) where
-  abbrev E : Edit
-  E = edits.AddEntry position new
+module _ (E : Edit) (n : ℕ) (a : List NewEntry) (news : List edits.NewEntry) (db : Reading) (it : IsAddition E n a news db) where
+  keys_tested : list_all is_new_key (given_keys E) ≡ list_all is_new_key (keys_given a)
+  keys_tested = ap (list_all is_new_key) (it.keys ∙ keys-spelled a news it.spells)
 
-  abbrev Passes : ℕ → Type 0
-  Passes n = IsClear made_base db E n
+  names_tested : (list_all is_name (given_names E) && list_all is_type (given_types E)) ≡ are_named a
+  names_tested = ap₂ (λ names types. list_all is_name names && list_all is_type types) (it.names ∙ all_names-spelled a news it.spells) (it.types ∙ types-spelled a news it.spells)
 
-  more : (reason : EditFault) → (Refuses made_base reason db E → ⊥) → Passes (rank reason) → Passes (suc (rank reason))
-  more = clear_more made_base db E
+  pub add-bad_key : list_all is_new_key (keys_given a) ≡ false → IsFirstRefusal made_base db E BadKey
+  add-bad_key h = is_first BadKey (keys_tested ∙ h) no_reason
 
-  first : (reason : EditFault) → Refuses made_base reason db E → Passes (rank reason) → IsFirstRefusal made_base db E reason
-  first = first_refusal made_base db E
+  module _ (keys : list_all is_new_key (keys_given a) ≡ true) where
+    passes_keys : Passes made_base db E 1
+    passes_keys = more BadKey (λ e. both_ways (list_all is_new_key (keys_given a)) (sym keys_tested ∙ e) keys) no_reason
 
-  names_are : field_names new ≡ names_of a.fields
-  names_are = names-spelled a.fields new.fields spells.fields
+    pub add-bad_name : are_named a ≡ false → IsFirstRefusal made_base db E BadName
+    add-bad_name h = is_first BadName (names_tested ∙ h) passes_keys
 
-  key_tested : list_all is_new_key (new.key ∷ []) ≡ is_new_key a.key
-  key_tested = and_true (is_new_key new.key) ∙ ap is_new_key spells.key
-    where
-      and_true : (b : Bool) → (b && true) ≡ b
-      and_true true = refl
-      and_true false = refl
+    module _ (names : are_named a ≡ true) where
+      passes_names : Passes made_base db E 2
+      passes_names = more BadName (λ e. both_ways (are_named a) (sym names_tested ∙ e) names) passes_keys
 
-  names_tested : (list_all is_name (field_names new) && list_all is_type (new.kind_name ∷ [])) ≡ (list_all is_name (names_of a.fields) && is_type a.kind_name)
-  names_tested = ap₂ ◌&&◌ (ap (list_all is_name) names_are) (and_true (is_type new.kind_name) ∙ ap is_type spells.kind_name)
-    where
-      and_true : (b : Bool) → (b && true) ≡ b
-      and_true true = refl
-      and_true false = refl
+      pub add-bad_value : (AllHaveValues a → ⊥) → IsFirstRefusal made_base db E BadValue
+      add-bad_value h = is_first BadValue (λ are. h (spelled-all_values a news it.spells (subst (All (IsValue name_limit)) it.values are))) passes_names
 
-  pub add-bad_key : is_new_key a.key ≡ false → IsFirstRefusal made_base db E BadKey
-  add-bad_key h = first BadKey (key_tested ∙ h) (clear_none made_base db E)
+      module _ (values : AllHaveValues a) where
+        values_are : All (IsValue name_limit) (flat_map field_values news)
+        values_are = all_values-spelled a news it.spells values
 
-  passes_key : is_new_key a.key ≡ true → Passes 1
-  passes_key h = more BadKey (λ e. both_ways (is_new_key a.key) (sym key_tested ∙ e) h) (clear_none made_base db E)
+        passes_given : Passes made_base db E 3
+        passes_given = more BadValue (λ none. none (subst (All (IsValue name_limit)) (sym it.values) values_are)) passes_names
 
-  pub add-bad_name : is_new_key a.key ≡ true → (list_all is_name (names_of a.fields) && is_type a.kind_name) ≡ false → IsFirstRefusal made_base db E BadName
-  add-bad_name key h = first BadName (names_tested ∙ h) (passes_key key)
+        pub add-high : length db.items < n → IsFirstRefusal made_base db E BadPosition
+        add-high h = is_first BadPosition (it.too_high h) passes_given
 
-  passes_names : is_new_key a.key ≡ true → (list_all is_name (names_of a.fields) && is_type a.kind_name) ≡ true → Passes 2
-  passes_names key h = more BadName (λ e. both_ways (list_all is_name (names_of a.fields) && is_type a.kind_name) (sym names_tested ∙ e) h) (passes_key key)
+        module _ (place : n ≤ length db.items) where
+          passes_place : Passes made_base db E 5
+          passes_place = more NotFound it.there (more BadPosition (λ h. let high = it.high h in omega (arith, high, place)) passes_given)
 
-  pub add-bad_value : is_new_key a.key ≡ true → (list_all is_name (names_of a.fields) && is_type a.kind_name) ≡ true → (HaveValues a.fields → ⊥) → IsFirstRefusal made_base db E BadValue
-  add-bad_value key names h = first BadValue (λ are. h (λ k field lt e. spelled-values a.fields new.fields spells.fields are k field e)) (passes_names key names)
+          pub add-twice : has_field_twice a ≡ true → IsFirstRefusal made_base db E Ambiguous
+          add-twice h = is_first Ambiguous (it.twice.1 (twice-spelled a news it.spells ∙ h)) passes_place
 
-  module _ (good : IsGoodEntry a) where
-    values_are : All (IsValue name_limit) (field_values new)
-    values_are = values-spelled a.fields new.fields spells.fields good.values
+          module _ (fields : has_field_twice a ≡ false) where
+            passes_fields : Passes made_base db E 6
+            passes_fields = more Ambiguous (λ h. both_ways (has_field_twice a) fields (sym (twice-spelled a news it.spells) ∙ it.twice.0 h)) passes_place
 
-    passes_given : Passes 3
-    passes_given = more BadValue (λ none. none values_are) (passes_names good.key (ap₂ ◌&&◌ good.names good.kind))
+            keys_used : (has_same (map (λ new. new.key) news) || are_used news db) ≡ (has_same (keys_given a) || is_any_held (keys_given a) db)
+            keys_used =
+                let used : Text → Bool = λ key. list_any (same key) (keys_of (entries_of db)) in
+                ap₂ ◌||◌ (ap has_same (keys-spelled a news it.spells))
+                (any_mapped used (λ (new : edits.NewEntry). new.key) news ∙ ap (list_any used) (keys-spelled a news it.spells) ∙ sym (any-held (keys_given a) db keys))
 
-    pub add-high : length db.items < position → IsFirstRefusal made_base db E BadPosition
-    add-high h = first BadPosition h passes_given
+            pub add-in_use : (has_same (keys_given a) || is_any_held (keys_given a) db) ≡ true → IsFirstRefusal made_base db E KeyInUse
+            add-in_use h = is_first KeyInUse (it.used.1 (keys_used ∙ h)) passes_fields
 
-    module _ (low : position ≤ length db.items) where
-      passes_place : Passes 5
-      passes_place = more NotFound (λ h. h) (more BadPosition (λ h. omega (arith, h, low)) passes_given)
+            passes_free : (has_same (keys_given a) || is_any_held (keys_given a) db) ≡ false → Passes made_base db E 10
+            passes_free free = more WouldMerge it.unmerged (more Referred it.unreferred (more NameInUse it.unnamed
+                (more KeyInUse (λ h. both_ways (has_same (keys_given a) || is_any_held (keys_given a) db) free (sym keys_used ∙ it.used.0 h)) passes_fields)))
 
-      pub add-twice : has_same (names_of a.fields) ≡ true → IsFirstRefusal made_base db E Ambiguous
-      add-twice h = first Ambiguous (ap has_same names_are ∙ h) passes_place
+  module _ (good : AreAddable a n db) (file : Text) (reads : Reads file db) (ps : List Piece) (made : ps ≡ put_in db n (entries_text a)) where
+    passes_good : Passes made_base db E 10
+    passes_good = passes_free good.keys good.names good.values good.place good.fields good.free
 
-      module _ (differ : has_same (names_of a.fields) ≡ false) where
-        passes_fields : Passes 6
-        passes_fields = more Ambiguous (λ h. both_ways (has_same (names_of a.fields)) differ (sym (ap has_same names_are) ∙ h)) passes_place
+    pub add-pieces : ps ≡ pieces_of made_base db E
+    add-pieces = made ∙ sym it.pieces
 
-        key_held : list_any (same new.key) (keys_of (entries_of db)) ≡ list_any (is_named a.key) (keys_of (entries_of db))
-        key_held = ap (λ (k : Text). list_any (same k) (keys_of (entries_of db))) spells.key ∙ sym (named-any a.key (keys_of (entries_of db)) (new_key_parts a.key good.key).0)
+    pub add-long_file : file_limit + olds_len ps < length file + news_len ps → IsFirstRefusal made_base db E FileTooLong
+    add-long_file over = is_first FileTooLong (makes-long E file db reads ps add-pieces over) passes_good
 
-        pub add-held : 0 < count_by (is_named a.key) (keys_of (entries_of db)) → IsFirstRefusal made_base db E KeyInUse
-        add-held h = first KeyInUse (key_held ∙ counted-some (is_named a.key) (keys_of (entries_of db)) h) passes_fields
+    module _ (short : length file + news_len ps ≤ file_limit + olds_len ps) (none : any_long months db.items ≡ false) where
+      passes_length : Passes made_base db E 11
+      passes_length = more FileTooLong (makes-short E file db reads ps add-pieces short) passes_good
 
-        module _ (free : count_by (is_named a.key) (keys_of (entries_of db)) ≡ 0) where
-          passes_key_free : Passes 10
-          passes_key_free = more WouldMerge (λ h. h) (more Referred (λ h. h) (more NameInUse (λ h. h)
-              (more KeyInUse (λ h. both_ways (list_any (is_named a.key) (keys_of (entries_of db))) (counted-none (is_named a.key) (keys_of (entries_of db)) free) (sym key_held ∙ h)) passes_fields)))
+      texts_long : (long : Bool) → AreAnyLong long db n a → is_some (too_long_at (edited made_base db E)) ≡ long
+      texts_long long h = too_long-any (edited made_base db E) ∙ it.longs none ∙ any_entry-long db n long a news it.spells (all_values-spelled a news it.spells good.values) h
 
-          pub add-pieces : pieces_of made_base db E ≡ insertion_of db position (entry_text a) ∷ []
-          add-pieces = insertion-pieces (item_bytes (item_of new)) db position ∙ ap (λ (t : Text). insertion_of db position t ∷ []) (entry-written a new spells)
+      pub add-long_text : AreAnyLong true db n a → IsFirstRefusal made_base db E TextTooLong
+      add-long_text h = is_first TextTooLong (texts_long true h) passes_length
 
-          add-length : length (bytes_of (edited made_base db E)) ≡ length (bytes_of db) + length (entry_text a)
-          add-length =
-              let lengths = length-edited made_base db E in
-              let olds : olds_len (pieces_of made_base db E) ≡ 0 = ap olds_len add-pieces in
-              let news : news_len (pieces_of made_base db E) ≡ length (entry_text a) + 0 = ap news_len add-pieces in
-              omega (arith, lengths, olds, news)
-
-          module _ (file : Text) (reads : Reads file db) where
-            file_length : length (bytes_of db) ≡ length file
-            file_length = ap length reads.bytes
-
-            pub add-long_file : file_limit + 0 < length file + length (entry_text a) → IsFirstRefusal made_base db E FileTooLong
-            add-long_file h = first FileTooLong (let l = add-length in let f = file_length in omega (arith, h, l, f)) passes_key_free
-
-            module _ (short : (file_limit + 0 < length file + length (entry_text a)) → ⊥) where
-              passes_length : Passes 11
-              passes_length = more FileTooLong (λ h. short (let l = add-length in let f = file_length in omega (arith, h, l, f))) passes_key_free
-
-              texts_long : any_long months db.items ≡ false → (long : Bool) → IsAnyLong long db position a.fields → is_some (too_long_at (edited made_base db E)) ≡ long
-              texts_long none long h =
-                  too_long-any (edited made_base db E)
-                  ∙ inserted-long months db.items position (item_of new) (entry_of new) refl none
-                  ∙ ap (λ vs. list_any is_long (map (raw_text (macros_at months db.items position)) vs)) (rows-values new.fields)
-                  ∙ any-long db position long a.fields new.fields spells.fields values_are h
-
-              pub add-long_text : any_long months db.items ≡ false → IsAnyLong true db position a.fields → IsFirstRefusal made_base db E TextTooLong
-              add-long_text none h = first TextTooLong (texts_long none true h) passes_length
-
-              pub add-accepted : any_long months db.items ≡ false → IsAnyLong false db position a.fields → IsAccepted made_base db E
-              add-accepted none h = all_clear made_base db E (more TextTooLong (λ long. both_ways (is_some (too_long_at (edited made_base db E))) (texts_long none false h) long) passes_length)
-
--- ---- as it is asked for
-
-pub refused_entry : (position : ℕ) (a : NewEntry) (file : Text) (fault : Fault) → IsEntryFault a fault → IsRefusal file (asked.AddEntry position a) fault
-refused_entry position a file code.BadKey h = λ db reads. of-add_entry position a (λ e. IsFirstRefusal made_base db e BadKey) (λ new spells. add-bad_key position a new spells db h)
-refused_entry position a file code.BadName h = λ db reads. of-add_entry position a (λ e. IsFirstRefusal made_base db e BadName) (λ new spells. add-bad_name position a new spells db h.0 h.1)
-refused_entry position a file code.BadValue h = λ db reads. of-add_entry position a (λ e. IsFirstRefusal made_base db e BadValue) (λ new spells. add-bad_value position a new spells db h.0 h.1 h.2)
-refused_entry position a file code.Memory h = tt
-refused_entry position a file code.BadPosition h = λ db reads. absurd h
-refused_entry position a file code.NotFound h = λ db reads. absurd h
-refused_entry position a file code.Ambiguous h = λ db reads. absurd h
-refused_entry position a file code.KeyInUse h = λ db reads. absurd h
-refused_entry position a file code.NameInUse h = λ db reads. absurd h
-refused_entry position a file code.Referred h = λ db reads. absurd h
-refused_entry position a file code.WouldMerge h = λ db reads. absurd h
-refused_entry position a file code.FileTooLong h = λ db reads. absurd h
-refused_entry position a file code.TextTooLong h = λ db reads. absurd h
+      pub add-accepted : AreAnyLong false db n a → IsAccepted made_base db E
+      add-accepted h = all_clear (more TextTooLong (λ long. both_ways (is_some (too_long_at (edited made_base db E))) (texts_long false h) long) passes_length)

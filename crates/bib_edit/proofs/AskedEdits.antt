@@ -1,15 +1,11 @@
 -- What is asked for, by the kind of edit.
-use Rattle.std.proofs.Common.{ℕ, List, [], ◌∷◌, ⊎_elim, refl, append-nil}
-use Rattle.bib_spec.specs.Tree.{Digits}
+use Rattle.bib_edit.proofs.Words.{ℕ, List, [], ◌∷◌, ⊎_elim, refl, append-nil, Digits, Text, Value, Spells, SetField, DropField, AddEntry, AddMany, RenameKey, RegenerateKeys, NewEntry, SpellFields, SpellsEntry, SpellEntries, OfEdit, set_field, add_entry, add_many, move_entry, rename_key}
+use Rattle.bib_edit.proofs.Words.{regenerate_keys}
 use Rattle.bib_scan.proofs.PlaceOfFault.{value_or_failing}
 use Rattle.bib_edit.specs.Laws.{EditsAreAskedFor}
-use Rattle.bib_spec.specs.Text.{Text}
-use Rattle.bib_spec.specs.Tree.{Value}
 use Rattle.edit_spec.specs.Edits as edits
-use Rattle.edit_spec.specs.Edits.{Spells}
-use Rattle.bib_data.specs.declared.edit.Edit.TheVariants.{SetField, DropField, AddEntry, AddMany, RemoveEntry, MoveEntry, RenameKey, RegenerateKeys, RenameMacro, InlineMacro, IntroduceMacro}
-use Rattle.bib_data.specs.declared.edit.NewEntry.{NewEntry}
-use Rattle.bib_edit.specs.Asking.{SpellFields, SpellsEntry, SpellEntries, OfEdit, set_field, drop_field, add_entry, add_many, remove_entry, move_entry, rename_key, regenerate_keys, rename_macro, inline_macro, introduce_macro}
+use Rattle.bib_data.specs.declared.edit.Edit.TheVariants.{RemoveEntry, MoveEntry, RenameMacro, InlineMacro, IntroduceMacro}
+use Rattle.bib_edit.specs.Asking.{drop_field, remove_entry, rename_macro, inline_macro, introduce_macro}
 
 pub of-set_field : (key field value : Text) (P : edits.Edit → Type 0) → ((v : Value) → Spells value v → P (edits.SetField key field v)) → OfEdit (SetField key field value) P
 of-set_field key field value P h e (set_field k f t v s) = h v s

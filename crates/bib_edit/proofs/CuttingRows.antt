@@ -1,29 +1,11 @@
 -- The piece that drops a field is the one piece of the edit's chunks.
-use Rattle.std.proofs.Common.{◌≡◌, ℕ, suc, ◌+◌, ◌-◌, ◌≤◌, ◌<◌, ◌==◌, ◌&&◌, Bool, true, false, List, [], ◌∷◌, ◌++◌, Some, length, take, drop, find, slice_get, ⊎_elim, refl, sym, ◌∙◌, ap, ap₂, arith, append_assoc, append-nil, length-append, ne_eqb}
-use Rattle.std.specs.List.{flat_map, between}
-use Rattle.std.specs.Option.{option_map_or}
-use Rattle.std.specs.Str.{bytes_eq}
-use Rattle.std.proofs.lemmas.Bool.{cases_Bool, cond-true, cond-false, eq-eqb}
-use Rattle.std.proofs.lemmas.List.{drop_at, take_at}
-use Rattle.std.proofs.lemmas.Option.{none-some, same_Some}
-use Rattle.bib_spec.specs.Bytes.{comma, close_paren}
-use Rattle.bib_spec.specs.Text.{Text, same}
-use Rattle.bib_spec.specs.Tree.{Row, Entry, EntryTree, value_bytes, row_bytes, opening_bytes, close_byte, last_comma_bytes, entry_bytes}
-use Rattle.bib_spec.specs.Reading.{Reading}
-use Rattle.bib_spec.specs.Texts.{row_start}
-use Rattle.bib_spec.specs.Records.{Record, is_named}
-use Rattle.bib_spec.specs.Pieces.{Chunk, Kept, Replaced, pieces_from}
-use Rattle.edit_spec.specs.Edits.{DropField, is_entry, of_entry, row_before, without_field, entry_without_field, drop_field, ends_in_key, tree_ends_in_key}
-use Rattle.edit_spec.specs.EditChunks.{kept_rows, entry_chunks, field_dropped, pieces_of}
-use Rattle.edit_spec.proofs.TreeChunks.{row-parts}
-use Rattle.bib_scan.specs.View.{Field, field_after, fields_after, view_of}
-use Rattle.bib_scan.specs.Layout.{start_of}
-use Rattle.bib_tokens.specs.PlacedParts.{field_end}
-use Rattle.bib_edit.specs.Addressing.{is_field, item_named}
-use Rattle.bib_edit.specs.FieldPieces.{cut_piece, joins_key}
+use Rattle.bib_edit.proofs.Words.{◌≡◌, ℕ, suc, ◌+◌, ◌-◌, ◌≤◌, ◌<◌, ◌==◌, ◌&&◌, true, false, List, [], ◌∷◌, ◌++◌, Some, length, take, drop, find, slice_get, ⊎_elim, refl, sym, ◌∙◌, ap, ap₂, arith, append_assoc, append-nil, length-append, ne_eqb, and-false, flat_map, between, option_map_or, bytes_eq}
+use Rattle.bib_edit.proofs.Words.{cases_Bool, cond-true, cond-false, eq-eqb, drop_at, take_at, none-some, same_Some, comma, close_paren, Text, same, Row, Entry, EntryTree, value_bytes, row_bytes, opening_bytes, close_byte, last_comma_bytes, entry_bytes, Reading, row_start, Record, is_named, Chunk}
+use Rattle.bib_edit.proofs.Words.{Kept, Replaced, pieces_from, is_entry, of_entry, row_before, without_field, entry_without_field, drop_field, ends_in_key, tree_ends_in_key, kept_rows, entry_chunks, field_dropped, pieces_of, row-parts, Field, field_after, fields_after, view_of, start_of, field_end}
+use Rattle.bib_edit.proofs.Words.{is_field, item_named, cut_piece, joins_key, value-place}
+use Rattle.edit_spec.specs.Edits.{DropField}
 use Rattle.bib_edit.proofs.FirstItems.{found-again}
 use Rattle.bib_edit.proofs.PieceLists.{pieces-entry, pieces-kept_rows}
-use Rattle.bib_tokens.proofs.PlacedFields.{value-place}
 use Rattle.bib_edit.proofs.SettingPieces.{item_at, before-next, length-to_value, pieces-entry_as}
 
 abbrev rows_bytes : List Row → Text
@@ -137,17 +119,13 @@ nonempty_eq : (xs : Text) → 0 < length xs → bytes_eq xs [] ≡ false
 nonempty_eq [] h = absurd (omega (arith, h))
 nonempty_eq (x ∷ xs) h = refl
 
-and_false : (b : Bool) → (b && false) ≡ false
-and_false true = refl
-and_false false = refl
-
 -- the text is the parenthesis alone exactly where nothing stands before its rest, and the rest is the parenthesis
 joined : (k a r : Text) → 0 < length r → bytes_eq (a ++ r) (close_paren ∷ []) ≡ ((length (k ++ a) == length k) && bytes_eq r (close_paren ∷ []))
 joined k [] r h = sym (ap (λ b. b && bytes_eq r (close_paren ∷ [])) (eq-eqb (length (k ++ [])) (length k) (ap length (append-nil k))))
 joined k (x ∷ a) r h =
     let long : length (k ++ x ∷ a) ≡ length k + suc (length a) = length-append k (x ∷ a) in
     let rest : 0 < length (a ++ r) = let l = length-append a r in omega (arith, h, l) in
-    ap (λ b. (x == close_paren) && b) (nonempty_eq (a ++ r) rest) ∙ and_false (x == close_paren)
+    ap (λ b. (x == close_paren) && b) (nonempty_eq (a ++ r) rest) ∙ and-false (x == close_paren)
     ∙ sym (ap (λ b. b && bytes_eq r (close_paren ∷ [])) (ne_eqb (length (k ++ x ∷ a)) (length k) (λ e. omega (arith, e, long))))
 
 module _ (name : Text) (e : Entry) (trail : Text) (field : Field) (found : Some field ≡ find (is_field name) (view_of (item_at (EntryTree e) trail)).fields) where

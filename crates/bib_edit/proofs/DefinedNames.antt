@@ -1,18 +1,7 @@
 -- The name that a definition gives a text.
-use Rattle.std.proofs.Common.{◌≡◌, ℕ, ◌+◌, ◌<◌, ◌^◌, true, List, [], ◌∷◌, ◌++◌, Some, slice_get, length, refl, sym, ◌∙◌, ap, arith, length-append}
-use Rattle.bib_spec.specs.Text.{Text, same}
-use Rattle.bib_spec.specs.Tree.{Definition, Tree, CommentTree, DefinitionTree, PreambleTree, EntryTree, opening_bytes, definition_bytes, assignment_bytes, close_byte}
-use Rattle.bib_spec.specs.Reading.{Item, Reading, Reads}
-use Rattle.bib_spec.specs.Texts.{IsOpenable}
-use Rattle.edit_spec.specs.Edits.{defines}
-use Rattle.std.proofs.lemmas.Bool.{false≢true}
-use Rattle.bib_scan.specs.View.{Field, View, view_of}
-use Rattle.bib_scan.specs.Layout.{start_of}
-use Rattle.bib_store.specs.Meaning.{OfReading}
-use Rattle.bib_tokens.specs.FirstItem.{first_item}
-use Rattle.bib_edit.specs.Definitions.{IsDefinitionAt, IsDefinitionNumber}
+use Rattle.bib_edit.proofs.Words.{◌≡◌, ℕ, ◌+◌, ◌<◌, ◌^◌, true, List, [], ◌∷◌, ◌++◌, Some, slice_get, length, refl, sym, ◌∙◌, ap, arith, length-append, Text, same, Definition, Tree, CommentTree, DefinitionTree, PreambleTree, EntryTree, opening_bytes, definition_bytes, assignment_bytes, close_byte}
+use Rattle.bib_edit.proofs.Words.{Item, Reading, Reads, IsOpenable, defines, false≢true, Field, View, view_of, start_of, OfReading, first_item, IsDefinitionAt, IsDefinitionNumber, item-ends}
 use Rattle.bib_edit.proofs.FirstItems.{IsFirstItem, found_first, item-first}
-use Rattle.bib_tokens.proofs.PlacedItems.{item-ends}
 
 abbrev pub definition_item : Definition → Text → Item
 definition_item d trail = record { tree = DefinitionTree d; trail = trail }

@@ -1,39 +1,18 @@
 -- When dropping a field is refused, and for which reason.
-use Rattle.std.proofs.Common.{◌≡◌, ℕ, ◌+◌, ◌<◌, ◌≤◌, ◌&&◌, Bool, true, false, List, [], ◌∷◌, Some, None, is_some, find, slice_get, length, count_by, inl, inr, ⊎_elim, true≢false, refl, sym, ◌∙◌, ap, subst, arith, option_and_then}
-use Rattle.std.specs.Option.{option_map_or}
-use Rattle.std.proofs.lemmas.Bool.{cases_Bool, cond-true, cond-false, false≢true}
-use Rattle.std.proofs.lemmas.Option.{none-some}
-use Rattle.std.proofs.lemmas.List.Elements.{All-nil}
-use Rattle.bib_spec.specs.Bytes.{name_limit, file_limit}
-use Rattle.bib_spec.specs.Text.{Text, is_name}
-use Rattle.bib_spec.specs.Tree.{EntryTree, IsValue}
-use Rattle.bib_spec.specs.Reading.{Item, Reading, bytes_of, Reads}
-use Rattle.bib_spec.specs.Texts.{months, macros_at, too_long_at, Opens}
-use Rattle.bib_spec.specs.Texts.{IsOpenable}
-use Rattle.bib_spec.specs.Records.{entries_of, has_name, entry_named}
-use Rattle.bib_spec.specs.Pieces.{end_of}
+use Rattle.bib_edit.proofs.Words.{◌≡◌, ℕ, ◌+◌, ◌<◌, ◌≤◌, ◌&&◌, Bool, true, false, List, [], ◌∷◌, Some, None, is_some, find, slice_get, length, count_by, inl, inr, ⊎_elim, true≢false, refl, sym, ◌∙◌, ap, subst, arith, option_and_then, option_map_or, cases_Bool, cond-true, cond-false, false≢true}
+use Rattle.bib_edit.proofs.Words.{none-some, All-nil, name_limit, file_limit, Text, is_name, EntryTree, IsValue, Item, Reading, bytes_of, Reads, months, macros_at, too_long_at, IsOpenable, entries_of, has_name, entry_named, end_of, holders, fields_named, entry_without_field, IsAccepted}
+use Rattle.bib_edit.proofs.Words.{IsFirstRefusal, pieces_of, count-yes, count-no, Field, View, view_of, start_of, one_reading, OfReading, entry_numbers, DropField, made_base, IsAllowedEdit, ArePiecesOf, IsRefusal, field_end, item_named, is_field, cut_piece, joins_key, OfItem}
 use Rattle.edit_spec.specs.Edits as edits
-use Rattle.edit_spec.specs.Edits.{holders, fields_named, entry_without_field, IsAccepted, IsFirstRefusal}
-use Rattle.edit_spec.specs.EditChunks.{pieces_of}
-use Rattle.bib_spec.proofs.Counts.{count-yes, count-no}
-use Rattle.bib_scan.specs.View.{Field, View, view_of}
-use Rattle.bib_scan.specs.Layout.{start_of}
-use Rattle.bib_scan.proofs.OneReading.{one_reading}
-use Rattle.bib_store.specs.Meaning.{OfReading, entry_numbers}
 use Rattle.bib_data.specs.declared.edit.Edit.{Edit}
-use Rattle.bib_data.specs.declared.edit.Edit.TheVariants.{DropField}
 use Rattle.bib_edit.specs.declared.fault.EditFault.TheVariants.{BadName, NotFound, Ambiguous, WouldMerge}
-use Rattle.bib_keys.specs.MadeBase.{made_base}
-use Rattle.bib_edit.specs.Planning.{IsAllowedEdit, ArePiecesOf, IsRefusal}
-use Rattle.bib_tokens.specs.PlacedParts.{field_end}
-use Rattle.bib_edit.specs.Addressing.{item_named, is_field}
-use Rattle.bib_edit.specs.FieldPieces.{cut_piece, joins_key, OfItem}
-use Rattle.bib_edit.proofs.Ranks.{IsClear, clear_none, clear_more, first_refusal, all_clear}
+use Rattle.bib_edit.proofs.Ranks.{Passes, no_reason, more, is_first, all_clear}
 use Rattle.bib_edit.proofs.NamedEntries.{IsNamedEntry, named-entry, held-item}
-use Rattle.bib_edit.proofs.PieceLists.{length-one_piece, within-one_piece}
+use Rattle.bib_edit.proofs.PieceLists.{within-one_piece}
+use Rattle.bib_edit.proofs.PieceLengths.{makes-no-longer}
 use Rattle.bib_edit.proofs.SettingPieces.{item_at, fields-seen}
 use Rattle.bib_edit.proofs.LongTexts.{too_long-changed, short-entry, short-dropped}
 use Rattle.bib_edit.proofs.CuttingRows.{row-begins, row-within, key-before, drop-one_piece, joins-found}
+use Rattle.bib_edit.proofs.OpenFiles.{opens-as}
 use Rattle.bib_edit.proofs.AskedEdits.{of-drop_field}
 
 -- ---- the reasons in their order
@@ -42,24 +21,24 @@ module _ (db : Reading) (key name : Text) where
   abbrev drop : edits.Edit
   drop = edits.DropField key name
 
-  clear_name : IsClear made_base db drop 1
-  clear_name = clear_more made_base db drop edits.BadKey (λ h. true≢false h) (clear_none made_base db drop)
+  clear_name : Passes made_base db drop 1
+  clear_name = more edits.BadKey (λ h. true≢false h) no_reason
 
-  clear_field : is_name name ≡ true → IsClear made_base db drop 4
+  clear_field : is_name name ≡ true → Passes made_base db drop 4
   clear_field n =
-      clear_more made_base db drop edits.BadPosition (λ h. h)
-      (clear_more made_base db drop edits.BadValue (λ h. h (All-nil (IsValue name_limit)))
-      (clear_more made_base db drop edits.BadName (λ h. true≢false (sym (ap (λ b. (b && true) && true) n) ∙ h)) clear_name))
+      more edits.BadPosition (λ h. h)
+      (more edits.BadValue (λ h. h (All-nil (IsValue name_limit)))
+      (more edits.BadName (λ h. true≢false (sym (ap (λ b. (b && true) && true) n) ∙ h)) clear_name))
 
-  clear_ambiguous : is_name name ≡ true → (fields_named key name db ≡ 0 → ⊥) → IsClear made_base db drop 5
-  clear_ambiguous n there = clear_more made_base db drop edits.NotFound there (clear_field n)
+  clear_ambiguous : is_name name ≡ true → (fields_named key name db ≡ 0 → ⊥) → Passes made_base db drop 5
+  clear_ambiguous n there = more edits.NotFound there (clear_field n)
 
-  clear_merge : is_name name ≡ true → (fields_named key name db ≡ 0 → ⊥) → holders key db ≤ 1 → fields_named key name db ≤ 1 → IsClear made_base db drop 9
+  clear_merge : is_name name ≡ true → (fields_named key name db ≡ 0 → ⊥) → holders key db ≤ 1 → fields_named key name db ≤ 1 → Passes made_base db drop 9
   clear_merge n there once few =
-      clear_more made_base db drop edits.Referred (λ h. h)
-      (clear_more made_base db drop edits.NameInUse (λ h. h)
-      (clear_more made_base db drop edits.KeyInUse (λ h. h)
-      (clear_more made_base db drop edits.Ambiguous (λ h. ⊎_elim (λ many. omega (arith, many, once)) (λ many. omega (arith, many, few)) h)
+      more edits.Referred (λ h. h)
+      (more edits.NameInUse (λ h. h)
+      (more edits.KeyInUse (λ h. h)
+      (more edits.Ambiguous (λ h. ⊎_elim (λ many. omega (arith, many, once)) (λ many. omega (arith, many, few)) h)
       (clear_ambiguous n there))))
 
 -- ---- counts
@@ -86,17 +65,17 @@ module _ (file key name : Text) where
 
   pub refused-name : is_name name ≡ false → IsRefusal file asked BadName
   refused-name bad db reads = of-drop_field key name (λ e. IsFirstRefusal made_base db e edits.BadName)
-      (first_refusal made_base db (drop db key name) edits.BadName (ap (λ b. (b && true) && true) bad) (clear_name db key name))
+      (is_first edits.BadName (ap (λ b. (b && true) && true) bad) (clear_name db key name))
 
   -- what is known once the name is one
   module _ (valid : is_name name ≡ true) where
     pub refused-key : OfReading file (λ db. None ≡ entry_named (entries_of db) key) → IsRefusal file asked NotFound
     refused-key none db reads = of-drop_field key name (λ e. IsFirstRefusal made_base db e edits.NotFound)
-        (first_refusal made_base db (drop db key name) edits.NotFound
+        (is_first edits.NotFound
         (ap (λ o. option_map_or (λ entry. count_by (has_name name) entry.fields) (option_and_then (slice_get (entries_of db)) o) 0) (sym (none db reads)))
         (clear_field db key name valid))
 
-    -- and that the key names the entry, which is this item, of which this is seen
+    -- and that the key names the entry, which is this item, with this view
     module _ (first n : ℕ) (named : OfReading file (λ db. Some first ≡ entry_named (entries_of db) key)) (at : OfReading file (λ db. slice_get (entry_numbers db.items) first ≡ Some n))
         (start : ℕ) (view : View) (seen : OfItem file n (λ s v. view ≡ v)) where
       held : OfReading file (λ db. item_named key db ≡ Some n)
@@ -110,7 +89,7 @@ module _ (file key name : Text) where
 
       pub refused-field : None ≡ find (is_field name) view.fields → IsRefusal file asked NotFound
       refused-field none db reads = of-drop_field key name (λ e. IsFirstRefusal made_base db e edits.NotFound)
-          (first_refusal made_base db (drop db key name) edits.NotFound (fields db reads ∙ none-counted (is_field name) view.fields (sym none)) (clear_field db key name valid))
+          (is_first edits.NotFound (fields db reads ∙ none-counted (is_field name) view.fields (sym none)) (clear_field db key name valid))
 
       -- and that the field is there
       module _ (field : Field) (found : Some field ≡ find (is_field name) view.fields) where
@@ -120,12 +99,12 @@ module _ (file key name : Text) where
 
         pub refused-holders : OfReading file (λ db. 1 < holders key db) → IsRefusal file asked Ambiguous
         refused-holders many db reads = of-drop_field key name (λ e. IsFirstRefusal made_base db e edits.Ambiguous)
-            (first_refusal made_base db (drop db key name) edits.Ambiguous (inl (many db reads)) (clear_ambiguous db key name valid (there db reads)))
+            (is_first edits.Ambiguous (inl (many db reads)) (clear_ambiguous db key name valid (there db reads)))
 
         pub refused-twice : 1 < count_by (is_field name) view.fields → IsRefusal file asked Ambiguous
         refused-twice many db reads = of-drop_field key name (λ e. IsFirstRefusal made_base db e edits.Ambiguous)
             (let same_count = fields db reads in
-            first_refusal made_base db (drop db key name) edits.Ambiguous (inr (omega (arith, many, same_count))) (clear_ambiguous db key name valid (there db reads)))
+            is_first edits.Ambiguous (inr (omega (arith, many, same_count))) (clear_ambiguous db key name valid (there db reads)))
 
         -- the entry, in the file
         abbrev entry : (db : Reading) → Reads file db → IsNamedEntry key (option_and_then (slice_get (entries_of db)) (entry_named (entries_of db) key)) db.items n
@@ -168,7 +147,7 @@ module _ (file key name : Text) where
         pub refused-merge : OfReading file (λ db. holders key db ≤ 1) → count_by (is_field name) view.fields ≤ 1 → joins_key view field ≡ true → IsRefusal file asked WouldMerge
         refused-merge once few joins db reads = of-drop_field key name (λ e. IsFirstRefusal made_base db e edits.WouldMerge)
             (let same_fields = fields db reads in
-            first_refusal made_base db (drop db key name) edits.WouldMerge (merged db reads joins)
+            is_first edits.WouldMerge (merged db reads joins)
             (clear_merge db key name valid (there db reads) (once db reads) (omega (arith, few, same_fields))))
 
         pub pieces-drop_field : (begins : OfReading file (λ db. start ≡ start_of db n)) → ArePiecesOf file asked (cut_piece start view.body field ∷ [])
@@ -185,25 +164,17 @@ module _ (file key name : Text) where
             let inside = cut-within is.0 is.1.reads in let long : length (bytes_of is.0) ≡ length file = ap length is.1.reads.bytes in
             let short = is.1.short in let key_first = key-within is.0 is.1.reads in omega (arith, inside, long, short, key_first)
 
-        opens_as : IsOpenable file → (db : Reading) → Reads file db → Opens file db
-        opens_as is db reads = subst (λ (r : Reading). Opens file r) (one_reading name_limit file is.0 db is.1.reads reads) is.1
-
-        short_file : IsOpenable file → (db : Reading) → Reads file db → length (bytes_of (edits.edited made_base db (drop db key name))) ≤ file_limit
-        short_file is db reads =
-            let lengths = length-one_piece made_base db (drop db key name) (cut_piece (start_of db n) view.body field) (one_piece db reads) in
-            let long : length (bytes_of db) ≡ length file = ap length reads.bytes in let short = is.1.short in omega (arith, lengths, long, short)
-
         short_texts : IsOpenable file → (db : Reading) → Reads file db → is_some (too_long_at (edits.edited made_base db (drop db key name))) ≡ false
         short_texts is db reads =
-            let opens = opens_as is db reads in
+            let opens = opens-as file db (one_reading name_limit) is reads in
             too_long-changed key (entry_without_field name) db n (entry db reads).entry (entry db reads).trail (held db reads) (entry db reads).at opens.texts
             ∙ short-dropped (macros_at months db.items n) name (entry db reads).entry (short-entry db n (entry db reads).entry (entry db reads).trail (entry db reads).at opens.texts)
 
         pub allowed-drop_field : IsOpenable file → OfReading file (λ db. holders key db ≤ 1) → count_by (is_field name) view.fields ≤ 1 → joins_key view field ≡ false → IsAllowedEdit file asked
         allowed-drop_field is once few apart db reads = of-drop_field key name (λ e. IsAccepted made_base db e)
-            (let same_fields = fields db reads in let short = short_file is db reads in
-            all_clear made_base db (drop db key name)
-            (clear_more made_base db (drop db key name) edits.TextTooLong (λ h. false≢true (sym (short_texts is db reads) ∙ h))
-            (clear_more made_base db (drop db key name) edits.FileTooLong (λ h. omega (arith, h, short))
-            (clear_more made_base db (drop db key name) edits.WouldMerge (λ h. false≢true (sym apart ∙ merges db reads h))
+            (let same_fields = fields db reads in
+            all_clear
+            (more edits.TextTooLong (λ h. false≢true (sym (short_texts is db reads) ∙ h))
+            (more edits.FileTooLong (makes-no-longer (drop db key name) file db reads _ (sym (one_piece db reads)) refl is.1.short)
+            (more edits.WouldMerge (λ h. false≢true (sym apart ∙ merges db reads h))
             (clear_merge db key name valid (there db reads) (once db reads) (omega (arith, few, same_fields)))))))

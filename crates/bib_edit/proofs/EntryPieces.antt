@@ -1,49 +1,25 @@
 -- The pieces of entries that get new keys, entry by entry.
-use Rattle.std.proofs.Common.{◌≡◌, ℕ, zero, suc, ◌+◌, ◌-◌, ◌≤◌, ◌<◌, Bool, true, List, [], ◌∷◌, ◌++◌, Option, Some, None, length, filter, take, slice_get, option_and_then, ⊎_elim, refl, sym, ◌∙◌, ap, ap₂, subst, arith, append_assoc, append-nil, length-append, zero-add, add-zero}
-use Rattle.std.specs.List.{flat_map, range_with_len}
-use Rattle.std.specs.Option.{option_map_or}
-use Rattle.std.proofs.lemmas.Bool.{cases_Bool, cond-true, cond-false, cases_lt}
-use Rattle.std.proofs.lemmas.List.{length-map}
-use Rattle.std.proofs.lemmas.Option.{none-some, same_Some, slice_get_within}
+use Rattle.bib_edit.proofs.Words.{◌≡◌, ℕ, zero, suc, ◌+◌, ◌-◌, ◌≤◌, ◌<◌, Bool, true, List, [], ◌∷◌, ◌++◌, Option, Some, None, length, filter, take, slice_get, option_and_then, ⊎_elim, refl, sym, ◌∙◌, ap, ap₂, subst, arith, append_assoc, append-nil, length-append, zero-add, add-zero, flat_map}
+use Rattle.bib_edit.proofs.Words.{range_with_len, option_map_or, cases_Bool, cond-true, cond-false, cases_lt, length-map, none-some, same_Some, slice_get_within, Text, tree_bytes, file_limit, Item, Reading, Reads, item_bytes, entries_of, entry_named, target, crossref_text, Piece, pieces_from}
+use Rattle.bib_edit.proofs.Words.{option_cases, View, view_of, start_of, refers, referrers, numbers_from, numbered_first, numbered_later, is_entry_tree, entry_items, entry_numbers, length-entry_items, length-entry_numbers, entry_at, entry_stands, key_of, new_target, key_piece, crossref_piece}
+use Rattle.bib_edit.proofs.Words.{IsEntrySeen, rekeying, entry_pieces, pieces_at, pieces_after, RefersAt, ArePassed, AreQuiet, HavePieces, NewKeys, item-ends}
 use Rattle.std.proofs.lemmas.Grind.{flat_map-append}
-use Rattle.bib_spec.specs.Text.{Text}
-use Rattle.bib_spec.specs.Tree.{tree_bytes}
-use Rattle.bib_spec.specs.Bytes.{file_limit}
-use Rattle.bib_spec.specs.Reading.{Item, Reading, Reads, item_bytes}
-use Rattle.bib_spec.specs.Records.{entries_of, entry_named, target, crossref_text}
-use Rattle.bib_spec.specs.Pieces.{Piece, pieces_from}
-use Rattle.bib_spec.proofs.Keys.{option_cases}
-use Rattle.bib_scan.specs.View.{View, view_of}
-use Rattle.bib_scan.specs.Layout.{start_of}
-use Rattle.bib_entries.specs.EntryTable.{refers, referrers}
-use Rattle.bib_entries.proofs.Tables.{numbers_from, numbered_first, numbered_later}
-use Rattle.bib_store.specs.Meaning.{is_entry_tree, entry_items, entry_numbers}
 use Rattle.bib_store.specs.Tables.{crossrefs_of}
-use Rattle.bib_store.proofs.EntryItems.{length-entry_items, length-entry_numbers, entry_at, entry_stands}
-use Rattle.bib_edit.specs.NewKeys.{key_of, new_target, key_piece, crossref_piece, IsEntrySeen, rekeying, entry_pieces, pieces_at, pieces_after, RefersAt, ArePassed, AreQuiet, HavePieces}
-use Rattle.bib_edit.specs.declared.new_keys.NewKeys.{NewKeys}
 use Rattle.bib_edit.proofs.KeyPieces.{keyed_chunks, pieces-other, pieces-more, entry-is}
-use Rattle.bib_tokens.proofs.PlacedItems.{item-ends}
-use Rattle.bib_edit.proofs.Referrers.{numbers-ascend, none-after, target-referrer}
+use Rattle.bib_edit.proofs.Referrers.{one-later, numbers-ascend, none-after, target-referrer}
 
 -- ---- the number of an entry
 
 module _ {X : Type 0} (passes : X → Bool) where
   -- what passes has the number of those before it, and stands after as many that pass as there are
   number-of : (b : ℕ) (before : List X) (x : X) (xs : List X) → passes x ≡ true → slice_get (numbers_from passes b (before ++ x ∷ xs)) (length (filter passes before)) ≡ Some (b + length before)
-  number-of b [] x xs t = ap (λ (l : List ℕ). slice_get l 0) (numbered_first passes b x xs t) ∙ ap Some (zeroth b)
-    where
-      zeroth : (b : ℕ) → b ≡ b + 0
-      zeroth b = omega arith
+  number-of b [] x xs t = ap (λ (l : List ℕ). slice_get l 0) (numbered_first passes b x xs t) ∙ ap Some (sym (add-zero b))
   number-of b (y ∷ before) x xs t = ⊎_elim
       (λ s. ap₂ (λ (l : List ℕ) (fs : List X). slice_get l (length fs)) (numbered_first passes b y (before ++ x ∷ xs) s) (cond-true (passes y) (y ∷ filter passes before) (filter passes before) s)
-      ∙ number-of (b + 1) before x xs t ∙ ap Some (next b (length before)))
+      ∙ number-of (b + 1) before x xs t ∙ ap Some (one-later b (length before)))
       (λ s. ap₂ (λ (l : List ℕ) (fs : List X). slice_get l (length fs)) (numbered_later passes b y (before ++ x ∷ xs) s) (cond-false (passes y) (y ∷ filter passes before) (filter passes before) s)
-      ∙ number-of (b + 1) before x xs t ∙ ap Some (next b (length before)))
+      ∙ number-of (b + 1) before x xs t ∙ ap Some (one-later b (length before)))
       (cases_Bool (passes y))
-    where
-      next : (b n : ℕ) → b + 1 + n ≡ b + suc n
-      next b n = omega arith
 
   filter-more : (before : List X) (x : X) → length (filter passes (before ++ x ∷ [])) ≡ length (filter passes before) + length (filter passes (x ∷ []))
   filter-more [] x = sym (zero-add (length (filter passes (x ∷ []))))
@@ -144,16 +120,10 @@ module _ (new : NewKeys) (db : Reading) where
 
   -- entries without pieces are passed
   skip : (d a : ℕ) → a + d ≤ count → ((n : ℕ) → a ≤ n → n < a + d → pieces_at new db n ≡ []) → pieces_after new db a ≡ pieces_after new db (a + d)
-  skip zero a le none = ap (pieces_after new db) (zeroth a)
-    where
-      zeroth : (a : ℕ) → a ≡ a + 0
-      zeroth a = omega arith
+  skip zero a le none = ap (pieces_after new db) (sym (add-zero a))
   skip (suc d) a le none =
       after-next a (omega (arith, le)) ∙ ap (λ ps. ps ++ pieces_after new db (a + 1)) (none a (omega arith) (omega arith))
-      ∙ skip d (a + 1) (omega (arith, le)) (λ n low high. none n (omega (arith, low)) (omega (arith, high))) ∙ ap (pieces_after new db) (next a d)
-    where
-      next : (a d : ℕ) → a + 1 + d ≡ a + suc d
-      next a d = omega arith
+      ∙ skip d (a + 1) (omega (arith, le)) (λ n low high. none n (omega (arith, low)) (omega (arith, high))) ∙ ap (pieces_after new db) (one-later a d)
 
   skip-to : (a b : ℕ) → a ≤ b → b ≤ count → ((n : ℕ) → a ≤ n → n < b → pieces_at new db n ≡ []) → pieces_after new db a ≡ pieces_after new db b
   skip-to a b le high none =

@@ -1,16 +1,6 @@
 -- The first item that passes a test, with the items before and after it.
-use Rattle.std.proofs.Common.{◌≡◌, ℕ, suc, ◌+◌, Bool, true, false, List, [], ◌∷◌, ◌++◌, Some, option_map, slice_get, length, take, find, ⊎_elim, refl, sym, ◌∙◌, ap, ap₂}
-use Rattle.std.specs.List.{flat_map, AllByRecursion}
-use Rattle.std.proofs.lemmas.Bool.{cases_Bool, cond-true, cond-false}
-use Rattle.std.proofs.lemmas.Option.{none-some, same_Some}
-use Rattle.bib_spec.specs.Tree.{Tree}
-use Rattle.bib_spec.specs.Reading.{Item, Reading, item_bytes}
-use Rattle.bib_spec.specs.Pieces.{Chunk}
-use Rattle.edit_spec.specs.Edits.{from_first, with_first_tree}
-use Rattle.edit_spec.specs.EditChunks.{kept_item, kept_items, chunks_from_first}
-use Rattle.bib_spec.proofs.Places.{suc_some}
-use Rattle.bib_scan.specs.Layout.{start_of}
-use Rattle.bib_tokens.specs.FirstItem.{first_item}
+use Rattle.bib_edit.proofs.Words.{◌≡◌, ℕ, suc, ◌+◌, Bool, true, false, List, [], ◌∷◌, ◌++◌, Some, option_map, slice_get, length, take, find, ⊎_elim, refl, sym, ◌∙◌, ap, ap₂, flat_map, AllByRecursion, cases_Bool, cond-true, cond-false, none-some, same_Some, Tree, Item, Reading, item_bytes, Chunk}
+use Rattle.bib_edit.proofs.Words.{from_first, with_first_tree, kept_item, kept_items, chunks_from_first, suc_some, start_of, first_item}
 
 module _ (test : Tree → Bool) where
   -- item n is the first that passes the test

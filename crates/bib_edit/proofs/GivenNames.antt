@@ -1,5 +1,5 @@
 -- The names that an edit is given are tested one after another.
-use Rattle.std.proofs.Common.{◌≡◌, ◌&&◌, Bool, true, false, refl}
+use Rattle.bib_edit.proofs.Words.{◌≡◌, ◌&&◌, Bool, true, false, refl}
 
 pub and_name : (a : Bool) → a ≡ ((a && true) && true)
 and_name true = refl

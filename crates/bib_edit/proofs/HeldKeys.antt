@@ -1,15 +1,6 @@
 -- Whether an entry has a key, told by the count of those that have it.
-use Rattle.std.proofs.Common.{◌≡◌, ◌<◌, nat_lt, Bool, true, false, ◌||◌, List, [], ◌∷◌, length, count_by, ⊎_elim, refl, sym, ◌∙◌, ap, ap₂, arith}
-use Rattle.std.specs.List.{list_any}
-use Rattle.std.proofs.lemmas.Bool.{cases_Bool, true≢false, false_from_ne_true, ltb-true, ltb-false}
-use Rattle.bib_spec.specs.Text.{Text, folded, same, is_new_key}
-use Rattle.bib_spec.specs.Reading.{Reading}
-use Rattle.bib_spec.specs.Texts.{is_empty}
-use Rattle.bib_spec.specs.Records.{entries_of, keys_of, is_named}
-use Rattle.edit_spec.specs.Edits.{holders}
-use Rattle.bib_spec.proofs.Names.{same-true, same_comm}
-use Rattle.bib_spec.proofs.Counts.{count-yes, count-no}
-use Rattle.edit_spec.proofs.RenameKey.{new_key_parts}
+use Rattle.bib_edit.proofs.Words.{◌≡◌, ◌<◌, nat_lt, Bool, true, false, ◌||◌, List, [], ◌∷◌, length, count_by, ⊎_elim, refl, sym, ◌∙◌, ap, ap₂, arith, list_any, cases_Bool, true≢false, false_from_ne_true, ltb-true, ltb-false, Text, folded, same, is_new_key, Reading, is_empty, entries_of, keys_of}
+use Rattle.bib_edit.proofs.Words.{is_named, holders, same-true, same_comm, count-yes, count-no, new_key_parts}
 
 not_empty_folded : (key : Text) → is_empty key ≡ false → folded key ≡ [] → ⊥
 not_empty_folded [] h e = true≢false h

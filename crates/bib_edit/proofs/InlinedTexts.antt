@@ -1,11 +1,5 @@
 -- Inlining a macro keeps all raw texts, so that none becomes too long.
-use Rattle.std.proofs.Common.{◌≡◌, false, List, [], ◌∷◌, ⊎_elim, refl, sym, ◌∙◌, ap}
-use Rattle.std.proofs.lemmas.Bool.{cases_Bool, or_parts, or_from}
-use Rattle.bib_spec.specs.Text.{Text}
-use Rattle.bib_spec.specs.Reading.{Item}
-use Rattle.bib_spec.specs.Texts.{Macros, macros_after}
-use Rattle.edit_spec.specs.Edits.{leaving, defines, use_inlined}
-use Rattle.bib_spec.proofs.Counts.{count-no}
+use Rattle.bib_edit.proofs.Words.{◌≡◌, false, List, [], ◌∷◌, ⊎_elim, refl, sym, ◌∙◌, ap, cases_Bool, or_parts, or_from, Text, Item, Macros, macros_after, leaving, defines, use_inlined, count-no}
 use Rattle.edit_spec.proofs.InlineMacro.{IsOther, IsAny, Agree, gives, stays, begins, count, uncounted, rest_uncounted, IsHeld, held_here, left, left-defined, left-other}
 use Rattle.bib_edit.proofs.LongTexts.{any_long}
 use Rattle.bib_edit.proofs.PlacedTexts.{is_long_in}

@@ -1,84 +1,52 @@
 -- Why the introducing of a macro is refused, and that it is not.
-use Rattle.std.proofs.Common.{◌≡◌, ℕ, suc, ◌+◌, ◌*◌, ◌<◌, ◌≤◌, ◌||◌, Bool, true, false, is_some, List, [], ◌∷◌, Option, Some, None, option_map, length, map, take, drop, sym, ◌∙◌, ap, subst, arith}
-use Rattle.std.specs.Option.{IfSome}
-use Rattle.std.specs.List.{list_any}
-use Rattle.std.proofs.lemmas.Bool.{true≢false, both_ways, or_parts}
-use Rattle.std.proofs.lemmas.List.Elements.{All-nil, All-cons, All-head}
-use Rattle.bib_spec.specs.Bytes.{name_limit, file_limit}
-use Rattle.bib_spec.specs.Text.{Text, folded, is_name, IsBalanced}
-use Rattle.bib_spec.specs.Tree.{IsLink, IsValue}
-use Rattle.bib_spec.specs.Tree.{Tree}
-use Rattle.bib_spec.specs.Reading.{Item, Reading, Reads, bytes_of}
-use Rattle.bib_spec.specs.Texts.{months, Opens}
-use Rattle.bib_spec.specs.Texts.{IsOpenable}
-use Rattle.edit_spec.specs.Edits.{IntroduceMacro, BadKey, BadName, BadValue, BadPosition, NotFound, Ambiguous, KeyInUse, NameInUse, Referred, WouldMerge, FileTooLong, TextTooLong, in_braces, defines, uses, holds, any_part, is_in_use, introduce_macro, EditFault, rank, Refuses, IsAccepted, IsFirstRefusal}
-use Rattle.edit_spec.specs.EditChunks.{pieces_of}
-use Rattle.edit_spec.proofs.Simulation.{InItems}
+use Rattle.bib_edit.proofs.Words.{◌≡◌, ℕ, ◌+◌, ◌<◌, ◌≤◌, ◌||◌, Bool, true, false, is_some, List, [], ◌∷◌, Option, Some, None, option_map, length, take, drop, sym, ◌∙◌, ap, subst, IfSome, list_any, true≢false, both_ways, or_parts, All-nil, All-cons, All-head, name_limit, file_limit, Text, folded}
+use Rattle.bib_edit.proofs.Words.{is_name, IsBalanced, IsLink, IsValue, Tree, Item, Reading, Reads, months, Opens, IntroduceMacro, BadKey, BadName, BadValue, BadPosition, NotFound, Ambiguous, KeyInUse, NameInUse, Referred, WouldMerge, FileTooLong, TextTooLong, in_braces, defines, uses, holds}
+use Rattle.bib_edit.proofs.Words.{any_part, is_in_use, introduce_macro, IsAccepted, IsFirstRefusal, pieces_of, InItems, start_of, OfReading, made_base, first_item, definition_text, is_used, insertion_of, items_placed, tokens_of, replaced, Piece, olds_len, news_len, first-any}
 use Rattle.edit_spec.proofs.InUse.{InItems_none}
 use Rattle.edit_spec.proofs.IntroduceMacro.{IsUnused, IsOther}
-use Rattle.bib_scan.specs.Layout.{start_of}
-use Rattle.bib_store.specs.Meaning.{OfReading}
-use Rattle.bib_keys.specs.MadeBase.{made_base}
-use Rattle.bib_tokens.specs.FirstItem.{first_item}
-use Rattle.bib_edit.specs.Definitions.{definition_text, is_used}
 use Rattle.bib_tokens.specs.declared.tokens.First.{First}
-use Rattle.bib_edit.specs.NewEntries.{insertion_of}
-use Rattle.bib_tokens.specs.PlacedParts.{items_placed, tokens_of}
-use Rattle.bib_edit.specs.Replacing.{replaced_by, covered}
-use Rattle.bib_edit.specs.Limits.{olds_len, news_len}
-use Rattle.bib_edit.proofs.PieceLists.{lengths-edited}
-use Rattle.bib_tokens.proofs.FirstFound.{first-any}
-use Rattle.bib_edit.proofs.MacroPieces.{introduced-pieces, olds-tokens, news-tokens}
-use Rattle.bib_edit.proofs.PieceLengths.{olds-edited}
+use Rattle.bib_edit.proofs.PieceLengths.{makes-long, makes-short}
+use Rattle.bib_edit.proofs.MacroPieces.{introduced-pieces}
 use Rattle.bib_edit.proofs.MacroTexts.{long-introduced}
 use Rattle.bib_edit.proofs.OpenFiles.{none-long}
 use Rattle.bib_edit.proofs.LongTexts.{any_long, too_long-any}
 use Rattle.bib_edit.proofs.GivenNames.{and_name}
-use Rattle.bib_edit.proofs.Ranks.{IsClear, clear_none, clear_more, first_refusal, all_clear}
+use Rattle.bib_edit.proofs.Ranks.{Passes, no_reason, more, is_first, all_clear}
 
 module _ (name text : Text) (db : Reading) where
-  abbrev Passes : ℕ → Type 0
-  Passes n = IsClear made_base db (IntroduceMacro name text) n
-
-  more : (reason : EditFault) → (Refuses made_base reason db (IntroduceMacro name text) → ⊥) → Passes (rank reason) → Passes (suc (rank reason))
-  more = clear_more made_base db (IntroduceMacro name text)
-
-  first : (reason : EditFault) → Refuses made_base reason db (IntroduceMacro name text) → Passes (rank reason) → IsFirstRefusal made_base db (IntroduceMacro name text) reason
-  first = first_refusal made_base db (IntroduceMacro name text)
-
-  passes_keys : Passes 1
-  passes_keys = more BadKey (λ h. true≢false h) (clear_none made_base db (IntroduceMacro name text))
+  passes_keys : Passes made_base db (IntroduceMacro name text) 1
+  passes_keys = more BadKey (λ h. true≢false h) no_reason
 
   pub introduce-unnamed : is_name name ≡ false → IsFirstRefusal made_base db (IntroduceMacro name text) BadName
-  introduce-unnamed bad = first BadName (sym (and_name (is_name name)) ∙ bad) passes_keys
+  introduce-unnamed bad = is_first BadName (sym (and_name (is_name name)) ∙ bad) passes_keys
 
   module _ (named : is_name name ≡ true) where
-    passes_name : Passes 2
+    passes_name : Passes made_base db (IntroduceMacro name text) 2
     passes_name = more BadName (λ h. true≢false (sym named ∙ and_name (is_name name) ∙ h)) passes_keys
 
     pub introduce-unbalanced : (IsBalanced text → ⊥) → IsFirstRefusal made_base db (IntroduceMacro name text) BadValue
-    introduce-unbalanced bad = first BadValue (λ all. bad (All-head (IsValue name_limit) (in_braces text) [] all).first) passes_name
+    introduce-unbalanced bad = is_first BadValue (λ all. bad (All-head (IsValue name_limit) (in_braces text) [] all).first) passes_name
 
     module _ (balanced : IsBalanced text) where
-      passes_given : Passes 4
+      passes_given : Passes made_base db (IntroduceMacro name text) 4
       passes_given =
           more BadPosition (λ h. h)
           (more BadValue (λ h. h (All-cons (IsValue name_limit) (in_braces text) [] (record { first = balanced; links = All-nil (IsLink name_limit) }) (All-nil (IsValue name_limit)))) passes_name)
 
       pub introduce-missing : None ≡ first_item (any_part (holds text)) db.items → IsFirstRefusal made_base db (IntroduceMacro name text) NotFound
-      introduce-missing none = first NotFound (sym (ap is_some none ∙ first-any (any_part (holds text)) db.items)) passes_given
+      introduce-missing none = is_first NotFound (sym (ap is_some none ∙ first-any (any_part (holds text)) db.items)) passes_given
 
       module _ (n : ℕ) (found : first_item (any_part (holds text)) db.items ≡ Some n) where
-        passes_found : Passes 7
+        passes_found : Passes made_base db (IntroduceMacro name text) 7
         passes_found =
             more KeyInUse (λ h. h)
             (more Ambiguous (λ h. h) (more NotFound (λ none. true≢false (ap is_some (sym found) ∙ first-any (any_part (holds text)) db.items ∙ none)) passes_given))
 
         pub introduce-in_use : is_in_use name db.items ≡ true → IsFirstRefusal made_base db (IntroduceMacro name text) NameInUse
-        introduce-in_use used = first NameInUse used passes_found
+        introduce-in_use used = is_first NameInUse used passes_found
 
         module _ (unused : is_in_use name db.items ≡ false) where
-          passes_unused : Passes 10
+          passes_unused : Passes made_base db (IntroduceMacro name text) 10
           passes_unused = more WouldMerge (λ h. h) (more Referred (λ h. h) (more NameInUse (λ used. both_ways (is_in_use name db.items) unused used) passes_found))
 
           fine : InItems (IsUnused name text) (IsOther name text) db.items
@@ -86,24 +54,14 @@ module _ (name text : Text) (db : Reading) where
               InItems_none (IsUnused name text) (IsOther name text) (uses name) (λ _ h. h) name (λ _ h. h) db.items
               (or_parts (is_some (months (folded name))) (list_any (λ item. defines name item.tree || any_part (uses name) item.tree) db.items) unused).1
 
-          module _ (tokens : List (ℕ × Text)) (pieces : pieces_of made_base db (IntroduceMacro name text) ≡ insertion_of db n (definition_text name text) ∷ map (replaced_by name) tokens) where
-            -- what the file's length becomes
-            pub introduce-length : length (bytes_of (introduce_macro name text db)) + covered tokens ≡ length (bytes_of db) + (length (definition_text name text) + length tokens * length name)
-            introduce-length =
-                let lengths = lengths-edited made_base db (IntroduceMacro name text) in
-                let olds = ap olds_len pieces in
-                let news = ap news_len pieces in
-                let olds_are = olds-tokens name tokens in
-                let news_are = news-tokens name tokens in
-                omega (arith, lengths, olds, news, olds_are, news_are)
+          module _ (file : Text) (opens : Opens file db) (ps : List Piece) (are : ps ≡ pieces_of made_base db (IntroduceMacro name text)) where
+            pub introduce-long_file : file_limit + olds_len ps < length file + news_len ps → IsFirstRefusal made_base db (IntroduceMacro name text) FileTooLong
+            introduce-long_file over = is_first FileTooLong (makes-long (IntroduceMacro name text) file db opens.reads ps are over) passes_unused
 
-            pub introduce-long_file : file_limit + covered tokens < length (bytes_of db) + (length (definition_text name text) + length tokens * length name) → IsFirstRefusal made_base db (IntroduceMacro name text) FileTooLong
-            introduce-long_file long = first FileTooLong (let lengths = introduce-length in omega (arith, lengths, long)) passes_unused
-
-            pub introduce-accepted : (file : Text) → Opens file db → length (bytes_of db) + (length (definition_text name text) + length tokens * length name) ≤ file_limit + covered tokens → IsAccepted made_base db (IntroduceMacro name text)
-            introduce-accepted file opens short = all_clear made_base db (IntroduceMacro name text)
+            pub introduce-accepted : length file + news_len ps ≤ file_limit + olds_len ps → IsAccepted made_base db (IntroduceMacro name text)
+            introduce-accepted short = all_clear
                 (more TextTooLong (λ long. both_ways (any_long months (introduce_macro name text db).items) (long-introduced name text months db.items fine (none-long file db opens)) (sym (too_long-any (introduce_macro name text db)) ∙ long))
-                (more FileTooLong (λ long. let lengths = introduce-length in omega (arith, lengths, long, short)) passes_unused))
+                (more FileTooLong (makes-short (IntroduceMacro name text) file db opens.reads ps are short) passes_unused))
 
 -- ---- what is found in the file
 
@@ -120,13 +78,6 @@ met-first name file o first is met = subst (λ (p : Option First). IfSome p (λ 
 -- the first item that has the text, and the parts from there on
 module _ (file name text : Text) (n : ℕ) (found : OfReading file (λ db. Some n ≡ first_item (any_part (holds text)) db.items)) (tokens : List (ℕ × Text))
     (told : OfReading file (λ db. tokens ≡ tokens_of (holds text) (items_placed (start_of db n) (drop n db.items)))) where
-  pub introducing-pieces : (db : Reading) → Reads file db → pieces_of made_base db (IntroduceMacro name text) ≡ insertion_of db n (definition_text name text) ∷ map (replaced_by name) tokens
+  pub introducing-pieces : (db : Reading) → Reads file db → insertion_of db n (definition_text name text) ∷ replaced name tokens ≡ pieces_of made_base db (IntroduceMacro name text)
   introducing-pieces db reads =
-      introduced-pieces made_base db name text n (sym (found db reads)) ∙ ap (λ l. insertion_of db n (definition_text name text) ∷ map (replaced_by name) l) (sym (told db reads))
-
-  pub introducing-within : IsOpenable file → covered tokens ≤ length file
-  introducing-within is =
-      let olds = ap olds_len (introducing-pieces is.0 is.1.reads) in
-      let olds_are = olds-tokens name tokens in
-      let within = olds-edited made_base is.0 (IntroduceMacro name text) in
-      let whole = ap (length {A = ℕ}) is.1.reads.bytes in omega (arith, olds, olds_are, within, whole)
+      sym (introduced-pieces made_base db name text n (sym (found db reads)) ∙ ap (λ l. insertion_of db n (definition_text name text) ∷ replaced name l) (sym (told db reads)))

@@ -1,13 +1,6 @@
 -- Where an item is taken out, all texts stay clean exactly where the joined one is.
-use Rattle.std.proofs.Common.{◌≡◌, ℕ, zero, suc, Bool, false, List, [], ◌∷◌, ◌++◌, All, refl, sym, subst}
-use Rattle.std.proofs.lemmas.Bool.{cond-true, cond-false, false≢true}
-use Rattle.std.proofs.lemmas.List.Elements.{All-cons, All-head, All-tail}
-use Rattle.bib_spec.specs.Text.{Text}
-use Rattle.bib_spec.specs.Clean.{IsCleanTrail}
-use Rattle.bib_spec.specs.Tree.{Tree, is_comment}
-use Rattle.bib_spec.specs.Reading.{Item, Reading, Reads}
-use Rattle.edit_spec.specs.Edits.{without_first, HasCleanTexts}
-use Rattle.bib_edit.specs.Removal.{IsFirstAt, trail_at, text_before, is_after_comment, JoinsCleanly}
+use Rattle.bib_edit.proofs.Words.{◌≡◌, ℕ, zero, suc, Bool, false, List, [], ◌∷◌, ◌++◌, All, refl, sym, subst, cond-true, cond-false, false≢true, All-cons, All-head, All-tail, Text, IsCleanTrail, Tree, is_comment, Item, Reading, Reads, without_first, HasCleanTexts, IsFirstAt, trail_at, text_before}
+use Rattle.bib_edit.proofs.Words.{is_after_comment, JoinsCleanly}
 
 abbrev AreClean : List Item → Type 0
 AreClean items = All (λ item. IsCleanTrail (is_comment item.tree) item.trail) items

@@ -1,13 +1,6 @@
 -- A macro that is inlined leaves every trail but that of its definition, so texts stay clean as if that alone went.
-use Rattle.std.proofs.Common.{◌≡◌, ℕ, Bool, List, [], ◌∷◌, ◌++◌, refl, sym, ◌∙◌, ap, subst, ⊎_elim, All}
-use Rattle.std.proofs.lemmas.Bool.{cases_Bool, cond-true, cond-false}
-use Rattle.std.proofs.lemmas.List.Elements.{All-cons, All-head, All-tail}
-use Rattle.bib_spec.specs.Text.{Text}
-use Rattle.bib_spec.specs.Clean.{IsClean, IsCleanTrail}
-use Rattle.bib_spec.specs.Tree.{Tree, CommentTree, DefinitionTree, PreambleTree, EntryTree, is_comment}
-use Rattle.bib_spec.specs.Reading.{Item, Reading, Reads}
-use Rattle.edit_spec.specs.Edits.{leaving, tree_with, items_with, defines, from_first, use_inlined, uses_inlined, without_first, HasCleanTexts}
-use Rattle.bib_edit.specs.Removal.{IsFirstAt, JoinsCleanly}
+use Rattle.bib_edit.proofs.Words.{◌≡◌, ℕ, Bool, List, [], ◌∷◌, ◌++◌, refl, sym, ◌∙◌, ap, subst, ⊎_elim, All, cases_Bool, cond-true, cond-false, All-cons, All-head, All-tail, Text, IsClean, IsCleanTrail, Tree, CommentTree, DefinitionTree, PreambleTree, EntryTree, is_comment, Item, Reading, Reads}
+use Rattle.bib_edit.proofs.Words.{leaving, tree_with, items_with, defines, from_first, use_inlined, uses_inlined, without_first, HasCleanTexts, IsFirstAt, JoinsCleanly}
 use Rattle.bib_edit.proofs.JoinedTexts.{joins-clean, clean-joins}
 
 module _ (name held : Text) where

@@ -1,8 +1,8 @@
 -- Made keys have a base, whatever the edit.
 use Rattle.edit_spec.specs.Edits as edits
+use Rattle.bib_edit.proofs.Words.{made_base}
 use Rattle.edit_spec.specs.EditLaws.{HasKeyBase}
 use Rattle.bib_names.proofs.MadeKeyLaws.{key_bases_are_keys}
-use Rattle.bib_keys.specs.MadeBase.{made_base}
 
 pub has_key_base : (e : edits.Edit) → HasKeyBase made_base e
 has_key_base (edits.RegenerateKeys depth) = key_bases_are_keys

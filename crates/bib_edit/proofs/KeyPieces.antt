@@ -1,24 +1,9 @@
 -- The pieces of entries that get new keys are those of the edit's chunks.
-use Rattle.std.proofs.Common.{◌≡◌, ℕ, suc, ◌+◌, ◌≤◌, true, false, List, [], ◌∷◌, ◌++◌, Option, Some, None, length, find, option_and_then, scan, ⊎_elim, refl, sym, ◌∙◌, ap, ap₂, subst, arith, add-one, append_assoc, append-nil, length-append}
-use Rattle.std.specs.List.{flat_map}
-use Rattle.std.proofs.lemmas.Bool.{cases_Bool, cond-true, cond-false, false≢true}
-use Rattle.bib_spec.specs.Bytes.{file_limit, comma}
-use Rattle.bib_spec.specs.Text.{Text, same}
-use Rattle.bib_spec.specs.Tree.{Value, Row, Entry, Tree, CommentTree, DefinitionTree, PreambleTree, EntryTree, value_bytes, row_bytes, opening_bytes, tree_bytes, entry_bytes}
-use Rattle.bib_spec.specs.Reading.{Item, item_bytes}
-use Rattle.bib_spec.specs.Texts.{row_start}
-use Rattle.bib_spec.specs.Records.{EntryTexts, crossref, target}
-use Rattle.bib_spec.specs.Pieces.{Piece, Chunk, Kept, Replaced, old_of, pieces_from, end_of}
-use Rattle.edit_spec.specs.Edits.{in_braces, next_number}
-use Rattle.edit_spec.specs.EditChunks.{token, kept_rows, value_replaced, crossref_chunks, after_rows, entry_chunks, tree_key_chunks, item_key_chunks}
-use Rattle.edit_spec.proofs.TreeChunks.{read, old-read, last-read, entry-read, token_old, rows-kept, row-parts}
-use Rattle.bib_scan.specs.View.{Field, field_after, fields_after, View, view_of}
-use Rattle.bib_store.specs.Meaning.{is_entry_tree}
-use Rattle.bib_edit.specs.Addressing.{is_field}
-use Rattle.bib_edit.specs.Definitions.{braced}
-use Rattle.bib_edit.specs.NewKeys.{key_piece, value_piece, crossref_piece, entry_item, IsEntrySeen}
+use Rattle.bib_edit.proofs.Words.{◌≡◌, ℕ, suc, ◌+◌, ◌≤◌, true, false, List, [], ◌∷◌, ◌++◌, Option, Some, None, length, find, option_and_then, scan, ⊎_elim, refl, sym, ◌∙◌, ap, ap₂, subst, arith, add-one, append_assoc, append-nil, length-append, flat_map, cases_Bool, cond-true, cond-false}
+use Rattle.bib_edit.proofs.Words.{false≢true, file_limit, comma, Text, same, Value, Row, Entry, Tree, CommentTree, DefinitionTree, PreambleTree, EntryTree, value_bytes, row_bytes, opening_bytes, tree_bytes, entry_bytes, Item, item_bytes, row_start, EntryTexts, crossref, target, Piece, Chunk, Kept}
+use Rattle.bib_edit.proofs.Words.{Replaced, old_of, pieces_from, end_of, in_braces, next_number, token, kept_rows, value_replaced, crossref_chunks, after_rows, entry_chunks, tree_key_chunks, item_key_chunks, read, old-read, last-read, entry-read, token_old, rows-kept, row-parts, Field, field_after}
+use Rattle.bib_edit.proofs.Words.{fields_after, View, view_of, is_entry_tree, is_field, braced, key_piece, value_piece, crossref_piece, entry_item, IsEntrySeen, value-place}
 use Rattle.bib_edit.proofs.PieceLists.{pieces-append, pieces-kept_rows}
-use Rattle.bib_tokens.proofs.PlacedFields.{value-place}
 
 -- ---- rows
 
@@ -97,7 +82,7 @@ module _ (start : ℕ) (key named : Option Text) (e : Entry) (trail : Text) wher
 
 -- ---- what an entry's pieces replace lies in it
 
--- each piece lies within so many bytes of the place
+-- each piece lies within this many bytes after the place
 abbrev EndWithin : ℕ → List Piece → Type 0
 EndWithin end [] = Unit {0}
 EndWithin end (p ∷ ps) = (end_of p ≤ end) × EndWithin end ps

@@ -1,13 +1,7 @@
 -- Whether a new key is in use.
-use Rattle.std.proofs.Common.{◌≡◌, ℕ, ◌+◌, Bool, true, false, not, ◌&&◌, ◌||◌, nat_lt, List, [], ◌∷◌, count_by, ⊎_elim, refl, sym, ◌∙◌, ap, ap₂, arith}
-use Rattle.std.specs.List.{list_any}
-use Rattle.std.proofs.lemmas.Bool.{cases_Bool, both_ways, and_from, or_from, false_from_ne_true, true_from_ne_false, ltb-false}
-use Rattle.bib_spec.specs.Text.{Text, folded, same}
-use Rattle.bib_spec.specs.Texts.{is_empty}
-use Rattle.bib_spec.specs.Records.{EntryTexts, keys_of, is_named}
-use Rattle.bib_spec.proofs.Counts.{count-yes, count-no}
-use Rattle.bib_spec.proofs.Names.{same-true, true-same}
-use Rattle.bib_edit.specs.Dangling.{is_awaited, is_in_use}
+use Rattle.bib_edit.proofs.Words.{◌≡◌, ℕ, ◌+◌, Bool, true, false, not, ◌&&◌, ◌||◌, nat_lt, List, [], ◌∷◌, count_by, ⊎_elim, refl, sym, ◌∙◌, ap, ap₂, arith, list_any, cases_Bool, both_ways, and_from, or_from, false_from_ne_true, true_from_ne_false, ltb-false, Text, folded, same, is_empty, EntryTexts}
+use Rattle.bib_edit.proofs.Words.{keys_of, is_named, count-yes, count-no, same-true, true-same, is_awaited}
+use Rattle.bib_edit.specs.Dangling.{is_in_use}
 
 empty_folded : (t : Text) → is_empty t ≡ false → folded t ≡ [] → ⊥
 empty_folded [] e f = both_ways (is_empty []) e refl

@@ -1,3 +1,5 @@
+-- ---- the words of the proofs
+pub mod Words
 -- ---- items, fields and values by their places
 pub mod TabledDefinitions
 pub mod FirstItems
@@ -31,9 +33,8 @@ pub mod DroppingFields
 pub mod NewFields
 pub mod SpelledEntries
 pub mod SpelledLists
-pub mod Added
 pub mod ManyEntries
-pub mod ManyAdded
+pub mod Added
 -- ---- entries that go or move
 pub mod EntryPieces
 pub mod Parents

@@ -1,14 +1,6 @@
 -- The one entry that has a key, by its number among the entries.
-use Rattle.std.proofs.Common.{◌≡◌, ℕ, suc, ◌≤◌, List, [], ◌∷◌, Option, Some, None, count_by, option_map, ⊎_elim, refl, sym, ◌∙◌, arith}
-use Rattle.std.proofs.lemmas.Bool.{cases_Bool, cond-true, cond-false}
-use Rattle.std.proofs.lemmas.Option.{none-some}
-use Rattle.bib_spec.specs.Text.{Text}
-use Rattle.bib_spec.specs.Reading.{Reading}
-use Rattle.bib_spec.specs.Records.{entries_of, keys_of, entry_named, first_named, is_named}
-use Rattle.edit_spec.specs.Edits.{holders}
-use Rattle.bib_spec.proofs.Counts.{count-yes, count-no}
-use Rattle.bib_spec.proofs.Places.{suc_some}
-use Rattle.bib_edit.specs.Addressing.{IsLoneNumber}
+use Rattle.bib_edit.proofs.Words.{◌≡◌, ℕ, suc, ◌≤◌, List, [], ◌∷◌, Option, Some, None, count_by, option_map, ⊎_elim, refl, sym, ◌∙◌, arith, cases_Bool, cond-true, cond-false, none-some, Text, Reading, entries_of, keys_of, entry_named, first_named, is_named, holders, count-yes, count-no, suc_some}
+use Rattle.bib_edit.proofs.Words.{IsLoneNumber}
 
 some_named : (key : Text) (keys : List Text) (n : ℕ) → first_named key keys ≡ Some n → 1 ≤ count_by (is_named key) keys
 some_named key [] n e = absurd (none-some n e)

@@ -1,15 +1,7 @@
 -- Where an edit changes one entry, the only raw texts that are new are those of its new values.
-use Rattle.std.proofs.Common.{◌≡◌, ℕ, zero, suc, ◌+◌, Bool, true, false, ◌||◌, nat_lt, List, [], ◌∷◌, ◌++◌, Some, None, is_some, option_map, slice_get, length, map, find, ⊎_elim, refl, sym, ◌∙◌, ap, subst}
-use Rattle.std.specs.List.{list_any, zip}
-use Rattle.std.proofs.lemmas.Bool.{cases_Bool, cond-true, cond-false, or_parts}
-use Rattle.std.proofs.lemmas.Option.{none-some, same_Some}
-use Rattle.bib_spec.specs.Text.{Text, same}
-use Rattle.bib_spec.specs.Tree.{Value, Row, Entry, Tree, CommentTree, DefinitionTree, PreambleTree, EntryTree, row_bytes}
-use Rattle.bib_spec.specs.Reading.{Item, Reading, item_bytes}
-use Rattle.bib_spec.specs.Texts.{Macros, months, raw_text, raw_limit, macros_after, macros_at, raw_texts_in, raw_texts_from, value_places, row_places, too_long_at}
-use Rattle.edit_spec.specs.Edits.{is_entry, from_first, with_first_tree, of_entry, with_entry, row_before, row_to, with_field, without_field, entry_with_field, entry_without_field}
-use Rattle.bib_spec.proofs.Places.{suc_some}
-use Rattle.bib_tokens.specs.FirstItem.{first_item}
+use Rattle.bib_edit.proofs.Words.{◌≡◌, ℕ, zero, suc, ◌+◌, Bool, true, false, ◌||◌, nat_lt, List, [], ◌∷◌, ◌++◌, Some, None, is_some, option_map, slice_get, length, map, find, ⊎_elim, refl, sym, ◌∙◌, ap, subst, or-false, list_any, zip, cases_Bool, cond-true, cond-false, or_parts, none-some}
+use Rattle.bib_edit.proofs.Words.{same_Some, Text, same, Value, Row, Entry, Tree, CommentTree, DefinitionTree, PreambleTree, EntryTree, row_bytes, Item, Reading, item_bytes, Macros, months, raw_text, raw_limit, macros_after, macros_at, raw_texts_in, raw_texts_from, value_places, row_places}
+use Rattle.bib_edit.proofs.Words.{too_long_at, is_entry, from_first, with_first_tree, of_entry, with_entry, row_before, row_to, with_field, without_field, entry_with_field, entry_without_field, suc_some, first_item}
 
 abbrev pub is_long : Text → Bool
 is_long t = nat_lt raw_limit (length t)
@@ -69,10 +61,6 @@ too_long-any db = found-any (length db.front) months db.items
 
 -- ---- one entry changed
 
-or_none : (b : Bool) → (b || false) ≡ b
-or_none true = refl
-or_none false = refl
-
 module _ (key : Text) (change : Entry → Entry) where
   abbrev changed_items : List Item → List Item
   changed_items items = from_first (is_entry key) (with_first_tree (of_entry change)) items
@@ -95,7 +83,7 @@ module _ (key : Text) (change : Entry → Entry) where
       ap (any_long m) (cond-true (is_entry key tree) (item_at (of_entry change tree) trail ∷ items) (item_at tree trail ∷ changed_items items) named)
       ∙ ap (λ t. list_any is_long (raw_texts_in m (of_entry change t)) || any_long (macros_after m (of_entry change t)) items) is
       ∙ ap (λ b. list_any is_long (raw_texts_in m (EntryTree (change e))) || b) (sym (ap (λ t. any_long (macros_after m t) items) is) ∙ short)
-      ∙ or_none (list_any is_long (raw_texts_in m (EntryTree (change e))))
+      ∙ or-false (list_any is_long (raw_texts_in m (EntryTree (change e))))
 
   any_long-changed : (m : Macros) (items : List Item) (n : ℕ) (e : Entry) (trail : Text) → first_item (is_entry key) items ≡ Some n → slice_get items n ≡ Some (item_at (EntryTree e) trail) → any_long m items ≡ false →
       IsOfChanged m items n e
@@ -142,13 +130,13 @@ module _ (m : Macros) where
 
   module _ (name : Text) (value : Value) where
     set_long : (before : Text) (rows : List Row) → rows_long rows ≡ false → rows_long (with_field name value before rows).1 ≡ is_long (raw_text m value)
-    set_long before [] short = or_none (is_long (raw_text m value))
+    set_long before [] short = or-false (is_long (raw_text m value))
     set_long before (row ∷ rows) short =
         let rest = with_field name value row.assignment.space_after rows in
         let both = or_parts (is_long (raw_text m row.assignment.value)) (rows_long rows) short in
         ⊎_elim
         (λ e. ap (λ (r : Text × List Row). rows_long r.1) (cond-true (same row.assignment.name name) (before, row_to value row ∷ rows) (before, row_before rest.0 row ∷ rest.1) e)
-        ∙ ap (λ b. is_long (raw_text m value) || b) both.1 ∙ or_none (is_long (raw_text m value)))
+        ∙ ap (λ b. is_long (raw_text m value) || b) both.1 ∙ or-false (is_long (raw_text m value)))
         (λ e. ap (λ (r : Text × List Row). rows_long r.1) (cond-false (same row.assignment.name name) (before, row_to value row ∷ rows) (before, row_before rest.0 row ∷ rest.1) e)
         ∙ ap (λ b. b || rows_long rest.1) both.0 ∙ set_long row.assignment.space_after rows both.1)
         (cases_Bool (same row.assignment.name name))

@@ -1,27 +1,9 @@
 -- The pieces of edits of macros are tokens with the new bytes, and maybe a removal or an insertion.
-use Rattle.std.proofs.Common.{◌≡◌, ℕ, ◌+◌, ◌*◌, Bool, true, false, List, [], ◌∷◌, ◌++◌, Option, Some, None, option_map, if◌then◌else◌, codes, length, map, drop, count_by, refl, sym, ◌∙◌, ap, ap₂, arith, append_assoc, append-nil, length-append}
-use Rattle.std.specs.List.{AllByRecursion}
-use Rattle.std.proofs.lemmas.Bool.{cond-true, cond-false, false_from_ne_true}
-use Rattle.std.proofs.lemmas.Option.{same_Some}
-use Rattle.bib_spec.specs.Bytes.{equals_sign}
-use Rattle.bib_spec.specs.Text.{Text, same}
-use Rattle.bib_spec.specs.Tree.{Part, Braced, Quoted, Digits, Macro, Definition, Tree, CommentTree, DefinitionTree, PreambleTree, EntryTree, part_bytes, opening_bytes, close_byte, tree_bytes}
-use Rattle.bib_spec.specs.Reading.{Item, Reading, item_bytes}
-use Rattle.bib_spec.specs.Records.{Record}
-use Rattle.bib_spec.specs.Pieces.{Piece, Chunk, Kept, Replaced, pieces_from}
-use Rattle.edit_spec.specs.Edits.{RenameMacro, InlineMacro, IntroduceMacro, leaving, defines, uses, holds, any_part, name_renamed, use_renamed, use_inlined, part_introduced, text_of_macro, definition_of, in_line, definitions}
-use Rattle.edit_spec.specs.EditChunks.{token, value_chunks, tree_chunks, item_chunks, items_chunks, pieces_of, inserted}
-use Rattle.bib_spec.proofs.Counts.{count-yes, count-no}
-use Rattle.bib_scan.specs.Layout.{start_of}
-use Rattle.std.specs.Option.{option_map_or}
+use Rattle.bib_edit.proofs.Words.{◌≡◌, ℕ, ◌+◌, ◌*◌, Bool, true, false, List, [], ◌∷◌, ◌++◌, Option, Some, None, option_map, if◌then◌else◌, codes, length, map, drop, count_by, refl, sym, ◌∙◌, ap, ap₂, arith, append_assoc, append-nil, length-append, AllByRecursion, cond-true, cond-false}
+use Rattle.bib_edit.proofs.Words.{false_from_ne_true, same_Some, equals_sign, Text, same, Part, Braced, Quoted, Digits, Macro, Definition, Tree, CommentTree, DefinitionTree, PreambleTree, EntryTree, part_bytes, opening_bytes, close_byte, tree_bytes, Item, Reading, item_bytes, Record, Piece, Chunk}
+use Rattle.bib_edit.proofs.Words.{Kept, Replaced, pieces_from, RenameMacro, InlineMacro, IntroduceMacro, leaving, defines, uses, holds, any_part, name_renamed, use_renamed, use_inlined, part_introduced, text_of_macro, definition_of, in_line, definitions, token, value_chunks, tree_chunks}
+use Rattle.bib_edit.proofs.Words.{item_chunks, items_chunks, pieces_of, inserted, count-yes, count-no, start_of, option_map_or, first_item, IsDefinitionAt, name_token, braced, definition_text, items_placed, tokens_of, replaced_by, covered, removal_of, insertion_of, olds_len, news_len}
 use Rattle.bib_scan.proofs.ReadingLaws.{start_more}
-use Rattle.bib_tokens.specs.FirstItem.{first_item}
-use Rattle.bib_edit.specs.Definitions.{IsDefinitionAt, name_token, braced, definition_text}
-use Rattle.bib_tokens.specs.PlacedParts.{items_placed, tokens_of}
-use Rattle.bib_edit.specs.Replacing.{replaced_by, covered}
-use Rattle.bib_edit.specs.Removal.{removal_of}
-use Rattle.bib_edit.specs.NewEntries.{insertion_of}
-use Rattle.bib_edit.specs.Limits.{olds_len, news_len}
 use Rattle.bib_edit.proofs.FirstItems.{IsFirstItem, found_first, item-first}
 use Rattle.bib_edit.proofs.TokenPieces.{pieces-items, from-first, after-first, pieces-first}
 use Rattle.bib_edit.proofs.DefinedNames.{definition_item}

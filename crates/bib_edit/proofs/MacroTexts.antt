@@ -1,16 +1,9 @@
 -- Edits of macros keep all raw texts, so that none becomes too long.
-use Rattle.std.proofs.Common.{◌≡◌, ℕ, ◌≤◌, true, false, ◌||◌, List, [], ◌∷◌, Option, None, length, map, ⊎_elim, refl, sym, ◌∙◌, ap, ap₂, arith, append-nil, length-append}
-use Rattle.std.specs.List.{list_any, flat_map}
-use Rattle.std.proofs.lemmas.Bool.{cases_Bool, cond_both, or_parts, or_from, false≢true, false_from_ne_true, ltb-true, ltb-false}
-use Rattle.bib_spec.specs.Text.{Text}
-use Rattle.bib_spec.specs.Tree.{Part, Braced, Quoted, Digits, Macro, Value, Row, Tree, CommentTree, DefinitionTree, PreambleTree, EntryTree}
-use Rattle.bib_spec.specs.Reading.{Item}
-use Rattle.bib_spec.specs.Texts.{Macros, updated, parts_of, part_text, raw_text, raw_limit, values_of, macros_in, macros_after, raw_texts_in}
-use Rattle.edit_spec.specs.Edits.{changed, row_with, tree_with, items_with, leaving, defines, holds, any_part, from_first, name_renamed, use_renamed, part_introduced, definition_of, introduced}
-use Rattle.edit_spec.proofs.Simulation.{Rows, InTree, InItems, text_same, after_same}
+use Rattle.bib_edit.proofs.Words.{◌≡◌, ℕ, ◌≤◌, true, false, ◌||◌, List, [], ◌∷◌, Option, None, length, map, ⊎_elim, refl, sym, ◌∙◌, ap, ap₂, arith, append-nil, length-append, list_any, flat_map, cases_Bool, cond_both, or_parts, or_from, false≢true, false_from_ne_true, ltb-true, ltb-false, Text}
+use Rattle.bib_edit.proofs.Words.{Part, Braced, Quoted, Digits, Macro, Value, Row, Tree, CommentTree, DefinitionTree, PreambleTree, EntryTree, Item, Macros, updated, parts_of, part_text, raw_text, raw_limit, values_of, macros_in, macros_after, raw_texts_in, changed, row_with, tree_with, items_with}
+use Rattle.bib_edit.proofs.Words.{leaving, defines, holds, any_part, from_first, name_renamed, use_renamed, part_introduced, definition_of, introduced, Rows, InTree, InItems, text_same, after_same, eq-true}
 use Rattle.edit_spec.proofs.RenameMacro as rename
 use Rattle.edit_spec.proofs.IntroduceMacro as introduce
-use Rattle.bib_spec.proofs.Names.{eq-true}
 use Rattle.bib_edit.proofs.LongTexts.{is_long, any_long}
 use Rattle.bib_edit.proofs.PlacedTexts.{is_long_in}
 

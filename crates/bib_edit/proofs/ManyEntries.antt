@@ -1,15 +1,5 @@
 -- Entries that are added together, judged one after another.
-use Rattle.std.proofs.Common.{◌≡◌, ◌<◌, ℕ, Bool, true, false, ◌&&◌, List, [], ◌∷◌, length, get_or, ⊎_elim, refl, sym, ◌∙◌, ap, inr}
-use Rattle.std.specs.List.{list_all, flat_map}
-use Rattle.std.proofs.lemmas.List.Folds.{list_all-append, list_all-map, list_all_at}
-use Rattle.std.proofs.lemmas.Bool.{cases_Bool, both_ways}
-use Rattle.bib_spec.specs.Text.{is_new_key}
-use Rattle.bib_spec.specs.Reading.{Reading}
-use Rattle.bib_data.specs.declared.edit.NewEntry.{NewEntry}
-use Rattle.bib_edit.specs.NewEntries.{HaveValues, IsFieldFault, IsAnyLong}
-use Rattle.bib_edit.specs.ManyEntries.{keys_given, AllHaveValues, IsValuesFault, AreAnyLong}
-use Rattle.bib_edit.specs.declared.fault.EditFault.{EditFault}
-use Rattle.bib_edit.specs.declared.fault.EditFault.TheVariants.{BadKey, BadName, BadValue, BadPosition, NotFound, Ambiguous, KeyInUse, NameInUse, Referred, WouldMerge, FileTooLong, TextTooLong, Memory}
+use Rattle.bib_edit.proofs.Words.{◌≡◌, ◌<◌, ℕ, Bool, true, false, ◌&&◌, List, [], ◌∷◌, length, get_or, ⊎_elim, refl, sym, ◌∙◌, ap, inr, list_all, flat_map, list_all-append, list_all-map, list_all_at, cases_Bool, both_ways, is_new_key, Reading, NewEntry, IsAnyLong, keys_given, AreAnyLong}
 
 -- a test of all that members give is one of each member
 pub all-given : {X Y : Type 0} (p : Y → Bool) (f : X → List Y) (xs : List X) → list_all p (flat_map f xs) ≡ list_all (λ x. list_all p (f x)) xs
@@ -24,27 +14,9 @@ key-at news i entry lt at all = ⊎_elim
     (list_all-map is_new_key (λ (new : NewEntry). new.key) news ∙ list_all_at (λ (new : NewEntry). is_new_key new.key) news i entry lt (ap (λ (new : NewEntry). is_new_key new.key) (sym at) ∙ e)) all))
     (cases_Bool (is_new_key entry.key))
 
--- ---- values
-
--- an entry's fault is one of all, where all have values only if it has
-pub refused-values : (entry : NewEntry) (news : List NewEntry) (fault : EditFault) → (AllHaveValues news → HaveValues entry.fields) → IsFieldFault entry.fields fault → IsValuesFault news fault
-refused-values entry news BadValue its h = λ have. h (its have)
-refused-values entry news Memory its h = tt
-refused-values entry news BadKey its h = absurd h
-refused-values entry news BadName its h = absurd h
-refused-values entry news BadPosition its h = absurd h
-refused-values entry news NotFound its h = absurd h
-refused-values entry news Ambiguous its h = absurd h
-refused-values entry news KeyInUse its h = absurd h
-refused-values entry news NameInUse its h = absurd h
-refused-values entry news Referred its h = absurd h
-refused-values entry news WouldMerge its h = absurd h
-refused-values entry news FileTooLong its h = absurd h
-refused-values entry news TextTooLong its h = absurd h
-
 -- ---- raw texts
 
--- one entry after others of which none has a raw text that is too long
+-- one entry without a raw text that is too long, before others
 pub any_long-more : (db : Reading) (n : ℕ) (entry : NewEntry) (news : List NewEntry) → IsAnyLong false db n entry.fields → (long : Bool) → AreAnyLong long db n news → AreAnyLong long db n (entry ∷ news)
 any_long-more db n entry news short false h = (short, h)
 any_long-more db n entry news short true h = inr h

@@ -1,18 +1,7 @@
 -- The pieces of a move, with their places.
-use Rattle.std.proofs.Common.{◌≡◌, ℕ, zero, suc, ◌+◌, ◌<◌, ◌≤◌, nat_lt, Bool, true, List, [], ◌∷◌, ◌++◌, Some, find, slice_get, insert, length, map, take, drop, ⊎_elim, refl, sym, ◌∙◌, ap, ap₂, arith, length-append, zero-add, le_of_suc-le-suc, not-suc-le-zero}
-use Rattle.std.specs.List.{flat_map}
-use Rattle.std.specs.Option.{option_map_or}
-use Rattle.std.proofs.lemmas.Bool.{cases_Bool, cond-true, cond-false, ltb-true, ltb-false}
-use Rattle.bib_spec.specs.Text.{Text}
-use Rattle.bib_spec.specs.Tree.{Tree, tree_bytes}
-use Rattle.bib_spec.specs.Reading.{Item, Reading, item_bytes}
-use Rattle.bib_spec.specs.Pieces.{Piece, Chunk, Kept, Replaced, pieces_from}
-use Rattle.edit_spec.specs.Edits.{MoveEntry, is_entry, in_line, line_end}
-use Rattle.edit_spec.specs.EditChunks.{kept_item, kept_items, groups_without, moved, pieces_of}
-use Rattle.bib_keys.specs.MadeBase.{made_base}
-use Rattle.bib_edit.specs.Removal.{IsFirstAt, body_at, removal_of}
-use Rattle.bib_edit.specs.NewEntries.{insertion_of}
-use Rattle.bib_edit.specs.Moving.{line_of, moved_pieces}
+use Rattle.bib_edit.proofs.Words.{◌≡◌, ℕ, zero, suc, ◌+◌, ◌<◌, ◌≤◌, nat_lt, Bool, true, List, [], ◌∷◌, ◌++◌, Some, find, slice_get, insert, length, map, take, drop, ⊎_elim, refl, sym, ◌∙◌, ap, ap₂, arith, length-append, zero-add, le_of_suc-le-suc, not-suc-le-zero, flat_map, option_map_or}
+use Rattle.bib_edit.proofs.Words.{cases_Bool, cond-true, cond-false, ltb-true, ltb-false, Text, Tree, tree_bytes, Item, Reading, item_bytes, Piece, Chunk, Kept, Replaced, pieces_from, MoveEntry, is_entry, in_line, line_end, kept_item, kept_items, groups_without, moved, pieces_of, made_base}
+use Rattle.bib_edit.proofs.Words.{IsFirstAt, body_at, removal_of, insertion_of, line_of, moved_pieces}
 use Rattle.bib_edit.proofs.PiecePlaces.{items_bytes}
 use Rattle.bib_edit.proofs.PieceLists.{pieces-after_items, pieces-kept_items}
 

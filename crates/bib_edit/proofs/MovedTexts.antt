@@ -1,18 +1,7 @@
 -- What a moved entry says where it then stands.
-use Rattle.std.proofs.Common.{◌≡◌, ℕ, zero, suc, ◌+◌, ◌<◌, ◌≤◌, nat_lt, Bool, true, false, ◌||◌, List, [], ◌∷◌, ◌++◌, map, ⊎_elim, inr, refl, sym, ◌∙◌, ap, ap₂, subst, arith, All, le_of_suc-le-suc, not-suc-le-zero}
-use Rattle.std.specs.List.{list_any}
-use Rattle.std.proofs.lemmas.Bool.{cases_Bool, cond-true, cond-false, false≢true, ltb-true, ltb-false}
-use Rattle.std.proofs.lemmas.List.Elements.{All-head, All-tail}
-use Rattle.bib_spec.specs.Bytes.{name_limit}
-use Rattle.bib_spec.specs.Text.{Text}
-use Rattle.bib_spec.specs.Tree.{Row, Entry, Tree, CommentTree, DefinitionTree, PreambleTree, EntryTree, IsTree, IsRow, row_bytes}
-use Rattle.bib_spec.specs.Reading.{Item, Reading}
-use Rattle.bib_spec.specs.Texts.{Macros, months, macros_at, macros_after, raw_text}
-use Rattle.edit_spec.specs.Edits.{is_entry, without_first}
-use Rattle.bib_scan.specs.View.{Field, fields_after, fields_of}
-use Rattle.bib_edit.specs.Removal.{IsFirstAt}
-use Rattle.bib_edit.specs.NewEntries.{IsLong}
-use Rattle.bib_edit.specs.Moving.{seat, FieldsHaveValues, IsFieldLong}
+use Rattle.bib_edit.proofs.Words.{◌≡◌, ℕ, zero, suc, ◌+◌, ◌<◌, ◌≤◌, nat_lt, Bool, true, false, ◌||◌, List, [], ◌∷◌, ◌++◌, map, ⊎_elim, inr, refl, sym, ◌∙◌, ap, ap₂, subst, arith, All, le_of_suc-le-suc, not-suc-le-zero, or-true, list_any, cases_Bool, cond-true, cond-false, false≢true, ltb-true}
+use Rattle.bib_edit.proofs.Words.{ltb-false, All-head, All-tail, name_limit, Text, Row, Entry, Tree, CommentTree, DefinitionTree, PreambleTree, EntryTree, IsTree, IsRow, row_bytes, Item, Reading, Macros, months, macros_at, macros_after, raw_text, is_entry, without_first, Field, fields_after}
+use Rattle.bib_edit.proofs.Words.{fields_of, IsFirstAt, IsLong, next_item, FieldsHaveValues, IsFieldLong}
 use Rattle.bib_edit.proofs.LongTexts.{is_long}
 use Rattle.bib_edit.proofs.PlacedTexts.{is_long_in}
 
@@ -54,9 +43,9 @@ module _ (key : Text) where
       ∙ macros_beyond (macros_after m item.tree) item.trail items n place f.1 (le_of_suc-le-suc le)
 
   -- the macros before the place among what remains
-  pub macros-seat : (m : Macros) (front : Text) (items : List Item) (n place : ℕ) → IsFirstAt (is_entry key) items n →
-      macros_at m (without_first (is_entry key) front items).items place ≡ macros_at m items (seat n place)
-  macros-seat m front items n place f = ⊎_elim
+  pub macros-next_item : (m : Macros) (front : Text) (items : List Item) (n place : ℕ) → IsFirstAt (is_entry key) items n →
+      macros_at m (without_first (is_entry key) front items).items place ≡ macros_at m items (next_item n place)
+  macros-next_item m front items n place f = ⊎_elim
       (λ t. macros_before m front items n place f (ltb-true place n t) ∙ ap (macros_at m items) (sym (cond-true (nat_lt place n) place (place + 1) t)))
       (λ t. macros_beyond m front items n place f (ltb-false place n t)
       ∙ (let more : suc place ≡ place + 1 = omega arith in ap (macros_at m items) (more ∙ sym (cond-false (nat_lt place n) place (place + 1) t))))
@@ -78,10 +67,6 @@ module _ (db : Reading) (n : ℕ) where
   abbrev rows_long : List Row → Bool
   rows_long rows = list_any is_long (map (raw_text m) (map (λ row. row.assignment.value) rows))
 
-  or_true : (b : Bool) → (b || true) ≡ true
-  or_true true = refl
-  or_true false = refl
-
   rows-long : (long : Bool) (before : Text) (rows : List Row) → All (IsRow name_limit) rows → IsFieldLong long db n (fields_after before rows) → rows_long rows ≡ long
   rows-long long before [] are h = h
   rows-long false before (row ∷ rows) are h =
@@ -89,7 +74,7 @@ module _ (db : Reading) (n : ℕ) where
   rows-long true before (row ∷ rows) are h = ⊎_elim
       (λ this. ap (λ b. b || rows_long rows) (this row.assignment.value (All-head (IsRow name_limit) row rows are).assignment.value refl))
       (λ other. ap (λ b. is_long (raw_text m row.assignment.value) || b) (rows-long true (before ++ row_bytes row) rows (All-tail (IsRow name_limit) row rows are) other)
-      ∙ or_true (is_long (raw_text m row.assignment.value)))
+      ∙ or-true (is_long (raw_text m row.assignment.value)))
       h
 
 module _ (key : Text) where
@@ -121,10 +106,10 @@ pub field-short : (db : Reading) (n : ℕ) (field : Field) (fields : List Field)
 field-short db n field fields short false h = (short, h)
 field-short db n field fields short true h = inr h
 
--- ---- the seat
+-- ---- the item before which it will stand
 
-pub seat-within : (n place count : ℕ) → place < count → seat n place ≤ count
-seat-within n place count lt = ⊎_elim
+pub next_item-within : (n place count : ℕ) → place < count → next_item n place ≤ count
+next_item-within n place count lt = ⊎_elim
     (λ t. let is = cond-true (nat_lt place n) place (place + 1) t in omega (arith, lt, is))
     (λ t. let is = cond-false (nat_lt place n) place (place + 1) t in omega (arith, lt, is))
     (cases_Bool (nat_lt place n))

@@ -1,21 +1,10 @@
 -- The entry that a key names, as an item: its number, and its fields.
-use Rattle.std.proofs.Common.{◌≡◌, ℕ, zero, suc, ◌+◌, ◌<◌, true, List, [], ◌∷◌, Option, Some, None, option_map, option_and_then, slice_get, length, map, filter, ⊎_elim, refl, sym, ◌∙◌, ap, subst, arith}
-use Rattle.std.specs.List.{enumerate_from}
-use Rattle.std.proofs.lemmas.Bool.{cases_Bool, cond-true, cond-false}
-use Rattle.std.proofs.lemmas.Option.{none-some, same_Some}
-use Rattle.bib_spec.specs.Text.{Text}
-use Rattle.bib_spec.specs.Tree.{Entry, Tree, CommentTree, DefinitionTree, PreambleTree, EntryTree}
-use Rattle.bib_spec.specs.Reading.{Item, Reading}
-use Rattle.bib_spec.specs.Texts.{Macros, months, macros_after, gathered}
-use Rattle.bib_spec.specs.Records.{EntryTexts, entry_in, entries_of, texts_of, is_named, keys_of, first_named, entry_named}
-use Rattle.edit_spec.specs.Edits.{is_entry}
-use Rattle.bib_spec.proofs.Places.{suc_some}
+use Rattle.bib_edit.proofs.Words.{◌≡◌, ℕ, zero, suc, ◌+◌, ◌<◌, true, List, [], ◌∷◌, Option, Some, None, option_map, option_and_then, slice_get, length, map, filter, ⊎_elim, refl, sym, ◌∙◌, ap, subst, arith, enumerate_from, cases_Bool, cond-true, cond-false, none-some, same_Some, Text, Entry, Tree}
+use Rattle.bib_edit.proofs.Words.{CommentTree, DefinitionTree, PreambleTree, EntryTree, Item, Reading, Macros, months, macros_after, gathered, EntryTexts, entry_in, entries_of, texts_of, is_named, keys_of, first_named, entry_named, is_entry, suc_some, OfReading, is_entry_tree, entry_numbers}
+use Rattle.bib_edit.proofs.Words.{first_item, item_named}
 use Rattle.edit_spec.proofs.OneMore.{length-keys}
-use Rattle.bib_store.specs.Meaning.{OfReading, is_entry_tree, entry_numbers}
-use Rattle.bib_tokens.specs.FirstItem.{first_item}
-use Rattle.bib_edit.specs.Addressing.{item_named}
 
--- the numbers of the entries among items, of which the first has this number
+-- the numbers of the entries among items; the first item has this number
 abbrev numbers_from : ℕ → List Item → List ℕ
 numbers_from at items = map (λ p. p.0) (filter (λ p. is_entry_tree p.1.tree) (enumerate_from at items))
 

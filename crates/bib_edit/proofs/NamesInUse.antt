@@ -1,14 +1,6 @@
 -- Whether a name is in use, told in parts.
-use Rattle.std.proofs.Common.{◌≡◌, ℕ, Bool, true, false, not, ◌&&◌, ◌||◌, is_some, List, [], ◌∷◌, take, drop, refl, sym, ◌∙◌, ap, ap₂, take-append-drop}
-use Rattle.std.specs.List.{list_any}
-use Rattle.std.proofs.Math.Bool.{or_assoc, or_comm}
-use Rattle.bib_spec.specs.Text.{Text, folded, same}
-use Rattle.bib_spec.specs.Texts.{months}
-use Rattle.bib_spec.specs.Reading.{Item}
-use Rattle.edit_spec.specs.Edits.{defines, uses, any_part, is_in_use}
-use Rattle.bib_tokens.specs.PlacedParts.{have_part}
-use Rattle.bib_edit.specs.Definitions.{is_given, is_used, is_taken_before, is_taken_from}
-use Rattle.std.proofs.lemmas.List.Folds.{list_any-append}
+use Rattle.bib_edit.proofs.Words.{◌≡◌, ℕ, Bool, true, false, not, ◌&&◌, ◌||◌, is_some, List, [], ◌∷◌, take, drop, refl, sym, ◌∙◌, ap, ap₂, take-append-drop, list_any, or_assoc, or_comm, Text, folded, same, months, Item, defines, uses, any_part, is_in_use, have_part, is_given, is_used}
+use Rattle.bib_edit.proofs.Words.{is_taken_before, is_taken_from, list_any-append}
 
 or_swap : (a b c d : Bool) → ((a || b) || (c || d)) ≡ ((a || c) || (b || d))
 or_swap true b c d = refl

@@ -1,18 +1,9 @@
 -- The fields of an entry to be added, judged one after another.
-use Rattle.std.proofs.Common.{◌≡◌, ℕ, ◌+◌, ◌<◌, ◌≤◌, ◌==◌, Bool, true, false, ◌&&◌, ◌||◌, nat_lt, nat_le, List, [], ◌∷◌, ◌++◌, Some, slice_get, get_or, length, take, drop, ⊎_elim, refl, sym, ◌∙◌, ap, ap₂, subst, arith, append-nil, take-append-drop}
-use Rattle.std.specs.List.{list_all, list_any}
-use Rattle.std.proofs.lemmas.Bool.{cases_Bool, and_parts, both_ways, eqb-true, eqb-false, leb-true}
-use Rattle.std.proofs.lemmas.Option.{slice_get_read, same_Some}
-use Rattle.std.proofs.lemmas.List.{take_all, map-append}
+use Rattle.bib_spec.specs.Text.{is_name_within}
+use Rattle.bib_edit.proofs.Words.{◌≡◌, ℕ, ◌+◌, ◌<◌, ◌≤◌, ◌==◌, Bool, true, false, ◌&&◌, ◌||◌, nat_lt, nat_le, List, [], ◌∷◌, ◌++◌, Some, slice_get, get_or, length, take, drop, ⊎_elim, refl, sym, ◌∙◌, ap, ap₂, subst, arith, append-nil, take-append-drop, and-false, list_all, list_any, cases_Bool}
+use Rattle.bib_edit.proofs.Words.{and_parts, both_ways, eqb-true, eqb-false, leb-true, slice_get_read, same_Some, take_all, map-append, list_all-append, name_limit, Text, same, is_name, does_not_begin_with, Reading, IsValueWithin, has_same, names_of, HaveValuesTo, IsLong, AreShortTo}
+use Rattle.bib_edit.proofs.Words.{field_line, lines_of}
 use Rattle.std.proofs.lemmas.List.Concat.{flat_map-append}
-use Rattle.bib_spec.specs.Bytes.{name_limit}
-use Rattle.bib_spec.specs.Text.{Text, same, is_name, is_name_within, does_not_begin_with}
-use Rattle.bib_spec.specs.Reading.{Reading, IsValueWithin}
-use Rattle.edit_spec.specs.Edits.{has_same}
-use Rattle.bib_edit.specs.NewEntries.{names_of, HaveValuesTo, HaveValues, IsFieldFault, IsLong, AreShortTo, field_line, lines_of}
-use Rattle.bib_edit.specs.declared.fault.EditFault.{EditFault}
-use Rattle.bib_edit.specs.declared.fault.EditFault.TheVariants.{BadKey, BadName, BadValue, BadPosition, NotFound, Ambiguous, KeyInUse, NameInUse, Referred, WouldMerge, FileTooLong, TextTooLong, Memory}
-use Rattle.bib_edit.specs.Judging.{IsNoValue}
 use Rattle.bib_edit.proofs.SeenNames.{take-read}
 
 -- ---- lines
@@ -31,28 +22,16 @@ module _ (fields : List (Text × Text)) (i : ℕ) (field : Text × Text) (lt : i
   pub names-split : names_of fields ≡ names_of (take (i + 1) fields) ++ names_of (drop (i + 1) fields)
   names-split = ap names_of (sym (take-append-drop (i + 1) fields)) ∙ map-append (λ field. field.0) (take (i + 1) fields) (drop (i + 1) fields)
 
-all_append : (p : Text → Bool) (xs ys : List Text) → list_all p (xs ++ ys) ≡ (list_all p xs && list_all p ys)
-all_append p [] ys = refl
-all_append p (x ∷ xs) ys = ap (λ b. p x && b) (all_append p xs ys) ∙ and_assoc (p x) (list_all p xs) (list_all p ys)
-  where
-    and_assoc : (a b c : Bool) → (a && (b && c)) ≡ ((a && b) && c)
-    and_assoc true b c = refl
-    and_assoc false b c = refl
-
 pub all-more : (p : Text → Bool) (fields : List (Text × Text)) (i : ℕ) (field : Text × Text) → i < length fields → field ≡ get_or fields i field →
     list_all p (names_of (take i fields)) ≡ true → p field.0 ≡ true → list_all p (names_of (take (i + 1) fields)) ≡ true
 all-more p fields i field lt at before this =
-    ap (list_all p) (names-more fields i field lt at) ∙ all_append p (names_of (take i fields)) (field.0 ∷ []) ∙ ap₂ (λ a b. a && (b && true)) before this
+    ap (list_all p) (names-more fields i field lt at) ∙ list_all-append p (names_of (take i fields)) (field.0 ∷ []) ∙ ap₂ (λ a b. a && (b && true)) before this
 
 pub all-fails : (p : Text → Bool) (fields : List (Text × Text)) (i : ℕ) (field : Text × Text) → i < length fields → field ≡ get_or fields i field →
     p field.0 ≡ false → list_all p (names_of fields) ≡ false
 all-fails p fields i field lt at this =
-    ap (list_all p) (names-split fields i field lt at) ∙ all_append p (names_of (take (i + 1) fields)) (names_of (drop (i + 1) fields))
-    ∙ ap (λ b. b && list_all p (names_of (drop (i + 1) fields))) (ap (list_all p) (names-more fields i field lt at) ∙ all_append p (names_of (take i fields)) (field.0 ∷ []) ∙ ap (λ b. list_all p (names_of (take i fields)) && (b && true)) this ∙ and_false (list_all p (names_of (take i fields))))
-  where
-    and_false : (a : Bool) → (a && false) ≡ false
-    and_false true = refl
-    and_false false = refl
+    ap (list_all p) (names-split fields i field lt at) ∙ list_all-append p (names_of (take (i + 1) fields)) (names_of (drop (i + 1) fields))
+    ∙ ap (λ b. b && list_all p (names_of (drop (i + 1) fields))) (ap (list_all p) (names-more fields i field lt at) ∙ list_all-append p (names_of (take i fields)) (field.0 ∷ []) ∙ ap (λ b. list_all p (names_of (take i fields)) && (b && true)) this ∙ and-false (list_all p (names_of (take i fields))))
 
 pub all-done : (p : Text → Bool) (fields : List (Text × Text)) (i : ℕ) → length fields ≤ i → list_all p (names_of (take i fields)) ≡ true → list_all p (names_of fields) ≡ true
 all-done p fields i le h = ap (λ l. list_all p (names_of l)) (sym (take_all i fields le)) ∙ h
@@ -98,34 +77,3 @@ module _ (fields : List (Text × Text)) (i : ℕ) (field : Text × Text) (lt : i
       subst (λ (f : Text × Text). IsLong false db n f.1) (same_Some field other (sym stands ∙ sym (ap (slice_get fields) here) ∙ e)) this)
       (λ t. let apart = eqb-false k i t in before k other (omega (arith, le, apart)) e)
       (cases_Bool (k == i))
-
-pub refused-value : (fields : List (Text × Text)) (value : Text) (fault : EditFault) → (HaveValues fields → IsValueWithin name_limit value) → IsNoValue value fault → IsFieldFault fields fault
-refused-value fields value BadValue its h = λ have. h (its have)
-refused-value fields value Memory its h = tt
-refused-value fields value BadKey its h = absurd h
-refused-value fields value BadName its h = absurd h
-refused-value fields value BadPosition its h = absurd h
-refused-value fields value NotFound its h = absurd h
-refused-value fields value Ambiguous its h = absurd h
-refused-value fields value KeyInUse its h = absurd h
-refused-value fields value NameInUse its h = absurd h
-refused-value fields value Referred its h = absurd h
-refused-value fields value WouldMerge its h = absurd h
-refused-value fields value FileTooLong its h = absurd h
-refused-value fields value TextTooLong its h = absurd h
-
--- a value is refused for want of memory alone
-pub memory-alone : (value : Text) (fault : EditFault) → IsValueWithin name_limit value → IsNoValue value fault → fault ≡ Memory
-memory-alone value BadValue is h = absurd (h is)
-memory-alone value Memory is h = refl
-memory-alone value BadKey is h = absurd h
-memory-alone value BadName is h = absurd h
-memory-alone value BadPosition is h = absurd h
-memory-alone value NotFound is h = absurd h
-memory-alone value Ambiguous is h = absurd h
-memory-alone value KeyInUse is h = absurd h
-memory-alone value NameInUse is h = absurd h
-memory-alone value Referred is h = absurd h
-memory-alone value WouldMerge is h = absurd h
-memory-alone value FileTooLong is h = absurd h
-memory-alone value TextTooLong is h = absurd h

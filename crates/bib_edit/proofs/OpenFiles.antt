@@ -1,10 +1,5 @@
 -- What holds of a file that opens, of each of its readings.
-use Rattle.std.proofs.Common.{◌≡◌, ◌≤◌, false, is_some, length, sym, ◌∙◌, ap, subst}
-use Rattle.bib_spec.specs.Bytes.{file_limit}
-use Rattle.bib_spec.specs.Text.{Text}
-use Rattle.bib_spec.specs.Reading.{Reading, Reads, bytes_of}
-use Rattle.bib_spec.specs.Texts.{months, Opens}
-use Rattle.bib_spec.specs.Texts.{IsOpenable}
+use Rattle.bib_edit.proofs.Words.{◌≡◌, false, is_some, sym, ◌∙◌, ap, subst, Text, Reading, Reads, months, Opens, IsOpenable}
 use Rattle.bib_scan.specs.Laws.{OneReading}
 use Rattle.bib_edit.proofs.LongTexts.{any_long, too_long-any}
 
@@ -14,6 +9,3 @@ opens-as file db one is reads = subst (λ (r : Reading). Opens file r) (one file
 
 pub none-long : (file : Text) (db : Reading) → Opens file db → any_long months db.items ≡ false
 none-long file db opens = sym (too_long-any db) ∙ ap is_some opens.texts
-
-pub bytes-short : (file : Text) (db : Reading) → Opens file db → length (bytes_of db) ≤ file_limit
-bytes-short file db opens = subst (λ (t : Text). length t ≤ file_limit) (sym opens.reads.bytes) opens.short

@@ -1,11 +1,5 @@
 -- Whether the entry that a key names is a parent.
-use Rattle.std.proofs.Common.{◌≡◌, ◌↔◌, ℕ, Bool, false, IsTrue, List, Some, None, sym, ◌∙◌, ap}
-use Rattle.std.proofs.lemmas.Bool.{false≢true}
-use Rattle.std.proofs.lemmas.Option.{none-some, same_Some}
-use Rattle.bib_spec.specs.Text.{Text}
-use Rattle.bib_spec.specs.Records.{EntryTexts, entry_named}
-use Rattle.edit_spec.specs.Edits.{IsReferred}
-use Rattle.bib_edit.specs.Removal.{IsParent}
+use Rattle.bib_edit.proofs.Words.{◌≡◌, ◌↔◌, ℕ, Bool, false, IsTrue, List, Some, None, sym, ◌∙◌, ap, false≢true, none-some, same_Some, Text, EntryTexts, entry_named, IsReferred, IsParent}
 
 -- the entry that the key names is a parent
 pub referred-iff : (key : Text) (entries : List EntryTexts) (m : ℕ) (b : Bool) → entry_named entries key ≡ Some m → (IsTrue b ↔ IsParent entries m) → IsTrue b ↔ IsReferred key entries

@@ -1,16 +1,6 @@
 -- The pieces of lists of chunks.
-use Rattle.std.proofs.Common.{◌≡◌, ℕ, ◌+◌, ◌≤◌, false, List, [], ◌∷◌, ◌++◌, length, refl, sym, ◌∙◌, ap, ap₂, subst, arith, append-nil, length-append}
-use Rattle.std.specs.List.{flat_map}
-use Rattle.bib_spec.specs.Text.{Text}
-use Rattle.bib_spec.specs.Tree.{Row, Entry, row_bytes, opening_bytes}
-use Rattle.bib_spec.specs.Reading.{Item, Reading, item_bytes, bytes_of}
-use Rattle.bib_spec.specs.Records.{Record}
-use Rattle.bib_spec.specs.Pieces.{Piece, end_of, Fit, Chunk, Kept, Replaced, old_of, new_of, pieces_from}
-use Rattle.edit_spec.specs.Edits.{Edit, edited}
-use Rattle.edit_spec.specs.EditChunks.{kept_items, kept_rows, after_rows, entry_chunks, chunks, pieces_of}
-use Rattle.bib_edit.specs.Limits.{olds_len, news_len}
-use Rattle.edit_spec.proofs.EditFiles.{chunks-are-files, pieces-lead}
-use Rattle.edit_spec.proofs.TreeChunks.{old-read, items-kept}
+use Rattle.bib_edit.proofs.Words.{◌≡◌, ℕ, ◌+◌, ◌≤◌, false, List, [], ◌∷◌, ◌++◌, length, refl, sym, ◌∙◌, ap, ap₂, subst, arith, append-nil, length-append, flat_map, Text, Row, Entry, row_bytes, opening_bytes, Item, Reading, item_bytes, bytes_of, Record, Piece, end_of, Fit, Chunk, Kept, Replaced}
+use Rattle.bib_edit.proofs.Words.{old_of, new_of, pieces_from, Edit, edited, kept_items, kept_rows, after_rows, entry_chunks, chunks, pieces_of, olds_len, news_len, chunks-are-files, pieces-lead, old-read, items-kept}
 
 pub pieces-append : (at : ℕ) (xs ys : List Chunk) → pieces_from at (xs ++ ys) ≡ pieces_from at xs ++ pieces_from (at + length (old_of xs)) ys
 pieces-append at [] ys = ap (λ n. pieces_from n ys) (omega arith)
@@ -72,11 +62,6 @@ lengths-edited base db e =
 -- ---- an edit of one piece
 
 module _ (base : Record → Text) (db : Reading) (e : Edit) (p : Piece) (is : pieces_of base db e ≡ p ∷ []) where
-  pub length-one_piece : length (bytes_of (edited base db e)) + length p.old ≡ length (bytes_of db) + length p.new
-  length-one_piece =
-      let lengths = subst (λ (ps : List Piece). length (bytes_of (edited base db e)) + olds_len ps ≡ length (bytes_of db) + news_len ps) is (lengths-edited base db e) in
-      omega (arith, lengths)
-
   pub within-one_piece : end_of p ≤ length (bytes_of db)
   within-one_piece =
       let fit : Fit (p ∷ []) (bytes_of db) = subst (λ (ps : List Piece). Fit ps (bytes_of db)) is (pieces-lead base db e).0 in

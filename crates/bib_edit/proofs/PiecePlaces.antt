@@ -1,21 +1,7 @@
 -- The pieces of chunks that mostly are kept, with their places; and the length of what pieces make.
-use Rattle.std.proofs.Common.{◌≡◌, ℕ, zero, suc, ◌+◌, Bool, List, [], ◌∷◌, ◌++◌, length, take, drop, sym, ◌∙◌, ap, ap₂, zero-add, append-nil, le_refl}
-use Rattle.std.specs.List.{flat_map}
-use Rattle.std.proofs.Math.ListN.{drop_of_length-le}
-use Rattle.std.proofs.lemmas.List.{take_all}
-use Rattle.std.proofs.lemmas.Bool.{cond-true, cond-false}
-use Rattle.bib_spec.specs.Text.{Text}
-use Rattle.bib_spec.specs.Tree.{Tree}
-use Rattle.bib_spec.specs.Reading.{Item, Reading, item_bytes, bytes_of}
-use Rattle.bib_spec.specs.Pieces.{Kept, Replaced, pieces_from, pieces_of_chunks}
-use Rattle.bib_spec.specs.Records.{Record}
-use Rattle.edit_spec.specs.Edits.{Edit, edited}
-use Rattle.edit_spec.specs.EditChunks.{kept_item, kept_items, chunks_from_first, without_body, chunks, pieces_of}
-use Rattle.edit_spec.proofs.EditFiles.{chunks-are-files}
-use Rattle.bib_scan.specs.Layout.{start_of}
-use Rattle.bib_edit.specs.Removal.{IsFirstAt, body_at, trail_at}
-use Rattle.bib_edit.specs.Limits.{olds_len, news_len}
-use Rattle.bib_edit.proofs.PieceLists.{pieces-after_items, pieces-kept_items, lengths-chunks}
+use Rattle.bib_edit.proofs.Words.{◌≡◌, ℕ, zero, suc, ◌+◌, Bool, List, [], ◌∷◌, ◌++◌, length, take, drop, sym, ◌∙◌, ap, ap₂, zero-add, append-nil, le_refl, flat_map, drop_of_length-le, take_all, cond-true, cond-false, Text, Tree, Item, Reading, item_bytes, Kept, Replaced, pieces_from}
+use Rattle.bib_edit.proofs.Words.{pieces_of_chunks, kept_item, kept_items, chunks_from_first, without_body, start_of, IsFirstAt, body_at, trail_at}
+use Rattle.bib_edit.proofs.PieceLists.{pieces-after_items, pieces-kept_items}
 
 abbrev pub items_bytes : List Item → Text
 items_bytes items = flat_map item_bytes items
@@ -59,14 +45,3 @@ appending-pieces new db =
 
 pub no-pieces : (db : Reading) → pieces_of_chunks (Kept db.front ∷ (kept_items db.items ++ [])) ≡ []
 no-pieces db = ap (pieces_from (0 + length db.front)) (append-nil (kept_items db.items)) ∙ pieces-kept_items (0 + length db.front) db.items
-
--- ---- lengths
-
--- what an edit makes is as much longer as its pieces' new bytes are than their old
-pub length-edited : (key_base : Record → Text) (db : Reading) (e : Edit) →
-    length (bytes_of (edited key_base db e)) + olds_len (pieces_of key_base db e) ≡ length (bytes_of db) + news_len (pieces_of key_base db e)
-length-edited key_base db e =
-    let files = chunks-are-files key_base db e in
-    ap (λ (t : Text). length t + olds_len (pieces_of key_base db e)) (sym files.1)
-    ∙ lengths-chunks 0 (chunks key_base db e)
-    ∙ ap (λ (t : Text). length t + news_len (pieces_of key_base db e)) files.0

@@ -1,12 +1,7 @@
 -- What a removal, an insertion and new entries at the end make of the raw texts that are too long.
-use Rattle.std.proofs.Common.{◌≡◌, ℕ, zero, suc, Bool, true, false, ◌||◌, List, [], ◌∷◌, ◌++◌, insert, length, map, ⊎_elim, refl, ◌∙◌, ap}
-use Rattle.std.specs.List.{list_any}
-use Rattle.std.proofs.lemmas.Bool.{cases_Bool, cond-true, cond-false, or_parts, or_from}
-use Rattle.bib_spec.specs.Text.{Text}
-use Rattle.bib_spec.specs.Tree.{Entry, Tree, CommentTree, DefinitionTree, PreambleTree, EntryTree}
-use Rattle.bib_spec.specs.Reading.{Item, Reading}
-use Rattle.bib_spec.specs.Texts.{Macros, macros_after, macros_at, raw_texts_in}
-use Rattle.edit_spec.specs.Edits.{NewEntry, is_entry, without_first, entry_of, item_of}
+use Rattle.bib_edit.proofs.Words.{◌≡◌, ℕ, zero, suc, Bool, false, ◌||◌, List, [], ◌∷◌, ◌++◌, insert, length, map, ⊎_elim, refl, ◌∙◌, ap, or-false, list_any, cases_Bool, cond-true, cond-false, or_parts, or_from, Text, Entry, Tree, CommentTree, DefinitionTree, PreambleTree, EntryTree, Item, Reading}
+use Rattle.bib_edit.proofs.Words.{Macros, macros_after, macros_at, raw_texts_in, is_entry, without_first, entry_of, item_of}
+use Rattle.edit_spec.specs.Edits.{NewEntry}
 use Rattle.bib_edit.proofs.LongTexts.{is_long, any_long}
 
 -- some raw text of the item is too long, where these macros stand before it
@@ -57,16 +52,8 @@ after_entry m tree e is = ap (macros_after m) is
 -- an entry is put in before item n, or after the last
 pub inserted-long : (m : Macros) (items : List Item) (n : ℕ) (item : Item) (e : Entry) → item.tree ≡ EntryTree e → any_long m items ≡ false →
     any_long m (insert items n item) ≡ is_long_in (macros_at m items n) item.tree
-inserted-long m items zero item e is none = ap (λ b. is_long_in m item.tree || b) (ap (λ (a : Macros). any_long a items) (after_entry m item.tree e is) ∙ none) ∙ or_none (is_long_in m item.tree)
-  where
-    or_none : (b : Bool) → (b || false) ≡ b
-    or_none true = refl
-    or_none false = refl
-inserted-long m [] (suc n) item e is none = or_none (is_long_in m item.tree)
-  where
-    or_none : (b : Bool) → (b || false) ≡ b
-    or_none true = refl
-    or_none false = refl
+inserted-long m items zero item e is none = ap (λ b. is_long_in m item.tree || b) (ap (λ (a : Macros). any_long a items) (after_entry m item.tree e is) ∙ none) ∙ or-false (is_long_in m item.tree)
+inserted-long m [] (suc n) item e is none = or-false (is_long_in m item.tree)
 inserted-long m (first ∷ items) (suc n) item e is none =
     let both = or_parts (is_long_in m first.tree) (any_long (macros_after m first.tree) items) none in
     ap (λ b. b || any_long (macros_after m first.tree) (insert items n item)) both.0

@@ -1,10 +1,6 @@
--- The reasons in their order: an edit that the first so many do not refuse.
-use Rattle.std.proofs.Common.{◌≡◌, ℕ, zero, suc, ◌<◌, ◌==◌, ⊎_elim, refl, sym, ◌∙◌, ap, subst, arith, not-suc-le-zero}
-use Rattle.std.proofs.lemmas.Bool.{cases_Bool, eqb-true, eqb-false}
-use Rattle.bib_spec.specs.Reading.{Reading}
-use Rattle.bib_spec.specs.Records.{Record}
-use Rattle.bib_spec.specs.Text.{Text}
-use Rattle.edit_spec.specs.Edits.{Edit, EditFault, BadKey, BadName, BadValue, BadPosition, NotFound, Ambiguous, KeyInUse, NameInUse, Referred, WouldMerge, FileTooLong, TextTooLong, rank, Refuses, IsAccepted, IsFirstRefusal}
+-- The reasons in their order: an edit that the first n of them do not refuse.
+use Rattle.bib_edit.proofs.Words.{◌≡◌, ℕ, zero, suc, ◌<◌, ◌==◌, ⊎_elim, refl, sym, ◌∙◌, ap, subst, arith, not-suc-le-zero, cases_Bool, eqb-true, eqb-false, Reading, Record, Text, Edit, EditFault, BadKey, BadName, BadValue, BadPosition, NotFound, Ambiguous, KeyInUse, NameInUse, Referred, WouldMerge}
+use Rattle.bib_edit.proofs.Words.{FileTooLong, TextTooLong, rank, Refuses, IsAccepted, IsFirstRefusal}
 
 fault_at : ℕ → EditFault
 fault_at zero = BadKey
@@ -49,25 +45,24 @@ rank_below WouldMerge = omega arith
 rank_below FileTooLong = omega arith
 rank_below TextTooLong = omega arith
 
-module _ (base : Record → Text) (db : Reading) (e : Edit) where
-  -- none of the first so many reasons refuses the edit
-  pub record IsClear (n : ℕ) : Type 0 where
-    pub of : (other : EditFault) → rank other < n → Refuses base other db e → ⊥
+-- none of the first n reasons refuses the edit
+pub record Passes (base : Record → Text) (db : Reading) (e : Edit) (n : ℕ) : Type 0 where
+  pub of : (other : EditFault) → rank other < n → Refuses base other db e → ⊥
 
-  pub clear_none : IsClear 0
-  clear_none = record { of = λ other lt h. absurd (not-suc-le-zero lt) }
+pub no_reason : {base : Record → Text} {db : Reading} {e : Edit} → Passes base db e 0
+no_reason = record { of = λ other lt h. absurd (not-suc-le-zero lt) }
 
-  pub clear_more : (fault : EditFault) → (Refuses base fault db e → ⊥) → IsClear (rank fault) → IsClear (suc (rank fault))
-  clear_more fault not clear = record { of = of }
-    where
-      of : (other : EditFault) → rank other < suc (rank fault) → Refuses base other db e → ⊥
-      of other lt h = ⊎_elim
-          (λ t. not (subst (λ (f : EditFault). Refuses base f db e) (sym (fault_at-rank other) ∙ ap fault_at (eqb-true (rank other) (rank fault) t) ∙ fault_at-rank fault) h))
-          (λ t. let ne = eqb-false (rank other) (rank fault) t in clear.of other (omega (arith, ne, lt)) h)
-          (cases_Bool (rank other == rank fault))
+pub more : {base : Record → Text} {db : Reading} {e : Edit} (fault : EditFault) → (Refuses base fault db e → ⊥) → Passes base db e (rank fault) → Passes base db e (suc (rank fault))
+more {base} {db} {e} fault not passes = record { of = of }
+  where
+    of : (other : EditFault) → rank other < suc (rank fault) → Refuses base other db e → ⊥
+    of other lt h = ⊎_elim
+        (λ t. not (subst (λ (f : EditFault). Refuses base f db e) (sym (fault_at-rank other) ∙ ap fault_at (eqb-true (rank other) (rank fault) t) ∙ fault_at-rank fault) h))
+        (λ t. let ne = eqb-false (rank other) (rank fault) t in passes.of other (omega (arith, ne, lt)) h)
+        (cases_Bool (rank other == rank fault))
 
-  pub first_refusal : (fault : EditFault) → Refuses base fault db e → IsClear (rank fault) → IsFirstRefusal base db e fault
-  first_refusal fault h clear = record { holds = h; first = clear.of }
+pub is_first : {base : Record → Text} {db : Reading} {e : Edit} (fault : EditFault) → Refuses base fault db e → Passes base db e (rank fault) → IsFirstRefusal base db e fault
+is_first fault h passes = record { holds = h; first = passes.of }
 
-  pub all_clear : IsClear 12 → IsAccepted base db e
-  all_clear clear fault h = clear.of fault (rank_below fault) h
+pub all_clear : {base : Record → Text} {db : Reading} {e : Edit} → Passes base db e 12 → IsAccepted base db e
+all_clear passes fault h = passes.of fault (rank_below fault) h

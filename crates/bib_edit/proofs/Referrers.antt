@@ -1,27 +1,14 @@
 -- The entries that refer to a key: they are those whose target is its first holder, or whose crossrefs dangle.
-use Rattle.std.proofs.Common.{◌≡◌, ◌↔◌, ℕ, zero, suc, ◌+◌, ◌<◌, ◌≤◌, ◌==◌, Bool, true, false, IsTrue, not, ◌&&◌, ◌||◌, List, [], ◌∷◌, Option, Some, None, is_none, is_some, cond, filter_map, option_and_then, map, slice_get, length, ⊎_elim, refl, sym, ◌∙◌, ap, subst, arith, zero-add}
-use Rattle.std.specs.List.{list_any, cons_option}
-use Rattle.std.proofs.lemmas.Bool.{cases_Bool, cond-true, cond-false, both_ways, and_from, and_parts, eqb-true, eqb-false}
-use Rattle.std.proofs.lemmas.Option.{none-some, same_Some}
-use Rattle.std.proofs.lemmas.List.{length-map}
-use Rattle.bib_spec.specs.Bytes.{name_limit}
-use Rattle.bib_spec.specs.Text.{Text, folded, same}
-use Rattle.bib_spec.specs.Tree.{IsTree}
-use Rattle.bib_spec.specs.Reading.{Reading, Reads, IsItem}
-use Rattle.bib_spec.specs.Texts.{is_empty}
-use Rattle.bib_spec.specs.Records.{EntryTexts, entries_of, keys_of, crossref_text, first_named, entry_named, target_of, target, other_than, parent, dangling_text}
-use Rattle.bib_spec.proofs.Keys.{option_cases}
-use Rattle.bib_spec.proofs.Names.{same-true, true-same}
-use Rattle.bib_spec.proofs.Places.{first_is, first_named_same}
-use Rattle.bib_entries.specs.EntryTable.{refers, referrers}
-use Rattle.bib_entries.proofs.Tables.{numbers_from, numbered_first, numbered_later}
-use Rattle.bib_store.proofs.EntryItems.{entry_at, key_at_entry}
+use Rattle.bib_edit.proofs.Words.{add-zero, ◌≡◌, ◌↔◌, ℕ, zero, suc, ◌+◌, ◌<◌, ◌≤◌, ◌==◌, Bool, true, false, IsTrue, not, ◌&&◌, ◌||◌, List, [], ◌∷◌, Option, Some, None, is_none, is_some, cond, filter_map, option_and_then, map, slice_get, length, ⊎_elim, refl, sym, ◌∙◌, ap, subst, arith, zero-add, list_any}
+use Rattle.bib_edit.proofs.Words.{cons_option, cases_Bool, cond-true, cond-false, both_ways, and_from, and_parts, eqb-true, eqb-false, none-some, same_Some, length-map, name_limit, Text, folded, same, IsTree, Reading, Reads, IsItem, is_empty, EntryTexts, entries_of, keys_of, crossref_text}
+use Rattle.bib_edit.proofs.Words.{first_named, entry_named, target_of, target, other_than, parent, dangling_text, option_cases, same-true, true-same, first_is, first_named_same, refers, referrers, numbers_from, numbered_first, numbered_later, entry_at, key_at_entry, named_within, IsParent}
+use Rattle.bib_edit.proofs.Words.{is_awaited}
 use Rattle.bib_store.proofs.KeptItems.{item_in}
-use Rattle.bib_spec.proofs.Parents.{named_within}
-use Rattle.bib_edit.specs.Removal.{IsParent}
-use Rattle.bib_edit.specs.Dangling.{is_awaited}
 
 -- ---- numbers of those that pass
+
+pub one-later : (b n : ℕ) → b + 1 + n ≡ b + suc n
+one-later b n = omega arith
 
 module _ {X : Type 0} (passes : X → Bool) where
   pub record IsNumbered (b n : ℕ) (xs : List X) : Type 0 where
@@ -48,19 +35,13 @@ module _ {X : Type 0} (passes : X → Bool) where
 
   pub passes-number : (b : ℕ) (xs : List X) (n : ℕ) (x : X) → slice_get xs n ≡ Some x → passes x ≡ true → (k : ℕ) × (slice_get (numbers_from passes b xs) k ≡ Some (b + n))
   passes-number b [] n x e t = absurd (none-some x e)
-  passes-number b (y ∷ xs) zero x e t = (0, ap (λ (l : List ℕ). slice_get l 0) (numbered_first passes b y xs (ap passes (same_Some y x e) ∙ t)) ∙ ap Some (zeroth b))
-    where
-      zeroth : (b : ℕ) → b ≡ b + 0
-      zeroth b = omega arith
+  passes-number b (y ∷ xs) zero x e t = (0, ap (λ (l : List ℕ). slice_get l 0) (numbered_first passes b y xs (ap passes (same_Some y x e) ∙ t)) ∙ ap Some (sym (add-zero b)))
   passes-number b (y ∷ xs) (suc n) x e t =
       let rest = passes-number (b + 1) xs n x e t in
       ⊎_elim
-      (λ s. (suc rest.0, ap (λ (l : List ℕ). slice_get l (suc rest.0)) (numbered_first passes b y xs s) ∙ rest.1 ∙ ap Some (next b n)))
-      (λ s. (rest.0, ap (λ (l : List ℕ). slice_get l rest.0) (numbered_later passes b y xs s) ∙ rest.1 ∙ ap Some (next b n)))
+      (λ s. (suc rest.0, ap (λ (l : List ℕ). slice_get l (suc rest.0)) (numbered_first passes b y xs s) ∙ rest.1 ∙ ap Some (one-later b n)))
+      (λ s. (rest.0, ap (λ (l : List ℕ). slice_get l rest.0) (numbered_later passes b y xs s) ∙ rest.1 ∙ ap Some (one-later b n)))
       (cases_Bool (passes y))
-    where
-      next : (b n : ℕ) → b + 1 + n ≡ b + suc n
-      next b n = omega arith
 
   -- they ascend
   pub numbers-ascend : (b : ℕ) (xs : List X) (k j n m : ℕ) → k < j → slice_get (numbers_from passes b xs) k ≡ Some n → slice_get (numbers_from passes b xs) j ≡ Some m → n < m

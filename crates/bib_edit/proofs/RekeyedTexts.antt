@@ -1,15 +1,7 @@
 -- New keys make no raw text too long.
-use Rattle.std.proofs.Common.{◌≡◌, ℕ, ◌≤◌, Bool, false, List, [], ◌∷◌, Option, Some, None, is_some, length, map, option_and_then, ⊎_elim, refl, sym, ◌∙◌, ap, arith, append-nil}
-use Rattle.std.specs.List.{list_any}
-use Rattle.std.proofs.lemmas.Bool.{cases_Bool, cond-true, cond-false, or_parts, or_from, le-ltb}
-use Rattle.std.proofs.lemmas.Option.{none-some}
-use Rattle.bib_spec.specs.Bytes.{name_limit}
-use Rattle.bib_spec.specs.Text.{Text, same}
-use Rattle.bib_spec.specs.Tree.{Row, Tree, CommentTree, DefinitionTree, PreambleTree, EntryTree}
-use Rattle.bib_spec.specs.Reading.{Item, Reading}
-use Rattle.bib_spec.specs.Texts.{Macros, months, raw_text, raw_limit, macros_after, raw_texts_in, too_long_at}
-use Rattle.bib_spec.specs.Records.{EntryTexts, entries_of, crossref, target}
-use Rattle.edit_spec.specs.Edits.{in_braces, row_to, with_value, with_crossref, next_number, tree_with_keys, items_with_keys, with_keys}
+use Rattle.bib_edit.proofs.Words.{◌≡◌, ℕ, ◌≤◌, Bool, false, List, [], ◌∷◌, Option, Some, None, is_some, length, map, option_and_then, ⊎_elim, refl, sym, ◌∙◌, ap, arith, append-nil, list_any, cases_Bool, cond-true, cond-false, or_parts, or_from, le-ltb, none-some, name_limit, Text, same, Row, Tree}
+use Rattle.bib_edit.proofs.Words.{CommentTree, DefinitionTree, PreambleTree, EntryTree, Item, Reading, Macros, months, raw_text, raw_limit, macros_after, raw_texts_in, too_long_at, EntryTexts, entries_of, crossref, target, in_braces, row_to, with_value, with_crossref, next_number, tree_with_keys}
+use Rattle.bib_edit.proofs.Words.{items_with_keys, with_keys}
 use Rattle.bib_edit.proofs.LongTexts.{is_long, any_long, too_long-any}
 
 -- each key that is there is short

@@ -1,36 +1,15 @@
 -- When renaming a key is refused, and for which reason.
-use Rattle.std.proofs.Common.{◌≡◌, ℕ, ◌+◌, ◌-◌, ◌<◌, ◌≤◌, ◌==◌, ◌&&◌, nat_lt, true, false, List, [], ◌∷◌, Option, Some, None, slice_get, length, ⊎_elim, true≢false, sym, ◌∙◌, ap, ap₂, subst, arith, ne_eqb}
-use Rattle.std.proofs.Math.Path.{fun_ext}
-use Rattle.std.proofs.lemmas.Bool.{cases_Bool, cond-true, cond-false, false≢true, ltb-true, ltb-false, eqb-true, eqb-false}
-use Rattle.std.proofs.lemmas.Option.{cond_some, slice_get_past}
-use Rattle.std.proofs.lemmas.List.Elements.{All-nil}
-use Rattle.bib_spec.specs.Bytes.{name_limit, file_limit}
-use Rattle.bib_spec.specs.Text.{Text, is_new_key}
-use Rattle.bib_spec.specs.Tree.{IsValue}
-use Rattle.bib_spec.specs.Reading.{Reading, Reads, bytes_of}
-use Rattle.bib_spec.specs.Texts.{Opens}
-use Rattle.bib_spec.specs.Records.{entries_of, entry_named}
-use Rattle.bib_spec.specs.Pieces.{Piece, Kept, pieces_of_chunks}
+use Rattle.bib_edit.proofs.Words.{◌≡◌, ℕ, ◌+◌, ◌-◌, ◌<◌, ◌≤◌, ◌==◌, ◌&&◌, nat_lt, true, false, List, [], ◌∷◌, Option, Some, None, slice_get, length, ⊎_elim, true≢false, sym, ◌∙◌, ap, ap₂, subst, arith, ne_eqb, fun_ext, cases_Bool, cond-true, cond-false, false≢true, ltb-true, ltb-false, eqb-true}
+use Rattle.bib_edit.proofs.Words.{eqb-false, cond_some, slice_get_past, All-nil, name_limit, file_limit, Text, is_new_key, IsValue, Reading, Reads, Opens, entries_of, entry_named, Piece, Kept, pieces_of_chunks, holders, key_for, IsAccepted, IsFirstRefusal, key_chunks, pieces_of}
+use Rattle.bib_edit.proofs.Words.{new_key-length, OfReading, made_base, IsRefusal, IsLoneNumber, IsHolderFault, none_holds, many_hold, olds_len, news_len, key_of, rekeying, NewKeys, RenameKey}
 use Rattle.edit_spec.specs.Edits as edits
-use Rattle.edit_spec.specs.Edits.{holders, key_for, Refuses, IsAccepted, IsFirstRefusal}
-use Rattle.edit_spec.specs.EditChunks.{key_chunks, pieces_of}
-use Rattle.edit_spec.proofs.WrittenRows.{new_key-length}
-use Rattle.bib_store.specs.Meaning.{OfReading}
-use Rattle.bib_keys.specs.MadeBase.{made_base}
-use Rattle.bib_edit.specs.Planning.{IsRefusal}
-use Rattle.bib_edit.specs.Addressing.{IsLoneNumber, IsHolderFault}
 use Rattle.bib_edit.specs.Dangling.{is_in_use}
-use Rattle.bib_edit.specs.Limits.{olds_len, news_len}
-use Rattle.bib_edit.specs.NewKeys.{key_of, rekeying}
-use Rattle.bib_edit.specs.declared.new_keys.NewKeys.{NewKeys}
 use Rattle.bib_data.specs.declared.edit.Edit.{Edit}
-use Rattle.bib_data.specs.declared.edit.Edit.TheVariants.{RenameKey}
 use Rattle.bib_edit.specs.declared.fault.EditFault.{EditFault}
-use Rattle.bib_edit.specs.declared.fault.EditFault.TheVariants.{BadKey, BadName, BadValue, BadPosition, NotFound, Ambiguous, KeyInUse, NameInUse, Referred, WouldMerge, FileTooLong, TextTooLong, Memory}
+use Rattle.bib_edit.specs.declared.fault.EditFault.TheVariants.{BadKey, KeyInUse}
 use Rattle.bib_edit.proofs.AskedEdits.{of-rename_key}
-use Rattle.bib_edit.proofs.PieceLists.{lengths-edited}
-use Rattle.bib_edit.proofs.PieceLengths.{olds-edited}
-use Rattle.bib_edit.proofs.Ranks.{IsClear, clear_none, clear_more, first_refusal, all_clear}
+use Rattle.bib_edit.proofs.PieceLengths.{makes-long, makes-short}
+use Rattle.bib_edit.proofs.Ranks.{Passes, no_reason, more, is_first, all_clear}
 use Rattle.bib_edit.proofs.RekeyedTexts.{AreShort, too_long-rekeyed}
 
 -- ---- one entry's new key
@@ -68,30 +47,27 @@ module _ (db : Reading) (from to : Text) where
   abbrev renaming : edits.Edit
   renaming = edits.RenameKey from to
 
-  abbrev IsClearTo : ℕ → Type 0
-  IsClearTo n = IsClear made_base db renaming n
-
   module _ (is : is_new_key to ≡ true) where
-    clear_found : IsClearTo 4
+    clear_found : Passes made_base db renaming 4
     clear_found =
-        clear_more made_base db renaming edits.BadPosition (λ h. h)
-        (clear_more made_base db renaming edits.BadValue (λ h. h (All-nil (IsValue name_limit)))
-        (clear_more made_base db renaming edits.BadName (λ h. true≢false h)
-        (clear_more made_base db renaming edits.BadKey (λ h. true≢false (sym (ap (λ b. b && true) is) ∙ h)) (clear_none made_base db renaming))))
+        more edits.BadPosition (λ h. h)
+        (more edits.BadValue (λ h. h (All-nil (IsValue name_limit)))
+        (more edits.BadName (λ h. true≢false h)
+        (more edits.BadKey (λ h. true≢false (sym (ap (λ b. b && true) is) ∙ h)) no_reason)))
 
-    clear_holders : (holders from db ≡ 0 → ⊥) → IsClearTo 5
-    clear_holders found = clear_more made_base db renaming edits.NotFound found clear_found
+    clear_holders : (holders from db ≡ 0 → ⊥) → Passes made_base db renaming 5
+    clear_holders found = more edits.NotFound found clear_found
 
     module _ (once : holders from db ≡ 1) where
-      clear_use : IsClearTo 6
-      clear_use = clear_more made_base db renaming edits.Ambiguous (λ many. omega (arith, many, once)) (clear_holders (λ none. omega (arith, none, once)))
+      clear_use : Passes made_base db renaming 6
+      clear_use = more edits.Ambiguous (λ many. omega (arith, many, once)) (clear_holders (λ none. omega (arith, none, once)))
 
-      clear_long : is_in_use from to (entries_of db) ≡ false → IsClearTo 10
+      clear_long : is_in_use from to (entries_of db) ≡ false → Passes made_base db renaming 10
       clear_long free =
-          clear_more made_base db renaming edits.WouldMerge (λ h. h)
-          (clear_more made_base db renaming edits.Referred (λ h. h)
-          (clear_more made_base db renaming edits.NameInUse (λ h. h)
-          (clear_more made_base db renaming edits.KeyInUse (λ h. false≢true (sym free ∙ h)) clear_use)))
+          more edits.WouldMerge (λ h. h)
+          (more edits.Referred (λ h. h)
+          (more edits.NameInUse (λ h. h)
+          (more edits.KeyInUse (λ h. false≢true (sym free ∙ h)) clear_use)))
 
 -- ---- refusals
 
@@ -100,29 +76,18 @@ module _ (file from to : Text) where
   asked = RenameKey from to
 
   pub refused-key : is_new_key to ≡ false → IsRefusal file asked BadKey
-  refused-key bad db reads = of-rename_key from to _ (first_refusal made_base db (renaming db from to) edits.BadKey (ap (λ b. b && true) bad) (clear_none made_base db (renaming db from to)))
+  refused-key bad db reads = of-rename_key from to _ (is_first edits.BadKey (ap (λ b. b && true) bad) no_reason)
 
   module _ (is : is_new_key to ≡ true) where
-    pub refused-holders : (fault : EditFault) → OfReading file (λ db. IsHolderFault from db fault) → IsRefusal file asked fault
-    refused-holders NotFound none = λ db reads. of-rename_key from to _ (first_refusal made_base db (renaming db from to) edits.NotFound (none db reads) (clear_found db from to is))
-    refused-holders Ambiguous many = λ db reads. of-rename_key from to _ (let some = many db reads in
-        first_refusal made_base db (renaming db from to) edits.Ambiguous some (clear_holders db from to is (λ none. omega (arith, none, some))))
-    refused-holders Memory none = tt
-    refused-holders BadKey none = λ db reads. absurd (none db reads)
-    refused-holders BadName none = λ db reads. absurd (none db reads)
-    refused-holders BadValue none = λ db reads. absurd (none db reads)
-    refused-holders BadPosition none = λ db reads. absurd (none db reads)
-    refused-holders KeyInUse none = λ db reads. absurd (none db reads)
-    refused-holders NameInUse none = λ db reads. absurd (none db reads)
-    refused-holders Referred none = λ db reads. absurd (none db reads)
-    refused-holders WouldMerge none = λ db reads. absurd (none db reads)
-    refused-holders FileTooLong none = λ db reads. absurd (none db reads)
-    refused-holders TextTooLong none = λ db reads. absurd (none db reads)
+    pub refused-holders : (fault : EditFault) → IsHolderFault file from fault → IsRefusal file asked fault
+    refused-holders fault (none_holds none) = λ db reads. of-rename_key from to _ (is_first edits.NotFound (none db reads) (clear_found db from to is))
+    refused-holders fault (many_hold many) = λ db reads. of-rename_key from to _ (let some = many db reads in
+        is_first edits.Ambiguous some (clear_holders db from to is (λ none. omega (arith, none, some))))
 
     module _ (n : ℕ) (lone : OfReading file (λ db. IsLoneNumber from db n)) where
       pub refused-use : OfReading file (λ db. is_in_use from to (entries_of db) ≡ true) → IsRefusal file asked KeyInUse
       refused-use used db reads = of-rename_key from to _
-          (first_refusal made_base db (renaming db from to) edits.KeyInUse (used db reads) (clear_use db from to is (lone db reads).once))
+          (is_first edits.KeyInUse (used db reads) (clear_use db from to is (lone db reads).once))
 
       module _ (free : OfReading file (λ db. is_in_use from to (entries_of db) ≡ false)) (new : NewKeys) (first : new.first ≡ n) (keys : new.keys ≡ to ∷ []) where
         -- the new key is that of the entry that the old one names
@@ -132,32 +97,16 @@ module _ (file from to : Text) where
         pub pieces-are : (db : Reading) → Reads file db → rekeying new db ≡ pieces_of made_base db (renaming db from to)
         pieces-are db reads = ap (λ (k : ℕ → Option Text). pieces_of_chunks (Kept db.front ∷ key_chunks k db)) (news db reads)
 
-        lengths : (db : Reading) → Reads file db → length (bytes_of (edits.edited made_base db (renaming db from to))) + olds_len (rekeying new db) ≡ length file + news_len (rekeying new db)
-        lengths db reads =
-            ap (λ (ps : List Piece). length (bytes_of (edits.edited made_base db (renaming db from to))) + olds_len ps) (pieces-are db reads)
-            ∙ lengths-edited made_base db (renaming db from to)
-            ∙ ap₂ (λ (t : Text) (ps : List Piece). length t + news_len ps) reads.bytes (sym (pieces-are db reads))
-
-        pub olds-short : (db : Reading) → Opens file db → olds_len (rekeying new db) ≤ file_limit
-        olds-short db opens =
-            let within = olds-edited made_base db (renaming db from to) in
-            let bytes = ap length opens.reads.bytes in
-            let short = opens.short in
-            subst (λ (ps : List Piece). olds_len ps ≤ file_limit) (sym (pieces-are db opens.reads)) (omega (arith, within, bytes, short))
-
-        clear_file : (db : Reading) → Reads file db → IsClearTo db from to 10
+        clear_file : (db : Reading) → Reads file db → Passes made_base db (renaming db from to) 10
         clear_file db reads = clear_long db from to is (lone db reads).once (free db reads)
 
-        pub refused-file : (db : Reading) → Reads file db → file_limit + olds_len (rekeying new db) < length file + news_len (rekeying new db) → IsFirstRefusal made_base db (renaming db from to) edits.FileTooLong
-        refused-file db reads long =
-            let made_lengths = lengths db reads in
-            first_refusal made_base db (renaming db from to) edits.FileTooLong (omega (arith, long, made_lengths)) (clear_file db reads)
+        pub refused-file : (db : Reading) → Reads file db → (ps : List Piece) → ps ≡ rekeying new db → file_limit + olds_len ps < length file + news_len ps → IsFirstRefusal made_base db (renaming db from to) edits.FileTooLong
+        refused-file db reads ps are over = is_first edits.FileTooLong (makes-long (renaming db from to) file db reads ps (are ∙ pieces-are db reads) over) (clear_file db reads)
 
-        pub accepted : (db : Reading) → Opens file db → length file + news_len (rekeying new db) ≤ file_limit + olds_len (rekeying new db) → IsAccepted made_base db (renaming db from to)
-        accepted db opens short =
-            let made_lengths = lengths db opens.reads in
-            all_clear made_base db (renaming db from to)
-            (clear_more made_base db (renaming db from to) edits.TextTooLong
+        pub accepted : (db : Reading) → Opens file db → (ps : List Piece) → ps ≡ rekeying new db → length file + news_len ps ≤ file_limit + olds_len ps → IsAccepted made_base db (renaming db from to)
+        accepted db opens ps are short =
+            all_clear
+            (more edits.TextTooLong
             (λ h. false≢true (sym (too_long-rekeyed (key_for (entry_named (entries_of db) from) to) db
             (subst AreShort (ap (λ o. key_for o to) (sym (lone db opens.reads).named)) (one_short n to is)) opens.texts) ∙ h))
-            (clear_more made_base db (renaming db from to) edits.FileTooLong (λ h. omega (arith, h, short, made_lengths)) (clear_file db opens.reads)))
+            (more edits.FileTooLong (makes-short (renaming db from to) file db opens.reads ps (are ∙ pieces-are db opens.reads) short) (clear_file db opens.reads)))

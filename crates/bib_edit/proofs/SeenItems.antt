@@ -1,13 +1,5 @@
 -- What is seen of item n, and what of that goes.
-use Rattle.std.proofs.Common.{◌≡◌, ◌↔◌, ℕ, ◌<◌, ◌++◌, Bool, IsTrue, List, [], Some, slice_get, length, sym, ◌∙◌, ap, subst}
-use Rattle.std.specs.Option.{option_map_or}
-use Rattle.bib_spec.specs.Text.{Text}
-use Rattle.bib_spec.specs.Tree.{tree_bytes}
-use Rattle.bib_spec.specs.Clean.{IsCleanTrail}
-use Rattle.bib_spec.specs.Reading.{Item, Reading}
-use Rattle.bib_scan.specs.View.{View, view_of}
-use Rattle.bib_tokens.proofs.Elements.{slice_get-within}
-use Rattle.bib_edit.specs.Removal.{body_at, trail_at, is_after_comment, text_before, JoinsCleanly}
+use Rattle.bib_edit.proofs.Words.{◌≡◌, ◌↔◌, ℕ, ◌<◌, ◌++◌, Bool, IsTrue, List, [], Some, slice_get, length, sym, ◌∙◌, ap, subst, option_map_or, Text, tree_bytes, IsCleanTrail, Item, Reading, View, view_of, slice_get-within, body_at, trail_at, is_after_comment, text_before, JoinsCleanly}
 
 module _ (items : List Item) (n : ℕ) (view : View) (lt : n < length items) (seen : (i : Item) → slice_get items n ≡ Some i → view ≡ view_of i) where
   pub body-seen : view.body ≡ body_at items n

@@ -1,14 +1,6 @@
 -- Names that are seen one after another, until one is seen a second time.
-use Rattle.std.proofs.Common.{◌≡◌, ℕ, ◌+◌, ◌<◌, ◌≤◌, Bool, true, false, ◌||◌, List, [], ◌∷◌, ◌++◌, Some, None, is_some, get_or, length, map, take, drop, ⊎_elim, refl, sym, ◌∙◌, ap, ap₂, take-append-drop}
-use Rattle.std.specs.List.{list_any}
-use Rattle.std.specs.Str.{bytes_eq}
-use Rattle.std.proofs.lemmas.Bool.{cases_Bool, cond-true, cond-false}
-use Rattle.std.proofs.lemmas.List.{take_more, take_all, map-append}
-use Rattle.bib_spec.specs.Text.{Text, folded, same}
-use Rattle.edit_spec.specs.Edits.{has_same}
-use Rattle.bib_spec.proofs.Names.{same_comm}
-use Rattle.folded_map.specs.FoldedMap.{value_at, IsWith}
-use Rattle.std.proofs.lemmas.List.Folds.{list_any-append}
+use Rattle.bib_edit.proofs.Words.{◌≡◌, ℕ, ◌+◌, ◌<◌, ◌≤◌, Bool, true, false, ◌||◌, List, [], ◌∷◌, ◌++◌, Some, None, is_some, get_or, length, map, take, drop, ⊎_elim, refl, sym, ◌∙◌, ap, ap₂, take-append-drop, or-false, or-true, list_any, bytes_eq, cases_Bool, cond-true, cond-false, take_more}
+use Rattle.bib_edit.proofs.Words.{take_all, map-append, Text, folded, same, has_same, same_comm, value_at, IsWith, list_any-append}
 
 pub take-read : {X : Type 0} (xs : List X) (i : ℕ) (x : X) → i < length xs → x ≡ get_or xs i x → take (i + 1) xs ≡ take i xs ++ x ∷ []
 take-read xs i x lt e = take_more xs i x lt ∙ ap (λ y. take i xs ++ y ∷ []) (sym e)
@@ -26,15 +18,11 @@ has_same-last (first ∷ names) name =
     ∙ regroup (list_any (same first) names) (same first name) (has_same names) (list_any (same name) names)
     ∙ ap (λ b. (list_any (same first) names || has_same names) || (b || list_any (same name) names)) (same_comm first name)
 
-or_true : (b : Bool) → (b || true) ≡ true
-or_true true = refl
-or_true false = refl
-
 has_same-front : (names more : List Text) → has_same names ≡ true → has_same (names ++ more) ≡ true
 has_same-front [] more h = cc
 has_same-front (first ∷ names) more h = ⊎_elim
     (λ t. ap (λ b. b || has_same (names ++ more)) (list_any-append (same first) names more ∙ ap (λ b. b || list_any (same first) more) t))
-    (λ t. ap (λ b. list_any (same first) (names ++ more) || b) (has_same-front names more (sym (ap (λ b. b || has_same names) t) ∙ h)) ∙ or_true (list_any (same first) (names ++ more)))
+    (λ t. ap (λ b. list_any (same first) (names ++ more) || b) (has_same-front names more (sym (ap (λ b. b || has_same names) t) ∙ h)) ∙ or-true (list_any (same first) (names ++ more)))
     (cases_Bool (list_any (same first) names))
 
 module _ {X : Type 0} (name_of : X → Text) where
@@ -69,7 +57,7 @@ module _ {X : Type 0} (name_of : X → Text) where
     pub seen-found : is_some (value_at seen (folded name)) ≡ true → has_same (map name_of xs) ≡ true
     seen-found found =
         ap has_same split
-        ∙ has_same-front (names_to xs (i + 1)) (map name_of (drop (i + 1) xs)) (last ∙ ap (λ b. has_same earlier || b) (sym (to.table (folded name)) ∙ found) ∙ or_true (has_same earlier))
+        ∙ has_same-front (names_to xs (i + 1)) (map name_of (drop (i + 1) xs)) (last ∙ ap (λ b. has_same earlier || b) (sym (to.table (folded name)) ∙ found) ∙ or-true (has_same earlier))
 
     pub seen-more : (value : Bool) (new : List (Text × Bool)) → is_some (value_at seen (folded name)) ≡ false → IsWith seen name value new → SeenTo xs (i + 1) new
     seen-more value new missing is = record {
@@ -82,13 +70,9 @@ module _ {X : Type 0} (name_of : X → Text) where
             let test : Text → Bool = λ name. bytes_eq t (folded name) in
             let after : list_any test (names_to xs (i + 1)) ≡ (list_any test earlier || (test name || false)) = ap (list_any test) one_more ∙ list_any-append test earlier (name ∷ []) in
             ap is_some (is t) ∙ ⊎_elim
-            (λ e. ap is_some (cond-true (bytes_eq t (folded name)) (Some value) (value_at seen t) e) ∙ sym (after ∙ ap (λ b. list_any test earlier || (b || false)) e ∙ or_true (list_any test earlier)))
-            (λ e. ap is_some (cond-false (bytes_eq t (folded name)) (Some value) (value_at seen t) e) ∙ to.table t ∙ sym (after ∙ ap (λ b. list_any test earlier || (b || false)) e ∙ or_false (list_any test earlier)))
+            (λ e. ap is_some (cond-true (bytes_eq t (folded name)) (Some value) (value_at seen t) e) ∙ sym (after ∙ ap (λ b. list_any test earlier || (b || false)) e ∙ or-true (list_any test earlier)))
+            (λ e. ap is_some (cond-false (bytes_eq t (folded name)) (Some value) (value_at seen t) e) ∙ to.table t ∙ sym (after ∙ ap (λ b. list_any test earlier || (b || false)) e ∙ or-false (list_any test earlier)))
             (cases_Bool (bytes_eq t (folded name)))
-          where
-            or_false : (b : Bool) → (b || false) ≡ b
-            or_false true = refl
-            or_false false = refl
 
   pub seen-all : (xs : List X) (i : ℕ) (seen : List (Text × Bool)) → SeenTo xs i seen → length xs ≤ i → has_same (map name_of xs) ≡ false
   seen-all xs i seen to le = ap (λ l. has_same (map name_of l)) (sym (take_all i xs le)) ∙ to.none

@@ -1,29 +1,9 @@
 -- The piece that sets a field is the one piece of the edit's chunks.
-use Rattle.std.proofs.Common.{◌≡◌, ℕ, ◌+◌, ◌≤◌, ◌<◌, List, [], ◌∷◌, ◌++◌, Option, Some, None, length, codes, find, map, count_by, slice_get, ⊎_elim, refl, sym, ◌∙◌, ap, ap₂, subst, arith, append_assoc, append-nil, length-append}
-use Rattle.std.specs.List.{last_or}
-use Rattle.std.specs.Option.{option_map_or}
-use Rattle.std.proofs.lemmas.Bool.{cases_Bool, cond-true, cond-false}
-use Rattle.std.proofs.lemmas.Option.{same_Some, slice_get_within}
-use Rattle.bib_spec.specs.Bytes.{comma, equals_sign, file_limit}
-use Rattle.bib_spec.specs.Text.{Text, same}
-use Rattle.bib_spec.specs.Tree.{Value, Row, Entry, Tree, EntryTree, value_bytes, row_bytes, opening_bytes}
-use Rattle.bib_spec.specs.Reading.{Item, Reading, bytes_of, Reads}
-use Rattle.bib_spec.specs.Texts.{Opens}
-use Rattle.bib_spec.specs.Texts.{IsOpenable}
-use Rattle.bib_spec.specs.Tree.{Digits}
-use Rattle.bib_spec.specs.Texts.{Macros, row_start}
-use Rattle.bib_spec.specs.Records.{Record, field_of, has_name}
-use Rattle.bib_spec.specs.Pieces.{Piece, Chunk, Kept, Replaced, pieces_from, pieces_of_chunks, end_of}
-use Rattle.edit_spec.specs.Edits.{SetField, is_entry, fields_named}
-use Rattle.edit_spec.specs.EditChunks.{kept_rows, entry_chunks, entry_as, chunks_from_first, field_set, pieces_of}
-use Rattle.edit_spec.proofs.TreeChunks.{row-parts}
-use Rattle.bib_spec.proofs.Counts.{count-yes, count-no}
-use Rattle.bib_scan.specs.View.{Field, field_after, fields_after, View, view_of}
-use Rattle.bib_scan.specs.Layout.{start_of}
-use Rattle.bib_tokens.specs.PlacedParts.{field_end}
-use Rattle.bib_tokens.proofs.PlacedFields.{value-place}
-use Rattle.bib_edit.specs.Addressing.{is_field, fields_end, item_named}
-use Rattle.bib_edit.specs.FieldPieces.{row_text, rows_end, set_at, set_piece, IsNamedItem, OfItem}
+use Rattle.bib_edit.proofs.Words.{◌≡◌, ℕ, ◌+◌, ◌≤◌, ◌<◌, List, [], ◌∷◌, ◌++◌, Option, Some, None, length, codes, find, map, count_by, slice_get, ⊎_elim, refl, sym, ◌∙◌, ap, ap₂, subst, arith, append_assoc, append-nil, length-append, last_or, option_map_or, cases_Bool, cond-true, cond-false}
+use Rattle.bib_edit.proofs.Words.{same_Some, slice_get_within, comma, equals_sign, file_limit, Text, same, Value, Row, Entry, Tree, EntryTree, value_bytes, row_bytes, opening_bytes, Item, Reading, bytes_of, Reads, Opens, IsOpenable, Digits, Macros, row_start, Record, field_of, has_name, Piece}
+use Rattle.bib_edit.proofs.Words.{Chunk, Kept, Replaced, pieces_from, pieces_of_chunks, end_of, is_entry, fields_named, kept_rows, entry_chunks, entry_as, chunks_from_first, field_set, pieces_of, row-parts, count-yes, count-no, Field, field_after, fields_after, View, view_of, start_of, field_end}
+use Rattle.bib_edit.proofs.Words.{value-place, is_field, fields_end, item_named, row_text, rows_end, set_at, set_piece, IsNamedItem, OfItem}
+use Rattle.edit_spec.specs.Edits.{SetField}
 use Rattle.bib_edit.proofs.NamedEntries.{named-entry}
 use Rattle.bib_edit.proofs.FirstItems.{IsFirstItem, found_first, chunks-first, item-first, start-first}
 use Rattle.bib_edit.proofs.PieceLists.{pieces-after_items, pieces-before_items, pieces-entry, pieces-kept_rows, within-one_piece}

@@ -1,15 +1,7 @@
 -- Seeking the fields of one name, one field after another.
-use Rattle.std.proofs.Common.{◌≡◌, ℕ, ◌+◌, ◌||◌, nat_lt, Bool, true, false, List, [], ◌∷◌, Option, None, Some, count_by, find, refl, sym, ◌∙◌, ap, arith}
-use Rattle.std.specs.List.{last_or}
-use Rattle.std.specs.Option.{option_or}
-use Rattle.std.proofs.Math.Bool.{or-true, or-false}
-use Rattle.std.proofs.lemmas.Bool.{cond-true, cond-false, lt-ltb}
-use Rattle.bib_spec.specs.Text.{Text}
-use Rattle.bib_spec.proofs.Counts.{count-yes, count-no}
-use Rattle.bib_scan.specs.View.{Field}
-use Rattle.bib_edit.specs.Addressing.{is_field}
+use Rattle.bib_edit.proofs.Words.{◌≡◌, ℕ, ◌+◌, ◌||◌, nat_lt, Bool, true, false, List, [], ◌∷◌, Option, None, Some, count_by, find, refl, sym, ◌∙◌, ap, arith, last_or, option_or, or-true, or-false, cond-true, cond-false, lt-ltb, Text, count-yes, count-no, Field, is_field}
 
--- so many fields, with this one
+-- the count of fields with the name, with this one
 abbrev pub count_with : Option Field → ℕ → ℕ
 count_with None n = n
 count_with (Some field) n = 1 + n

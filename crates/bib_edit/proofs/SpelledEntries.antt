@@ -1,18 +1,9 @@
 -- Entries as they are asked for: their fields, their raw texts, and what is written.
-use Rattle.std.proofs.Common.{◌≡◌, ℕ, zero, suc, ◌<◌, Bool, true, false, ◌||◌, List, [], ◌∷◌, ◌++◌, Some, codes, length, map, slice_get, refl, sym, ◌∙◌, ap, ap₂, All, append_assoc, append-nil, suc-le-suc, zero-lt-suc}
-use Rattle.std.specs.List.{list_any, flat_map}
-use Rattle.std.proofs.lemmas.Option.{same_Some, none-some}
-use Rattle.std.proofs.lemmas.List.Elements.{All-nil, All-cons, All-head, All-tail}
-use Rattle.bib_spec.specs.Bytes.{name_limit, comma, equals_sign}
-use Rattle.bib_spec.specs.Text.{Text}
-use Rattle.bib_spec.specs.Tree.{Value, IsValue, value_bytes, row_bytes}
-use Rattle.bib_spec.specs.Reading.{Reading, item_bytes, IsValueWithin}
-use Rattle.bib_spec.specs.Texts.{Macros, months, macros_at, raw_text}
+use Rattle.bib_edit.proofs.Words.{◌≡◌, ℕ, zero, suc, ◌<◌, Bool, true, false, ◌||◌, List, [], ◌∷◌, ◌++◌, Some, codes, length, map, slice_get, refl, sym, ◌∙◌, ap, ap₂, All, append_assoc, append-nil, suc-le-suc, zero-lt-suc, or-true, list_any, flat_map, same_Some, none-some, All-nil, All-cons}
+use Rattle.bib_edit.proofs.Words.{All-head, All-tail, name_limit, comma, equals_sign, Text, Value, IsValue, value_bytes, row_bytes, Reading, item_bytes, IsValueWithin, Macros, months, macros_at, raw_text}
+use Rattle.bib_edit.proofs.Words.{new_row, new_rows, line_end, item_of, SpellFields, SpellsEntry, NewEntry, names_of, HaveValues, IsLong}
+use Rattle.bib_edit.proofs.Words.{IsAnyLong, field_line, lines_of, line_before_close, entry_text}
 use Rattle.edit_spec.specs.Edits as edits
-use Rattle.edit_spec.specs.Edits.{Edit, EditFault, BadKey, BadName, BadValue, BadPosition, NotFound, Ambiguous, KeyInUse, NameInUse, Referred, WouldMerge, FileTooLong, TextTooLong, rank, Refuses, has_same, field_names, field_values, new_row, new_rows, line_end, entry_of, item_of, edited, IsAccepted, IsFirstRefusal}
-use Rattle.bib_edit.specs.Asking.{SpellFields, SpellsEntry}
-use Rattle.bib_data.specs.declared.edit.NewEntry.{NewEntry}
-use Rattle.bib_edit.specs.NewEntries.{names_of, HaveValues, IsLong, IsAnyLong, field_line, lines_of, line_before_close, entry_text}
 use Rattle.bib_edit.proofs.LongTexts.{is_long}
 
 -- ---- fields that are spelled
@@ -70,11 +61,7 @@ module _ (db : Reading) (n : ℕ) where
       ap (λ b. b || some_long fields) (long field.1 (All-head (IsValue name_limit) field.1 (map (λ field. field.1) fields) are) (s.1.bytes ∙ ap (λ (p : Text × Text). p.1) (same_Some a f e)))
   one-long (a ∷ asked) (field ∷ fields) s are (suc j) f e long =
       ap (λ b. is_long (raw_text m field.1) || b) (one-long asked fields s.2 (All-tail (IsValue name_limit) field.1 (map (λ field. field.1) fields) are) j f e long)
-      ∙ or_true (is_long (raw_text m field.1))
-    where
-      or_true : (b : Bool) → (b || true) ≡ true
-      or_true true = refl
-      or_true false = refl
+      ∙ or-true (is_long (raw_text m field.1))
 
   pub any-long : (long : Bool) (asked : List (Text × Text)) (fields : Fields) → SpellFields asked fields → All (IsValue name_limit) (map (λ field. field.1) fields) → IsAnyLong long db n asked → some_long fields ≡ long
   any-long false asked fields s are h = all-short asked fields s are h

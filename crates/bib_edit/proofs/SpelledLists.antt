@@ -1,20 +1,8 @@
 -- Many entries as they are asked for: what they are given, their raw texts, and what is written.
-use Rattle.std.proofs.Common.{◌≡◌, ℕ, Bool, true, false, ◌||◌, List, [], ◌∷◌, map, ⊎_elim, refl, sym, ◌∙◌, ap, ap₂, All}
-use Rattle.std.specs.List.{list_any, flat_map}
-use Rattle.std.proofs.lemmas.List.Folds.{flat_map-map}
-use Rattle.std.proofs.lemmas.List.Elements.{All-nil, All-append}
-use Rattle.bib_spec.specs.Bytes.{name_limit}
-use Rattle.bib_spec.specs.Tree.{IsValue, EntryTree}
-use Rattle.bib_spec.specs.Reading.{Reading, item_bytes}
-use Rattle.bib_spec.specs.Texts.{months, macros_at, raw_text}
+use Rattle.bib_edit.proofs.Words.{◌≡◌, ℕ, Bool, true, false, ◌||◌, List, [], ◌∷◌, map, ⊎_elim, refl, sym, ◌∙◌, ap, ap₂, All, or-true, list_any, flat_map, flat_map-map, All-nil, All-append, name_limit, IsValue, EntryTree, Reading, item_bytes, months, macros_at, raw_text, has_same, field_names}
+use Rattle.bib_edit.proofs.Words.{field_values, entry_of, item_of, any_mapped, NewEntry, SpellsEntry, SpellEntries, names_of, IsAnyLong, entry_text, keys_given, types_given, names_given, AllHaveValues, has_field_twice, AreAnyLong, entries_text}
 use Rattle.edit_spec.specs.Edits as edits
-use Rattle.edit_spec.specs.Edits.{has_same, field_names, field_values, entry_of, item_of}
-use Rattle.bib_store.proofs.ChosenFields.{any_mapped}
 use Rattle.edit_spec.proofs.AddedEntries.{all_split}
-use Rattle.bib_data.specs.declared.edit.NewEntry.{NewEntry}
-use Rattle.bib_edit.specs.Asking.{SpellsEntry, SpellEntries}
-use Rattle.bib_edit.specs.NewEntries.{names_of, IsAnyLong, entry_text}
-use Rattle.bib_edit.specs.ManyEntries.{keys_given, types_given, names_given, AllHaveValues, has_field_twice, AreAnyLong, entries_text}
 use Rattle.bib_edit.proofs.LongTexts.{is_long}
 use Rattle.bib_edit.proofs.PlacedTexts.{is_long_in}
 use Rattle.bib_edit.proofs.SpelledEntries.{names-spelled, values-spelled, spelled-values, any-long, rows-values, entry-written}
@@ -92,12 +80,8 @@ module _ (db : Reading) (n : ℕ) where
       let both = all_split (IsValue name_limit) (field_values new) (flat_map field_values news) are in
       ⊎_elim
       (λ here. ap (λ b. b || list_any is_entry_long news) (entry-long a new s.0 both.0 true here))
-      (λ later. ap (λ b. is_entry_long new || b) (any_entry-long true asked news s.1 both.1 later) ∙ or_true (is_entry_long new))
+      (λ later. ap (λ b. is_entry_long new || b) (any_entry-long true asked news s.1 both.1 later) ∙ or-true (is_entry_long new))
       h
-    where
-      or_true : (b : Bool) → (b || true) ≡ true
-      or_true true = refl
-      or_true false = refl
 
 -- ---- what is written
 

@@ -1,11 +1,6 @@
 -- The tables' word for the definitions of a name is that of the edits.
-use Rattle.std.proofs.Common.{◌≡◌, ℕ, suc, Bool, cond, List, [], ◌∷◌, Option, Some, option_map, count_by, refl, ap, ap₂}
-use Rattle.bib_spec.specs.Text.{Text}
-use Rattle.bib_spec.specs.Tree.{Tree, CommentTree, DefinitionTree, PreambleTree, EntryTree}
-use Rattle.bib_spec.specs.Reading.{Item, Reading}
+use Rattle.bib_edit.proofs.Words.{◌≡◌, ℕ, suc, Bool, cond, List, [], ◌∷◌, Option, Some, option_map, count_by, refl, ap, ap₂, Text, Tree, CommentTree, DefinitionTree, PreambleTree, EntryTree, Item, Reading, defines, definitions, first_item}
 use Rattle.bib_definitions.specs.Definitions.{is_definition_of, definition_count, first_definition}
-use Rattle.edit_spec.specs.Edits.{defines, definitions}
-use Rattle.bib_tokens.specs.FirstItem.{first_item}
 
 module _ (name : Text) where
   same_test : (tree : Tree) → is_definition_of name tree ≡ defines name tree

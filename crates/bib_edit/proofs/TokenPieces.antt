@@ -1,21 +1,9 @@
 -- The pieces of a change of parts are its tokens, with the new bytes for each.
-use Rattle.std.proofs.Common.{◌≡◌, ℕ, suc, ◌+◌, Bool, List, [], ◌∷◌, ◌++◌, Option, Some, None, option_map, if◌then◌else◌, length, map, drop, ⊎_elim, refl, sym, ◌∙◌, ap, ap₂, subst, arith, zero-add, append_assoc, append-nil, length-append}
-use Rattle.std.specs.List.{flat_map}
-use Rattle.std.proofs.lemmas.Bool.{cases_Bool, cond-true, cond-false}
-use Rattle.std.proofs.lemmas.List.{map-append}
-use Rattle.bib_spec.specs.Bytes.{hash, comma, equals_sign}
-use Rattle.bib_spec.specs.Text.{Text}
-use Rattle.bib_spec.specs.Tree.{Part, Link, Value, Assignment, Row, Tree, CommentTree, DefinitionTree, PreambleTree, EntryTree, part_bytes, link_bytes, value_bytes, assignment_bytes, row_bytes, opening_bytes, close_byte, last_comma_bytes, tree_bytes}
-use Rattle.bib_spec.specs.Reading.{Item, Reading, item_bytes}
-use Rattle.bib_spec.specs.Texts.{row_start, bytes_before_value}
-use Rattle.bib_spec.specs.Pieces.{Piece, Chunk, Kept, pieces_from, pieces_of_chunks}
-use Rattle.edit_spec.specs.Edits.{leaving}
-use Rattle.edit_spec.specs.EditChunks.{token, part_token, link_chunks, value_chunks, assignment_chunks, row_chunks, after_rows, tree_chunks, item_chunks, items_chunks, chunks_from_first, kept_items}
-use Rattle.bib_scan.specs.Layout.{start_of}
-use Rattle.bib_tokens.specs.PlacedParts.{links_placed, value_placed, rows_placed, tree_placed, items_placed, tokens_of}
-use Rattle.bib_edit.specs.Replacing.{replaced_by}
+use Rattle.bib_edit.proofs.Words.{◌≡◌, ℕ, suc, ◌+◌, Bool, List, [], ◌∷◌, ◌++◌, Option, Some, None, option_map, if◌then◌else◌, length, map, drop, ⊎_elim, refl, sym, ◌∙◌, ap, ap₂, subst, arith, zero-add, append_assoc, append-nil, length-append, flat_map, cases_Bool, cond-true, cond-false, map-append}
+use Rattle.bib_edit.proofs.Words.{hash, comma, equals_sign, Text, Part, Link, Value, Assignment, Row, Tree, CommentTree, DefinitionTree, PreambleTree, EntryTree, part_bytes, link_bytes, value_bytes, assignment_bytes, row_bytes, opening_bytes, close_byte, last_comma_bytes, tree_bytes, Item, Reading}
+use Rattle.bib_edit.proofs.Words.{item_bytes, row_start, bytes_before_value, Piece, Chunk, Kept, pieces_from, pieces_of_chunks, leaving, token, part_token, link_chunks, value_chunks, assignment_chunks, row_chunks, after_rows, tree_chunks, item_chunks, items_chunks, chunks_from_first, kept_items}
+use Rattle.bib_edit.proofs.Words.{start_of, links_placed, value_placed, rows_placed, tree_placed, items_placed, tokens_of, replaced_by, tokens-append}
 use Rattle.bib_tokens.proofs.PlacedValues.{tokens-met, tokens-unmet}
-use Rattle.bib_tokens.proofs.PlacedFields.{tokens-append}
 use Rattle.bib_edit.proofs.PieceLists.{pieces-after_items}
 use Rattle.bib_edit.proofs.FirstItems.{IsFirstItem, chunks-first, start-first}
 
@@ -24,7 +12,7 @@ module _ (test : Part → Bool) (parts : Part → Option Part) (new : Text) wher
   abbrev pub Becomes : Type 0
   Becomes = (p : Part) → option_map part_bytes (parts p) ≡ (if test p then Some new else None)
 
-  -- chunks that begin at this place have so many bytes, and their pieces are the tokens of these parts
+  -- chunks that begin at this place have this length, and their pieces are the tokens of these parts
   abbrev pub HasTokens : ℕ → List Chunk → List (ℕ × Part) → ℕ → Type 0
   HasTokens at chunks placed len = (rest : List Chunk) → pieces_from at (chunks ++ rest) ≡ map (replaced_by new) (tokens_of test placed) ++ pieces_from (at + len) rest
 

@@ -6,6 +6,7 @@ use Rattle.bib_spec.specs.Reading.{Reading}
 use Rattle.bib_spec.specs.Records.{entries_of, entry_named}
 use Rattle.edit_spec.specs.Edits.{is_entry, holders}
 use Rattle.bib_scan.specs.View.{Field, field_seen}
+use Rattle.bib_store.specs.Meaning.{OfReading}
 use Rattle.bib_tokens.specs.FirstItem.{first_item}
 use Rattle.bib_tokens.specs.PlacedParts.{field_end}
 use Rattle.bib_edit.specs.declared.address.SoughtFields.{SoughtFields}
@@ -27,10 +28,9 @@ pub record IsLoneNumber (key : Text) (db : Reading) (n : ℕ) : Type 0 where
   pub once : holders key db ≡ 1
 
 -- no entry has the key, or several do
-abbrev pub IsHolderFault : Text → Reading → EditFault → Type 0
-IsHolderFault key db NotFound = holders key db ≡ 0
-IsHolderFault key db Ambiguous = 1 < holders key db
-IsHolderFault key db other = ⊥
+pub data IsHolderFault (file key : Text) : EditFault → Type 0 where
+  none_holds : OfReading file (λ db. holders key db ≡ 0) → IsHolderFault file key NotFound
+  many_hold : OfReading file (λ db. 1 < holders key db) → IsHolderFault file key Ambiguous
 
 -- the field has this name
 abbrev pub is_field : Text → Field → Bool

@@ -19,10 +19,9 @@ pub record IsDefinedAt (name : Text) (db : Reading) (n : ℕ) : Type 0 where
   pub once : definitions name db ≡ 1
 
 -- the macro has no definition, or several
-abbrev pub IsDefinitionFault : Text → Reading → EditFault → Type 0
-IsDefinitionFault name db NotFound = definitions name db ≡ 0
-IsDefinitionFault name db Ambiguous = 1 < definitions name db
-IsDefinitionFault name db other = ⊥
+pub data IsDefinitionFault (file name : Text) : EditFault → Type 0 where
+  none_defines : OfReading file (λ db. definitions name db ≡ 0) → IsDefinitionFault file name NotFound
+  many_define : OfReading file (λ db. 1 < definitions name db) → IsDefinitionFault file name Ambiguous
 
 -- item n is this definition
 abbrev pub IsDefinitionAt : List Item → ℕ → Definition → Type 0

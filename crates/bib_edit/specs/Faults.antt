@@ -22,5 +22,6 @@ reason_of FileTooLong = Some reason.FileTooLong
 reason_of TextTooLong = Some reason.TextTooLong
 reason_of Memory = None
 
+-- the number by which docs/FAULTS.md lists the fault; 10 is want of memory
 abbrev pub fault_number : EditFault → ℕ
 fault_number fault = option_map_or edit_fault_number (reason_of fault) 10

@@ -2,7 +2,6 @@ pub mod Faults
 pub mod Asking
 pub mod Planning
 pub mod Addressing
-pub mod Judging
 pub mod Removal
 pub mod NewEntries
 pub mod ManyEntries

@@ -1,17 +1,14 @@
 -- An entry to be added: how its fields are judged, and what is written.
-use Rattle.std.specs.Prelude.{ℕ, ◌≡◌, ◌<◌, nat_lt, Bool, true, false, ◌&&◌, List, [], ◌∷◌, ◌++◌, Some, slice_get, length, map, codes}
-use Rattle.std.specs.List.{flat_map, list_all}
+use Rattle.std.specs.Prelude.{ℕ, ◌≡◌, ◌<◌, nat_lt, Bool, true, false, List, [], ◌∷◌, ◌++◌, Some, slice_get, length, map, codes}
+use Rattle.std.specs.List.{flat_map}
 use Rattle.bib_spec.specs.Bytes.{name_limit}
-use Rattle.bib_spec.specs.Text.{Text, is_name, is_new_key}
-use Rattle.bib_spec.specs.Tree.{is_type}
+use Rattle.bib_spec.specs.Text.{Text}
 use Rattle.bib_spec.specs.Pieces.{Piece}
 use Rattle.bib_scan.specs.Layout.{start_of}
 use Rattle.bib_spec.specs.Reading.{Reading, IsValueWithin}
 use Rattle.bib_spec.specs.Texts.{months, macros_at, raw_text, raw_limit}
 use Rattle.bib_value.specs.Raw.{OfValue}
 use Rattle.bib_data.specs.declared.edit.NewEntry.{NewEntry}
-use Rattle.bib_edit.specs.declared.fault.EditFault.{EditFault}
-use Rattle.bib_edit.specs.declared.fault.EditFault.TheVariants.{BadKey, BadName, BadValue, Memory}
 
 -- the names of fields
 abbrev pub names_of : List (Text × Text) → List Text
@@ -24,12 +21,6 @@ HaveValuesTo fields n = (k : ℕ) (field : Text × Text) → k < n → slice_get
 -- each field has a value
 abbrev pub HaveValues : List (Text × Text) → Type 0
 HaveValues fields = HaveValuesTo fields (length fields)
-
--- a field has no value, or memory was refused
-abbrev pub IsFieldFault : List (Text × Text) → EditFault → Type 0
-IsFieldFault fields BadValue = HaveValues fields → ⊥
-IsFieldFault fields Memory = Unit {0}
-IsFieldFault fields other = ⊥
 
 -- the value's raw text is, or is not, too long before item n
 abbrev pub IsLong : Bool → Reading → ℕ → Text → Type 0
@@ -48,6 +39,7 @@ IsAnyLong true db n fields = (j : ℕ) × (field : Text × Text) × (slice_get f
 abbrev pub field_line : Text × Text → Text
 field_line field = codes ",\n  " ++ field.0 ++ codes " = " ++ field.1
 
+-- the fields, each in a line of its own
 abbrev pub lines_of : List (Text × Text) → Text
 lines_of fields = flat_map field_line fields
 
@@ -59,21 +51,6 @@ line_before_close (field ∷ fields) = codes "\n"
 -- an entry as it is written, with the line's end after it
 abbrev pub entry_text : NewEntry → Text
 entry_text new = codes "@" ++ new.kind_name ++ codes "{" ++ new.key ++ lines_of new.fields ++ line_before_close new.fields ++ codes "}\n"
-
--- the entry's key, names, type and values are valid
-pub record IsGoodEntry (new : NewEntry) : Type 0 where
-  pub key : is_new_key new.key ≡ true
-  pub names : list_all is_name (names_of new.fields) ≡ true
-  pub kind : is_type new.kind_name ≡ true
-  pub values : HaveValues new.fields
-
--- the first of these that is not valid, or memory was refused
-abbrev pub IsEntryFault : NewEntry → EditFault → Type 0
-IsEntryFault new BadKey = is_new_key new.key ≡ false
-IsEntryFault new BadName = (is_new_key new.key ≡ true) × ((list_all is_name (names_of new.fields) && is_type new.kind_name) ≡ false)
-IsEntryFault new BadValue = (is_new_key new.key ≡ true) × ((list_all is_name (names_of new.fields) && is_type new.kind_name) ≡ true) × (HaveValues new.fields → ⊥)
-IsEntryFault new Memory = Unit {0}
-IsEntryFault new other = ⊥
 
 -- the entry is put in before item n, or after the last
 abbrev pub insertion_of : Reading → ℕ → Text → Piece

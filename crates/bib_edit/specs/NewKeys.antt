@@ -41,6 +41,7 @@ abbrev pub crossref_piece : ℕ → View → Option Text → List Piece
 crossref_piece start view None = []
 crossref_piece start view (Some key) = value_piece start key (find (is_field crossref) view.fields)
 
+-- an item that is this entry, with this trail
 abbrev pub entry_item : Entry → Text → Item
 entry_item e trail = record { tree = EntryTree e; trail = trail }
 
@@ -87,7 +88,7 @@ pub record ArePassed (db : Reading) (key : Text) (k n : ℕ) : Type 0 where
 abbrev pub AreQuiet : NewKeys → Reading → Text → ℕ → ℕ → Type 0
 AreQuiet new db key from to = (n : ℕ) → from ≤ n → n < to → ((j : ℕ) → RefersAt db key j n → ⊥) → pieces_at new db n ≡ []
 
--- the pieces of the entries before entry n are there, k of which refer to the key
+-- the pieces of the entries before entry n are there; k of these entries refer to the key
 pub record HavePieces (new : NewKeys) (db : Reading) (key : Text) (k n : ℕ) (done : List Piece) : Type 0 where
   pub pieces : done ++ pieces_after new db n ≡ rekeying new db
   pub passed : ArePassed db key k n

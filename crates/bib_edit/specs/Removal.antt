@@ -15,9 +15,11 @@ IsFirstAt test [] n = ⊥
 IsFirstAt test (item ∷ items) zero = test item.tree ≡ true
 IsFirstAt test (item ∷ items) (suc n) = (test item.tree ≡ false) × IsFirstAt test items n
 
+-- item n's own bytes, from its at-sign to its close
 abbrev pub body_at : List Item → ℕ → Text
 body_at items n = option_map_or (λ item. tree_bytes item.tree) (slice_get items n) []
 
+-- the text after item n, up to the next item
 abbrev pub trail_at : List Item → ℕ → Text
 trail_at items n = option_map_or (λ item. item.trail) (slice_get items n) []
 

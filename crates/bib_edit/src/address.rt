@@ -13,7 +13,7 @@ use bib_store::{Database, ItemList};
 /// The number among the entries of the one entry with this key.
 pub(crate) fn lone_number<L: ItemList>(db: &Database<L>, key: &[u8]) -> Result<usize, EditFault>
     ensures lone { IfOk result (λ n. OfReading db.now (λ r. IsLoneNumber key.now r n)) }
-    ensures refused { IfErr result (λ fault. OfReading db.now (λ r. IsHolderFault key.now r fault)) }
+    ensures refused { IfErr result (IsHolderFault db.now key.now) }
 {
     match db.holders_of(key) {
         Some(held) if held.count > 1 => Err(EditFault::Ambiguous),
@@ -25,18 +25,18 @@ pub(crate) fn lone_number<L: ItemList>(db: &Database<L>, key: &[u8]) -> Result<u
 /// The number of the item that is the one entry with this key.
 pub(crate) fn lone_entry<L: ItemList>(db: &Database<L>, key: &[u8]) -> Result<usize, EditFault>
     ensures lone { IfOk result (λ n. OfReading db.now (λ r. IsHeldAt key.now r n)) }
-    ensures refused { IfErr result (λ fault. OfReading db.now (λ r. IsHolderFault key.now r fault)) }
+    ensures refused { IfErr result (IsHolderFault db.now key.now) }
 {
     let n = lone_number(db, key)?;
     Ok(db.entry_item(n))
 }
 
-/// The fields of an entry in which those of one name were sought.
+/// What was found of the fields with one name.
 #[derive(Clone, Copy)]
 pub(crate) struct SoughtFields<'a> {
     /// The first field that has the name.
     pub(crate) first: Option<FieldView<'a>>,
-    /// Whether another has it too.
+    /// Whether another field has the name too.
     pub(crate) is_repeated: bool,
     /// The last field of all.
     pub(crate) last: Option<FieldView<'a>>,

@@ -1,4 +1,4 @@
-//! The definitions of a macro, and whether a name is one of a month or a macro.
+//! The definitions of a macro, and whether a month or a macro has a name.
 
 ghost use Rattle.std.specs.Prelude.{◌≡◌, Some, IfOk, IfErr};
 ghost use Rattle.std.specs.Option.{option_map};
@@ -16,13 +16,14 @@ use bib_tokens::Token;
 use bib_value::{MacroTable, month};
 use std::alloc::{AllocError, Global};
 
-/// The number of the item that is the one definition of the macro. It is asked of the tables, without a walk over items.
+/// The number of the item that is the one definition of the macro. It looks it up in the tables, without a walk over
+/// items.
 pub(crate) fn lone_definition<L: ItemList>(
     db: &Database<L>,
     name: &[u8],
 ) -> Result<usize, EditFault>
     ensures lone { IfOk result (λ n. OfReading db.now (λ r. IsDefinedAt name.now r n)) }
-    ensures refused { IfErr result (λ fault. OfReading db.now (λ r. IsDefinitionFault name.now r fault)) }
+    ensures refused { IfErr result (IsDefinitionFault db.now name.now) }
 {
     if db.definition_count(name) > 1 {
         return Err(EditFault::Ambiguous);
@@ -33,7 +34,7 @@ pub(crate) fn lone_definition<L: ItemList>(
     }
 }
 
-/// The name that item `n`, which is a definition, gives a text, where it stands.
+/// The name in item `n`, which is a definition, with its place.
 pub(crate) fn name_of<L: ItemList>(db: &Database<L>, n: usize) -> Option<Token<'_>>
     requires { IsDefinitionNumber db.now n }
     ensures { OfReading db.now (λ r. (d : Definition) → IsDefinitionAt r.items n d → option_map token_seen result ≡ Some (name_token (start_of r n) d)) }

@@ -16,8 +16,8 @@ use bib_scan::{FieldView, ItemView, Seq, is_name};
 use bib_store::{Database, ItemList, Piece};
 use std::alloc::Global;
 
-/// The pieces that take this field out of this entry, or the first reason against it. Where several entries have the
-/// key, the first is meant: that it lacks the field is told before that others have the key.
+/// The pieces that take this field out of this entry, or the first reason against it. If several entries have the key,
+/// it looks at the first one: a missing field there is a reason that comes before the repeated key.
 pub(crate) fn drop_field<L: ItemList>(
     alloc: Global,
     db: &Database<L>,
@@ -53,7 +53,7 @@ pub(crate) fn drop_field<L: ItemList>(
     one_piece(alloc, piece)
 }
 
-/// Whether the closing parenthesis stands directly after the key once the row is gone.
+/// Whether the closing parenthesis would come directly after the key without the row.
 fn joins_key(view: &ItemView<'_>, row: FieldView<'_>) -> bool
     requires end { field_end (field_seen row) ≤ length view.now.body }
     requires key { view.now.key_at + length view.now.key < 2 ^ 64 }

@@ -1,4 +1,4 @@
-//! Writes a macro's text for its uses.
+//! Replaces the uses of a macro by its text.
 
 ghost use Rattle.std.specs.Prelude.{OnOk, IfOk, IfErr};
 ghost use Rattle.bib_edit.specs.Planning.{IsAllowedEdit, ArePiecesOf, IsRefusal};
@@ -13,8 +13,8 @@ use bib_store::{Database, ItemList, Piece};
 use bib_tokens::{Sought, push_from};
 use std::alloc::Global;
 
-/// The pieces that take the macro's one definition out and put what it says, in braces, for each use after it, or the
-/// first reason against it. Whether the file would be too long is told before the text is copied. It takes time and
+/// The pieces that take the macro's one definition out and replace each use after it by its text in braces, or the
+/// first reason against it. A file that would be too long is refused before the text is copied. It takes time and
 /// memory in the length of the file and of the new one.
 pub(crate) fn inline_macro<L: ItemList>(
     alloc: Global,
@@ -30,7 +30,7 @@ pub(crate) fn inline_macro<L: ItemList>(
     if !is_name(name) {
         return Err(EditFault::BadName);
     }
-    // An item's number, which is below their count, can grow by one.
+    // for the proof: an item's number is below their count, so it can grow by one
     let _ = db.item_count();
     let n = lone_definition(db, name)?;
     if !joins_cleanly(alloc, db, n)? {
@@ -49,7 +49,7 @@ pub(crate) fn inline_macro<L: ItemList>(
     if is_result_too_long(
         db,
         tokens.as_slice(),
-        text.as_slice().len(),
+        text.as_slice(),
         body_of(db, n).len(),
         0,
     ) {

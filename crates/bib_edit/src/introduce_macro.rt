@@ -8,16 +8,17 @@ ghost use Rattle.bib_data.specs.declared.edit.Edit.TheVariants.{IntroduceMacro};
 
 use crate::defining::is_given;
 use crate::fault::EditFault;
-use crate::new_entry::insertion_of;
+use crate::pieces::insertion_of;
 use crate::replacing::{is_result_too_long, replaced_after};
 use bib_scan::{Seq, Text, is_balanced, is_name, one_reading};
 use bib_store::{Database, ItemList, Piece};
 use bib_tokens::{Sought, first_with, push_from};
 use std::alloc::{AllocError, Global};
 
-/// The pieces that define the macro as this text before the first item that has it, in braces or in quotes, as a part, and
-/// put its name for each such part, or the first reason against it. It looks at each field once, but for those of that
-/// item, at which it looks twice, and takes time and memory in the length of the file.
+/// The pieces that define the macro as this text and replace each part that is the text, in braces or in quotes, by its
+/// name, or the first reason against it. The definition comes before the first item with such a part. It looks at each
+/// field once, except at those of that item, at which it looks twice. It takes time and memory in the length of the
+/// file.
 pub(crate) fn introduce_macro<L: ItemList>(
     alloc: Global,
     db: &Database<L>,
@@ -49,20 +50,14 @@ pub(crate) fn introduce_macro<L: ItemList>(
         return Err(EditFault::NameInUse);
     }
     let definition = definition_text(alloc, name, text)?;
-    if is_result_too_long(
-        db,
-        tokens.as_slice(),
-        name.len(),
-        0,
-        definition.as_slice().len(),
-    ) {
+    if is_result_too_long(db, tokens.as_slice(), name, 0, definition.as_slice().len()) {
         return Err(EditFault::FileTooLong);
     }
     let insertion = insertion_of(alloc, db, n, definition);
     replaced_after(alloc, insertion, tokens.as_slice(), name)
 }
 
-/// Whether the name is in use, where this says whether it is used.
+/// Whether the name is in use, given whether a part uses it.
 fn is_taken<L: ItemList>(db: &Database<L>, name: &[u8], is_used: bool) -> bool
     ensures { OfReading db.now (λ r. result ≡ (is_used || is_given name.now r.items)) }
 {

@@ -2,8 +2,8 @@
 
 ghost use Rattle.bib_edit.specs.Laws.{EditsAreAskedFor};
 
-/// Every edit of bytes asks for some edit of the definitions, so that what a contract says of each edit that is asked
-/// for is said of one.
+/// Every edit of bytes asks for some edit of the definitions. So a contract that speaks of each edit that is asked for
+/// speaks of at least one.
 pub fn edits_are_asked_for()
     ensures { EditsAreAskedFor }
 {}

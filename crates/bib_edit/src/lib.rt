@@ -4,6 +4,7 @@
 
 mod add_entry;
 mod add_many;
+mod adding;
 mod address;
 mod dangling;
 mod defining;
@@ -13,11 +14,9 @@ mod inline_macro;
 mod introduce_macro;
 mod laws;
 mod limits;
-mod made_keys;
 mod move_entry;
 mod moving;
 mod new_entries;
-mod new_entry;
 mod new_fields;
 mod new_keys;
 mod new_text;
@@ -32,10 +31,11 @@ mod rename_macro;
 mod replacing;
 mod set_field;
 mod taking_out;
+mod unused_keys;
 mod values;
 
 pub use bib_data::{Edit, NewEntry};
 pub use fault::EditFault;
 pub use laws::edits_are_asked_for;
-pub use made_keys::{free_key, free_keys};
 pub use planning::plan;
+pub use unused_keys::{free_key, free_keys};

@@ -12,7 +12,7 @@ use bib_scan::{FILE_LIMIT, Parts};
 use bib_store::{Database, ItemList, Piece};
 use bib_value::{RAW_LIMIT, raw_len};
 
-/// Whether the file would be too long if so many of its bytes went and so many others came.
+/// Whether the file would be too long if `old_len` of its bytes went and `new_len` others came.
 pub(crate) fn is_file_too_long<L: ItemList>(
     db: &Database<L>,
     old_len: usize,
@@ -36,7 +36,7 @@ fn old_len(pieces: &[Piece]) -> usize
     len
 }
 
-/// Whether the file would be too long with these pieces' new bytes in the place of their old ones.
+/// Whether the file would be too long if the new bytes of these pieces replaced the old ones.
 pub(crate) fn are_too_long<L: ItemList>(db: &Database<L>, pieces: &[Piece]) -> bool
     requires { olds_len pieces.now ≤ file_limit }
     ensures { IsTrue result ↔ file_limit + olds_len pieces.now < length db.now + news_len pieces.now }

@@ -1,21 +1,20 @@
-//! The body of an item goes, and stands elsewhere in a line of its own.
+//! An item's body goes, and comes elsewhere in a line of its own.
 
 ghost use Rattle.std.specs.Prelude.{◌≡◌, [], ◌∷◌, IfOk, IfErr};
 ghost use Rattle.edit_spec.specs.Edits.{MoveEntry, last_position};
 ghost use Rattle.bib_store.specs.Meaning.{OfReading, IsItemNumber, IsItemPlace};
-ghost use Rattle.bib_edit.specs.Moving.{seat, line_of, moved_pieces, FieldsHaveValues, IsFieldLong};
+ghost use Rattle.bib_edit.specs.Moving.{next_item, line_of, moved_pieces, FieldsHaveValues, IsFieldLong};
 ghost use Rattle.bib_edit.specs.declared.fault.EditFault.TheVariants.{Memory};
 
 use crate::fault::EditFault;
-use crate::limits::is_text_too_long;
-use crate::new_entry::insertion_of;
+use crate::new_fields::is_long;
+use crate::pieces::insertion_of;
 use crate::taking_out::{body_of, removal_of};
-use crate::values::value_parts;
 use bib_scan::{Fields, Seq, Text};
 use bib_store::{Database, ItemList, Piece};
 use std::alloc::{AllocError, Global};
 
-/// The highest position before which a moved entry can stand: where the key is there, its entry is not counted.
+/// The highest position that a moved entry can have. If an entry has the key, it is not counted.
 pub(crate) fn last_position<L: ItemList>(db: &Database<L>, key: &[u8]) -> usize
     ensures { OfReading db.now (λ r. result ≡ last_position r (MoveEntry key.now 0)) }
 {
@@ -25,12 +24,12 @@ pub(crate) fn last_position<L: ItemList>(db: &Database<L>, key: &[u8]) -> usize
     }
 }
 
-/// The number of the item before which item `n` stands once it is moved, counted with item `n` where it was.
-pub(crate) fn seat<L: ItemList>(db: &Database<L>, n: usize, position: usize) -> usize
+/// The item before which item `n` will stand once it is moved, by old numbers.
+pub(crate) fn next_item<L: ItemList>(db: &Database<L>, n: usize, position: usize) -> usize
     requires { IsItemNumber db.now position }
-    ensures { result ≡ seat n position }
+    ensures { result ≡ next_item n position }
 {
-    // A position below the count of the items can grow by one.
+    // for the proof: a position below the count of the items can grow by one
     db.opens();
     let _ = db.item_count();
     if position < n { position } else { position + 1 }
@@ -71,15 +70,15 @@ pub(crate) fn moved_pieces<L: ItemList>(
 {
     let removal = removal_of(alloc, db, n)?;
     let line = line_of(alloc, db, n)?;
-    let insertion = insertion_of(alloc, db, seat(db, n, position), line);
+    let insertion = insertion_of(alloc, db, next_item(db, n, position), line);
     if position < n {
         return two_pieces(alloc, insertion, removal);
     }
     two_pieces(alloc, removal, insertion)
 }
 
-/// Whether the raw text of a field would be too long before item `n`. It takes time in the number of parts, and memory for
-/// those of one value at a time.
+/// Whether the raw text of a field would be too long before item `n`. It takes time in the number of parts, and memory
+/// for the parts of one value at a time.
 pub(crate) fn is_field_long<L: ItemList>(
     alloc: Global,
     db: &Database<L>,
@@ -93,8 +92,7 @@ pub(crate) fn is_field_long<L: ItemList>(
 {
     let mut rest = fields;
     'fields: while let Some(field) = rest.next() {
-        let parts = value_parts(alloc, field.value)?;
-        if is_text_too_long(db, n, &parts, field.value) {
+        if is_long(alloc, db, n, field.value)? {
             return Ok(true);
         }
     }

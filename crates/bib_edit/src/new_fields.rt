@@ -1,25 +1,25 @@
 //! The fields of an entry to be added, and how they are judged.
 
-ghost use Rattle.std.specs.Prelude.{◌≡◌, length, IfOk, IfErr, OnOk, IsTrue};
+ghost use Rattle.std.specs.Prelude.{◌≡◌, ◌↔◌, length, IfOk, IfErr, IsTrue};
 ghost use Rattle.std.specs.List.{list_all, list_any};
 ghost use Rattle.bib_spec.specs.Bytes.{name_limit};
 ghost use Rattle.bib_spec.specs.Text.{is_name, same};
 ghost use Rattle.bib_spec.specs.Reading.{IsValueWithin};
 ghost use Rattle.edit_spec.specs.Edits.{has_same};
 ghost use Rattle.bib_store.specs.Meaning.{OfReading, IsItemPlace};
-ghost use Rattle.bib_edit.specs.NewEntries.{names_of, HaveValues, IsFieldFault, IsLong, IsAnyLong};
+ghost use Rattle.bib_edit.specs.NewEntries.{names_of, HaveValues, IsLong, IsAnyLong};
 ghost use Rattle.bib_edit.specs.declared.fault.EditFault.TheVariants.{Memory};
 
 use crate::fault::EditFault;
 use crate::limits::is_text_too_long;
-use crate::values::{judge_value, value_parts};
+use crate::values::{is_value, value_parts};
 use bib_scan::{Text, is_name, only_part, same_folded};
 use bib_store::{Database, ItemList};
 use bib_value::{RAW_LIMIT, part_text};
 use folded_map::FoldedMap;
 use std::alloc::{AllocError, Global};
 
-/// Whether each field's name is one.
+/// Whether each field's name is valid.
 pub(crate) fn are_named(fields: &[(Text, Text)]) -> bool
     ensures { result ≡ list_all is_name (names_of fields.now) }
 {
@@ -31,18 +31,19 @@ pub(crate) fn are_named(fields: &[(Text, Text)]) -> bool
     true
 }
 
-/// Refuses a field whose value is not valid.
-pub(crate) fn judge_values(alloc: Global, fields: &[(Text, Text)]) -> Result<(), EditFault>
-    ensures values { OnOk result (HaveValues fields.now) }
-    ensures refused { IfErr result (IsFieldFault fields.now) }
+/// Whether each field has a value.
+pub(crate) fn are_values(alloc: Global, fields: &[(Text, Text)]) -> Result<bool, AllocError>
+    ensures { IfOk result (λ are. IsTrue are ↔ HaveValues fields.now) }
 {
     for field in fields {
-        judge_value(alloc, field.1.as_slice())?;
+        if !is_value(alloc, field.1.as_slice())? {
+            return Ok(false);
+        }
     }
-    Ok(())
+    Ok(true)
 }
 
-/// How many names are compared each with each: a map of them would cost more.
+/// Up to this many names are compared each with each: a map of them would cost more.
 const FEW: usize = 16;
 
 /// Whether one of the fields has this name, folded.
@@ -54,7 +55,7 @@ fn has_name(fields: &[(Text, Text)], name: &[u8]) -> bool
         .any(|field| same_folded(name, field.0.as_slice()))
 }
 
-/// Whether a name stands for an earlier one too, folded: each is compared with those after it.
+/// Whether two names are the same, folded. Each is compared with those after it.
 fn has_same_among(fields: &[(Text, Text)]) -> bool
     ensures { result ≡ has_same (names_of fields.now) }
 {
@@ -68,7 +69,7 @@ fn has_same_among(fields: &[(Text, Text)]) -> bool
     false
 }
 
-/// Whether a name stands for an earlier one too, folded. It takes memory for the names, where they are many.
+/// Whether two names are the same, folded. It takes memory for the names if they are many.
 pub(crate) fn has_same_name(alloc: Global, fields: &[(Text, Text)]) -> Result<bool, AllocError>
     requires { IsTrue (list_all is_name (names_of fields.now)) }
     ensures { IfOk result (λ same. same ≡ has_same (names_of fields.now)) }
@@ -89,7 +90,7 @@ pub(crate) fn has_same_name(alloc: Global, fields: &[(Text, Text)]) -> Result<bo
 
 /// Whether the raw text of a value would be too long before item `n`. Most values have one part, and are not taken
 /// apart: no memory is asked for.
-fn is_long<L: ItemList>(
+pub(crate) fn is_long<L: ItemList>(
     alloc: Global,
     db: &Database<L>,
     n: usize,
@@ -103,8 +104,10 @@ fn is_long<L: ItemList>(
     if let Some(part) = only_part(value) {
         return Ok(part_text(part, &db.macros_at(n), None).len() > RAW_LIMIT as usize);
     }
-    let parts = value_parts(alloc, value)?;
-    Ok(is_text_too_long(db, n, &parts, value))
+    match value_parts(alloc, value)? {
+        Some(parts) => Ok(is_text_too_long(db, n, &parts, value)),
+        None => Ok(false),
+    }
 }
 
 /// Whether the raw text of a field would be too long before item `n`. Each field has a value.

@@ -8,7 +8,7 @@ use crate::pieces::copied;
 use bib_scan::{Seq, Text};
 use std::alloc::{AllocError, Global};
 
-/// The keys that entries get: those from number `first` on get these, in turn, and the others none.
+/// The keys that entries get: the entries from number `first` on get these in turn, the other entries get none.
 #[derive(Drop)]
 pub(crate) struct NewKeys {
     pub(crate) first: usize,

@@ -29,7 +29,7 @@ fn push_lines(text: &mut Vec<u8>, fields: &[(Text, Text)]) -> Result<(), AllocEr
     Ok(())
 }
 
-/// The line's end before the close, where there are fields.
+/// The line's end before the close, if there are fields.
 fn line_before_close(fields: &[(Text, Text)]) -> &'static [u8]
     ensures { result.now ≡ line_before_close fields.now }
 {
@@ -51,15 +51,6 @@ fn push_entry(text: &mut Vec<u8>, entry: &NewEntry) -> Result<(), AllocError>
     text.extend_from_slice(line_before_close(entry.fields.as_slice()))?;
     text.extend_from_slice(b"}\n")?;
     Ok(())
-}
-
-/// The entry as it is written.
-pub(crate) fn entry_text(alloc: Global, entry: &NewEntry) -> Result<Text, AllocError>
-    ensures { IfOk result (λ text. text ≡ entry_text entry.now) }
-{
-    let mut text = Vec::new(alloc);
-    push_entry(&mut text, entry)?;
-    Ok(Seq::from_vec(text))
 }
 
 /// The entries as they are written, one after another.

@@ -9,7 +9,7 @@ ghost use Rattle.bib_edit.specs.Removal.{IsParent};
 
 use bib_store::{Database, ItemList};
 
-/// Whether entry `m`, which the key names, is the parent of some entry: another entry than itself refers to the key.
+/// Whether entry `m`, which the key names, is the parent of some entry: an entry other than `m` refers to the key.
 fn is_parent<L: ItemList>(db: &Database<L>, key: &[u8], m: usize) -> bool
     requires { length key.now ≤ name_limit }
     ensures { OfReading db.now (λ r. entry_named (entries_of r) key.now ≡ Some m → IsTrue result ↔ IsParent (entries_of r) m) }
@@ -21,8 +21,8 @@ fn is_parent<L: ItemList>(db: &Database<L>, key: &[u8], m: usize) -> bool
     }
 }
 
-/// Whether another entry's crossref names the entry that the key names. It takes a few steps for each page of entries, and
-/// time in the key's length.
+/// Whether another entry's crossref names the entry that the key names. It takes a few steps for each page of entries,
+/// and time in the key's length.
 pub(crate) fn is_referred<L: ItemList>(db: &Database<L>, key: &[u8]) -> bool
     ensures { OfReading db.now (λ r. IsTrue result ↔ IsReferred key.now (entries_of r)) }
 {

@@ -14,9 +14,10 @@ use bib_scan::{Seq, one_reading};
 use bib_store::{Database, ItemList, Piece};
 use std::alloc::Global;
 
-/// The pieces that give all entries their made keys at once, from their records at this depth, and name their targets by
-/// these, or the first reason against it. Since all is told by the old keys, two entries may exchange theirs. It takes time
-/// in the length of the file, and memory for the pieces, the keys and what parents give to them.
+/// The pieces that give all entries their made keys at once, from their records at this depth, and put these keys into
+/// the crossrefs, or the first reason against it. The old keys decide which entry a crossref names, so two entries may
+/// exchange their keys. It takes time in the length of the file, and memory for the pieces, the keys and what parents
+/// give to them.
 pub(crate) fn regenerate_keys<L: ItemList>(
     alloc: Global,
     db: &Database<L>,

@@ -1,4 +1,4 @@
-//! The pieces that give entries new keys, and name them by these in crossrefs.
+//! The pieces that give entries new keys, and put these keys into crossrefs.
 
 ghost use Rattle.std.specs.Prelude.{◌≡◌, ◌≤◌, ◌<◌, ◌+◌, ◌++◌, ℕ, None, Some, length, option_and_then, slice_get, IfOk, IfErr, IfSome, OnOk};
 ghost use Rattle.std.specs.Option.{option_copied, IfNone};
@@ -54,7 +54,7 @@ fn push_key(
     Ok(())
 }
 
-/// Adds the piece that names the target by its new key, if that gets one.
+/// Adds the piece that puts the new key of the target into the crossref, if the target gets one.
 fn push_crossref(
     alloc: Global,
     pieces: &mut Vec<Piece>,
@@ -91,7 +91,7 @@ fn new_target<'a, L: ItemList>(db: &Database<L>, new: &'a NewKeys, n: usize) -> 
     }
 }
 
-/// Adds the pieces of entry `n`, whose item is seen and begins at this place.
+/// Adds the pieces of entry `n`, whose item has this view and begins at this place.
 fn push_entry_at<L: ItemList>(
     alloc: Global,
     db: &Database<L>,
@@ -147,7 +147,7 @@ fn place_from<L: ItemList>(db: &Database<L>, from: usize, at: usize, to: usize) 
     place
 }
 
-/// The pieces that give the entries their new keys, all at once, and name them by these in crossrefs. It takes time in
+/// The pieces that give the entries their new keys, all at once, and put these keys into crossrefs. It takes time in
 /// the length of the file, and memory for the pieces.
 pub(crate) fn rekeying<L: ItemList>(
     alloc: Global,
@@ -158,7 +158,7 @@ pub(crate) fn rekeying<L: ItemList>(
     ensures only { IfErr result (λ fault. fault ≡ Memory) }
 {
     db.opens();
-    // An item's number, which is below their count, can grow by one.
+    // for the proof: an item's number is below their count, so it can grow by one
     let _ = db.item_count();
     let mut pieces = Vec::new(alloc);
     let mut item = 0;
@@ -174,7 +174,7 @@ pub(crate) fn rekeying<L: ItemList>(
     Ok(Seq::from_vec(pieces))
 }
 
-/// The entry that refers to the key as number `k` of those that do, if it is before entry `end`.
+/// Entry `k` among those that refer to the key, if it comes before entry `end`.
 fn referrer_before<L: ItemList>(db: &Database<L>, key: &[u8], k: usize, end: usize) -> Option<usize>
     requires { length key.now ≤ name_limit }
     ensures some { IfSome result (λ n. n < end × OfReading db.now (λ r. RefersAt r key.now k n)) }
@@ -186,8 +186,8 @@ fn referrer_before<L: ItemList>(db: &Database<L>, key: &[u8], k: usize, end: usi
     }
 }
 
-/// Adds the pieces of the entries before entry `end` that refer to the key, from number `from` of those that do. It returns
-/// how many of these are before entry `end`.
+/// Adds the pieces of the entries before entry `end` that refer to the key, without the first `from` of them. It
+/// returns how many entries before entry `end` refer to the key.
 fn push_referrers<L: ItemList>(
     alloc: Global,
     db: &Database<L>,
@@ -212,9 +212,9 @@ fn push_referrers<L: ItemList>(
     Ok(count)
 }
 
-/// The pieces that give entry `n`, the first that has this key, a new key, and name it by that in the crossrefs whose target
-/// it is. It takes time in the lengths of the entries that get pieces, a few steps for each page of entries and of items
-/// for each of them, and memory for the pieces.
+/// The pieces that give entry `n`, the first with this key, a new key, and put that into the crossrefs whose target is
+/// entry `n`. It takes time in the lengths of the entries that get pieces, a few steps for each page of entries and of
+/// items for each of them, and memory for the pieces.
 pub(crate) fn renaming<L: ItemList>(
     alloc: Global,
     db: &Database<L>,
@@ -231,13 +231,14 @@ pub(crate) fn renaming<L: ItemList>(
     let mut pieces = Vec::new(alloc);
     let before = push_referrers(alloc, db, new, key, 0, n, &mut pieces)?;
     push_entry(alloc, db, new, n, &mut pieces)?;
-    let after = after_itself(db, key, before, n);
+    let after = skip_self(db, key, before, n);
     push_referrers(alloc, db, new, key, after, db.entry_count(), &mut pieces)?;
     Ok(Seq::from_vec(pieces))
 }
 
-/// How many entries up to entry `n`, itself included, refer to the key, where `k` of those before it do.
-fn after_itself<L: ItemList>(db: &Database<L>, key: &[u8], k: usize, n: usize) -> usize
+/// `k`, or `k + 1` if entry `n` refers to its own key: how many of the entries up to it, itself included, refer to the
+/// key, if `k` of those before it do.
+fn skip_self<L: ItemList>(db: &Database<L>, key: &[u8], k: usize, n: usize) -> usize
     requires { length key.now ≤ name_limit }
     ensures { OfReading db.now (λ r. ArePassed r key.now k n → ArePassed r key.now result (n + 1)) }
 {

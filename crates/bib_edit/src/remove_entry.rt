@@ -13,8 +13,8 @@ use bib_scan::{Seq, one_reading};
 use bib_store::{Database, ItemList, Piece};
 use std::alloc::Global;
 
-/// The piece that takes this entry's body out, or the first reason against it. It takes a few steps for each page of items
-/// and of entries, and time and memory in the length of the body and the texts beside it.
+/// The piece that takes this entry's body out, or the first reason against it. It takes a few steps for each page of
+/// items and of entries, and time and memory in the length of the body and the texts beside it.
 pub(crate) fn remove_entry<L: ItemList>(
     alloc: Global,
     db: &Database<L>,

@@ -18,8 +18,8 @@ use bib_scan::{Seq, is_key, one_reading, same_folded};
 use bib_store::{Database, ItemList, Piece};
 use std::alloc::Global;
 
-/// Whether an entry has the new key, if it is not the old one in another case, or a dangling crossref waits for it: then
-/// that would gain a target.
+/// Whether an entry has the new key, unless it is the old key in another case, or a dangling crossref names the new
+/// key: that crossref would gain a target.
 fn is_in_use<L: ItemList>(db: &Database<L>, from: &[u8], to: &[u8]) -> bool
     requires { is_new_key to.now ≡ true }
     ensures { OfReading db.now (λ r. result ≡ is_in_use from.now to.now (entries_of r)) }
@@ -27,10 +27,10 @@ fn is_in_use<L: ItemList>(db: &Database<L>, from: &[u8], to: &[u8]) -> bool
     (!same_folded(from, to) && db.holders(to) > 0) || is_awaited(db, to)
 }
 
-/// The pieces that give this entry the new key, and name it by that in the crossrefs whose target it is, or the first
-/// reason against it. A crossref is found by what it says, whatever its parts, and gets the key in braces. It takes time
-/// in the lengths of these entries, a few steps for each page of entries and of items for each of them, and memory for
-/// the pieces.
+/// The pieces that give this entry the new key, and put it into the crossrefs whose target is this entry, or the first
+/// reason against it. A crossref counts by its field text, whatever its parts, and gets the key in braces. It takes
+/// time in the lengths of these entries, a few steps for each page of entries and of items for each of them, and memory
+/// for the pieces.
 pub(crate) fn rename_key<L: ItemList>(
     alloc: Global,
     db: &Database<L>,

@@ -46,7 +46,7 @@ pub(crate) fn rename_macro<L: ItemList>(
     if names.is_taken {
         return Err(EditFault::NameInUse);
     }
-    if is_result_too_long(db, names.tokens.as_slice(), to.len(), 0, 0) {
+    if is_result_too_long(db, names.tokens.as_slice(), to, 0, 0) {
         return Err(EditFault::FileTooLong);
     }
     let mut pieces = Vec::new(alloc);
@@ -54,14 +54,14 @@ pub(crate) fn rename_macro<L: ItemList>(
     Ok(Seq::from_vec(pieces))
 }
 
-/// Whether both are names.
+/// Whether both are valid names.
 fn are_names(from: &[u8], to: &[u8]) -> bool
     ensures { result ≡ (is_name from.now && is_name to.now) }
 {
     is_name(from) && is_name(to)
 }
 
-/// Whether the new name is a month's, or defined anywhere, or used before item `n`; a change of case alone is no new
+/// Whether the new name is a month's, or defined anywhere, or used before item `n`. A change of case alone is not a new
 /// name.
 fn is_taken_before<L: ItemList>(
     alloc: Global,

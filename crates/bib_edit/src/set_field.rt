@@ -12,7 +12,7 @@ ghost use Rattle.bib_edit.specs.declared.fault.EditFault.TheVariants.{Ambiguous,
 
 use crate::address::{lone_entry, sought_fields};
 use crate::fault::EditFault;
-use crate::limits::{is_file_too_long, is_text_too_long};
+use crate::limits::{are_too_long, is_text_too_long};
 use crate::pieces::{copied, one_piece};
 use crate::values::value_parts;
 use bib_scan::{FieldView, ItemView, Seq, Text, is_name};
@@ -35,19 +35,22 @@ pub(crate) fn set_field<L: ItemList>(
     if !is_name(field) {
         return Err(EditFault::BadName);
     }
-    let parts = value_parts(alloc, value)?;
+    let Some(parts) = value_parts(alloc, value)? else {
+        return Err(EditFault::BadValue);
+    };
     let n = lone_entry(db, key)?;
     let piece = setting(alloc, db, n, field, value)?;
-    if is_file_too_long(db, piece.old.as_slice().len(), piece.new.as_slice().len()) {
+    let pieces = one_piece(alloc, piece)?;
+    if are_too_long(db, pieces.as_slice()) {
         return Err(EditFault::FileTooLong);
     }
     if is_text_too_long(db, n, &parts, value) {
         return Err(EditFault::TextTooLong);
     }
-    one_piece(alloc, piece)
+    Ok(pieces)
 }
 
-/// The piece that gives the field of item `n`, which is an entry, this value. Refused where it has two fields of the name.
+/// The piece that gives the field of item `n`, which is an entry, this value. Two fields with the name are refused.
 fn setting<L: ItemList>(
     alloc: Global,
     db: &Database<L>,
@@ -82,7 +85,7 @@ fn setting<L: ItemList>(
     }
 }
 
-/// The place in the body after the value of the last field, or after the key where there is none.
+/// The place in the body after the value of the last field, or after the key if there is no field.
 fn rows_end(view: &ItemView<'_>, last: Option<FieldView<'_>>) -> usize
     requires last { option_map field_seen last ≡ last_or None view.now.fields }
     requires place { rows_end view.now < 2 ^ 64 }

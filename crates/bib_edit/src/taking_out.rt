@@ -1,4 +1,4 @@
-//! The body of an item goes, and its trail joins the text before it.
+//! An item's body goes, and its trail joins the text before it.
 
 ghost use Rattle.std.specs.Prelude.{◌≡◌, ◌↔◌, IsTrue, IfOk, IfErr};
 ghost use Rattle.bib_spec.specs.Tree.{is_comment};
@@ -24,7 +24,7 @@ fn is_comment(view: &ItemView<'_>) -> bool
     }
 }
 
-/// Whether the text before item `n` stands after a comment, and that text.
+/// Whether the text before item `n` comes after a comment, and that text.
 fn text_before<'a, L: ItemList>(db: &'a Database<L>, n: usize) -> (bool, &'a [u8])
     requires { IsItemNumber db.now n }
     ensures { OfReading db.now (λ r. (result.0 ≡ is_after_comment r.items n) × (result.1.now ≡ text_before r.front r.items n)) }
@@ -36,7 +36,7 @@ fn text_before<'a, L: ItemList>(db: &'a Database<L>, n: usize) -> (bool, &'a [u8
     (is_comment(&before), before.trail())
 }
 
-/// Whether the trail of item `n`, after the text before the item, begins no item there.
+/// Whether the trail of item `n`, joined to the text before the item, begins no item there.
 pub(crate) fn joins_cleanly<L: ItemList>(
     alloc: Global,
     db: &Database<L>,

@@ -1,31 +1,30 @@
 //! Values that are given as bytes.
 
-ghost use Rattle.std.specs.Prelude.{◌≡◌, ◌++◌, ◌∷◌, [], IfOk, IfErr, IfSome, OnOk, IsTrue};
+ghost use Rattle.std.specs.Prelude.{◌≡◌, ◌↔◌, ◌++◌, ◌∷◌, [], IfOk, IfSome, IsTrue};
+ghost use Rattle.std.specs.Option.{IfNone};
 ghost use Rattle.bib_spec.specs.Bytes.{open_brace, close_brace, name_limit};
 ghost use Rattle.bib_spec.specs.Reading.{IsValueWithin};
 ghost use Rattle.bib_scan.specs.ValueParts.{IsPartsOf};
-ghost use Rattle.bib_edit.specs.Judging.{IsNoValue};
 
-use crate::fault::EditFault;
 use bib_scan::{Parts, is_balanced, read_value};
-use std::alloc::Global;
+use std::alloc::{AllocError, Global};
 
-/// The number of the fault of reading that is want of memory.
+/// The number of the reading fault that is want of memory.
 const WANT_OF_MEMORY: u8 = 10;
 
-/// The parts of a text that is one value and nothing else.
-pub(crate) fn value_parts(alloc: Global, text: &[u8]) -> Result<Parts, EditFault>
-    ensures parts { IfOk result (λ parts. IsPartsOf text.now parts) }
-    ensures refused { IfErr result (IsNoValue text.now) }
+/// The parts of a text that is one value and nothing else, if it is.
+pub(crate) fn value_parts(alloc: Global, text: &[u8]) -> Result<Option<Parts>, AllocError>
+    ensures parts { IfOk result (λ found. IfSome found (IsPartsOf text.now)) }
+    ensures none { IfOk result (λ found. IfNone found (IsValueWithin name_limit text.now → ⊥)) }
 {
     match read_value(alloc, text) {
-        Ok(parts) => Ok(parts),
-        Err(fault) if fault.kind == WANT_OF_MEMORY => Err(EditFault::Memory),
-        Err(_) => Err(EditFault::BadValue),
+        Ok(parts) => Ok(Some(parts)),
+        Err(fault) if fault.kind == WANT_OF_MEMORY => Err(AllocError),
+        Err(_) => Ok(None),
     }
 }
 
-/// What stands between the braces at the two ends of a text, if they are there.
+/// The text between the braces at the two ends, if they are there.
 fn inside_braces(text: &[u8]) -> Option<&[u8]>
     ensures { IfSome result (λ inside. text.now ≡ open_brace ∷ (inside.now ++ close_brace ∷ [])) }
 {
@@ -45,14 +44,15 @@ fn is_braced(text: &[u8]) -> bool
     }
 }
 
-/// Refuses a text that is no value. One that stands in braces is not taken apart: no memory is asked for.
-pub(crate) fn judge_value(alloc: Global, text: &[u8]) -> Result<(), EditFault>
-    ensures value { OnOk result (IsValueWithin name_limit text.now) }
-    ensures refused { IfErr result (IsNoValue text.now) }
+/// Whether the text is a value. A text in braces is not taken apart: no memory is asked for.
+pub(crate) fn is_value(alloc: Global, text: &[u8]) -> Result<bool, AllocError>
+    ensures { IfOk result (λ is. IsTrue is ↔ IsValueWithin name_limit text.now) }
 {
     if is_braced(text) {
-        return Ok(());
+        return Ok(true);
     }
-    value_parts(alloc, text)?;
-    Ok(())
+    match value_parts(alloc, text)? {
+        Some(_) => Ok(true),
+        None => Ok(false),
+    }
 }

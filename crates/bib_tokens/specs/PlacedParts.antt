@@ -36,7 +36,7 @@ tree_placed at (DefinitionTree d) = value_placed (at + length (opening_bytes d.o
 tree_placed at (PreambleTree p) = value_placed (at + length (opening_bytes p.opening)) p.value
 tree_placed at (EntryTree e) = rows_placed (at + length (opening_bytes e.opening ++ (e.key ++ e.space_after_key))) e.rows
 
--- the parts of items, of which the first begins at this place
+-- the parts of items; the first item begins at this place
 abbrev pub items_placed : ℕ → List Item → List (ℕ × Part)
 items_placed at [] = []
 items_placed at (item ∷ items) = tree_placed at item.tree ++ items_placed (at + length (item_bytes item)) items
@@ -62,6 +62,7 @@ tokens_of test (placed ∷ others) = if test placed.1 then token_at placed ∷ t
 abbrev pub token_seen : Token → ℕ × Text
 token_seen t = (t.place, t.bytes.now)
 
+-- the tokens as the definitions have them
 abbrev pub tokens_seen : List Token → List (ℕ × Text)
 tokens_seen ts = map token_seen ts
 
@@ -69,11 +70,12 @@ tokens_seen ts = map token_seen ts
 abbrev pub field_end : Field → ℕ
 field_end field = field.value_at + length field.value
 
--- each field has a value, and the places in it are numbers of the machine, where its item begins at this one
+-- the field has a value, and the place after it fits in 64 bits; its item begins at this place
 pub record IsPlacedField (start : ℕ) (field : Field) : Type 0 where
   pub value : IsValueWithin name_limit field.value
   pub place : start + field_end field < 2 ^ 64
 
+-- each field of an item that begins at this place is such a field
 abbrev pub ArePlacedFields : ℕ → List Field → Type 0
 ArePlacedFields start fields = AllByRecursion (IsPlacedField start) fields
 

@@ -20,7 +20,7 @@ use bib_scan::{Fields, Part, Parts, only_part, read_value};
 use bib_store::{Database, ItemList};
 use std::alloc::{AllocError, Global};
 
-/// Bytes that stand at a place in the file.
+/// Bytes of the file, with their place.
 #[derive(Clone, Copy, Debug)]
 pub struct Token<'a> {
     pub place: usize,
@@ -39,7 +39,7 @@ fn part_len(part: Part<'_>) -> usize
     }
 }
 
-/// Part `n` of a value that stands at this place in the file.
+/// Part `n` of a value that begins at this place in the file.
 fn token_of<'a>(at: usize, parts: &Parts, value: &'a [u8], n: usize) -> Token<'a>
     requires value { IsPartsOf value.now parts.now }
     requires number { n < length parts.now }
@@ -61,12 +61,12 @@ fn parts_in(alloc: Global, value: &[u8]) -> Result<Parts, AllocError>
 {
     match read_value(alloc, value) {
         Ok(parts) => Ok(parts),
-        // A value is refused only where memory is.
+        // Every value is valid here, so only want of memory refuses it.
         Err(_) => Err(AllocError),
     }
 }
 
-/// Adds the only part of a value, which stands at this place in the file, to the tokens, if it is sought.
+/// Adds the only part of a value to the tokens if it is sought. The value begins at this place in the file.
 fn push_only<'a>(
     tokens: &mut Vec<Token<'a>>,
     at: usize,
@@ -88,8 +88,8 @@ fn push_only<'a>(
     Ok(())
 }
 
-/// Adds the sought parts of a value, which stands at this place in the file, to the tokens, and says whether a part of it
-/// is watched for. Most values have one part, and are not taken apart.
+/// Adds the sought parts of a value to the tokens, and says whether a part of it is watched for. The value begins at this
+/// place in the file. Most values have one part, and are not taken apart.
 fn push_in_value<'a>(
     alloc: Global,
     tokens: &mut Vec<Token<'a>>,
@@ -121,8 +121,8 @@ fn push_in_value<'a>(
     Ok(met)
 }
 
-/// Adds the sought parts of an item's fields, where the item stands at this place in the file, to the tokens, and says
-/// whether a part of them is watched for.
+/// Adds the sought parts of an item's fields to the tokens, and says whether a part of them is watched for. The item
+/// begins at this place in the file.
 fn push_in_fields<'a>(
     alloc: Global,
     tokens: &mut Vec<Token<'a>>,
@@ -147,8 +147,8 @@ fn push_in_fields<'a>(
 }
 
 /// Adds the sought parts of item `n` and of those after it to the tokens, in their order, and says whether a part of one
-/// is watched for. It looks at each field once, and takes time in the length of these items. If memory is refused, a part
-/// of the tokens may stand there, after those that were there.
+/// is watched for. It looks at each field once, and takes time in the length of these items. If memory is refused, some of
+/// the tokens may have been added.
 pub fn push_from<'a, L: ItemList>(
     alloc: Global,
     tokens: &mut Vec<Token<'a>>,
@@ -220,15 +220,15 @@ pub fn is_met_before<L: ItemList>(
     Ok(false)
 }
 
-/// The first item of which a part is sought: its number, and whether a part of an item before it is watched for.
+/// The first item with a part that is sought: its number, and whether an item before it has a part that is watched for.
 #[derive(Clone, Copy, Debug)]
 pub struct First {
     pub n: usize,
     pub met: bool,
 }
 
-/// The first item of which a part is sought, and what was met before it. It takes time in the length of the items up to
-/// it.
+/// Finds the first item with a part that is sought, and tells what was met before it. It takes time in the length of the
+/// items up to it.
 pub fn first_with<L: ItemList>(
     alloc: Global,
     db: &Database<L>,

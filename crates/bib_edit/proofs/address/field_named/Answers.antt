@@ -1,8 +1,5 @@
-use Rattle.std.proofs.Common.{tests, rules}
-use Rattle.std.proofs.lemmas.Iterator.Search.{find_from_yields_List}
+use Rattle.bib_edit.proofs.Words.{tests, rules, find_from_yields_List, field_seen, is_field}
 use Rattle.std.proofs.lemmas.Iterator.Consumers.{YieldsList-from_first}
-use Rattle.bib_scan.specs.View.{field_seen}
-use Rattle.bib_edit.specs.Addressing.{is_field}
 use Rattle.bib_edit.proofs.address.field_named.Goals as goal
 
 pub returns : goal.returns

@@ -1,5 +1,4 @@
-use Rattle.std.proofs.Common.{length, option_map}
-use Rattle.bib_scan.specs.View.{field_seen}
+use Rattle.bib_edit.proofs.Words.{length, option_map, field_seen}
 use Rattle.bib_edit.proofs.SoughtFields.{IsSeeking}
 use Rattle.bib_edit.proofs.address.sought_fields.Given as goal
 

@@ -1,8 +1,4 @@
-use Rattle.std.proofs.Common.{◌∙◌, ap}
-use Rattle.std.specs.Prelude.{is_some}
-use Rattle.bib_spec.specs.Records.{entries_of}
-use Rattle.edit_spec.proofs.RenameKey.{new_key_parts}
-use Rattle.edit_spec.proofs.WrittenRows.{new_key-length}
+use Rattle.bib_edit.proofs.Words.{◌∙◌, ap, is_some, entries_of, new_key_parts, new_key-length}
 use Rattle.bib_edit.proofs.Referrers.{awaited-held, awaited-free}
 use Rattle.bib_edit.proofs.dangling.is_awaited.Goals as goal
 

@@ -1,10 +1,4 @@
-use Rattle.std.proofs.Common.{◌≡◌, ◌||◌, true, false, is_some, sym, ◌∙◌, ap}
-use Rattle.std.specs.List.{list_any}
-use Rattle.bib_spec.specs.Text.{folded}
-use Rattle.bib_spec.specs.Texts.{months}
-use Rattle.edit_spec.specs.Edits.{defines}
-use Rattle.bib_tokens.proofs.FirstFound.{first-any}
-use Rattle.bib_keys.proofs.LookUps.{copied-some}
+use Rattle.bib_edit.proofs.Words.{◌≡◌, ◌||◌, true, false, is_some, sym, ◌∙◌, ap, list_any, folded, months, defines, first-any, copied-some}
 use Rattle.bib_edit.proofs.TabledDefinitions.{tabled-first}
 use Rattle.bib_edit.proofs.defining.is_given.Goals as goal
 

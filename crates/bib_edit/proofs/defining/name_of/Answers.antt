@@ -1,6 +1,4 @@
-use Rattle.std.proofs.Common.{◌+◌, ℕ, List, [], ◌∷◌, Some, sym, ◌∙◌, ap, ap₂, arith}
-use Rattle.bib_spec.specs.Text.{Text}
-use Rattle.bib_scan.specs.View.{Field, field_seen}
+use Rattle.bib_edit.proofs.Words.{◌+◌, ℕ, List, [], ◌∷◌, Some, sym, ◌∙◌, ap, ap₂, arith, Text, Field, field_seen}
 use Rattle.bib_edit.proofs.DefinedNames.{name-there, name-some, name-within}
 use Rattle.bib_edit.proofs.defining.name_of.Goals as goal
 

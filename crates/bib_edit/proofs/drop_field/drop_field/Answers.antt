@@ -1,15 +1,4 @@
-use Rattle.std.proofs.Common.{◌≡◌, ◌+◌, ◌≤◌, [], ◌∷◌, length, count_by, option_map, sym, ◌∙◌, ap, subst, arith}
-use Rattle.std.proofs.lemmas.Bool.{ltb-true, ltb-false}
-use Rattle.std.proofs.lemmas.Result.{IfOk-weaker}
-use Rattle.bib_spec.specs.Bytes.{file_limit}
-use Rattle.bib_spec.specs.Text.{Text}
-use Rattle.bib_spec.specs.Pieces.{Piece}
-use Rattle.bib_scan.specs.View.{field_seen}
-use Rattle.bib_edit.specs.Planning.{IsAllowedEdit, ArePiecesOf}
-use Rattle.bib_tokens.specs.PlacedParts.{field_end}
-use Rattle.bib_edit.specs.Addressing.{is_field}
-use Rattle.bib_edit.specs.FieldPieces.{cut_piece}
-use Rattle.bib_data.specs.declared.edit.Edit.TheVariants.{DropField}
+use Rattle.bib_edit.proofs.Words.{◌≡◌, ◌+◌, ◌≤◌, [], ◌∷◌, length, count_by, option_map, sym, ◌∙◌, ap, subst, arith, ltb-true, ltb-false, IfOk-weaker, file_limit, Text, Piece, field_seen, IsAllowedEdit, ArePiecesOf, field_end, is_field, cut_piece, DropField}
 use Rattle.bib_edit.proofs.NamedEntries.{named-within, held-item}
 use Rattle.bib_edit.proofs.SettingPieces.{item-within}
 use Rattle.bib_edit.proofs.DroppingFields.{refused-key, refused-field, refused-holders, refused-twice, refused-merge, pieces-drop_field, start-within, key-small, field-end, field-begins, allowed-drop_field}

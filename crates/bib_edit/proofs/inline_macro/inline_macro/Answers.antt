@@ -1,23 +1,12 @@
-use Rattle.std.proofs.Common.{◌≡◌, ◌∷◌, ◌*◌, length, map, sym, ◌∙◌, ap, ap₂, arith, ℕ, List}
-use Rattle.std.proofs.lemmas.Bool.{both_ways}
-use Rattle.std.proofs.lemmas.Result.{err_from_is_err_and, IfOk-weaker}
-use Rattle.bib_spec.proofs.Results.{ok_always}
-use Rattle.std.proofs.lemmas.List.{length-map}
-use Rattle.bib_spec.specs.Text.{Text}
-use Rattle.edit_spec.specs.Edits.{defines}
-use Rattle.bib_spec.specs.Pieces.{Piece}
-use Rattle.edit_spec.specs.EditChunks.{pieces_of}
+use Rattle.bib_edit.proofs.Words.{◌≡◌, ◌∷◌, ◌+◌, ◌<◌, ◌≤◌, length, sym, ◌∙◌, ap, ap₂, subst₂, arith, both_ways, err_from_is_err_and, IfOk-weaker, ok_always, file_limit, Text, Piece, pieces_of, olds_len, news_len, ArePiecesOf, made_base, tokens_seen, replaced, only-tokens}
+use Rattle.edit_spec.specs.Edits as edits
 use Rattle.bib_data.specs.declared.edit.Edit.TheVariants.{InlineMacro}
-use Rattle.bib_edit.specs.Planning.{ArePiecesOf}
-use Rattle.bib_keys.specs.MadeBase.{made_base}
-use Rattle.bib_tokens.specs.PlacedParts.{token_seen, tokens_seen}
-use Rattle.bib_edit.specs.Replacing.{replaced_by}
-use Rattle.bib_edit.proofs.FoundItems.{first-at, first-within}
+use Rattle.bib_edit.proofs.FoundItems.{defined-within}
 use Rattle.bib_edit.proofs.LimitTests.{not_over}
+use Rattle.bib_edit.proofs.PieceLengths.{goes-within}
 use Rattle.bib_edit.proofs.OpenFiles.{opens-as}
-use Rattle.bib_tokens.proofs.PlacedItems.{only-tokens}
 use Rattle.bib_edit.proofs.AskedEdits.{of-inline_macro}
-use Rattle.bib_edit.proofs.InlinedMacro.{inline-merges, inline-long_file, inline-accepted, refused-definition, inlining-pieces, inlining-within}
+use Rattle.bib_edit.proofs.InlinedMacro.{inline-merges, inline-long_file, inline-accepted, refused-definition, inlining-pieces}
 use Rattle.bib_edit.proofs.inline_macro.inline_macro.Goals as goal
 
 pub returns-in_err-n-clause-refused : goal.returns-in_err-n-clause-refused
@@ -26,8 +15,7 @@ returns-in_err-n-clause-refused g c =
     rw (p.1, p.2) (refused-definition c.args.name.now c.args.db.now (sym c.is_name.ensures ∙ c.if-not-is_name.false) c.in_err-n.field-0.0 c.in_err-n.ensures.refused)
 
 pub joins_cleanly-requires : goal.joins_cleanly-requires
-joins_cleanly-requires g c db reads =
-    first-within (defines c.args.name.now) db.items c.in_ok-n.n (first-at (defines c.args.name.now) db.items c.in_ok-n.n (c.in_ok-n.ensures.lone db reads).item)
+joins_cleanly-requires g c db reads = defined-within c.args.name.now db c.in_ok-n.n (c.in_ok-n.ensures.lone db reads)
 
 pub returns-then-not-branch-clause-refused : goal.returns-then-not-branch-clause-refused
 returns-then-not-branch-clause-refused g c db reads = of-inline_macro c.args.name.now _
@@ -38,62 +26,53 @@ pub overflow_add-n : goal.overflow_add-n
 overflow_add-n g c =
     let db = c.opens.ensures.0 in
     let reads = c.opens.ensures.1.reads in
-    let within = first-within (defines c.args.name.now) db.items c.in_ok-n.n (first-at (defines c.args.name.now) db.items c.in_ok-n.n (c.in_ok-n.ensures.lone db reads).item) in
+    let within = defined-within c.args.name.now db c.in_ok-n.n (c.in_ok-n.ensures.lone db reads) in
     let count = c.item_count.ensures db reads in
     let many = c.item_count.type_inv in omega (arith, within, count, many)
 
 pub push_from-requires : goal.push_from-requires
 push_from-requires g c db reads =
-    let within = first-within (defines c.args.name.now) db.items c.in_ok-n.n (first-at (defines c.args.name.now) db.items c.in_ok-n.n (c.in_ok-n.ensures.lone db reads).item) in omega (arith, within)
+    let within = defined-within c.args.name.now db c.in_ok-n.n (c.in_ok-n.ensures.lone db reads) in omega (arith, within)
 
 pub body_of-requires : goal.body_of-requires
-body_of-requires g c db reads =
-    first-within (defines c.args.name.now) db.items c.in_ok-n.n (first-at (defines c.args.name.now) db.items c.in_ok-n.n (c.in_ok-n.ensures.lone db reads).item)
+body_of-requires g c db reads = defined-within c.args.name.now db c.in_ok-n.n (c.in_ok-n.ensures.lone db reads)
 
 pub removal_of-requires : goal.removal_of-requires
-removal_of-requires g c db reads =
-    first-within (defines c.args.name.now) db.items c.in_ok-n.n (first-at (defines c.args.name.now) db.items c.in_ok-n.n (c.in_ok-n.ensures.lone db reads).item)
+removal_of-requires g c db reads = defined-within c.args.name.now db c.in_ok-n.n (c.in_ok-n.ensures.lone db reads)
 
 pub is_result_too_long-requires : goal.is_result_too_long-requires
 is_result_too_long-requires g c =
-    let within = inlining-within c.args.db.now c.args.name.now c.in_ok-n.n c.in_ok-n.ensures.lone (tokens_seen c.as_slice.result.now)
-    (λ db reads. ap tokens_seen c.as_slice.ensures.value ∙ only-tokens _ _ _ (ap tokens_seen c.new-tokens.ensures.items) (c.in_ok-push_from.ensures.tokens db reads)) c.opens.ensures in
-    let body = ap (length {A = ℕ}) (c.body_of.ensures c.opens.ensures.0 c.opens.ensures.1.reads) in
-    record { inside = omega (arith, within, body) }
+    let db = c.opens.ensures.0 in
+    let reads = c.opens.ensures.1.reads in
+    let text = c.as_slice-2.ensures ∙ c.in_ok-text.ensures db reads in
+    let within = goes-within (edits.InlineMacro c.args.name.now) c.args.db.now db reads _ (inlining-pieces c.args.db.now c.args.name.now c.in_ok-n.n c.in_ok-n.ensures.lone (tokens_seen c.as_slice.result.now)
+    (λ db reads. ap tokens_seen c.as_slice.ensures.value ∙ only-tokens _ _ _ (ap tokens_seen c.new-tokens.ensures.items) (c.in_ok-push_from.ensures.tokens db reads)) db reads) in
+    record { inside = subst₂ (λ (b t : Text). length b + olds_len (replaced t (tokens_seen c.as_slice.result.now)) ≤ length c.args.db.now) (sym (c.body_of.ensures db reads)) (sym text) within }
 
 pub returns-then-is_result_too_long-clause-refused : goal.returns-then-is_result_too_long-clause-refused
 returns-then-is_result_too_long-clause-refused g c db reads =
-    let tokens : List (ℕ × Text) = tokens_seen c.as_slice.result.now in
-    let pieces = inlining-pieces c.args.db.now c.args.name.now c.in_ok-n.n c.in_ok-n.ensures.lone tokens
-    (λ db reads. ap tokens_seen c.as_slice.ensures.value ∙ only-tokens _ _ _ (ap tokens_seen c.new-tokens.ensures.items) (c.in_ok-push_from.ensures.tokens db reads)) db reads in
-    let told = c.is_result_too_long.ensures.0 c.if-is_result_too_long.true in
-    let whole = ap (length {A = ℕ}) reads.bytes in
-    let body = ap (length {A = ℕ}) (c.body_of.ensures db reads) in
     let text = c.as_slice-2.ensures ∙ c.in_ok-text.ensures db reads in
-    let product = ap₂ (λ (m k : ℕ). m * k) (length-map c.as_slice.result.now token_seen) (ap (length {A = ℕ}) (sym text)) in
     of-inline_macro c.args.name.now _
-    (inline-long_file c.args.name.now db (sym c.is_name.ensures ∙ c.if-not-is_name.false) c.in_ok-n.n (c.in_ok-n.ensures.lone db reads) c.args.db.now (opens-as c.args.db.now db c.one_reading.ensures c.opens.ensures reads)
-    ((c.in_ok-joins_cleanly.ensures.clean db reads).0 c.if-not-branch.false) tokens pieces (omega (arith, told, whole, body, product)))
+    (inline-long_file c.args.name.now db (sym c.is_name.ensures ∙ c.if-not-is_name.false) c.in_ok-n.n (c.in_ok-n.ensures.lone db reads) c.args.db.now (opens-as c.args.db.now db c.one_reading.ensures c.opens.ensures reads) ((c.in_ok-joins_cleanly.ensures.clean db reads).0 c.if-not-branch.false) _
+    (inlining-pieces c.args.db.now c.args.name.now c.in_ok-n.n c.in_ok-n.ensures.lone (tokens_seen c.as_slice.result.now)
+    (λ db reads. ap tokens_seen c.as_slice.ensures.value ∙ only-tokens _ _ _ (ap tokens_seen c.new-tokens.ensures.items) (c.in_ok-push_from.ensures.tokens db reads)) db reads)
+    (subst₂ (λ (b t : Text). file_limit + (length b + olds_len (replaced t (tokens_seen c.as_slice.result.now))) < length c.args.db.now + (0 + news_len (replaced t (tokens_seen c.as_slice.result.now)))) (c.body_of.ensures db reads) text
+    (c.is_result_too_long.ensures.0 c.if-is_result_too_long.true)))
 
 pub returns-clause-pieces : goal.returns-clause-pieces
 returns-clause-pieces g c = IfOk-weaker c.replaced_after.result _ (ArePiecesOf c.args.db.now (InlineMacro c.args.name.now)) (λ result is db reads.
-    let pieces = inlining-pieces c.args.db.now c.args.name.now c.in_ok-n.n c.in_ok-n.ensures.lone (tokens_seen c.as_slice-3.result.now)
-    (λ db reads. ap tokens_seen c.as_slice-3.ensures.value ∙ only-tokens _ _ _ (ap tokens_seen c.new-tokens.ensures.items) (c.in_ok-push_from.ensures.tokens db reads)) db reads in
-    let text = c.as_slice-4.ensures ∙ c.in_ok-text.ensures db reads in
     of-inline_macro c.args.name.now (λ e. result ≡ pieces_of made_base db e)
-    (is ∙ ap₂ (λ (p : Piece) (t : Text). p ∷ map (replaced_by t) (tokens_seen c.as_slice-3.result.now)) (c.in_ok-removal.ensures.removal db reads) text ∙ sym pieces))
+    (is ∙ ap₂ (λ (p : Piece) (t : Text). p ∷ replaced t (tokens_seen c.as_slice-3.result.now)) (c.in_ok-removal.ensures.removal db reads) (c.as_slice-4.ensures ∙ c.in_ok-text.ensures db reads)
+    ∙ inlining-pieces c.args.db.now c.args.name.now c.in_ok-n.n c.in_ok-n.ensures.lone (tokens_seen c.as_slice-3.result.now)
+    (λ db reads. ap tokens_seen c.as_slice-3.ensures.value ∙ only-tokens _ _ _ (ap tokens_seen c.new-tokens.ensures.items) (c.in_ok-push_from.ensures.tokens db reads)) db reads))
     c.replaced_after.ensures.pieces
 
 pub returns-clause-allowed : goal.returns-clause-allowed
 returns-clause-allowed g c = ok_always c.replaced_after.result (λ db reads.
-    let tokens : List (ℕ × Text) = tokens_seen c.as_slice.result.now in
-    let pieces = inlining-pieces c.args.db.now c.args.name.now c.in_ok-n.n c.in_ok-n.ensures.lone tokens
-    (λ db reads. ap tokens_seen c.as_slice.ensures.value ∙ only-tokens _ _ _ (ap tokens_seen c.new-tokens.ensures.items) (c.in_ok-push_from.ensures.tokens db reads)) db reads in
-    let told = not_over c.is_result_too_long.result _ _ c.is_result_too_long.ensures.1 c.if-is_result_too_long.false in
-    let whole = ap (length {A = ℕ}) reads.bytes in
-    let body = ap (length {A = ℕ}) (c.body_of.ensures db reads) in
     let text = c.as_slice-2.ensures ∙ c.in_ok-text.ensures db reads in
-    let product = ap₂ (λ (m k : ℕ). m * k) (length-map c.as_slice.result.now token_seen) (ap (length {A = ℕ}) (sym text)) in
     of-inline_macro c.args.name.now _
-    (inline-accepted c.args.name.now db (sym c.is_name.ensures ∙ c.if-not-is_name.false) c.in_ok-n.n (c.in_ok-n.ensures.lone db reads) c.args.db.now (opens-as c.args.db.now db c.one_reading.ensures c.opens.ensures reads)
-    ((c.in_ok-joins_cleanly.ensures.clean db reads).0 c.if-not-branch.false) tokens pieces (omega (arith, told, whole, body, product))))
+    (inline-accepted c.args.name.now db (sym c.is_name.ensures ∙ c.if-not-is_name.false) c.in_ok-n.n (c.in_ok-n.ensures.lone db reads) c.args.db.now (opens-as c.args.db.now db c.one_reading.ensures c.opens.ensures reads) ((c.in_ok-joins_cleanly.ensures.clean db reads).0 c.if-not-branch.false) _
+    (inlining-pieces c.args.db.now c.args.name.now c.in_ok-n.n c.in_ok-n.ensures.lone (tokens_seen c.as_slice.result.now)
+    (λ db reads. ap tokens_seen c.as_slice.ensures.value ∙ only-tokens _ _ _ (ap tokens_seen c.new-tokens.ensures.items) (c.in_ok-push_from.ensures.tokens db reads)) db reads)
+    (subst₂ (λ (b t : Text). length c.args.db.now + (0 + news_len (replaced t (tokens_seen c.as_slice.result.now))) ≤ file_limit + (length b + olds_len (replaced t (tokens_seen c.as_slice.result.now)))) (c.body_of.ensures db reads) text
+    (not_over c.is_result_too_long.result _ _ c.is_result_too_long.ensures.1 c.if-is_result_too_long.false))))

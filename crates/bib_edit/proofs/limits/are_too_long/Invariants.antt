@@ -1,6 +1,4 @@
-use Rattle.std.proofs.Common.{◌≡◌, ◌+◌, drop, length}
-use Rattle.bib_spec.specs.Bytes.{file_limit}
-use Rattle.bib_edit.specs.Limits.{olds_len, news_len}
+use Rattle.bib_edit.proofs.Words.{◌≡◌, ◌+◌, drop, length, file_limit, olds_len, news_len}
 use Rattle.bib_edit.proofs.limits.are_too_long.Given as goal
 
 abbrev pub invariant-loop-piece : goal.invariant-loop-piece

@@ -1,5 +1,4 @@
-use Rattle.std.proofs.Common.{◌≡◌, ◌+◌, drop}
-use Rattle.bib_edit.specs.Limits.{olds_len}
+use Rattle.bib_edit.proofs.Words.{◌≡◌, ◌+◌, drop, olds_len}
 use Rattle.bib_edit.proofs.limits.old_len.Given as goal
 
 abbrev pub invariant-loop-piece : goal.invariant-loop-piece

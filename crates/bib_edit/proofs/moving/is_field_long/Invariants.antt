@@ -1,6 +1,4 @@
-use Rattle.std.proofs.Common.{Bool, length}
-use Rattle.bib_store.specs.Meaning.{OfReading}
-use Rattle.bib_edit.specs.Moving.{FieldsHaveValues, IsFieldLong}
+use Rattle.bib_edit.proofs.Words.{Bool, length, OfReading, FieldsHaveValues, IsFieldLong}
 use Rattle.bib_edit.proofs.moving.is_field_long.Given as goal
 
 abbrev pub invariant-fields : goal.invariant-fields

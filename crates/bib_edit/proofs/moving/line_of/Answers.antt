@@ -1,5 +1,4 @@
-use Rattle.std.proofs.Common.{◌∙◌, ap, ◌++◌}
-use Rattle.edit_spec.specs.Edits.{line_end}
+use Rattle.bib_edit.proofs.Words.{◌∙◌, ap, ◌++◌, line_end}
 use Rattle.bib_edit.proofs.moving.line_of.Goals as goal
 
 pub returns : goal.returns

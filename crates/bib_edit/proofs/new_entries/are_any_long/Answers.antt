@@ -1,8 +1,4 @@
-use Rattle.std.proofs.Common.{true, false, refl, sym, subst, inl}
-use Rattle.std.proofs.Math.ListN.{drop_of_length-le}
-use Rattle.bib_edit.specs.NewEntries.{IsAnyLong}
-use Rattle.bib_edit.specs.ManyEntries.{AllHaveValues, AreAnyLong}
-use Rattle.bib_keys.proofs.Walks.{next-read}
+use Rattle.bib_edit.proofs.Words.{true, false, refl, sym, subst, inl, drop_of_length-le, IsAnyLong, AllHaveValues, AreAnyLong, next-read}
 use Rattle.bib_edit.proofs.ManyEntries.{any_long-more}
 use Rattle.bib_edit.proofs.new_entries.are_any_long.Goals as goal
 

@@ -1,6 +1,4 @@
-use Rattle.std.proofs.Common.{Bool, drop}
-use Rattle.bib_store.specs.Meaning.{OfReading}
-use Rattle.bib_edit.specs.ManyEntries.{AllHaveValues, AreAnyLong}
+use Rattle.bib_edit.proofs.Words.{Bool, drop, OfReading, AllHaveValues, AreAnyLong}
 use Rattle.bib_edit.proofs.new_entries.are_any_long.Given as goal
 
 abbrev pub invariant-entries : goal.invariant-entries

@@ -1,7 +1,4 @@
-use Rattle.std.proofs.Common.{◌≡◌, true, drop}
-use Rattle.std.specs.List.{list_all}
-use Rattle.bib_spec.specs.Text.{is_name}
-use Rattle.bib_edit.specs.ManyEntries.{names_given, has_field_twice}
+use Rattle.bib_edit.proofs.Words.{◌≡◌, true, drop, list_all, is_name, names_given, has_field_twice}
 use Rattle.bib_edit.proofs.new_entries.has_field_twice.Given as goal
 
 abbrev pub invariant-entries : goal.invariant-entries

@@ -1,9 +1,5 @@
-use Rattle.std.proofs.Common.{◌≡◌, false, true, is_some, sym, ◌∙◌, ap}
-use Rattle.bib_spec.specs.Text.{folded}
-use Rattle.folded_map.specs.FoldedMap.{value_at}
-use Rattle.bib_keys.proofs.LookUps.{copied-some}
+use Rattle.bib_edit.proofs.Words.{◌≡◌, false, true, is_some, sym, ◌∙◌, ap, folded, value_at, copied-some, new_key-length}
 use Rattle.bib_edit.proofs.SeenNames.{seen-found, seen-more}
-use Rattle.edit_spec.proofs.WrittenRows.{new_key-length}
 use Rattle.bib_edit.proofs.ManyEntries.{key-at}
 use Rattle.bib_edit.proofs.new_entries.has_same_key.Goals as goal
 

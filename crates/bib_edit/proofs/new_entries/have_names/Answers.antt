@@ -1,10 +1,4 @@
-use Rattle.std.proofs.Common.{rules, tests, sym, ◌∙◌}
-use Rattle.std.specs.List.{list_all}
-use Rattle.std.proofs.lemmas.Iterator.{YieldsList-from_slice}
-use Rattle.std.proofs.lemmas.Iterator.Search.{all_from_yields_List}
-use Rattle.bib_spec.specs.Text.{is_name}
-use Rattle.bib_data.specs.declared.edit.NewEntry.{NewEntry}
-use Rattle.bib_edit.specs.NewEntries.{names_of}
+use Rattle.bib_edit.proofs.Words.{rules, tests, sym, ◌∙◌, list_all, YieldsList-from_slice, all_from_yields_List, is_name, NewEntry, names_of}
 use Rattle.bib_edit.proofs.ManyEntries.{all-given}
 use Rattle.bib_edit.proofs.new_entries.have_names.Goals as goal
 

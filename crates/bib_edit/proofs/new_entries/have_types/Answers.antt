@@ -1,9 +1,4 @@
-use Rattle.std.proofs.Common.{rules, tests, sym, ◌∙◌}
-use Rattle.std.proofs.lemmas.Iterator.{YieldsList-from_slice}
-use Rattle.std.proofs.lemmas.Iterator.Search.{all_from_yields_List}
-use Rattle.std.proofs.lemmas.List.Folds.{list_all-map}
-use Rattle.bib_spec.specs.Tree.{is_type}
-use Rattle.bib_data.specs.declared.edit.NewEntry.{NewEntry}
+use Rattle.bib_edit.proofs.Words.{rules, tests, sym, ◌∙◌, YieldsList-from_slice, all_from_yields_List, list_all-map, is_type, NewEntry}
 use Rattle.bib_edit.proofs.new_entries.have_types.Goals as goal
 
 pub returns : goal.returns

@@ -1,10 +1,4 @@
-use Rattle.std.proofs.Common.{rules, tests, nat_lt, ◌∙◌}
-use Rattle.std.proofs.lemmas.Iterator.{YieldsList-from_slice}
-use Rattle.std.proofs.lemmas.Iterator.Search.{any_from_yields_List}
-use Rattle.bib_spec.specs.Text.{Text}
-use Rattle.edit_spec.specs.Edits.{holders}
-use Rattle.bib_data.specs.declared.edit.NewEntry.{NewEntry}
-use Rattle.bib_store.proofs.ChosenFields.{any_mapped}
+use Rattle.bib_edit.proofs.Words.{rules, tests, nat_lt, ◌∙◌, YieldsList-from_slice, any_from_yields_List, Text, holders, NewEntry, any_mapped}
 use Rattle.bib_edit.proofs.new_entries.is_any_held.Goals as goal
 
 pub returns : goal.returns

@@ -1,5 +1,4 @@
-use Rattle.std.proofs.Common.{sym, ◌∙◌, ap}
-use Rattle.bib_spec.specs.Text.{is_name}
+use Rattle.bib_edit.proofs.Words.{sym, ◌∙◌, ap, is_name}
 use Rattle.bib_edit.proofs.NewFields.{all-fails}
 use Rattle.bib_edit.proofs.new_fields.are_named.Goals as goal
 

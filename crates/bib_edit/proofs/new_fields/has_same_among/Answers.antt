@@ -1,4 +1,4 @@
-use Rattle.std.proofs.Common.{true, false, sym, ◌∙◌}
+use Rattle.bib_edit.proofs.Words.{true, false, sym, ◌∙◌}
 use Rattle.bib_edit.proofs.NewFields.{same-first}
 use Rattle.bib_edit.proofs.new_fields.has_same_among.Goals as goal
 

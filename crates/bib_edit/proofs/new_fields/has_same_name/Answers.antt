@@ -1,7 +1,4 @@
-use Rattle.std.proofs.Common.{◌≡◌, false, true, is_some, sym, ◌∙◌, ap}
-use Rattle.bib_spec.specs.Text.{folded}
-use Rattle.folded_map.specs.FoldedMap.{value_at}
-use Rattle.bib_keys.proofs.LookUps.{copied-some}
+use Rattle.bib_edit.proofs.Words.{◌≡◌, false, true, is_some, sym, ◌∙◌, ap, folded, value_at, copied-some}
 use Rattle.bib_edit.proofs.SeenNames.{seen-found, seen-more}
 use Rattle.bib_edit.proofs.NewFields.{name-at, name-short}
 use Rattle.bib_edit.proofs.new_fields.has_same_name.Goals as goal

@@ -1,4 +1,4 @@
-use Rattle.std.proofs.Common.{sym, ◌∙◌}
+use Rattle.bib_edit.proofs.Words.{sym, ◌∙◌}
 use Rattle.bib_edit.proofs.NewFields.{short-more, stands}
 use Rattle.bib_edit.proofs.new_fields.is_any_long.Goals as goal
 

@@ -1,5 +1,4 @@
-use Rattle.bib_store.specs.Meaning.{OfReading}
-use Rattle.bib_edit.specs.NewEntries.{AreShortTo}
+use Rattle.bib_edit.proofs.Words.{OfReading, AreShortTo}
 use Rattle.bib_edit.proofs.new_fields.is_any_long.Given as goal
 
 abbrev pub invariant-loop-field : goal.invariant-loop-field

@@ -1,5 +1,4 @@
-use Rattle.std.proofs.Common.{◌≡◌, ◌++◌, drop}
-use Rattle.bib_edit.specs.ManyEntries.{entries_text}
+use Rattle.bib_edit.proofs.Words.{◌≡◌, ◌++◌, drop, entries_text}
 use Rattle.bib_edit.proofs.new_text.entries_text.Given as goal
 
 abbrev pub invariant-entries : goal.invariant-entries

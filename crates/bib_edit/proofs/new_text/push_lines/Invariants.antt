@@ -1,5 +1,4 @@
-use Rattle.std.proofs.Common.{◌≡◌, ◌++◌, take}
-use Rattle.bib_edit.specs.NewEntries.{lines_of}
+use Rattle.bib_edit.proofs.Words.{◌≡◌, ◌++◌, take, lines_of}
 use Rattle.bib_edit.proofs.new_text.push_lines.Given as goal
 
 abbrev pub invariant-loop-field : goal.invariant-loop-field

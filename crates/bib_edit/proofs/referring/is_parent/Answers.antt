@@ -1,6 +1,4 @@
-use Rattle.std.proofs.Common.{◌≡◌, Some, sym, ◌∙◌, ap, refl, arith}
-use Rattle.std.proofs.lemmas.Bool.{false≢true}
-use Rattle.bib_spec.specs.Records.{entries_of}
+use Rattle.bib_edit.proofs.Words.{◌≡◌, Some, sym, ◌∙◌, ap, refl, arith, false≢true, entries_of}
 use Rattle.bib_edit.proofs.Referrers.{other-iff, other-first, none-refers}
 use Rattle.bib_edit.proofs.referring.is_parent.Goals as goal
 

@@ -1,13 +1,11 @@
-use Rattle.bib_spec.specs.Records.{entries_of}
+use Rattle.bib_edit.proofs.Words.{entries_of}
 use Rattle.bib_edit.proofs.Parents.{referred-iff, unnamed-iff}
 use Rattle.bib_edit.proofs.Referrers.{key-short}
 use Rattle.bib_edit.proofs.referring.is_referred.Goals as goal
 
 pub is_parent-requires : goal.is_parent-requires
 is_parent-requires g c =
-    let db = c.opens.ensures.0 in
-    let reads = c.opens.ensures.1.reads in
-    key-short c.args.db.now db reads c.args.key.now c.in-Ok.m (c.in-Ok.ensures.found db reads)
+    key-short c.args.db.now c.opens.ensures.0 c.opens.ensures.1.reads c.args.key.now c.in-Ok.m (c.in-Ok.ensures.found c.opens.ensures.0 c.opens.ensures.1.reads)
 
 pub returns-in-Ok : goal.returns-in-Ok
 returns-in-Ok g c db reads =

@@ -1,10 +1,4 @@
-use Rattle.std.proofs.Common.{◌≡◌, ℕ, length, ◌∙◌, ap, arith}
-use Rattle.std.proofs.lemmas.List.{length-append}
-use Rattle.bib_spec.specs.Tree.{tree_bytes}
-use Rattle.bib_scan.specs.View.{View}
-use Rattle.bib_scan.specs.Layout.{start_of}
-use Rattle.bib_tokens.proofs.Elements.{slice_get-within}
-use Rattle.bib_tokens.proofs.PlacedItems.{item-ends, place-next}
+use Rattle.bib_edit.proofs.Words.{◌≡◌, ℕ, length, ◌∙◌, ap, arith, length-append, tree_bytes, View, start_of, slice_get-within, item-ends, place-next}
 use Rattle.bib_edit.proofs.rekeying.place_from.Goals as goal
 
 pub item-view-requires : goal.item-view-requires

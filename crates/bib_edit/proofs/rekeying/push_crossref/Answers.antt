@@ -1,6 +1,4 @@
-use Rattle.std.proofs.Common.{◌+◌, ◌≤◌, arith}
-use Rattle.bib_spec.specs.Bytes.{file_limit}
-use Rattle.bib_scan.specs.View.{field_seen}
+use Rattle.bib_edit.proofs.Words.{◌+◌, ◌≤◌, arith, file_limit, field_seen}
 use Rattle.bib_edit.proofs.KeyPieces.{value-within}
 use Rattle.bib_edit.proofs.rekeying.push_crossref.Goals as goal
 

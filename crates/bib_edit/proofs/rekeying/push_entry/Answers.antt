@@ -1,7 +1,4 @@
-use Rattle.std.proofs.Common.{◌∙◌, sym, ap, arith}
-use Rattle.std.proofs.lemmas.Option.{same_Some}
-use Rattle.bib_scan.specs.Layout.{start_of}
-use Rattle.bib_store.proofs.EntryItems.{entry_within}
+use Rattle.bib_edit.proofs.Words.{◌∙◌, sym, ap, arith, same_Some, start_of, entry_within}
 use Rattle.bib_edit.proofs.rekeying.push_entry.Goals as goal
 
 pub item_place-start-requires : goal.item_place-start-requires

@@ -1,10 +1,4 @@
-use Rattle.std.proofs.Common.{◌≡◌, List, ◌++◌, Option, ◌∙◌, ap, ap₂, append_assoc}
-use Rattle.std.specs.Option.{option_copied}
-use Rattle.bib_spec.specs.Text.{Text}
-use Rattle.bib_spec.specs.Pieces.{Piece}
-use Rattle.bib_store.specs.Meaning.{OfReading}
-use Rattle.bib_store.proofs.EntryItems.{entry_at}
-use Rattle.bib_edit.specs.NewKeys.{key_of, key_piece, crossref_piece, new_target, pieces_at}
+use Rattle.bib_edit.proofs.Words.{◌≡◌, List, ◌++◌, Option, ◌∙◌, ap, ap₂, append_assoc, option_copied, Text, Piece, OfReading, entry_at, key_of, key_piece, crossref_piece, new_target, pieces_at}
 use Rattle.bib_edit.proofs.EntryPieces.{pieces-seen, entry-seen}
 use Rattle.bib_edit.proofs.Results.{on_ok-as}
 use Rattle.bib_edit.proofs.rekeying.push_entry_at.Goals as goal

@@ -1,6 +1,4 @@
-use Rattle.std.proofs.Common.{ℕ, ◌≤◌, length, sym, subst, arith}
-use Rattle.bib_spec.specs.Records.{entries_of}
-use Rattle.bib_edit.specs.NewKeys.{HavePieces}
+use Rattle.bib_edit.proofs.Words.{ℕ, ◌≤◌, length, sym, subst, arith, entries_of, HavePieces}
 use Rattle.bib_edit.proofs.EntryPieces.{reached-more, reached-end, reached-all}
 use Rattle.bib_edit.proofs.rekeying.push_referrers.Goals as goal
 

@@ -1,6 +1,4 @@
-use Rattle.std.proofs.Common.{ℕ, ◌≤◌}
-use Rattle.bib_store.specs.Meaning.{OfReading}
-use Rattle.bib_edit.specs.NewKeys.{AreQuiet, HavePieces}
+use Rattle.bib_edit.proofs.Words.{ℕ, ◌≤◌, OfReading, AreQuiet, HavePieces}
 use Rattle.bib_edit.proofs.EntryPieces.{IsReached}
 use Rattle.bib_edit.proofs.rekeying.push_referrers.Given as goal
 

@@ -1,13 +1,4 @@
-use Rattle.std.proofs.Common.{ℕ, ◌<◌, ◌≤◌, ◌∙◌, length, sym, ap, arith}
-use Rattle.std.proofs.lemmas.List.{length-append}
-use Rattle.std.proofs.lemmas.Option.{same_Some}
-use Rattle.bib_spec.specs.Records.{entries_of}
-use Rattle.bib_spec.specs.Tree.{tree_bytes}
-use Rattle.bib_scan.specs.View.{View}
-use Rattle.bib_scan.specs.Layout.{start_of}
-use Rattle.bib_store.proofs.EntryItems.{entry_within, entry_stands}
-use Rattle.bib_tokens.proofs.Elements.{slice_get-within}
-use Rattle.bib_tokens.proofs.PlacedItems.{item-ends, place-next}
+use Rattle.bib_edit.proofs.Words.{ℕ, ◌<◌, ◌≤◌, ◌∙◌, length, sym, ap, arith, length-append, same_Some, entries_of, tree_bytes, View, start_of, entry_within, entry_stands, slice_get-within, item-ends, place-next}
 use Rattle.bib_edit.proofs.EntryPieces.{first-pieces, next-pieces, all-pieces}
 use Rattle.bib_edit.proofs.rekeying.rekeying.Goals as goal
 

@@ -1,7 +1,4 @@
-use Rattle.std.proofs.Common.{◌≡◌, ◌++◌}
-use Rattle.bib_scan.specs.Layout.{start_of}
-use Rattle.bib_store.specs.Meaning.{OfReading}
-use Rattle.bib_edit.specs.NewKeys.{rekeying, pieces_after}
+use Rattle.bib_edit.proofs.Words.{◌≡◌, ◌++◌, start_of, OfReading, rekeying, pieces_after}
 use Rattle.bib_edit.proofs.rekeying.rekeying.Given as goal
 
 abbrev pub invariant-entries : goal.invariant-entries

@@ -1,16 +1,11 @@
-use Rattle.std.proofs.Common.{◌≡◌, ℕ, ◌≤◌, ◌<◌, ◌+◌, ◌∙◌, length, sym, subst, arith}
-use Rattle.bib_spec.specs.Records.{entries_of}
-use Rattle.bib_spec.proofs.Parents.{named_within}
-use Rattle.bib_edit.specs.NewKeys.{AreQuiet, HavePieces}
+use Rattle.bib_edit.proofs.Words.{◌≡◌, ℕ, ◌≤◌, ◌<◌, ◌+◌, ◌∙◌, length, sym, subst, arith, entries_of, named_within, AreQuiet, HavePieces}
 use Rattle.bib_edit.proofs.EntryPieces.{first-pieces, next-pieces, all-pieces, none-passed, quiet-before, quiet-after}
 use Rattle.bib_edit.proofs.Referrers.{key-short}
 use Rattle.bib_edit.proofs.rekeying.renaming.Goals as goal
 
 pub push_referrers-requires-clause-short : goal.push_referrers-requires-clause-short
 push_referrers-requires-clause-short g c =
-    let db = c.opens.ensures.0 in
-    let reads = c.opens.ensures.1.reads in
-    key-short c.args.db.now db reads c.args.key.now c.args.n (c.requires.named db reads)
+    key-short c.args.db.now c.opens.ensures.0 c.opens.ensures.1.reads c.args.key.now c.args.n (c.requires.named c.opens.ensures.0 c.opens.ensures.1.reads)
 
 pub push_referrers-requires-clause-end : goal.push_referrers-requires-clause-end
 push_referrers-requires-clause-end g c db reads =
@@ -20,17 +15,13 @@ push_referrers-requires-clause-end g c db reads =
 pub push_entry-requires : goal.push_entry-requires
 push_entry-requires g c db reads = named_within (entries_of db) c.args.key.now c.args.n (c.requires.named db reads)
 
-pub after_itself-after-requires : goal.after_itself-after-requires
-after_itself-after-requires g c =
-    let db = c.opens.ensures.0 in
-    let reads = c.opens.ensures.1.reads in
-    key-short c.args.db.now db reads c.args.key.now c.args.n (c.requires.named db reads)
+pub skip_self-after-requires : goal.skip_self-after-requires
+skip_self-after-requires g c =
+    key-short c.args.db.now c.opens.ensures.0 c.opens.ensures.1.reads c.args.key.now c.args.n (c.requires.named c.opens.ensures.0 c.opens.ensures.1.reads)
 
 pub push_referrers-requires-2-clause-short : goal.push_referrers-requires-2-clause-short
 push_referrers-requires-2-clause-short g c =
-    let db = c.opens.ensures.0 in
-    let reads = c.opens.ensures.1.reads in
-    key-short c.args.db.now db reads c.args.key.now c.args.n (c.requires.named db reads)
+    key-short c.args.db.now c.opens.ensures.0 c.opens.ensures.1.reads c.args.key.now c.args.n (c.requires.named c.opens.ensures.0 c.opens.ensures.1.reads)
 
 pub returns-clause-pieces : goal.returns-clause-pieces
 returns-clause-pieces g c db reads =
@@ -41,9 +32,9 @@ returns-clause-pieces g c db reads =
     let none : HavePieces new db key 0 0 c.new-pieces.result.items = record { pieces = first-pieces new db c.new-pieces.result.items c.new-pieces.ensures.items; passed = none-passed db key } in
     let before : HavePieces new db key c.in_ok-before.before c.args.n c.push_referrers.new.pieces.items
     = c.in_ok-before.ensures.pieces db reads 0 (omega arith) (quiet-before new db key c.args.n named c.requires.alone) none in
-    let its : HavePieces new db key c.after_itself-after.result (c.args.n + 1) c.push_entry.new.pieces.items = record {
+    let its : HavePieces new db key c.skip_self-after.result (c.args.n + 1) c.push_entry.new.pieces.items = record {
       pieces = next-pieces new db c.args.n c.push_referrers.new.pieces.items c.push_entry.new.pieces.items low before.pieces (c.in_ok-push_entry.ensures.pieces db reads);
-      passed = c.after_itself-after.ensures db reads before.passed;
+      passed = c.skip_self-after.ensures db reads before.passed;
     } in
     let count : c.entry_count.result ≡ length (entries_of db) = c.entry_count.ensures db reads in
     let high : c.args.n + 1 ≤ c.entry_count.result = omega (arith, low, count) in

@@ -1,8 +1,4 @@
-use Rattle.std.proofs.Common.{◌≡◌, ◌&&◌, ◌||◌, not, nat_lt, count_by, sym, ◌∙◌, ap}
-use Rattle.bib_spec.specs.Text.{same}
-use Rattle.bib_spec.specs.Records.{entries_of, keys_of, is_named}
-use Rattle.edit_spec.proofs.RenameKey.{new_key_parts}
-use Rattle.bib_edit.specs.Dangling.{is_awaited}
+use Rattle.bib_edit.proofs.Words.{◌≡◌, ◌&&◌, ◌||◌, not, nat_lt, count_by, sym, ◌∙◌, ap, same, entries_of, keys_of, is_named, new_key_parts, is_awaited}
 use Rattle.bib_edit.proofs.KeysInUse.{in-use}
 use Rattle.bib_edit.proofs.rename_key.is_in_use.Goals as goal
 use Rattle.bib_edit.proofs.rename_key.is_in_use.Goals.{then-not-same_folded, else-not-same_folded}

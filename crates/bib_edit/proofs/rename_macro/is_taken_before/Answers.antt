@@ -1,5 +1,4 @@
-use Rattle.std.proofs.Common.{◌||◌, ◌&&◌, not, take, sym, ◌∙◌, ap, ap₂}
-use Rattle.bib_edit.specs.Definitions.{is_given, is_used}
+use Rattle.bib_edit.proofs.Words.{◌||◌, ◌&&◌, not, take, sym, ◌∙◌, ap, ap₂, is_given, is_used}
 use Rattle.bib_edit.proofs.rename_macro.is_taken_before.Goals as goal
 
 pub returns-then-same_folded-clause-taken : goal.returns-then-same_folded-clause-taken

@@ -1,5 +1,4 @@
-use Rattle.std.proofs.Common.{arith}
-use Rattle.std.proofs.lemmas.Option.{none-some, slice_get_within}
+use Rattle.bib_edit.proofs.Words.{arith, none-some, slice_get_within}
 use Rattle.bib_edit.proofs.DefinedNames.{definition_item}
 use Rattle.bib_edit.proofs.rename_macro.names_from.Goals as goal
 

@@ -1,7 +1,4 @@
-use Rattle.std.proofs.Common.{ap, arith, []}
-use Rattle.std.proofs.lemmas.List.{drop_more, drop_all}
-use Rattle.bib_tokens.specs.PlacedParts.{tokens_seen}
-use Rattle.bib_edit.specs.Replacing.{covered}
+use Rattle.bib_edit.proofs.Words.{ap, arith, [], drop_more, drop_all, tokens_seen, covered}
 use Rattle.bib_edit.proofs.replacing.covered.Goals as goal
 
 pub overflow_add-len : goal.overflow_add-len

@@ -1,6 +1,4 @@
-use Rattle.std.proofs.Common.{◌≡◌, ◌+◌, drop}
-use Rattle.bib_tokens.specs.PlacedParts.{tokens_seen}
-use Rattle.bib_edit.specs.Replacing.{covered}
+use Rattle.bib_edit.proofs.Words.{◌≡◌, ◌+◌, drop, tokens_seen, covered}
 use Rattle.bib_edit.proofs.replacing.covered.Given as goal
 
 abbrev pub invariant-loop-token : goal.invariant-loop-token

@@ -1,6 +1,4 @@
-use Rattle.std.proofs.Common.{◌≡◌, ◌++◌, drop, map}
-use Rattle.bib_tokens.specs.PlacedParts.{tokens_seen}
-use Rattle.bib_edit.specs.Replacing.{replaced_by}
+use Rattle.bib_edit.proofs.Words.{◌≡◌, ◌++◌, drop, map, tokens_seen, replaced_by}
 use Rattle.bib_edit.proofs.replacing.push_replaced.Given as goal
 
 abbrev pub invariant-loop-token : goal.invariant-loop-token

@@ -1,9 +1,4 @@
-use Rattle.std.proofs.Common.{◌≡◌, ◌≤◌, ◌<◌, ◌+◌, count_by, option_map, sym, ◌∙◌, ap, subst, arith}
-use Rattle.std.proofs.lemmas.Bool.{ltb-true, ltb-false}
-use Rattle.bib_spec.specs.Bytes.{file_limit}
-use Rattle.bib_scan.specs.View.{View, field_seen}
-use Rattle.bib_edit.specs.Addressing.{is_field}
-use Rattle.bib_edit.specs.FieldPieces.{rows_end}
+use Rattle.bib_edit.proofs.Words.{◌≡◌, ◌≤◌, ◌<◌, ◌+◌, count_by, option_map, sym, ◌∙◌, ap, subst, arith, ltb-true, ltb-false, file_limit, View, field_seen, is_field, rows_end}
 use Rattle.bib_edit.proofs.SettingPieces.{item-within, replacing-within, replacing-set, putting-within, putting-set}
 use Rattle.bib_edit.proofs.set_field.setting.Goals as goal
 

@@ -1,4 +1,4 @@
-use Rattle.std.proofs.Common.{◌∙◌}
+use Rattle.bib_edit.proofs.Words.{◌∙◌}
 use Rattle.bib_edit.proofs.SeenItems.{body-seen}
 use Rattle.bib_edit.proofs.taking_out.body_of.Goals as goal
 

@@ -1,5 +1,4 @@
-use Rattle.std.proofs.Common.{◌≡◌, ◌∙◌, ap₂, ◌++◌}
-use Rattle.bib_edit.specs.Removal.{trail_at}
+use Rattle.bib_edit.proofs.Words.{◌≡◌, ◌∙◌, ap₂, ◌++◌, trail_at}
 use Rattle.bib_edit.proofs.SeenItems.{trail-seen, tested-joined}
 use Rattle.bib_edit.proofs.taking_out.joins_cleanly.Goals as goal
 

@@ -1,6 +1,4 @@
-use Rattle.std.proofs.Common.{◌≡◌, ◌∙◌, ℕ}
-use Rattle.bib_spec.specs.Text.{Text}
-use Rattle.bib_spec.specs.Pieces.{Piece}
+use Rattle.bib_edit.proofs.Words.{◌≡◌, ◌∙◌, ℕ, Text, Piece}
 use Rattle.bib_edit.proofs.taking_out.removal_of.Goals as goal
 
 piece_from : (p q : ℕ) (o o' n n' : Text) → p ≡ q → o ≡ o' → n ≡ n' → ◌≡◌ {A = Piece} (record { place = p; old = o; new = n }) (record { place = q; old = o'; new = n' })

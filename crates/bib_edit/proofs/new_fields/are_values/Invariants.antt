@@ -1,5 +1,5 @@
-use Rattle.bib_edit.specs.NewEntries.{HaveValuesTo}
-use Rattle.bib_edit.proofs.new_fields.judge_values.Given as goal
+use Rattle.bib_edit.proofs.Words.{HaveValuesTo}
+use Rattle.bib_edit.proofs.new_fields.are_values.Given as goal
 
 abbrev pub invariant-loop-field : goal.invariant-loop-field
 invariant-loop-field l = HaveValuesTo l.fields l.field-index

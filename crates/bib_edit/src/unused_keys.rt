@@ -12,9 +12,9 @@ use bib_scan::{Seq, Text};
 use bib_store::{Database, ItemList};
 use std::alloc::Global;
 
-/// The first of a base, the base with `a`, .. with `z`, with `aa` and so on that is, without regard to ASCII case, no key
-/// of the file, no text of a dangling crossref, and none of these. It takes time in the number of entries and of the
-/// taken keys, and memory for them. The one refusal is want of memory.
+/// The first free one of these: the base, the base with `a`, .. with `z`, with `aa` and so on. Without regard to ASCII
+/// case, a free key is not a key of the file, not the text of a dangling crossref, and not one of the taken keys. It
+/// takes time in the number of entries and of the taken keys, and memory for them. The one refusal is want of memory.
 pub fn free_key<L: ItemList>(
     alloc: Global,
     db: &Database<L>,
@@ -28,9 +28,9 @@ pub fn free_key<L: ItemList>(
     Ok(bib_keys::free_key(alloc, db, base, taken)?)
 }
 
-/// A free key for each of these bases in turn, as `free_key` finds one, which then is taken too. It takes time in the
-/// number of entries, of taken keys and of bases, also where all bases are the same, and memory for the keys. The one
-/// refusal is want of memory.
+/// A free key for each of these bases in turn, as `free_key` finds one; each found key is taken for the next ones. It
+/// takes time in the number of entries, of taken keys and of bases, even if all bases are the same, and memory for the
+/// keys. The one refusal is want of memory.
 pub fn free_keys<L: ItemList>(
     alloc: Global,
     db: &Database<L>,

@@ -1,9 +1,7 @@
-use Rattle.std.proofs.Common.{◌≡◌, ◌<◌, Some, length, sym, ◌∙◌, ap, arith}
-use Rattle.std.proofs.lemmas.Option.{none-some, same_Some}
-use Rattle.bib_spec.specs.Records.{entries_of}
+use Rattle.bib_edit.proofs.Words.{◌≡◌, ◌<◌, Some, length, sym, ◌∙◌, ap, arith, none-some, same_Some, entries_of}
 use Rattle.bib_keys.proofs.EntryCounts.{few-entries}
 use Rattle.bib_edit.proofs.EntryPieces.{refers-within, after-with, after-without}
-use Rattle.bib_edit.proofs.rekeying.after_itself.Goals as goal
+use Rattle.bib_edit.proofs.rekeying.skip_self.Goals as goal
 
 pub overflow_add-result : goal.overflow_add-result
 overflow_add-result g c =

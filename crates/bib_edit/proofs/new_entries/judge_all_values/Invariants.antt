@@ -1,6 +1,0 @@
-use Rattle.std.proofs.Common.{◌↔◌, drop}
-use Rattle.bib_edit.specs.ManyEntries.{AllHaveValues}
-use Rattle.bib_edit.proofs.new_entries.judge_all_values.Given as goal
-
-abbrev pub invariant-entries : goal.invariant-entries
-invariant-entries l = AllHaveValues l.entries ↔ AllHaveValues (drop l.entry-index l.entries)
