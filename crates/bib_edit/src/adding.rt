@@ -9,8 +9,8 @@ ghost use Rattle.bib_data.specs.declared.edit.Edit.{Edit};
 use crate::fault::EditFault;
 use crate::limits::are_too_long;
 use crate::new_entries::{
-    are_any_long, has_field_twice, has_same_key, have_keys, have_names_and_types, have_values,
-    is_any_held, put_in,
+    are_any_long, are_keys_taken, has_field_twice, have_keys, have_names_and_types, have_values,
+    put_in,
 };
 use crate::new_text::entries_text;
 use bib_data::NewEntry;
@@ -44,10 +44,7 @@ fn judge<L: ItemList>(
     if has_field_twice(alloc, entries)? {
         return Err(EditFault::Ambiguous);
     }
-    if has_same_key(alloc, entries)? {
-        return Err(EditFault::KeyInUse);
-    }
-    if is_any_held(db, entries) {
+    if are_keys_taken(alloc, db, entries)? {
         return Err(EditFault::KeyInUse);
     }
     Ok(())

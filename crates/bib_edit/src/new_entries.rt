@@ -1,6 +1,6 @@
 //! Entries to be added together: whether they can be, and the piece that puts them in.
 
-ghost use Rattle.std.specs.Prelude.{◌≡◌, ◌↔◌, nat_lt, true, IfOk, IfErr, IsTrue};
+ghost use Rattle.std.specs.Prelude.{◌≡◌, ◌||◌, ◌↔◌, nat_lt, true, IfOk, IfErr, IsTrue};
 ghost use Rattle.std.specs.List.{list_all};
 ghost use Rattle.bib_spec.specs.Text.{is_name, is_new_key};
 ghost use Rattle.bib_spec.specs.Tree.{is_type};
@@ -76,7 +76,7 @@ pub(crate) fn has_field_twice(alloc: Global, entries: &[NewEntry]) -> Result<boo
 }
 
 /// Whether two keys are the same, folded. It takes memory for the keys, and time in their number.
-pub(crate) fn has_same_key(alloc: Global, entries: &[NewEntry]) -> Result<bool, AllocError>
+fn has_same_key(alloc: Global, entries: &[NewEntry]) -> Result<bool, AllocError>
     requires { list_all is_new_key (keys_given entries.now) ≡ true }
     ensures { IfOk result (λ same. same ≡ has_same (keys_given entries.now)) }
 {
@@ -100,12 +100,27 @@ fn is_held<L: ItemList>(db: &Database<L>, key: &[u8]) -> bool
 }
 
 /// Whether an entry of the file has one of the keys, folded.
-pub(crate) fn is_any_held<L: ItemList>(db: &Database<L>, entries: &[NewEntry]) -> bool
+fn is_any_held<L: ItemList>(db: &Database<L>, entries: &[NewEntry]) -> bool
     ensures { OfReading db.now (λ r. result ≡ is_any_held (keys_given entries.now) r) }
 {
     entries
         .iter()
         .any(|entry| is_held(db, entry.key.as_slice()))
+}
+
+/// Whether a key is that of another one of the entries, or of an entry of the file, folded.
+pub(crate) fn are_keys_taken<L: ItemList>(
+    alloc: Global,
+    db: &Database<L>,
+    entries: &[NewEntry],
+) -> Result<bool, AllocError>
+    requires { list_all is_new_key (keys_given entries.now) ≡ true }
+    ensures { IfOk result (λ taken. OfReading db.now (λ r. taken ≡ (has_same (keys_given entries.now) || is_any_held (keys_given entries.now) r))) }
+{
+    if has_same_key(alloc, entries)? {
+        return Ok(true);
+    }
+    Ok(is_any_held(db, entries))
 }
 
 /// Whether the raw text of a field would be too long before item `n`. Each field has a value.

@@ -1,4 +1,4 @@
-use Rattle.bib_edit.proofs.Words.{◌≤◌, ◌||◌, length, sym, ◌∙◌, ap, ap₂, arith, both_ways, keys_given, is_any_held}
+use Rattle.bib_edit.proofs.Words.{◌≤◌, length, sym, ◌∙◌, arith, both_ways}
 use Rattle.bib_edit.proofs.Added.{of-addition, add-bad_key, add-bad_name, add-bad_value, add-high, add-twice, add-in_use}
 use Rattle.bib_edit.proofs.adding.judge.Goals as goal
 
@@ -32,14 +32,7 @@ returns-then-branch-2-clause-refused g c asked adds db reads =
     let count = c.item_count.ensures db reads in
     let bound = c.if-position-item_count.false in
     let place : c.args.position ≤ length db.items = omega (arith, bound, count) in
-    of-addition c.args.db.now asked c.args.position c.args.entries.now adds db reads _ (λ E news it. add-in_use E c.args.position c.args.entries.now news db it (sym c.have_keys.ensures ∙ c.if-not-have_keys.false) (sym c.have_names_and_types.ensures ∙ c.if-not-have_names_and_types.false) (c.in_ok-have_values.ensures.0 c.if-not-branch.false) place (sym c.in_ok-has_field_twice.ensures ∙ c.if-branch.false) (ap (λ b. b || is_any_held (keys_given c.args.entries.now) db) (sym c.in_ok-has_same_key.ensures ∙ c.if-branch-2.true)))
-
-pub returns-then-is_any_held-clause-refused : goal.returns-then-is_any_held-clause-refused
-returns-then-is_any_held-clause-refused g c asked adds db reads =
-    let count = c.item_count.ensures db reads in
-    let bound = c.if-position-item_count.false in
-    let place : c.args.position ≤ length db.items = omega (arith, bound, count) in
-    of-addition c.args.db.now asked c.args.position c.args.entries.now adds db reads _ (λ E news it. add-in_use E c.args.position c.args.entries.now news db it (sym c.have_keys.ensures ∙ c.if-not-have_keys.false) (sym c.have_names_and_types.ensures ∙ c.if-not-have_names_and_types.false) (c.in_ok-have_values.ensures.0 c.if-not-branch.false) place (sym c.in_ok-has_field_twice.ensures ∙ c.if-branch.false) (ap₂ ◌||◌ (sym c.in_ok-has_same_key.ensures ∙ c.if-branch-2.false) (sym (c.is_any_held.ensures db reads) ∙ c.if-is_any_held.true)))
+    of-addition c.args.db.now asked c.args.position c.args.entries.now adds db reads _ (λ E news it. add-in_use E c.args.position c.args.entries.now news db it (sym c.have_keys.ensures ∙ c.if-not-have_keys.false) (sym c.have_names_and_types.ensures ∙ c.if-not-have_names_and_types.false) (c.in_ok-have_values.ensures.0 c.if-not-branch.false) place (sym c.in_ok-has_field_twice.ensures ∙ c.if-branch.false) (sym (c.in_ok-are_keys_taken.ensures db reads) ∙ c.if-branch-2.true))
 
 pub returns-clause-addable : goal.returns-clause-addable
 returns-clause-addable g c db reads =
@@ -51,5 +44,5 @@ returns-clause-addable g c db reads =
       values = c.in_ok-have_values.ensures.0 c.if-not-branch.false;
       place = omega (arith, bound, count);
       fields = sym c.in_ok-has_field_twice.ensures ∙ c.if-branch.false;
-      free = ap₂ ◌||◌ (sym c.in_ok-has_same_key.ensures ∙ c.if-branch-2.false) (sym (c.is_any_held.ensures db reads) ∙ c.if-is_any_held.false);
+      free = sym (c.in_ok-are_keys_taken.ensures db reads) ∙ c.if-branch-2.false;
     }
