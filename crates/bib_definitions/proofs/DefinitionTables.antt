@@ -8,11 +8,12 @@ use Rattle.bib_spec.specs.Text.{Text, folded}
 use Rattle.bib_spec.specs.Tree.{Tree, CommentTree, DefinitionTree, PreambleTree, EntryTree}
 use Rattle.bib_spec.specs.Reading.{Item}
 use Rattle.bib_spec.specs.Texts.{Macros, months, macros_at, macros_after, gathered}
+use Rattle.bib_spec.proofs.Names.{eq-true}
 use Rattle.bib_numbers.specs.Numbers.{PartAt, HaveNext, rank_in, numbered, numbers}
 use Rattle.bib_numbers.proofs.MovedNumbers.{rank_all, rank_of}
 use Rattle.bib_numbers.proofs.ItemNumbers.{front_numbers, rest_numbers, parts_at, numbers-below, numbers-parts, numbers-with, put_numbers, moved_numbers, closed_numbers}
 use Rattle.bib_definitions.specs.ByName.{Named, AreAllOf}
-use Rattle.bib_definitions.specs.Definitions.{Known, texts_at, is_definition_tree, definition_numbers, defined_by, definitions_in, AreDefinitionsOf, Defines, AreSettled}
+use Rattle.bib_definitions.specs.Definitions.{Known, texts_at, is_definition_of, is_definition_tree, definition_numbers, defined_by, definitions_in, AreDefinitionsOf, Defines, AreSettled}
 use Rattle.bib_definitions.proofs.MacrosAfter.{after_other, gathered-append}
 use Rattle.bib_definitions.proofs.OrderedNames.{after_all, texts_of_all}
 
@@ -153,17 +154,35 @@ is_one m (CommentTree h) x says = absurd (omega (arith, ap (length {A = Text × 
 is_one m (PreambleTree p) x says = absurd (omega (arith, ap (length {A = Text × Text}) says))
 is_one m (EntryTree e) x says = absurd (omega (arith, ap (length {A = Text × Text}) says))
 
-pub definitions_exchanged : (known : Known) (names : Named) (before after : List Item) (old new : Item) (n rank : ℕ) (name text : Text) → length before ≡ n → is_definition_tree old.tree ≡ true
+-- the name that it defines
+name_defined : (m : Macros) (tree : Tree) (name : Text) (d : Text × Text) → is_definition_of name tree ≡ true → defined_by m tree ≡ d ∷ [] → d.0 ≡ folded name
+name_defined m (DefinitionTree t) name d is says = sym (ap (λ (l : List (Text × Text)). first_name l) says) ∙ eq-true (folded t.assignment.name) (folded name) is
+  where
+    first_name : List (Text × Text) → Text
+    first_name [] = []
+    first_name (e ∷ es) = e.0
+name_defined m (CommentTree h) name d is says = absurd (both_ways false refl is)
+name_defined m (PreambleTree p) name d is says = absurd (both_ways false refl is)
+name_defined m (EntryTree e) name d is says = absurd (both_ways false refl is)
+
+definition_of : (tree : Tree) (name : Text) → is_definition_of name tree ≡ true → is_definition_tree tree ≡ true
+definition_of (DefinitionTree t) name is = refl
+definition_of (CommentTree h) name is = absurd (both_ways false refl is)
+definition_of (PreambleTree p) name is = absurd (both_ways false refl is)
+definition_of (EntryTree e) name is = absurd (both_ways false refl is)
+
+pub definitions_exchanged : (known : Known) (names : Named) (before after : List Item) (old new : Item) (n rank : ℕ) (was name text : Text) → length before ≡ n → is_definition_of was old.tree ≡ true
     → Defines (macros_at months before n) new.tree name text → AreSettled after → rank ≡ rank_in n known.numbers
-    → ((front rest : List (Text × Text)) (d : Text × Text) → length front ≡ rank → AreAllOf known.names (front ++ d ∷ rest) → AreAllOf names (front ++ (folded name, text) ∷ rest))
+    → ((front rest : List (Text × Text)) (d : Text × Text) → length front ≡ rank → d.0 ≡ folded was → AreAllOf known.names (front ++ d ∷ rest) → AreAllOf names (front ++ (folded name, text) ∷ rest))
     → AreDefinitionsOf (before ++ old ∷ after) known → AreDefinitionsOf (before ++ new ∷ after) (record { numbers = known.numbers; names = names })
-definitions_exchanged known names before after old new n rank name text count is says settled rank_is put are =
+definitions_exchanged known names before after old new n rank was name text count is_was says settled rank_is put are =
     let here = macros_at months before (length before) in
     let front : List (Text × Text) = definitions_in before in
     let rest : List (Text × Text) = gathered defined_by (macros_after here old.tree) after in
-    let was = one_defined here old.tree is in
-    let old_all : definitions_in (before ++ old ∷ after) ≡ front ++ was.0 ∷ rest
-    = gathered-append defined_by months before (old ∷ after) ∙ ap (λ (l : List (Text × Text)). front ++ (l ++ rest)) was.1 in
+    let is : is_definition_tree old.tree ≡ true = definition_of old.tree was is_was in
+    let gone = one_defined here old.tree is in
+    let old_all : definitions_in (before ++ old ∷ after) ≡ front ++ gone.0 ∷ rest
+    = gathered-append defined_by months before (old ∷ after) ∙ ap (λ (l : List (Text × Text)). front ++ (l ++ rest)) gone.1 in
     let now_says : defined_by here new.tree ≡ (folded name, text) ∷ [] = ap (λ (k : ℕ). defined_by (macros_at months before k) new.tree) count ∙ says in
     let new_all : definitions_in (before ++ new ∷ after) ≡ front ++ (folded name, text) ∷ rest
     = gathered-append defined_by months before (new ∷ after)
@@ -174,4 +193,4 @@ definitions_exchanged known names before after old new n rank name text count is
     let place : length front ≡ rank
     = sym (rank_is ∙ rank_of n (front_numbers is_definition_tree before) (rest_numbers is_definition_tree before (old ∷ after)) known.numbers parts ∙ counted 0 months before) in
     of_listed (before ++ new ∷ after) (record { numbers = known.numbers; names = names }) (are.numbers ∙ same_numbers)
-    (subst (AreAllOf names) (sym new_all) (put front rest was.0 place (subst (AreAllOf known.names) old_all are.all)))
+    (subst (AreAllOf names) (sym new_all) (put front rest gone.0 place (name_defined here old.tree was gone.0 is_was gone.1) (subst (AreAllOf known.names) old_all are.all)))

@@ -4,4 +4,5 @@ pub mod HeldLists
 pub mod OrderedNames
 pub mod DefinitionTables
 pub mod LongestTexts
+pub mod Exchanges
 pub mod FirstDefinitions

@@ -6,12 +6,16 @@ use Rattle.bib_spec.specs.Tree.{Tree, CommentTree, DefinitionTree, PreambleTree,
 use Rattle.bib_spec.specs.Reading.{Item}
 use Rattle.bib_spec.specs.Texts.{Macros, months, raw_text, macros_in, macros_at, gathered}
 use Rattle.bib_numbers.specs.Numbers.{rank_in}
-use Rattle.bib_definitions.specs.ByName.{Defined, Named, AreAllOf, texts_after}
+use Rattle.bib_definitions.specs.ByName.{Defined, Named, AreAllOf, texts_after, without_exchange}
 
 -- the numbers that the definitions have among the items, and the definitions of each name
 pub record Known : Type 0 where
   pub numbers : List ℕ
   pub names : Named
+
+-- the definitions, once the last exchange is taken back
+abbrev pub taken_back : Known → Known
+taken_back known = record { numbers = known.numbers; names = without_exchange known.names }
 
 -- what macros stand for before item n: what they stand for after the definitions that come before it
 abbrev pub texts_at : Known → ℕ → Macros

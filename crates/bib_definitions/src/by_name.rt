@@ -1,15 +1,14 @@
 //! The definitions of each name.
 
 ghost use Rattle.std.specs.Prelude.{◌≡◌, ◌++◌, ◌∷◌, [], ◌<◌, ◌≤◌, length, IfSome, IsSome, OnOk, OnErr};
-ghost use Rattle.std.specs.Option.{option_copied};
 ghost use Rattle.bib_spec.specs.Bytes.{name_limit};
-ghost use Rattle.bib_spec.specs.Text.{folded};
+ghost use Rattle.bib_spec.specs.Text.{Text, folded};
 ghost use Rattle.folded_map.specs.FoldedMap.{value_at, IsWith};
 ghost use Rattle.bib_definitions.specs.Held.{Fits};
-ghost use Rattle.bib_definitions.specs.ByName.{text_after, definitions_of, each_held, Ascends};
+ghost use Rattle.bib_definitions.specs.ByName.{definitions_of, each_held, Ascends};
 
 use crate::held::{Definition, Held};
-use bib_value::month;
+use bib_text::NAME_LIMIT;
 use folded_map::FoldedMap;
 use std::alloc::{AllocError, Global};
 use std::marker::Model;
@@ -66,15 +65,22 @@ impl ByName {
         }
     }
 
-    /// What the name stands for after the first `rank` definitions. It takes time in the length of the name and, for a name
-    /// that is defined m times, log m; it takes no memory.
-    pub(crate) fn text_after(&self, rank: usize, name: &[u8]) -> Option<&[u8]>
-        ensures { option_copied result ≡ texts_after self.now rank (folded name.now) }
+    /// Makes a place for the name, so that `give` needs no memory. No name gets other definitions.
+    pub(crate) fn make_place(&mut self, name: &[u8]) -> Result<(), AllocError>
+        ensures same { (x : Text) → definitions_of self.new x ≡ definitions_of self.old x }
+        ensures place { OnOk result (IsSome (value_at self.new (folded name.now))) }
+        ensures stay { (x : Text) → IsSome (value_at self.old x) → IsSome (value_at self.new x) }
     {
-        match text_after(self.of(name), rank) {
-            Some(text) => Some(text),
-            None => month(name),
-        }
+        make_place(&mut self.lists, name)
+    }
+
+    /// Gives a name that has a place these definitions. It asks for no memory.
+    pub(crate) fn give(&mut self, name: &[u8], list: Vec<Definition>)
+        requires place { IsSome (value_at self.old (folded name.now)) }
+        requires ascend { Ascends list.items }
+        ensures { IsWith self.old name.now list.items self.new }
+    {
+        self.lists.replace(name, Held::Many(list));
     }
 }
 
@@ -109,14 +115,18 @@ fn put_last(lists: &mut FoldedMap<Held>, name: &[u8], room: Vec<Definition>, def
     lists.replace(name, held.with_last(room, definition));
 }
 
-/// The text of the last definition with a rank below `rank`.
-fn text_after(definitions: &[Definition], rank: usize) -> Option<&[u8]>
-    requires { Ascends definitions.now }
-    ensures { option_copied result ≡ text_after rank definitions.now }
+/// Makes a place for the name. No name gets other definitions.
+fn make_place(lists: &mut FoldedMap<Held>, name: &[u8]) -> Result<(), AllocError>
+    ensures same { (x : Text) → definitions_of (each_held lists.new) x ≡ definitions_of (each_held lists.old) x }
+    ensures place { OnOk result (IsSome (value_at (each_held lists.new) (folded name.now))) }
+    ensures stay { (x : Text) → IsSome (value_at (each_held lists.old) x) → IsSome (value_at (each_held lists.new) x) }
 {
-    let count = definitions.partition_point(|d| d.rank < rank);
-    if count == 0 {
-        return None;
+    // No name is longer.
+    if name.len() > NAME_LIMIT {
+        return Err(AllocError);
     }
-    Some(definitions[count - 1].text.as_slice())
+    if lists.get(name).is_none() {
+        lists.insert(name, Held::Nothing)?;
+    }
+    Ok(())
 }

@@ -6,7 +6,6 @@ use bib_numbers::Numbers;
 use bib_text::Text;
 use std::alloc::{AllocError, Global};
 use std::marker::Model;
-use std::mem;
 
 /// All definitions of a file, and the numbers that they have among its items. An item that comes or goes and defines
 /// nothing costs one step for each page of definitions, and some for the definitions of one page.
@@ -25,11 +24,11 @@ impl Model for Definitions {
 }
 
 impl Definitions {
-    ghost use Rattle.std.specs.Prelude.{◌≡◌, ◌+◌, ◌<◌, ◌≤◌, ◌^◌, ◌++◌, ◌∷◌, [], true, false, ℕ, List, length, IfOk, OnOk, OnErr};
+    ghost use Rattle.std.specs.Prelude.{◌≡◌, ◌+◌, ◌<◌, ◌≤◌, ◌^◌, ◌++◌, ◌∷◌, [], true, false, ℕ, List, length, OnOk, OnErr};
     ghost use Rattle.bib_spec.specs.Bytes.{name_limit};
     ghost use Rattle.bib_spec.specs.Reading.{Item};
     ghost use Rattle.bib_spec.specs.Texts.{months, macros_at};
-    ghost use Rattle.bib_definitions.specs.Definitions.{texts_at, is_definition_tree, definition_count, first_definition, AreDefinitionsOf, Defines, AreAtMost, AreSettled};
+    ghost use Rattle.bib_definitions.specs.Definitions.{texts_at, is_definition_of, is_definition_tree, taken_back, definition_count, first_definition, AreDefinitionsOf, Defines, AreAtMost, AreSettled};
     ghost use Rattle.bib_definitions.specs.MacrosSeen.{macros_seen};
 
     /// No definitions: only the names of months stand for texts. It takes no memory.
@@ -58,29 +57,38 @@ impl Definitions {
         }
     }
 
-    /// The names with another definition in the place of item `n`: it gives this name this text. They are in memory of
-    /// their own. It takes time in the count of definitions, and memory in their length.
-    pub fn redefined(
-        &self,
+    /// Puts a definition that gives `name` this text in the place of item `n`, which is a definition of `was`. The exchange can
+    /// be taken back until it is kept, and there is none after it until then. It takes time and memory in the definitions of
+    /// the two names. If it is refused, nothing changes.
+    pub fn exchange(
+        &mut self,
         alloc: Global,
         n: usize,
+        was: &[u8],
         name: &[u8],
         text: &[u8],
-    ) -> Result<Names, AllocError>
-        ensures { IfOk result (λ names. (before after : List Item) (old new : Item) → length before ≡ n → is_definition_tree old.tree ≡ true → Defines (macros_at months before n) new.tree name.now text.now → AreSettled after
-            → AreDefinitionsOf (before ++ old ∷ after) self.now → AreDefinitionsOf (before ++ new ∷ after) (record { numbers = self.now.numbers; names = names })) }
+    ) -> Result<(), AllocError>
+        ensures ok { OnOk result ((before after : List Item) (old new : Item) → length before ≡ n → is_definition_of was.now old.tree ≡ true → Defines (macros_at months before n) new.tree name.now text.now → AreSettled after
+            → AreDefinitionsOf (before ++ old ∷ after) self.old → AreDefinitionsOf (before ++ new ∷ after) self.new) }
+        ensures back { OnOk result (taken_back self.new ≡ self.old) }
+        ensures err { OnErr result (self.new ≡ self.old) }
     {
         let rank = self.numbers.rank(n);
-        let names = self.names.exchanged(alloc, rank, name, text)?;
-        Ok(names)
+        self.names.exchange(alloc, rank, was, name, text)
     }
 
-    /// Replaces the names by others, and returns the old ones. It asks for no memory.
-    pub fn exchange(&mut self, names: Names) -> Names
-        ensures now { self.new ≡ record { numbers = self.old.numbers; names = names } }
-        ensures was { result ≡ self.old.names }
+    /// Takes the last exchange back, unless it was kept. It asks for no memory.
+    pub fn take_back(&mut self)
+        ensures { self.new ≡ taken_back self.old }
     {
-        mem::replace(&mut self.names, names)
+        self.names.take_back();
+    }
+
+    /// Keeps the last exchange, if memory allows it. What the definitions say is unchanged.
+    pub fn keep(&mut self)
+        ensures { (items : List Item) → AreDefinitionsOf items self.old → AreDefinitionsOf items self.new }
+    {
+        self.names.keep();
     }
 
     /// Makes way for an item that comes as item `n` and defines nothing. At item `n` macros stand for what they stood for.

@@ -5,10 +5,10 @@
 
 mod by_name;
 mod definitions;
+mod exchange;
 mod held;
 mod macros_at;
 mod names;
 
 pub use definitions::Definitions;
 pub use macros_at::MacrosAt;
-pub use names::Names;

@@ -6,5 +6,5 @@ use Rattle.bib_definitions.proofs.definitions.Definitions.count.Goals as goal
 
 pub returns : goal.returns
 returns c items are =
-    ap (length {A = Definition}) c.of.ensures
+    ap (length {A = Definition}) c.of.ensures.is
     ∙ counted-named c.args.name.now (record { numbers = c.self.inside.numbers; names = c.self.inside.names }) items (subst (AreDefinitionsOf items) (sym c.self.view_is) are)

@@ -1,7 +1,7 @@
 use Rattle.std.proofs.Common.{◌-◌, nat_lt, Some, sym, ◌∙◌, ap, arith, rules}
 use Rattle.std.proofs.lemmas.List.Sorted.{IsPartitionedBy-ltb, IsPartitionPoint-from_clause}
 use Rattle.bib_definitions.proofs.DefinedNames.{after_none, after_some}
-use Rattle.bib_definitions.proofs.by_name.text_after.Goals as goal
+use Rattle.bib_definitions.proofs.names.text_after.Goals as goal
 
 pub returns-then-count-eq0 : goal.returns-then-count-eq0
 returns-then-count-eq0 c =
