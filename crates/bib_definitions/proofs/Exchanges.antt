@@ -1,5 +1,5 @@
 -- A definition that another takes the place of.
-use Rattle.std.proofs.Common.{◌≡◌, ℕ, zero, suc, ◌+◌, ◌-◌, ◌<◌, ◌≤◌, nat_lt, Bool, true, false, cond, List, [], ◌∷◌, ◌++◌, Option, Some, None, unwrap_or, get_or, length, ⊎_elim, refl, sym, ◌∙◌, ap, ap₂, subst, arith, All, zero-add, append-nil, length-append}
+use Rattle.std.proofs.Common.{◌≡◌, ℕ, zero, suc, ◌+◌, ◌-◌, ◌<◌, ◌≤◌, nat_lt, Bool, true, false, cond, List, [], ◌∷◌, ◌++◌, Option, Some, None, IfSome, IfNone, unwrap_or, get_or, length, ⊎_elim, refl, sym, ◌∙◌, ap, ap₂, subst, arith, All, zero-add, append-nil, length-append}
 use Rattle.std.specs.Str.{bytes_eq}
 use Rattle.std.specs.List.{filter}
 use Rattle.std.proofs.Math.Seq.{get_or-append_right}
@@ -12,7 +12,8 @@ use Rattle.bib_spec.specs.Text.{Text}
 use Rattle.bib_spec.proofs.Names.{eq-true}
 use Rattle.folded_map.specs.FoldedMap.{value_at}
 use Rattle.bib_definitions.specs.declared.held.Definition.{Definition}
-use Rattle.bib_definitions.specs.ByName.{Defined, Named, AreAllOf, IsBound, AreBound, Ascends, definitions_of, exchange_in, exchanged_at, named_among}
+use Rattle.bib_definitions.specs.ByName.{Defined, Named, AreAllOf, IsBound, AreBound, Ascends, definitions_of, exchange_in, exchanged_at, laid_over, named_among}
+use Rattle.bib_definitions.proofs.LongestTexts.{bound_same}
 use Rattle.bib_definitions.proofs.OrderedNames.{among-append}
 
 -- ---- definitions that are laid over others
@@ -231,3 +232,22 @@ only_ascends d i j e le lt = let same : i ≡ j = omega (arith, le, lt) in let e
 pub only_rank : (d : Definition) → All (λ e. e.rank ≡ d.rank) (d ∷ [])
 only_rank d zero e lt = refl
 only_rank d (suc k) e lt = absurd (omega (arith, lt))
+
+-- ---- an exchange that is kept, or for which memory was refused
+
+over_same : (e a b : Defined) → ((x : Text) → definitions_of a x ≡ definitions_of b x) → (x : Text) → definitions_of (e ++ a) x ≡ definitions_of (e ++ b) x
+over_same e a b same x = at (value_at e x) refl
+  where
+    at : (o : Option (List Definition)) → value_at e x ≡ o → definitions_of (e ++ a) x ≡ definitions_of (e ++ b) x
+    at (Some ds) is = over_some e a x ds is ∙ sym (over_some e b x ds is)
+    at None is = over_none e a x is ∙ same x ∙ sym (over_none e b x is)
+
+pub kept_same : (old new exchange : Defined) (r : Option Defined) → IfNone r ((x : Text) → definitions_of new x ≡ definitions_of (exchange ++ old) x)
+    → IfSome r (λ e. (e ≡ exchange) × ((x : Text) → definitions_of new x ≡ definitions_of old x)) → (x : Text) → definitions_of (laid_over r new) x ≡ definitions_of (exchange ++ old) x
+kept_same old new exchange None given back x = given x
+kept_same old new exchange (Some e) given back x = ap (λ (d : Defined). definitions_of (d ++ new) x) back.0 ∙ over_same exchange new old back.1 x
+
+pub kept_bound : (count longest : ℕ) (old new exchange : Defined) (r : Option Defined) → IfNone r ((x : Text) → definitions_of new x ≡ definitions_of (exchange ++ old) x)
+    → IfSome r (λ e. (e ≡ exchange) × ((x : Text) → definitions_of new x ≡ definitions_of old x)) → AreBound count longest old → AreBound count longest (exchange ++ old) → AreBound count longest new
+kept_bound count longest old new exchange None given back few many = bound_same count longest (exchange ++ old) new given many
+kept_bound count longest old new exchange (Some e) given back few many = bound_same count longest old new back.1 few

@@ -95,13 +95,15 @@ impl Definitions {
     pub fn make_way(&mut self, n: usize)
         ensures come { (before after : List Item) (item : Item) → length before ≡ n → n + length after < 2 ^ 64 → is_definition_tree item.tree ≡ false → AreDefinitionsOf (before ++ after) self.old → AreDefinitionsOf (before ++ item ∷ after) self.new }
         ensures seen { texts_at self.new n ≡ texts_at self.old n }
+        ensures names { self.new.names ≡ self.old.names }
     {
         self.numbers.make_way(n);
     }
 
     /// Closes the gap of item `n`, which goes and defined nothing.
     pub fn close(&mut self, n: usize)
-        ensures { (before after : List Item) (item : Item) → length before ≡ n → n + length after < 2 ^ 64 → is_definition_tree item.tree ≡ false → AreDefinitionsOf (before ++ item ∷ after) self.old → AreDefinitionsOf (before ++ after) self.new }
+        ensures go { (before after : List Item) (item : Item) → length before ≡ n → n + length after < 2 ^ 64 → is_definition_tree item.tree ≡ false → AreDefinitionsOf (before ++ item ∷ after) self.old → AreDefinitionsOf (before ++ after) self.new }
+        ensures names { self.new.names ≡ self.old.names }
     {
         self.numbers.close(n);
     }

@@ -12,7 +12,7 @@ use Rattle.bib_store.specs.declared.change.Change.{Change}
 use Rattle.bib_store.specs.declared.tables.Tables.{Tables}
 use Rattle.bib_store.specs.Following.{AreItemsOf, DefineNothingBetween}
 use Rattle.bib_store.specs.declared.redefining.Former.{Former}
-use Rattle.bib_store.specs.Redefining.{with_former}
+use Rattle.bib_store.specs.Redefining.{with_former, HaveTheSameNames}
 use Rattle.bib_store.specs.Runs.{IsRunChange, AreBroughtIn, AreFollowed, StayFollowed, FollowBroughtIn, ComesBack, LeadWithin}
 use Rattle.history_spec.specs.Shifting.{all_moved_back, FitAfter}
 use Rattle.bib_store.specs.Stored.{file_of}
@@ -279,9 +279,9 @@ pub run_back : (front : Text) (old put tried : List Item) (t put_t led_t taken_t
     → StayFollowed (length put - c.window.from) (take c.window.from put) put_t (take c.window.from put) led_t
     → ((before : List Item) → length before ≡ c.window.from + lead
     → StayFollowed (length tried - (c.window.from + count)) (before ++ between (c.window.from + lead) (c.window.from + count) tried) led_t before taken_t)
-    → ComesBack c lead old t former → back_t ≡ with_former former taken_t
+    → ComesBack c lead old t put_t former → back_t ≡ with_former former taken_t → HaveTheSameNames put_t led_t → HaveTheSameNames led_t taken_t
     → StayFollowed (length old - n) (take n old) t (take n old) back_t
-run_back front old put tried t put_t led_t taken_t back_t n count lead run c former r inner reads within brought same brought_t back taken comes given rest room f =
+run_back front old put tried t put_t led_t taken_t back_t n count lead run c former r inner reads within brought same brought_t back taken comes given led_names taken_names rest room f =
     let from : ℕ = c.window.from in
     let to : ℕ = c.window.to in
     let new : List Item = all_stored inner.items in
@@ -318,4 +318,4 @@ run_back front old put tried t put_t led_t taken_t back_t n count lead run c for
     let most : length (gone ++ after) ≤ length tried - (from + count) = omega (arith, ap (length {A = Item}) same, all, long_after, wide, high, h, within, length-append gone after) in
     let left = taken (take from old ++ again) size (gone ++ after) most (subst (λ (l : List Item). AreFollowed l led_t) parts g) in
     subst (λ (u : Tables). AreFollowed (prefix ++ rest) u) (sym given)
-    (subst (λ (l : List Item). AreFollowed l (with_former former taken_t)) (sym whole) (comes inner reads after long_after start taken_t left))
+    (subst (λ (l : List Item). AreFollowed l (with_former former taken_t)) (sym whole) (comes inner reads after long_after start taken_t (taken_names ∙ led_names) left))

@@ -9,13 +9,14 @@ use Rattle.bib_spec.specs.Tree.{Tree, Definition, CommentTree, DefinitionTree, P
 use Rattle.bib_spec.specs.Reading.{Item, IsItem}
 use Rattle.bib_spec.specs.Texts.{Macros, months, macros_after, macros_at, gathered, raw_text, raw_texts_from, raw_limit}
 use Rattle.bib_spec.specs.Records.{EntryTexts, entry_in, keys_of, crossref_text}
+use Rattle.bib_spec.proofs.Names.{true-eq}
 use Rattle.bib_scan.specs.View.{Field, View, field_after, view_of}
 use Rattle.bib_scan.specs.declared.view.Kind.TheVariants as kind
 use Rattle.bib_value.specs.Raw.{OfValue}
 use Rattle.bib_entries.specs.EntryTable.{IsTableOf}
 use Rattle.bib_numbers.specs.Numbers.{rank_in}
-use Rattle.bib_definitions.specs.ByName.{Named}
-use Rattle.bib_definitions.specs.Definitions.{texts_at, is_definition_tree, defined_by, AreDefinitionsOf, AreAtMost, AreWithin, AreSettled, Defines}
+use Rattle.bib_definitions.specs.ByName.{Named, without_exchange}
+use Rattle.bib_definitions.specs.Definitions.{Known, texts_at, taken_back, is_definition_of, is_definition_tree, defined_by, AreDefinitionsOf, AreAtMost, AreWithin, AreSettled, Defines}
 use Rattle.bib_definitions.proofs.MacrosAfter.{macros_in_front, gathered-append}
 use Rattle.bib_definitions.proofs.DefinitionTables.{of_listed}
 use Rattle.bib_store.specs.declared.bounds.Bounds.{Bounds}
@@ -26,7 +27,7 @@ use Rattle.bib_store.specs.Tables.{is_preamble_tree}
 use Rattle.bib_store.specs.ItemTexts.{first_too_long, own_text}
 use Rattle.bib_store.specs.Bounds.{IsSettled, AreBounded, Admits}
 use Rattle.bib_store.specs.Beside.{AreTablesOf, item_with}
-use Rattle.bib_store.specs.Redefining.{IsRedefinition, with_former}
+use Rattle.bib_store.specs.Redefining.{IsRedefinition, with_former, HaveTheSameNames}
 use Rattle.bib_store.proofs.Placed.{numbers_same}
 use Rattle.bib_store.proofs.BoundedItems.{bounded_with, bounded_without, bounded_after, settled_definition}
 use Rattle.bib_store.proofs.FollowedFiles.{trees_good}
@@ -143,21 +144,23 @@ module _ (before after : List Item) (x y : Item) (old_d new_d : Definition) (x_i
 -- ---- item n is replaced
 
 -- what is found before the tables change
-pub record IsReady (n : ℕ) (old new : View) (field : Field) (rest : List Field) (t : Tables) (names : Named) (text : Text) (bounds : Bounds) (longest : ℕ) : Type 0 where
+pub record IsReady (n : ℕ) (old new : View) (was : Field) (gone : List Field) (field : Field) (rest : List Field) (t : Tables) (known : Known) (text : Text) (bounds : Bounds) (longest : ℕ) : Type 0 where
   pub old_kind : old.kind ≡ kind.Macro
   pub new_kind : new.kind ≡ kind.Macro
   pub settled : t.bounds.settled ≡ true
+  pub old_first : old.fields ≡ was ∷ gone
   pub first : new.fields ≡ field ∷ rest
   pub plain : (said : Text) × OfValue field.value (λ v. (m : Macros) → raw_text m v ≡ said)
   pub says : OfValue field.value (λ v. text ≡ raw_text (own_text (texts_at t.definitions n) field.name) v)
-  pub names_are : (before after : List Item) (old new : Item) → length before ≡ n → is_definition_tree old.tree ≡ true → Defines (macros_at months before n) new.tree field.name text → AreSettled after
-      → AreDefinitionsOf (before ++ old ∷ after) t.definitions → AreDefinitionsOf (before ++ new ∷ after) (record { numbers = t.definitions.numbers; names = names })
+  pub exchanged : (before after : List Item) (old new : Item) → length before ≡ n → is_definition_of was.name old.tree ≡ true → Defines (macros_at months before n) new.tree field.name text → AreSettled after
+      → AreDefinitionsOf (before ++ old ∷ after) t.definitions → AreDefinitionsOf (before ++ new ∷ after) known
+  pub back : taken_back known ≡ t.definitions
   pub admits : Admits (length new.body) true t.bounds bounds
-  pub longest_is : AreWithin longest names.defined
+  pub longest_is : (j : ℕ) → AreAtMost longest (texts_at known j)
   pub short : bounds.longest_body * max longest 1 ≤ raw_limit
 
-module _ (n : ℕ) (old new : View) (field : Field) (rest : List Field) (t now : Tables) (names : Named) (text : Text) (bounds : Bounds) (longest : ℕ) (r : IsReady n old new field rest t names text bounds longest)
-    (entries : now.entries ≡ t.entries) (preambles : now.preambles ≡ t.preambles) (named : now.named ≡ t.named) (definitions : now.definitions ≡ record { numbers = t.definitions.numbers; names = names }) (bounds_are : now.bounds ≡ bounds) where
+module _ (n : ℕ) (old new : View) (was : Field) (gone : List Field) (field : Field) (rest : List Field) (t now : Tables) (known : Known) (text : Text) (bounds : Bounds) (longest : ℕ) (r : IsReady n old new was gone field rest t known text bounds longest)
+    (entries : now.entries ≡ t.entries) (preambles : now.preambles ≡ t.preambles) (named : now.named ≡ t.named) (definitions : now.definitions ≡ known) (bounds_are : now.bounds ≡ bounds) where
   module _ (before after : List Item) (x y : Item) (count : length before ≡ n) (y_tree : IsTree name_limit y.tree) (x_seen : old ≡ view_of (item_with x.tree [])) (y_seen : new ≡ view_of (item_with y.tree []))
       (are : AreTablesOf (before ++ x ∷ after) t) where
     old_is : (d : Definition) × (x.tree ≡ DefinitionTree d)
@@ -174,6 +177,15 @@ module _ (n : ℕ) (old new : View) (field : Field) (rest : List Field) (t now :
     same_field d is =
         (cons_parts field (field_after (length (opening_bytes d.opening)) (opening_bytes d.opening) d.assignment) rest []
         (sym r.first ∙ ap (λ (v : View). v.fields) (y_seen ∙ ap (λ (tree : Tree). view_of (item_with tree [])) is))).0
+
+    -- the old one has the name that its field has
+    was_defined : is_definition_of was.name x.tree ≡ true
+    was_defined =
+        let d = old_is.0 in
+        let field_is : was ≡ field_after (length (opening_bytes d.opening)) (opening_bytes d.opening) d.assignment
+        = (cons_parts was (field_after (length (opening_bytes d.opening)) (opening_bytes d.opening) d.assignment) gone []
+        (sym r.old_first ∙ ap (λ (v : View). v.fields) (x_seen ∙ ap (λ (tree : Tree). view_of (item_with tree [])) old_is.1))).0 in
+        ap (is_definition_of was.name) old_is.1 ∙ true-eq (folded d.assignment.name) (folded was.name) (ap folded (sym (ap (λ (f : Field). f.name) field_is)))
 
     new_settled : IsSettled y.tree
     new_settled =
@@ -200,7 +212,7 @@ module _ (n : ℕ) (old new : View) (field : Field) (rest : List Field) (t now :
     new_definitions : AreDefinitionsOf (before ++ y ∷ after) now.definitions
     new_definitions =
         subst (AreDefinitionsOf (before ++ y ∷ after)) (sym definitions)
-        (r.names_are before after x y count (ap is_definition_tree old_is.1) defines (settled_texts after after_settled) are.definitions)
+        (r.exchanged before after x y count was_defined defines (settled_texts after after_settled) are.definitions)
 
     new_bounds : AreBounded now.bounds (before ++ y ∷ after)
     new_bounds =
@@ -213,25 +225,27 @@ module _ (n : ℕ) (old new : View) (field : Field) (rest : List Field) (t now :
 
     pub redefined_texts : All (IsItem name_limit) (before ++ y ∷ after) → first_too_long (raw_texts_from 0 months (before ++ y ∷ after)) ≡ None
     redefined_texts good =
-        tables_short now longest (λ j. subst (λ d. AreAtMost longest (texts_at d j)) (sym definitions) (r.longest_is (rank_in j t.definitions.numbers)))
+        tables_short now longest (λ j. subst (λ d. AreAtMost longest (texts_at d j)) (sym definitions) (r.longest_is j))
         (subst (λ (b : Bounds). b.longest_body * max longest 1 ≤ raw_limit) (sym bounds_are) r.short) (before ++ y ∷ after) good redefined_tables
 
-    -- with the names and bounds that there were, the tables are those of the old one again
-    pub redefined_back : (former : Former) → former.names ≡ t.definitions.names → former.bounds ≡ t.bounds → (left : Tables) → AreTablesOf (before ++ y ∷ after) left → AreTablesOf (before ++ x ∷ after) (with_former (Some former) left)
-    redefined_back former names_were bounds_were left were =
+    -- without the exchange, and with the bounds that there were, the tables are those of the old one again
+    pub redefined_back : (former : Former) → former.bounds ≡ t.bounds → (left : Tables) → HaveTheSameNames now left → AreTablesOf (before ++ y ∷ after) left → AreTablesOf (before ++ x ∷ after) (with_former (Some former) left)
+    redefined_back former bounds_were left same were =
         let third : is_definition_tree y.tree ≡ is_definition_tree x.tree = ap is_definition_tree new_is.1 ∙ sym (ap is_definition_tree old_is.1) in
+        let names : without_exchange left.definitions.names ≡ t.definitions.names
+        = ap without_exchange (same ∙ ap (λ (k : Known). k.names) definitions) ∙ ap (λ (k : Known). k.names) r.back in
         let again : AreDefinitionsOf (before ++ x ∷ after) (record { numbers = left.definitions.numbers; names = t.definitions.names })
         = of_listed (before ++ x ∷ after) (record { numbers = left.definitions.numbers; names = t.definitions.names })
         (were.definitions.numbers ∙ numbers_same is_definition_tree 0 before after y x third) are.definitions.all in
         one_for_other before after y x new_is.0 old_is.0 new_is.1 old_is.1 after_settled left (with_former (Some former) left) were refl refl refl
-        (subst (λ (named : Named). AreDefinitionsOf (before ++ x ∷ after) (record { numbers = left.definitions.numbers; names = named })) (sym names_were) again)
+        (subst (λ (named : Named). AreDefinitionsOf (before ++ x ∷ after) (record { numbers = left.definitions.numbers; names = named })) (sym names) again)
         (subst (λ (b : Bounds). AreBounded b (before ++ x ∷ after)) (sym bounds_were) are.bounds)
 
-  pub redefined_all : (former : Former) → former.names ≡ t.definitions.names → former.bounds ≡ t.bounds → IsRedefinition n old new t now former
-  redefined_all former names_were bounds_were = record {
+  pub redefined_all : (former : Former) → former.bounds ≡ t.bounds → IsRedefinition n old new t now former
+  redefined_all former bounds_were = record {
     place = record {
       tables = λ before after x y seen are. redefined_tables before after x y seen.count seen.new_tree seen.old_seen seen.new_seen are;
       texts = λ before after x y seen are good fits. redefined_texts before after x y seen.count seen.new_tree seen.old_seen seen.new_seen are good;
     };
-    back = λ before after x y seen are left were. redefined_back before after x y seen.count seen.new_tree seen.old_seen seen.new_seen are former names_were bounds_were left were;
+    back = λ before after x y seen are left names were. redefined_back before after x y seen.count seen.new_tree seen.old_seen seen.new_seen are former bounds_were left names were;
   }

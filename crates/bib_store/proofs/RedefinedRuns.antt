@@ -18,7 +18,7 @@ use Rattle.bib_store.specs.declared.tables.Tables.{Tables}
 use Rattle.bib_store.specs.Beside.{AreTablesOf, AreSeen, item_with}
 use Rattle.bib_store.specs.Following.{bodies_between, DefineNothing, DefineNothingBetween}
 use Rattle.bib_store.specs.ItemTexts.{first_too_long}
-use Rattle.bib_store.specs.Redefining.{IsRedefinition, with_former}
+use Rattle.bib_store.specs.Redefining.{IsRedefinition, with_former, HaveTheSameNames}
 use Rattle.bib_store.specs.Runs.{AreFollowed}
 use Rattle.bib_store.specs.Windows.{ArePut, HasLead}
 use Rattle.bib_store.proofs.PlacedFiles.{only_one}
@@ -138,8 +138,8 @@ module _ (c : Change) (old now : List Item) (p : ArePut c old now 1) (has : HasL
       texts = r.place.texts a.first b.last x y seen old_tables new_good (subst (λ (l : List reading.Item). first_too_long (raw_texts_from 0 months l) ≡ None) whole f.texts);
     }
 
-    pub redefined_comes : (left : Tables) → AreFollowed ((take from old ++ take 1 new) ++ (gone ++ rest)) left → AreFollowed (take c.window.to old ++ rest) (with_former (Some former) left)
-    redefined_comes left g =
+    pub redefined_comes : (left : Tables) → HaveTheSameNames new_t left → AreFollowed ((take from old ++ take 1 new) ++ (gone ++ rest)) left → AreFollowed (take c.window.to old ++ rest) (with_former (Some former) left)
+    redefined_comes left names g =
         let again : take 1 new ≡ new = ap (take 1) new_is ∙ sym new_is in
         let parts : (take from old ++ take 1 new) ++ (gone ++ rest) ≡ all_stored (a.first ++ y ∷ b.last)
         = ap (λ (l : List Item). (take from old ++ l) ++ (gone ++ rest)) again ∙ (simp append_assoc) ∙ sym new_stored in
@@ -150,6 +150,6 @@ module _ (c : Change) (old now : List Item) (p : ArePut c old now 1) (has : HasL
           good = f.good;
           same = f.same;
           tables = subst (λ (l : List reading.Item). AreTablesOf l (with_former (Some former) left)) (sym whole)
-              (r.back a.first b.last x y seen old_tables left (tables_alike g.all (a.first ++ y ∷ b.last) left same g.tables));
+              (r.back a.first b.last x y seen old_tables left names (tables_alike g.all (a.first ++ y ∷ b.last) left same g.tables));
           texts = f.texts;
         }

@@ -15,7 +15,7 @@ use Rattle.bib_store.specs.declared.tables.Tables.{Tables}
 use Rattle.bib_store.specs.Beside.{AreTablesOf}
 use Rattle.bib_store.specs.Following.{DefineNothingBetween}
 use Rattle.bib_store.specs.ItemTexts.{first_too_long}
-use Rattle.bib_store.specs.Redefining.{with_former}
+use Rattle.bib_store.specs.Redefining.{with_former, HaveTheSameNames}
 use Rattle.history_spec.specs.Shifting.{all_moved_back, FitAfter}
 use Rattle.bib_store.specs.Stored.{file_of}
 use Rattle.bib_store.specs.Windows.{HasLead, IsChange, ArePut, bytes_before, bytes_within}
@@ -71,11 +71,11 @@ abbrev pub FollowBroughtIn : Change → ℕ → List Item → Tables → Tables 
 FollowBroughtIn c lead old t new_t = (inner : Reading) → Reads c.text inner
     → StayFollowed (length old - c.window.to) (take c.window.to old) t (take c.window.from old ++ (all_stored inner.items ++ between (c.window.from + lead) c.window.to old)) new_t
 
--- Once the items that were inserted for a change are gone again, except the lead, the tables follow the old items as soon
--- as they get back what `former` keeps.
-abbrev pub ComesBack : Change → ℕ → List Item → Tables → Option Former → Type 0
-ComesBack c lead old t former = (inner : Reading) → Reads c.text inner → (rest : List Item) → length rest ≤ length old - c.window.to → AreFollowed (take c.window.to old ++ rest) t
-    → (left : Tables) → AreFollowed ((take c.window.from old ++ take lead (all_stored inner.items)) ++ (between (c.window.from + lead) c.window.to old ++ rest)) left
+-- Once the items that were inserted for a change are gone again, except the lead, and the definitions are those that there
+-- were when they were inserted, the tables follow the old items as soon as they get back what there was before.
+abbrev pub ComesBack : Change → ℕ → List Item → Tables → Tables → Option Former → Type 0
+ComesBack c lead old t new_t former = (inner : Reading) → Reads c.text inner → (rest : List Item) → length rest ≤ length old - c.window.to → AreFollowed (take c.window.to old ++ rest) t
+    → (left : Tables) → HaveTheSameNames new_t left → AreFollowed ((take c.window.from old ++ take lead (all_stored inner.items)) ++ (between (c.window.from + lead) c.window.to old ++ rest)) left
     → AreFollowed (take c.window.to old ++ rest) (with_former former left)
 
 -- ---- where the pieces lead

@@ -5,6 +5,7 @@ ghost use Rattle.bib_spec.specs.Reading.{Item};
 ghost use Rattle.bib_items.specs.declared.fault.StoreFault.TheVariants.{Memory, BadSplice};
 ghost use Rattle.bib_store.specs.Beside.{AreTablesOf};
 ghost use Rattle.bib_definitions.specs.Definitions.{texts_at};
+ghost use Rattle.bib_store.specs.Redefining.{HaveTheSameNames};
 ghost use Rattle.bib_store.specs.Following.{bodies_between, AreItemsOf, AreOthersOf, DefineNothing, HaveShortTexts};
 
 use crate::tables::Tables;
@@ -27,6 +28,7 @@ pub(crate) fn learn<L: ItemList>(
     ensures tables { OnOk result ((before new after : List Item) → length before ≡ at → AreOthersOf (bodies_between from to (L.items items.now)) new → at + (length new + length after) < 2 ^ 64 → AreTablesOf (before ++ after) tables.old → AreTablesOf (before ++ (new ++ after)) tables.new) }
     ensures short { OnOk result ((new : List Item) → AreOthersOf (bodies_between from to (L.items items.now)) new → HaveShortTexts (texts_at tables.old.definitions at) new) }
     ensures len { tables.new.file_len ≡ tables.old.file_len }
+    ensures names { HaveTheSameNames tables.old tables.new }
     ensures refused { IfErr result (λ fault. fault ≡ BadSplice → (new : List Item) → AreOthersOf (bodies_between from to (L.items items.now)) new → HaveShortTexts (texts_at tables.old.definitions at) new → ⊥) }
     ensures only { IfErr result (λ fault. (fault ≡ BadSplice) ⊎ (fault ≡ Memory)) }
     ensures err { OnErr result ((before new after : List Item) → length before ≡ at → AreOthersOf (bodies_between from to (L.items items.now)) new → at + (length new + length after) < 2 ^ 64 → AreTablesOf (before ++ after) tables.old → AreTablesOf (before ++ after) tables.new) }
@@ -48,6 +50,7 @@ pub(crate) fn forget<L: ItemList>(tables: &mut Tables, items: &L, at: usize, fro
     requires within { to ≤ length (L.items items.now) }
     ensures tables { (before gone after : List Item) → length before ≡ at → AreOthersOf (bodies_between from to (L.items items.now)) gone → at + (length gone + length after) < 2 ^ 64 → AreTablesOf (before ++ (gone ++ after)) tables.old → AreTablesOf (before ++ after) tables.new }
     ensures len { tables.new.file_len ≡ tables.old.file_len }
+    ensures names { HaveTheSameNames tables.old tables.new }
 {
     'forget: for k in from..to {
         tables.remove(at, &ItemView::of(items.body(k), b""));

@@ -8,6 +8,7 @@ ghost use Rattle.bib_scan.specs.Layout.{IsLayoutOf};
 ghost use Rattle.bib_items.specs.declared.list.Item.{Item};
 ghost use Rattle.bib_items.specs.Items.{without_range};
 ghost use Rattle.bib_store.specs.Following.{DefineNothingBetween};
+ghost use Rattle.bib_store.specs.Redefining.{with_former, HaveTheSameNames};
 ghost use Rattle.bib_store.specs.Runs.{IsRunChange, AreBroughtIn, IsMeasured, StaysMeasured, StayFollowed, FollowBroughtIn, ComesBack, LeadWithin};
 ghost use Rattle.bib_spec.specs.Pieces.{Fit, applied};
 ghost use Rattle.bib_store.specs.Stored.{file_of, IsKept};
@@ -77,8 +78,10 @@ fn learn_others<L: ItemList>(
     ensures come { IfOk result (λ b. DefineNothingBetween (change.now.window.from + b.lead) (change.now.window.from + count) (L.items items.now)) }
     ensures gone { IfOk result (λ b. DefineNothingBetween (change.now.window.from + count + b.lead) (change.now.window.to + count) (L.items items.now)) }
     ensures followed { IfOk result (λ b. (old : List Item) → ArePut change.now old (L.items items.now) count → FollowBroughtIn change.now b.lead old tables.old tables.new) }
-    ensures comes { IfOk result (λ b. (old : List Item) → ArePut change.now old (L.items items.now) count → ComesBack change.now b.lead old tables.old b.former) }
+    ensures comes { IfOk result (λ b. (old : List Item) → ArePut change.now old (L.items items.now) count → ComesBack change.now b.lead old tables.old tables.new b.former) }
     ensures len { tables.new.file_len ≡ tables.old.file_len }
+    ensures kept { IfOk result (λ b. HaveTheSameNames tables.old (with_former b.former tables.new)) }
+    ensures names { OnErr result (HaveTheSameNames tables.old tables.new) }
     ensures back { OnErr result ((old : List Item) (inner : Reading) → Reads change.now.text inner → ArePut change.now old (L.items items.now) count → StayFollowed (length old - change.now.window.to) (take change.now.window.to old) tables.old (take change.now.window.to old) tables.new) }
 {
     // for the proof: the count fits a usize
@@ -117,8 +120,10 @@ fn learn_definition<L: ItemList>(
     ensures come { IfOk result (λ b. DefineNothingBetween (change.now.window.from + b.lead) (change.now.window.from + count) (L.items items.now)) }
     ensures gone { IfOk result (λ b. DefineNothingBetween (change.now.window.from + count + b.lead) (change.now.window.to + count) (L.items items.now)) }
     ensures followed { IfOk result (λ b. (old : List Item) → ArePut change.now old (L.items items.now) count → FollowBroughtIn change.now b.lead old tables.old tables.new) }
-    ensures comes { IfOk result (λ b. (old : List Item) → ArePut change.now old (L.items items.now) count → ComesBack change.now b.lead old tables.old b.former) }
+    ensures comes { IfOk result (λ b. (old : List Item) → ArePut change.now old (L.items items.now) count → ComesBack change.now b.lead old tables.old tables.new b.former) }
     ensures len { tables.new.file_len ≡ tables.old.file_len }
+    ensures kept { IfOk result (λ b. HaveTheSameNames tables.old (with_former b.former tables.new)) }
+    ensures names { OnErr result (HaveTheSameNames tables.old tables.new) }
     ensures back { OnErr result ((old : List Item) (inner : Reading) → Reads change.now.text inner → ArePut change.now old (L.items items.now) count → StayFollowed (length old - change.now.window.to) (take change.now.window.to old) tables.old (take change.now.window.to old) tables.new) }
 {
     let n = change.window.from;
@@ -157,8 +162,10 @@ fn learn_few<L: ItemList>(
     ensures come { IfOk result (λ b. DefineNothingBetween (change.now.window.from + b.lead) (change.now.window.from + count) (L.items items.now)) }
     ensures gone { IfOk result (λ b. DefineNothingBetween (change.now.window.from + count + b.lead) (change.now.window.to + count) (L.items items.now)) }
     ensures followed { IfOk result (λ b. (old : List Item) → ArePut change.now old (L.items items.now) count → FollowBroughtIn change.now b.lead old tables.old tables.new) }
-    ensures comes { IfOk result (λ b. (old : List Item) → ArePut change.now old (L.items items.now) count → ComesBack change.now b.lead old tables.old b.former) }
+    ensures comes { IfOk result (λ b. (old : List Item) → ArePut change.now old (L.items items.now) count → ComesBack change.now b.lead old tables.old tables.new b.former) }
     ensures len { tables.new.file_len ≡ tables.old.file_len }
+    ensures kept { IfOk result (λ b. HaveTheSameNames tables.old (with_former b.former tables.new)) }
+    ensures names { OnErr result (HaveTheSameNames tables.old tables.new) }
     ensures back { OnErr result ((old : List Item) (inner : Reading) → Reads change.now.text inner → ArePut change.now old (L.items items.now) count → StayFollowed (length old - change.now.window.to) (take change.now.window.to old) tables.old (take change.now.window.to old) tables.new) }
 {
     let window = change.window;
@@ -184,7 +191,9 @@ fn bring_in<L: ItemList>(
     ensures brought { IfOk result (λ b. AreBroughtIn change.now (L.items items.old) (L.items items.new) b.count b.lead) }
     ensures measured { StaysMeasured (L.items items.old) tables.old (L.items items.new) tables.new }
     ensures followed { IfOk result (λ b. FollowBroughtIn change.now b.lead (L.items items.old) tables.old tables.new) }
-    ensures comes { IfOk result (λ b. ComesBack change.now b.lead (L.items items.old) tables.old b.former) }
+    ensures comes { IfOk result (λ b. ComesBack change.now b.lead (L.items items.old) tables.old tables.new b.former) }
+    ensures kept { IfOk result (λ b. HaveTheSameNames tables.old (with_former b.former tables.new)) }
+    ensures names { OnErr result (HaveTheSameNames tables.old tables.new) }
     ensures back { OnErr result (StayFollowed (length (L.items items.old) - change.now.window.to) (take change.now.window.to (L.items items.old)) tables.old (take change.now.window.to (L.items items.old)) tables.new) }
     ensures err { OnErr result (L.items items.new ≡ L.items items.old) }
 {
@@ -227,6 +236,7 @@ fn take_out<L: ItemList>(
     requires measured { (front : Bytes) × IsMeasured front (L.items items.old) tables.old }
     ensures items { L.items items.new ≡ without_range from to (L.items items.old) }
     ensures measured { StaysMeasured (L.items items.old) tables.old (L.items items.new) tables.new }
+    ensures names { HaveTheSameNames tables.old tables.new }
     ensures followed { (before : List Item) → length before ≡ at → StayFollowed (length (L.items items.old) - to) (before ++ between (from + lead) to (L.items items.old)) tables.old before tables.new }
 {
     // for the proof: the count fits a usize
@@ -254,6 +264,7 @@ fn follow_runs<L: ItemList>(
     requires within { n ≤ length (L.items items.old) }
     ensures measured { IsMeasured front.now (L.items items.new) tables.new }
     ensures led { OnOk result (LeadWithin pieces.now front.now n (L.items items.old) tables.old (L.items items.new) tables.new) }
+    ensures names { OnErr result (HaveTheSameNames tables.old tables.new) }
     ensures back { OnErr result (StayFollowed (length (L.items items.old) - n) (take n (L.items items.old)) tables.old (take n (L.items items.old)) tables.new) }
     ensures err { OnErr result (L.items items.new ≡ L.items items.old) }
 {

@@ -11,15 +11,13 @@ ghost use Rattle.bib_store.specs.Redefining.{IsRedefinition, with_former};
 use crate::bounds::{Bounds, is_settled_value};
 use crate::glancing::are_short;
 use crate::tables::Tables;
-use bib_definitions::Names;
 use bib_items::StoreFault;
 use bib_scan::{FieldView, ItemView, Kind};
 use std::alloc::Global;
 
-/// What the tables had before a definition was replaced.
+/// What the tables had before a definition was replaced, beside the definitions, which keep that themselves.
 #[derive(Drop)]
 pub(crate) struct Former {
-    names: Names,
     bounds: Bounds,
 }
 
@@ -51,10 +49,10 @@ fn settled_field<'a>(alloc: Global, item: &ItemView<'a>) -> Option<FieldView<'a>
     Some(field)
 }
 
-/// Replaces the definition that is item `n` in the tables, and returns what the tables had before. It is refused if one of
-/// the two items is no definition, if what some crossref says or some definition gives may depend on macros, or if some raw
-/// text may be too long. The tables are then unchanged. It takes time in the count of definitions, and memory in their
-/// length.
+/// Replaces the definition that is item `n` in the tables, and returns what they need beside it to get back what they had. It
+/// is refused if one of the two items is no definition, if what some crossref says or some definition gives may depend on
+/// macros, if some raw text may be too long, or if another definition was replaced that is not kept yet. The tables are then
+/// unchanged. It takes time and memory in the definitions of the two names.
 pub(crate) fn redefine(
     alloc: Global,
     tables: &mut Tables,
@@ -70,22 +68,25 @@ pub(crate) fn redefine(
     if !may_give_way(&*tables, old, new) {
         return Err(StoreFault::BadSplice);
     }
+    let Some(was) = old.fields().next() else {
+        return Err(StoreFault::BadSplice);
+    };
     let Some(field) = settled_field(alloc, new) else {
         return Err(StoreFault::BadSplice);
     };
     let Ok(text) = tables.definition_text(alloc, n, field) else {
         return Err(StoreFault::BadSplice);
     };
-    let names = tables
+    tables
         .definitions
-        .redefined(alloc, n, field.name, text.as_slice())?;
+        .exchange(alloc, n, was.name, field.name, text.as_slice())?;
     let mut bounds = tables.bounds;
     bounds.admit(new.body().len(), true);
-    if !are_short(bounds.longest_body, names.longest()) {
+    if !are_short(bounds.longest_body, tables.definitions.longest()) {
+        tables.definitions.take_back();
         return Err(StoreFault::BadSplice);
     }
     let former = Former {
-        names: tables.definitions.exchange(names),
         bounds: tables.bounds,
     };
     tables.bounds = bounds;
@@ -98,7 +99,7 @@ pub(crate) fn give_back(tables: &mut Tables, former: Option<Former>)
     ensures len { tables.new.file_len ≡ tables.old.file_len }
 {
     if let Some(former) = former {
-        tables.definitions.exchange(former.names);
+        tables.definitions.take_back();
         tables.bounds = former.bounds;
     }
 }

@@ -49,6 +49,7 @@ impl Tables {
     ghost use Rattle.bib_value.specs.Raw.{OfValue};
     ghost use Rattle.bib_items.specs.Items.{without_range};
     ghost use Rattle.bib_definitions.specs.Definitions.{AreDefinitionsOf, Defines, is_definition_tree, texts_at};
+    ghost use Rattle.bib_store.specs.Redefining.{HaveTheSameNames};
     ghost use Rattle.bib_store.specs.ItemTexts.{OfTree, own_text, first_too_long, placed_texts};
     ghost use Rattle.bib_store.specs.Beside.{AreTablesOf, AreTables, SayTheSame, HasItems, IsStep, IsInsertion, IsRemoval, IsTooLongAt, IsNotedAs, OfView, OfSeen, OfOther};
     ghost use Rattle.bib_store.specs.Meaning.{IsOpenFault};
@@ -217,6 +218,7 @@ impl Tables {
         requires { IsNotedAs note view.now }
         ensures step { OnOk result (OfOther view.now (λ tree. IsInsertion n tree self.old self.new)) }
         ensures seen { texts_at self.new.definitions n ≡ texts_at self.old.definitions n }
+        ensures names { HaveTheSameNames self.old self.new }
         ensures len { self.new.file_len ≡ self.old.file_len }
         ensures too_long { IfErr result (λ fault. (place : ℕ) → fault ≡ ItemTooLong place → OfOther view.now (λ tree. IsTooLongAt n tree self.old place)) }
         ensures err { OnErr result (SayTheSame self.old self.new) }
@@ -246,6 +248,7 @@ impl Tables {
         requires { IsNotedAs note view.now }
         ensures step { OnOk result (OfView kind.Entry view.now (λ tree. IsInsertion n tree self.old self.new)) }
         ensures seen { texts_at self.new.definitions n ≡ texts_at self.old.definitions n }
+        ensures names { HaveTheSameNames self.old self.new }
         ensures len { self.new.file_len ≡ self.old.file_len }
         ensures too_long { IfErr result (λ fault. (place : ℕ) → fault ≡ ItemTooLong place → OfView kind.Entry view.now (λ tree. IsTooLongAt n tree self.old place)) }
         ensures err { OnErr result (SayTheSame self.old self.new) }
@@ -268,6 +271,7 @@ impl Tables {
     /// Removes item `n`, which is no definition. It asks for no memory.
     pub(crate) fn remove(&mut self, n: usize, view: &ItemView<'_>)
         ensures step { OfOther view.now (λ tree. IsRemoval n tree self.old self.new) }
+        ensures names { HaveTheSameNames self.old self.new }
         ensures len { self.new.file_len ≡ self.old.file_len }
     {
         match view.kind() {
@@ -362,6 +366,7 @@ impl Tables {
     ) -> Result<(), ItemFault>
         ensures step { OnOk result (OfView kind.Preamble view.now (λ tree. IsInsertion n tree self.old self.new)) }
         ensures seen { texts_at self.new.definitions n ≡ texts_at self.old.definitions n }
+        ensures names { HaveTheSameNames self.old self.new }
         ensures len { self.new.file_len ≡ self.old.file_len }
         ensures too_long { IfErr result (λ fault. (place : ℕ) → fault ≡ ItemTooLong place → OfView kind.Preamble view.now (λ tree. IsTooLongAt n tree self.old place)) }
         ensures err { OnErr result (SayTheSame self.old self.new) }

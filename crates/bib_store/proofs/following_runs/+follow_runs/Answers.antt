@@ -102,7 +102,7 @@ returns-clause-back g t c =
     run_back c.args.front.now (g.L.ItemList.items c.args.items.now) (g.L.ItemList.items c.bring_in.new.items) (g.L.ItemList.items c.follow_runs.new.items)
     c.args.tables.now c.bring_in.new.tables c.follow_runs.new.tables c.take_out-in-Err.new.tables c.give_back.new.tables c.args.n c.in_ok-brought.brought.count c.in_ok-brought.brought.lead c.split_at.result.1.now c.in_ok-change.change
     c.in_ok-brought.brought.former r r.change.layout.0 r.change.layout.1
-    c.requires.within c.in_ok-brought.ensures.brought c.in-Err.ensures.err c.in_ok-brought.ensures.followed c.in-Err.ensures.back c.take_out-in-Err.ensures.followed c.in_ok-brought.ensures.comes c.give_back.ensures.back
+    c.requires.within c.in_ok-brought.ensures.brought c.in-Err.ensures.err c.in_ok-brought.ensures.followed c.in-Err.ensures.back c.take_out-in-Err.ensures.followed c.in_ok-brought.ensures.comes c.give_back.ensures.back c.in-Err.ensures.names c.take_out-in-Err.ensures.names
 
 pub returns-clause-err : goal.returns-clause-err
 returns-clause-err g t c =

@@ -43,7 +43,7 @@ returns-clause-followed g c = λ old put inner reads rest room f.
     c.of-new.ensures.item c.of-old.ensures.item rest f
 
 pub returns-clause-comes : goal.returns-clause-comes
-returns-clause-comes g c = λ old put inner reads rest room f left back.
+returns-clause-comes g c = λ old put inner reads rest room f left names back.
     let now = g.L.ItemList.items c.args.items.now in
     let from : ℕ = c.args.change.now.window.from in
     let to : ℕ = c.args.change.now.window.to in
@@ -53,4 +53,4 @@ returns-clause-comes g c = λ old put inner reads rest room f left back.
     redefined_comes c.args.change.now old now (subst (ArePut c.args.change.now old now) one put) has inner reads c.args.tables.now c.redefine.new.tables c.in_ok-former.former c.of-old.result c.of-new.result c.body.result.now c.body-2.result.now
     c.in_ok-former.ensures.redefined
     (one_between now from c.body.result.now (omega (arith, one, goes, c.requires.within)) c.body.ensures) (one_between now (from + 1) c.body-2.result.now (omega (arith, one, goes, c.requires.within)) c.body-2.ensures)
-    c.of-new.ensures.item c.of-old.ensures.item rest f left back
+    c.of-new.ensures.item c.of-old.ensures.item rest f left names back
