@@ -84,21 +84,21 @@ module _ (front rest : List (Text × Text)) (d : Text × Text) (x : Text) where
       = ap (filter low) parts
       ∙ filter-append low (named_among x 0 front) (one ++ named_among x (r + 1) rest)
       ∙ ap₂ (λ (a b : List Definition). a ++ b)
-          (filter_all low (named_among x 0 front) (λ k e lt. let h = before k e lt in lt-ltb _ r (let most = h.1 in omega (arith, most))))
-          (filter_none low (one ++ named_among x (r + 1) rest)
-          (All-append (λ (e : Definition). low e ≡ false) one (named_among x (r + 1) rest)
-          (λ k e lt. let h = is_here k e lt in le-ltb _ r h.0)
-          (λ k e lt. let h = after k e lt in le-ltb _ r (let least = h.0 in omega (arith, least)))))
+      (filter_all low (named_among x 0 front) (λ k e lt. let h = before k e lt in lt-ltb _ r (let most = h.1 in omega (arith, most))))
+      (filter_none low (one ++ named_among x (r + 1) rest)
+      (All-append (λ (e : Definition). low e ≡ false) one (named_among x (r + 1) rest)
+      (λ k e lt. let h = is_here k e lt in le-ltb _ r h.0)
+      (λ k e lt. let h = after k e lt in le-ltb _ r (let least = h.0 in omega (arith, least)))))
       ∙ append-nil (named_among x 0 front) in
       let highs : filter high (named_among x 0 (front ++ d ∷ rest)) ≡ named_among x (r + 1) rest
       = ap (filter high) parts
       ∙ filter-append high (named_among x 0 front) (one ++ named_among x (r + 1) rest)
       ∙ ap₂ (λ (a b : List Definition). a ++ b)
-          (filter_none high (named_among x 0 front) (λ k e lt. let h = before k e lt in le-ltb r _ (let most = h.1 in omega (arith, most))))
-          (filter-append high one (named_among x (r + 1) rest)
-          ∙ ap₂ (λ (a b : List Definition). a ++ b)
-              (filter_none high one (λ k e lt. let h = is_here k e lt in le-ltb r _ (let most = h.1 in omega (arith, most))))
-              (filter_all high (named_among x (r + 1) rest) (λ k e lt. let h = after k e lt in lt-ltb r _ (let least = h.0 in omega (arith, least))))) in
+      (filter_none high (named_among x 0 front) (λ k e lt. let h = before k e lt in le-ltb r _ (let most = h.1 in omega (arith, most))))
+      (filter-append high one (named_among x (r + 1) rest)
+      ∙ ap₂ (λ (a b : List Definition). a ++ b)
+      (filter_none high one (λ k e lt. let h = is_here k e lt in le-ltb r _ (let most = h.1 in omega (arith, most))))
+      (filter_all high (named_among x (r + 1) rest) (λ k e lt. let h = after k e lt in lt-ltb r _ (let least = h.0 in omega (arith, least))))) in
       ap₂ (λ (a b : List Definition). a ++ (new ++ b)) lows highs
 
   -- if it has the name, it is among those of the name

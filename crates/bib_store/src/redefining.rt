@@ -37,12 +37,19 @@ fn may_give_way(tables: &Tables, old: &ItemView<'_>, new: &ItemView<'_>) -> bool
     tables.bounds.settled && is_definition(old) && is_definition(new)
 }
 
+/// The first field of an item.
+fn first_field<'a>(item: &ItemView<'a>) -> Option<FieldView<'a>>
+    ensures { IfSome result (λ field. (rest : List Field) × (item.now.fields ≡ field_seen field ∷ rest)) }
+{
+    item.fields().next()
+}
+
 /// The first field of an item, if its value says the same whatever macros stand for.
 fn settled_field<'a>(alloc: Global, item: &ItemView<'a>) -> Option<FieldView<'a>>
     ensures first { IfSome result (λ field. (rest : List Field) × (item.now.fields ≡ field_seen field ∷ rest)) }
     ensures settled { IfSome result (λ field. (text : Bytes) × OfValue field.value.now (λ v. (m : Macros) → raw_text m v ≡ text)) }
 {
-    let field = item.fields().next()?;
+    let field = first_field(item)?;
     if !is_settled_value(alloc, field.value) {
         return None;
     }
@@ -68,7 +75,7 @@ pub(crate) fn redefine(
     if !may_give_way(&*tables, old, new) {
         return Err(StoreFault::BadSplice);
     }
-    let Some(was) = old.fields().next() else {
+    let Some(was) = first_field(old) else {
         return Err(StoreFault::BadSplice);
     };
     let Some(field) = settled_field(alloc, new) else {

@@ -24,7 +24,7 @@ learn-init g c =
     let items = g.L.ItemList.items c.args.items.now in (
       subst (λ (m : ℕ). PutSoFar m c.args.at c.args.from c.args.to items c.args.tables.now c.args.tables.now) all
           (learn_none c.args.at c.args.from c.args.to items c.args.tables.now c.requires.ordered c.requires.within),
-      refl,
+      (refl, refl),
     )
 
 pub learn-preserved : goal.learn-preserved
@@ -35,7 +35,7 @@ learn-preserved g c =
           (next_body items c.args.from c.args.to c.learn.j c.body.result.now left c.learn-test.true c.requires.within c.body.ensures refl) c.of.ensures.item
           (subst (λ (m : ℕ). PutSoFar m c.args.at c.args.from c.args.to items c.args.tables.now c.learn.tables) (left_at c.args.from c.args.to c.learn.j c.learn-test.true) c.learn.invariant.0)
           c.in_default.ensures.step c.insert.ensures.seen,
-      c.insert.ensures.len ∙ c.learn.invariant.1,
+      (c.insert.ensures.len ∙ c.learn.invariant.1.0, c.insert.ensures.names ∙ c.learn.invariant.1.1),
     )
 
 pub returns-in-Err-clause-refused : goal.returns-in-Err-clause-refused

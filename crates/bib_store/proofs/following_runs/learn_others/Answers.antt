@@ -14,7 +14,7 @@ returns-in-Ok-clause-followed g c = λ old put inner reads rest room f.
     c.learn.new.tables c.in-Ok.ensures.tables c.in-Ok.ensures.short
 
 pub returns-in-Ok-clause-comes : goal.returns-in-Ok-clause-comes
-returns-in-Ok-clause-comes g c = λ old put inner reads rest room f left back.
+returns-in-Ok-clause-comes g c = λ old put inner reads rest room f left names back.
     let now = g.L.ItemList.items c.args.items.now in
     let has = has_lead c.args.change.now.window c.args.count c.args.lead now c.requires.lead in
     trails_back c.args.change.now old now c.args.count c.args.lead put has inner reads c.requires.lead c.args.tables.now left rest f back
