@@ -1,10 +1,10 @@
 //! The places where the pieces of a step end in the present text.
 
-ghost use Rattle.std.specs.Prelude.{◌≡◌, ◌+◌, ◌-◌, ◌≤◌, ◌++◌, length, map, take, drop, vec_len, vec_capacity};
+ghost use Rattle.std.specs.Prelude.{◌≡◌, ◌+◌, ◌-◌, ◌<◌, ◌≤◌, ◌++◌, length, map, take, drop, vec_len, vec_capacity};
 ghost use Rattle.bib_spec.specs.Bytes.{file_limit};
 ghost use Rattle.bib_spec.specs.Pieces.{EndBy, reversed, reversed_from};
 ghost use Rattle.history_spec.specs.Composing.{ends_of};
-ghost use Rattle.bib_steps.specs.Amending.{AreSomeEnds, CanMove, ends_from, moved, next_end};
+ghost use Rattle.bib_steps.specs.Amending.{AreSomeEnds, CanMove, WereEnds, ends_from, moved, next_end};
 
 use crate::replacing::bring;
 use crate::spans::{end_before, end_of};
@@ -155,4 +155,17 @@ pub(crate) fn put_ends(
 {
     place_ends(ends, pieces, from, to, count);
     move_ends(ends, pieces, from + count, until);
+}
+
+/// Makes the ends those of these pieces, after the bytes of another piece have joined the one at this position. There is room
+/// for one more end, so it asks for no memory. It moves the ends after it by one number.
+pub fn lengthen_ends(ends: &mut Vec<u64>, pieces: &[Piece], position: usize)
+    requires inside { position < length pieces.now }
+    requires ends { WereEnds position pieces.now ends.old.items }
+    requires room { vec_len ends.old < vec_capacity ends.old }
+    requires short { EndBy file_limit pieces.now }
+    requires short_ends { EndBy file_limit (reversed pieces.now) }
+    ensures { ends.new.items ≡ ends_of pieces.now }
+{
+    put_ends(ends, pieces, position, position + 1, pieces.len(), 1);
 }
