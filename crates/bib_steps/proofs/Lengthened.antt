@@ -8,7 +8,7 @@ use Rattle.bib_spec.specs.Text.{Text}
 use Rattle.bib_spec.specs.Pieces.{Piece, Stands, AscendFrom, reversed_from}
 use Rattle.history_spec.specs.Composing.{Back, On, in_order, put_in, Group, group_end, with_member, alone, groups_from, groups, group_old, group_new, composed_from, composed_at, composed_after, IsComposable, IsComposableAt, StandApart, old_end, new_end, ends_of}
 use Rattle.history_spec.proofs.Near.{ends_inside}
-use Rattle.bib_steps.specs.Amending.{IsNear, next_end, longer, lengthened, Continues, ContinuesAt}
+use Rattle.bib_steps.specs.Amending.{IsNear, next_end, longer, lengthened, Continues, ContinuesAt, WereEnds}
 use Rattle.bib_steps.proofs.Positions.{near_value, near_composable, composable_as, composed_as, same_front_ends}
 use Rattle.bib_steps.proofs.MovedEnds.{ReplacedLast, replaced_last}
 
@@ -133,16 +133,16 @@ continues_at ps edit middle from to at mid c s n a m is found =
 -- ---- its ends
 
 -- the ends before the longer piece are right, and those after it have to move
-pub lengthened_last : (ps more : List Piece) (q : Piece) (ends : List ℕ) (n len : ℕ) → n < length ps → more ≡ lengthened n q ps → ends ≡ ends_of ps → len ≡ length more
-    → ReplacedLast ps more ends n 1 1 len
-lengthened_last ps more q ends n len h m e l =
-    let long : length more ≡ length ps = ap length m ∙ length-lengthened n q ps in
+pub lengthened_last : (ps : List Piece) (ends : List ℕ) (n : ℕ) (w : WereEnds n ps ends) → n < length ps → ReplacedLast w.0 ps ends n 1 1 (length ps)
+lengthened_last ps ends n w h =
+    let old : List Piece = w.0 in
+    let q : Piece = w.1 in
+    let long : length ps ≡ length old = ap length w.2 ∙ length-lengthened n q old in
     let one : n + 1 ≡ suc n = omega arith in
-    let rest : drop 1 (drop n more) ≡ drop (n + 1) ps
-    = drop-drop 1 n more ∙ ap₂ (λ k qs. drop k qs) one m ∙ drop-lengthened n q ps ∙ ap (λ k. drop k ps) (sym one) in
-    let new : List Piece = take 1 (drop n more) in
-    let single : length new ≡ 1 = length-take-le 1 (drop n more) (omega (arith, length-drop n more, h, long)) in
-    replaced_last ps more new ends n n (n + 1) 1 1 len (omega arith) (omega (arith, h)) (omega arith) single l (omega (arith, h, long))
-    (sym (take-append-drop 1 (drop n more)) ∙ ap (λ qs. new ++ qs) rest)
-    (e ∙ sym (take-append-drop n (ends_of ps))
-    ∙ ap (λ es. es ++ drop n (ends_of ps)) (same_front_ends ps more n (omega (arith, h)) (omega (arith, h, long)) (sym (ap (take n) m ∙ take-lengthened n q ps))))
+    let rest : drop 1 (drop n ps) ≡ drop (n + 1) old
+    = drop-drop 1 n ps ∙ ap₂ (λ k qs. drop k qs) one w.2 ∙ drop-lengthened n q old ∙ ap (λ k. drop k old) (sym one) in
+    let single : length (take 1 (drop n ps)) ≡ 1 = length-take-le 1 (drop n ps) (omega (arith, length-drop n ps, h)) in
+    replaced_last old ps (take 1 (drop n ps)) ends n n (n + 1) 1 1 (length ps) (omega arith) (omega (arith, h, long)) (omega arith) single refl (omega (arith, h))
+    (sym (take-append-drop 1 (drop n ps)) ∙ ap (λ qs. take 1 (drop n ps) ++ qs) rest)
+    (w.3 ∙ sym (take-append-drop n (ends_of old))
+    ∙ ap (λ es. es ++ drop n (ends_of old)) (same_front_ends old ps n (omega (arith, h, long)) (omega (arith, h)) (sym (ap (take n) w.2 ∙ take-lengthened n q old))))
