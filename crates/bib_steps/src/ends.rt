@@ -157,15 +157,32 @@ pub(crate) fn put_ends(
     move_ends(ends, pieces, from + count, until);
 }
 
-/// Makes the ends those of these pieces, after the bytes of another piece have joined the one at this position. There is room
-/// for one more end, so it asks for no memory. It moves the ends after it by one number.
+/// Makes the end at one position that of the piece there. The ends before it are right.
+fn renew_end(ends: &mut Vec<u64>, pieces: &[Piece], position: usize)
+    requires inside { position < length pieces.now }
+    requires ends_inside { position < vec_len ends.old }
+    requires front { take position ends.old.items ≡ take position (ends_of pieces.now) }
+    requires short { EndBy file_limit pieces.now }
+    requires short_ends { EndBy file_limit (reversed pieces.now) }
+    ensures front { take (position + 1) ends.new.items ≡ take (position + 1) (ends_of pieces.now) }
+    ensures rest { drop (position + 1) ends.new.items ≡ drop (position + 1) ends.old.items }
+    ensures len { vec_len ends.new ≡ vec_len ends.old }
+{
+    let (front, _) = pieces.split_at(position);
+    let end = end_of(front);
+    let new_end = end_before(ends, position);
+    ends[position] = end_after(&pieces[position], end, new_end);
+}
+
+/// Makes the ends those of these pieces, after the bytes of another piece have joined the one at this position. It asks for no
+/// memory. It moves the ends after that position by one number.
 pub fn lengthen_ends(ends: &mut Vec<u64>, pieces: &[Piece], position: usize)
     requires inside { position < length pieces.now }
     requires ends { WereEnds position pieces.now ends.old.items }
-    requires room { vec_len ends.old < vec_capacity ends.old }
     requires short { EndBy file_limit pieces.now }
     requires short_ends { EndBy file_limit (reversed pieces.now) }
     ensures { ends.new.items ≡ ends_of pieces.now }
 {
-    put_ends(ends, pieces, position, position + 1, pieces.len(), 1);
+    renew_end(ends, pieces, position);
+    move_ends(ends, pieces, position + 1, pieces.len());
 }
