@@ -5,14 +5,15 @@ ghost use Rattle.bib_spec.specs.Bytes.{file_limit};
 ghost use Rattle.bib_spec.specs.Pieces.{EndBy, applied, reversed};
 ghost use Rattle.history_spec.specs.Composing.{IsComposable, AreEnds, composed, ends_of};
 ghost use Rattle.history_spec.specs.Steps.{IsAllowed, Leads, before, with_edit, step_text_len};
-ghost use Rattle.bib_steps.specs.Amending.{AreWithin, amended};
+ghost use Rattle.bib_steps.specs.Amending.{AreWithin, amended, ContinuesAt};
 ghost use Rattle.bib_journal.specs.declared.fault.SessionFault.TheVariants.{JournalFull, Memory};
 
 use crate::fault::SessionFault;
+use crate::lengthening::make_longer;
 use crate::stepping::go_on;
-use crate::text_len::amended_len;
+use crate::text_len::{amended_len, lengthened_len};
 use bib_scan::Seq;
-use bib_steps::{Amendment, amend, put, renew_ends};
+use bib_steps::{Amendment, amend, continued, put, renew_ends};
 use bib_store::{Database, ItemList, Piece, compose};
 use journal_format::{STEP_TEXTS_LIMIT, Step, step_text_len};
 use std::alloc::{AllocError, Global};
@@ -87,6 +88,42 @@ fn make<L: ItemList>(
     Ok(())
 }
 
+/// Makes the pieces, which continue the piece of a step at this position: that piece becomes longer in place.
+fn grow_longer<L: ItemList>(
+    alloc: Global,
+    db: &mut Database<L>,
+    step: &mut Step,
+    ends: &mut Vec<u64>,
+    position: usize,
+    pieces: &[Piece],
+    len: u64,
+) -> Result<u64, SessionFault>
+    requires continues { ContinuesAt step.old.pieces pieces.now position }
+    requires leads { Leads step.old.pieces (before step.old.pieces db.old) db.old }
+    requires allowed { IsAllowed pieces.now db.old }
+    requires ends { AreEnds step.old.pieces ends.old.items }
+    requires len { step_text_len step.old ≤ len }
+    requires limit { len ≤ 67174399 }
+    ensures grown { OnOk result (step.new ≡ with_edit step.old pieces.now) }
+    ensures made { OnOk result (db.new ≡ applied pieces.now db.old) }
+    ensures ends { OnOk result (AreEnds step.new.pieces ends.new.items) }
+    ensures len { IfOk result (λ new. new ≡ len - step_text_len step.old + step_text_len (with_edit step.old pieces.now)) }
+    ensures short { IfOk result (λ new. new ≤ 67174399) }
+    ensures full { result ≡ Err JournalFull → 67174399 < len - step_text_len step.old + step_text_len (with_edit step.old pieces.now) }
+    ensures only { IfErr result (λ fault. (fault ≡ JournalFull) ⊎ (fault ≡ Memory)) }
+    ensures same { OnErr result (step.new ≡ step.old) }
+    ensures same_ends { OnErr result (ends.new.items ≡ ends.old.items) }
+    ensures err { OnErr result (db.new ≡ db.old) }
+{
+    let more = &pieces[0];
+    let new = allowed_len(lengthened_len(len, step.pieces.as_slice(), position, more))?;
+    let mut list = replace(&mut step.pieces, Seq::from_vec(Vec::new(alloc))).into_vec();
+    let made = make_longer(alloc, db, &mut list, ends, position, pieces, more);
+    step.pieces = Seq::from_vec(list);
+    made?;
+    Ok(new)
+}
+
 /// Makes the pieces and adds them to a step whose ends are known. Only the pieces of the step that they are near change.
 fn grow_near<L: ItemList>(
     alloc: Global,
@@ -112,6 +149,9 @@ fn grow_near<L: ItemList>(
     ensures same_ends { OnErr result (ends.new.items ≡ ends.old.items) }
     ensures err { OnErr result (db.new ≡ db.old) }
 {
+    if let Some(position) = continued(step.pieces.as_slice(), ends.as_slice(), pieces) {
+        return grow_longer(alloc, db, step, ends, position, pieces, len);
+    }
     let change = amendment(alloc, step.pieces.as_slice(), ends.as_slice(), pieces)?;
     let new = allowed_len(amended_len(len, step.pieces.as_slice(), &change))?;
     let mut list = replace(&mut step.pieces, Seq::from_vec(Vec::new(alloc))).into_vec();

@@ -8,6 +8,7 @@ mod closing;
 mod fault;
 mod growing;
 mod laws;
+mod lengthening;
 mod loading;
 mod open_step;
 mod other_entries;

@@ -1,10 +1,10 @@
 //! How long the text of a step is after an edit joins it.
 
-ghost use Rattle.std.specs.Prelude.{◌≡◌, ◌+◌, ◌-◌, ◌^◌, ◌≤◌, length, min, take, drop, decimal};
+ghost use Rattle.std.specs.Prelude.{◌≡◌, ◌+◌, ◌-◌, ◌^◌, ◌<◌, ◌≤◌, length, min, take, drop, decimal};
 ghost use Rattle.std.specs.List.{flat_map};
 ghost use Rattle.bib_spec.specs.Text.{Text};
 ghost use Rattle.history_spec.specs.Steps.{piece_text, step_text_len};
-ghost use Rattle.bib_steps.specs.Amending.{IsWithin, AreWithin, amended};
+ghost use Rattle.bib_steps.specs.Amending.{IsWithin, AreWithin, amended, lengthened};
 
 use bib_steps::{Amendment, Replacement};
 use bib_store::Piece;
@@ -51,4 +51,23 @@ pub(crate) fn amended_len(len: u64, pieces: &[Piece], change: &Amendment) -> u64
             changed_len(len, gone, come, pieces.len(), now)
         }
     }
+}
+
+/// The length of the texts of steps, or the greatest number, once another piece has made longer the piece at this position of
+/// one of them, which has these pieces. It was `len` before.
+pub(crate) fn lengthened_len(len: u64, pieces: &[Piece], position: usize, more: &Piece) -> u64
+    requires { position < length pieces.now }
+    ensures { (label : Text) → step_text_len (record { label = label; pieces = pieces.now }) ≤ len → len ≤ 67174399
+        → result ≡ min (len - step_text_len (record { label = label; pieces = pieces.now }) + step_text_len (record { label = label; pieces = lengthened position more.now pieces.now })) (2 ^ 64 - 1) }
+{
+    let piece = &pieces[position];
+    let old = piece.old.as_slice().len();
+    let new = piece.new.as_slice().len();
+    let more_old = more.old.as_slice().len();
+    let more_new = more.new.as_slice().len();
+    let digits = decimal_len(old as u64) + decimal_len(new as u64);
+    let more_digits = decimal_len((old + more_old) as u64) + decimal_len((new + more_new) as u64);
+    len.saturating_sub(digits)
+        .saturating_add((more_old + more_new) as u64)
+        .saturating_add(more_digits)
 }

@@ -1,5 +1,5 @@
 pub mod Positions
 mod Renewed
 mod MovedEnds
-mod Lengthened
+pub mod Lengthened
 mod Turned

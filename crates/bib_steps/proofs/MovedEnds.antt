@@ -1,6 +1,6 @@
 -- The ends of pieces, if what is before these pieces changes.
-use Rattle.std.proofs.Common.{zero, suc, ◌≡◌, ℕ, ◌+◌, ◌-◌, ◌<◌, ◌≤◌, get_or, List, [], ◌∷◌, ◌++◌, length, map, take, drop, refl, sym, subst, ◌∙◌, ap, ap₂, arith, append_assoc, append-nil, take-append-drop, length-append, length-drop}
-use Rattle.std.proofs.lemmas.List.{take_at, drop_at, drop-drop, drop-take, drop_more, length-take-le, map-append, take_all, drop_all, take-take}
+use Rattle.std.proofs.Common.{zero, suc, ◌≡◌, ℕ, ◌+◌, ◌-◌, ◌<◌, ◌≤◌, get_or, set, List, [], ◌∷◌, ◌++◌, length, map, take, drop, refl, sym, subst, ◌∙◌, ap, ap₂, arith, append_assoc, append-nil, take-append-drop, length-append, length-drop}
+use Rattle.std.proofs.lemmas.List.{take_at, drop_at, drop-drop, drop-take, drop_more, length-take-le, map-append, take_all, drop_all, take-take, set_split}
 use Rattle.std.proofs.lemmas.Grind.{get_or_default_zero}
 use Rattle.bib_spec.specs.Bytes.{file_limit}
 use Rattle.bib_spec.specs.Pieces.{Piece, end_of, reversed_from, reversed, EndBy}
@@ -178,6 +178,15 @@ are_put ps ends more new from to count h f n is =
       front = ap (take at) so ∙ take_at (take at (ends_of ps)) (drop to ends) at long;
       rest = ap (drop at) so ∙ drop_at (take at (ends_of ps)) (drop to ends) at long;
     }
+
+-- the end of one piece, in place of another, is right
+pub end_put : (ps : List Piece) (ends : List ℕ) (n at mid end : ℕ) (p : Piece) → n < length ps → n < length ends → p ≡ get_or ps n p → at ≡ old_end 0 (take n ps) → mid ≡ new_end 0 0 (take n ps)
+    → take n ends ≡ take n (ends_of ps) → end ≡ next_end at mid p → take (n + 1) (set ends n end) ≡ take (n + 1) (ends_of ps)
+end_put ps ends n at mid end p h l e a m f is =
+    let after : suc n ≡ n + 1 = omega arith in
+    (are_put ps ends (set ends n end) (end ∷ []) n (n + 1) 1 (omega (arith, h)) f
+    (ap (λ k. k ∷ []) is ∙ between_is ps (p ∷ []) n 1 at mid a m (sym (first_is ps n 1 p (omega arith) h e)))
+    (set_split ends n end l ∙ ap (λ k. take n ends ++ end ∷ drop k ends) after)).front
 
 pub put_further : {X : Type 0} (xs ys : List X) (at to until : ℕ) → at ≤ until → drop at ys ≡ drop to xs → drop until ys ≡ drop (to + (until - at)) xs
 put_further xs ys at to until h e =

@@ -1,9 +1,9 @@
 -- How an edit changes the pieces of a step. (dialect)
-use Rattle.std.specs.Prelude.{ℕ, zero, suc, ◌≡◌, ◌+◌, ◌-◌, ◌≤◌, Option, Some, None, List, [], ◌∷◌, ◌++◌, length, map, take, drop, slice_index_or}
+use Rattle.std.specs.Prelude.{ℕ, zero, suc, ◌≡◌, ◌+◌, ◌-◌, ◌<◌, ◌≤◌, Option, Some, None, List, [], ◌∷◌, ◌++◌, length, map, take, drop, slice_index_or}
 use Rattle.std.specs.List.{AllByRecursion}
 use Rattle.bib_spec.specs.Bytes.{file_limit}
 use Rattle.bib_spec.specs.Pieces.{Piece, end_of, reversed_from}
-use Rattle.history_spec.specs.Composing.{old_end, new_end, BeginsAfter, EndBefore, Replacement, replaced}
+use Rattle.history_spec.specs.Composing.{old_end, new_end, BeginsAfter, EndBefore, Replacement, replaced, composed, ends_of}
 
 -- what an edit replaces: the pieces near its last ones, and also pieces before them if its others are far from these
 pub record Amendment : Type 0 where
@@ -95,3 +95,21 @@ Continues at mid first second = (p : Piece) × (q : Piece) × (first ≡ p ∷ [
 -- the piece, with the bytes of the other after its own
 abbrev pub longer : Piece → Piece → Piece
 longer p q = record { place = p.place; old = p.old ++ q.old; new = p.new ++ q.new }
+
+-- the pieces, with the bytes of another after those of the piece at this position, if there is one
+abbrev pub lengthened : ℕ → Piece → List Piece → List Piece
+lengthened n q [] = []
+lengthened zero q (p ∷ ps) = longer p q ∷ ps
+lengthened (suc n) q (p ∷ ps) = p ∷ lengthened n q ps
+
+-- The edit is one piece, and it continues the piece at this position: the pieces of the step and the edit as one are those of
+-- the step, with that piece longer.
+pub record ContinuesAt (ps edit : List Piece) (n : ℕ) : Type 0 where
+  pub inside : n < length ps
+  pub more : Piece
+  pub one : edit ≡ more ∷ []
+  pub joined : composed ps edit ≡ lengthened n more ps
+
+-- the places are the ends of pieces that were these ones before the piece at this position became longer
+abbrev pub WereEnds : ℕ → List Piece → List ℕ → Type 0
+WereEnds n ps ends = (old : List Piece) × (more : Piece) × (ps ≡ lengthened n more old) × (ends ≡ ends_of old)

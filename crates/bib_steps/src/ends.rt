@@ -1,10 +1,10 @@
 //! The places where the pieces of a step end in the present text.
 
-ghost use Rattle.std.specs.Prelude.{◌≡◌, ◌+◌, ◌-◌, ◌≤◌, ◌++◌, length, map, take, drop, vec_len, vec_capacity};
+ghost use Rattle.std.specs.Prelude.{◌≡◌, ◌+◌, ◌-◌, ◌<◌, ◌≤◌, ◌++◌, length, map, take, drop, vec_len, vec_capacity};
 ghost use Rattle.bib_spec.specs.Bytes.{file_limit};
 ghost use Rattle.bib_spec.specs.Pieces.{EndBy, reversed, reversed_from};
 ghost use Rattle.history_spec.specs.Composing.{ends_of};
-ghost use Rattle.bib_steps.specs.Amending.{AreSomeEnds, CanMove, ends_from, moved, next_end};
+ghost use Rattle.bib_steps.specs.Amending.{AreSomeEnds, CanMove, WereEnds, ends_from, moved, next_end};
 
 use crate::replacing::bring;
 use crate::spans::{end_before, end_of};
@@ -155,4 +155,34 @@ pub(crate) fn put_ends(
 {
     place_ends(ends, pieces, from, to, count);
     move_ends(ends, pieces, from + count, until);
+}
+
+/// Makes the end at one position that of the piece there. The ends before it are right.
+fn renew_end(ends: &mut Vec<u64>, pieces: &[Piece], position: usize)
+    requires inside { position < length pieces.now }
+    requires ends_inside { position < vec_len ends.old }
+    requires front { take position ends.old.items ≡ take position (ends_of pieces.now) }
+    requires short { EndBy file_limit pieces.now }
+    requires short_ends { EndBy file_limit (reversed pieces.now) }
+    ensures front { take (position + 1) ends.new.items ≡ take (position + 1) (ends_of pieces.now) }
+    ensures rest { drop (position + 1) ends.new.items ≡ drop (position + 1) ends.old.items }
+    ensures len { vec_len ends.new ≡ vec_len ends.old }
+{
+    let (front, _) = pieces.split_at(position);
+    let end = end_of(front);
+    let new_end = end_before(ends, position);
+    ends[position] = end_after(&pieces[position], end, new_end);
+}
+
+/// Makes the ends those of these pieces, after the bytes of another piece have joined the one at this position. It asks for no
+/// memory. It moves the ends after that position by one number.
+pub fn lengthen_ends(ends: &mut Vec<u64>, pieces: &[Piece], position: usize)
+    requires inside { position < length pieces.now }
+    requires ends { WereEnds position pieces.now ends.old.items }
+    requires short { EndBy file_limit pieces.now }
+    requires short_ends { EndBy file_limit (reversed pieces.now) }
+    ensures { ends.new.items ≡ ends_of pieces.now }
+{
+    renew_end(ends, pieces, position);
+    move_ends(ends, pieces, position + 1, pieces.len());
 }

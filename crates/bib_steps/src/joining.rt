@@ -1,11 +1,11 @@
 //! An edit that continues a piece of a step.
 
-ghost use Rattle.std.specs.Prelude.{◌≡◌, ◌++◌, true, IfOk, IfErr};
+ghost use Rattle.std.specs.Prelude.{◌≡◌, ◌++◌, IfOk, IfErr};
 ghost use Rattle.bib_items.specs.declared.fault.StoreFault.TheVariants.{Memory};
 ghost use Rattle.history_spec.specs.Composing.{IsComposableAt, composed_at};
-ghost use Rattle.bib_steps.specs.Amending.{Continues, longer};
+ghost use Rattle.bib_steps.specs.Amending.{longer};
 
-use crate::ends::end_after;
+use crate::continuing::continues;
 use bib_data::Piece;
 use bib_scan::{Seq, Text};
 use bib_store::{StoreFault, compose_at};
@@ -35,18 +35,6 @@ fn longer(alloc: Global, piece: &Piece, more: &Piece) -> Result<Piece, AllocErro
         old,
         new,
     })
-}
-
-/// Whether each edit is one piece, and the second begins where the first ends in the text between them.
-fn continues(end: u64, middle_end: u64, first: &[Piece], second: &[Piece]) -> bool
-    requires { IsComposableAt end middle_end first.now second.now }
-    ensures { result ≡ true → Continues end middle_end first.now second.now }
-{
-    if first.len() != 1 || second.len() != 1 {
-        return false;
-    }
-    let more = &second[0];
-    more.place == end_after(&first[0], end, middle_end)
 }
 
 /// The pieces of a step and of an edit near them, as those of one edit. The step's pieces before them end at `end` in the text

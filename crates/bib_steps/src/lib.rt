@@ -5,6 +5,7 @@
 
 mod amending;
 mod amendment;
+mod continuing;
 mod ends;
 mod joining;
 mod near;
@@ -14,5 +15,6 @@ mod spans;
 
 pub use amending::amend;
 pub use amendment::{Amendment, Replacement};
-pub use ends::renew_ends;
+pub use continuing::continued;
+pub use ends::{lengthen_ends, renew_ends};
 pub use placing::put;

@@ -10,11 +10,11 @@ use Rattle.bib_journal.proofs.growing.grow_near.Goals as goal
 
 pub amended_len-requires-clause-few : goal.amended_len-requires-clause-few
 amended_len-requires-clause-few g c =
-    omega (arith, few_pieces c.args.step.now.label c.args.step.now.pieces c.args.len c.requires.len, c.requires.limit, ap length (c.as_slice-3.ensures ∙ ap (λ (s : Step). s.pieces) c.step.view_is))
+    omega (arith, few_pieces c.args.step.now.label c.args.step.now.pieces c.args.len c.requires.len, c.requires.limit, ap length (c.as_slice-5.ensures ∙ ap (λ (s : Step). s.pieces) c.step.view_is))
 
 pub make-made-requires-clause-short : goal.make-made-requires-clause-short
 make-made-requires-clause-short g c =
-    let was : c.as_slice.result.now ≡ c.args.step.now.pieces = c.as_slice.ensures ∙ ap (λ (s : Step). s.pieces) c.step.view_is in
+    let was : c.as_slice-3.result.now ≡ c.args.step.now.pieces = c.as_slice-3.ensures ∙ ap (λ (s : Step). s.pieces) c.step.view_is in
     let taken : c.into_vec-list.result.items ≡ c.args.step.now.pieces = search rules in
     let joined : amended c.in_ok-change.change c.into_vec-list.result.items ≡ composed c.args.step.now.pieces c.args.pieces.now
     = ap (amended c.in_ok-change.change) (taken ∙ sym was) ∙ c.in_ok-change.ensures.value ∙ ap (λ (ps : List Piece). composed ps c.args.pieces.now) was in
@@ -22,7 +22,7 @@ make-made-requires-clause-short g c =
 
 pub make-made-requires-clause-short_ends : goal.make-made-requires-clause-short_ends
 make-made-requires-clause-short_ends g c =
-    let was : c.as_slice.result.now ≡ c.args.step.now.pieces = c.as_slice.ensures ∙ ap (λ (s : Step). s.pieces) c.step.view_is in
+    let was : c.as_slice-3.result.now ≡ c.args.step.now.pieces = c.as_slice-3.ensures ∙ ap (λ (s : Step). s.pieces) c.step.view_is in
     let taken : c.into_vec-list.result.items ≡ c.args.step.now.pieces = search rules in
     let joined : amended c.in_ok-change.change c.into_vec-list.result.items ≡ composed c.args.step.now.pieces c.args.pieces.now
     = ap (amended c.in_ok-change.change) (taken ∙ sym was) ∙ c.in_ok-change.ensures.value ∙ ap (λ (ps : List Piece). composed ps c.args.pieces.now) was in
@@ -30,7 +30,7 @@ make-made-requires-clause-short_ends g c =
 
 pub returns-clause-ends : goal.returns-clause-ends
 returns-clause-ends g c =
-    let was : c.as_slice.result.now ≡ c.args.step.now.pieces = c.as_slice.ensures ∙ ap (λ (s : Step). s.pieces) c.step.view_is in
+    let was : c.as_slice-3.result.now ≡ c.args.step.now.pieces = c.as_slice-3.ensures ∙ ap (λ (s : Step). s.pieces) c.step.view_is in
     let taken : c.into_vec-list.result.items ≡ c.args.step.now.pieces = search rules in
     let joined : amended c.in_ok-change.change c.into_vec-list.result.items ≡ composed c.args.step.now.pieces c.args.pieces.now
     = ap (amended c.in_ok-change.change) (taken ∙ sym was) ∙ c.in_ok-change.ensures.value ∙ ap (λ (ps : List Piece). composed ps c.args.pieces.now) was in

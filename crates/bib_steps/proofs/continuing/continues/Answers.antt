@@ -2,7 +2,7 @@ use Rattle.std.proofs.Common.{rules, ◌≡◌, length, ap, arith}
 use Rattle.std.proofs.lemmas.Bool.{eqb-true}
 use Rattle.bib_spec.specs.Pieces.{Piece}
 use Rattle.bib_steps.proofs.Lengthened.{only_piece, next_short}
-use Rattle.bib_steps.proofs.joining.continues.Goals as goal
+use Rattle.bib_steps.proofs.continuing.continues.Goals as goal
 
 pub end_after-requires : goal.end_after-requires
 end_after-requires c =
