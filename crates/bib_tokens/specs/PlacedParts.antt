@@ -6,7 +6,7 @@ use Rattle.bib_spec.specs.Text.{Text}
 use Rattle.bib_spec.specs.Tree.{Part, Link, Value, Row, Tree, CommentTree, DefinitionTree, PreambleTree, EntryTree, part_bytes, link_bytes, row_bytes, opening_bytes}
 use Rattle.bib_spec.specs.Reading.{Item, IsValueWithin, item_bytes}
 use Rattle.bib_spec.specs.Texts.{row_start, bytes_before_value, parts_of}
-use Rattle.edit_spec.specs.Edits.{uses, holds, any_part}
+use Rattle.part_spec.specs.Parts.{uses, holds, any_part}
 use Rattle.bib_scan.specs.View.{Field}
 use Rattle.bib_value.specs.Raw.{OfValue}
 use Rattle.bib_tokens.specs.declared.seeking.Sought.{Sought}

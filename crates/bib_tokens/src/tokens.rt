@@ -6,7 +6,7 @@ ghost use Rattle.std.specs.Option.{option_map};
 ghost use Rattle.bib_spec.specs.Bytes.{name_limit};
 ghost use Rattle.bib_spec.specs.Tree.{part_bytes};
 ghost use Rattle.bib_spec.specs.Reading.{Item, IsValueWithin};
-ghost use Rattle.edit_spec.specs.Edits.{any_part};
+ghost use Rattle.part_spec.specs.Parts.{any_part};
 ghost use Rattle.bib_scan.specs.PartView.{part_view};
 ghost use Rattle.bib_scan.specs.ValueParts.{parts_of, IsPartsOf};
 ghost use Rattle.bib_scan.specs.Layout.{start_of};

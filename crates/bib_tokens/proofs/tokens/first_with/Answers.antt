@@ -1,5 +1,5 @@
 use Rattle.std.proofs.Common.{◌≡◌, length, refl, sym, ◌∙◌, subst, arith, not-suc-le-zero}
-use Rattle.edit_spec.specs.Edits.{any_part}
+use Rattle.part_spec.specs.Parts.{any_part}
 use Rattle.bib_tokens.specs.PlacedParts.{test_of}
 use Rattle.bib_tokens.proofs.FirstFound.{NoneTo, none-more, first-is, first-none}
 use Rattle.bib_tokens.proofs.MetParts.{met-next}

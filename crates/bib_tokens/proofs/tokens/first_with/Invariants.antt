@@ -1,5 +1,5 @@
 use Rattle.std.proofs.Common.{◌≡◌, take}
-use Rattle.edit_spec.specs.Edits.{any_part}
+use Rattle.part_spec.specs.Parts.{any_part}
 use Rattle.bib_store.specs.Meaning.{OfReading}
 use Rattle.bib_tokens.specs.PlacedParts.{test_of, have_part}
 use Rattle.bib_tokens.proofs.FirstFound.{NoneTo}
