@@ -3,6 +3,7 @@ pub mod Filled
 pub mod ItemsIn
 pub mod PageSizes
 pub mod Walks
+pub mod PartMarks
 pub mod PageStarts
 pub mod Gathered
 pub mod WholePages
