@@ -4,6 +4,7 @@ pub mod ItemsIn
 pub mod PageSizes
 pub mod Walks
 pub mod PartMarks
+pub mod Covered
 pub mod PageStarts
 pub mod Gathered
 pub mod WholePages

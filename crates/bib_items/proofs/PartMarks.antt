@@ -1,15 +1,15 @@
 -- Marks that are added, part by part.
-use Rattle.std.proofs.Common.{◌≡◌, ℕ, zero, suc, ◌+◌, ◌≤◌, Bool, true, false, ◌||◌, List, [], ◌∷◌, ◌++◌, Option, Some, None, slice_get, length, map, take, insert, refl, sym, ◌∙◌, ap, subst, All, ⊎_elim, arith}
+use Rattle.std.proofs.Common.{◌≡◌, ℕ, zero, suc, ◌+◌, ◌≤◌, Bool, false, ◌||◌, List, [], ◌∷◌, ◌++◌, Option, Some, slice_get, length, map, take, insert, refl, sym, ◌∙◌, ap, subst, All, ⊎_elim, arith}
 use Rattle.std.specs.Prelude.{Contains, Err}
 use Rattle.std.specs.List.Sorted.{IsNonDecreasing, IsBinarySearchResult}
 use Rattle.std.specs.Ordering.{nat_cmp}
 use Rattle.std.proofs.lemmas.Grind.{get_or_default_zero}
 use Rattle.std.specs.List.{AllByRecursion, list_any}
 use Rattle.std.proofs.lemmas.Bool.{cases_Bool}
-use Rattle.std.proofs.lemmas.List.{take_more, take_all}
+use Rattle.std.proofs.lemmas.List.{take_all}
 use Rattle.std.proofs.lemmas.List.Elements.{All-head, All-tail, Contains-append_right}
 use Rattle.std.proofs.lemmas.List.Sorted.{IsPermutation-insert, IsNonDecreasingBy-insert, Contains-permutation, searched}
-use Rattle.std.proofs.lemmas.Option.{none-some, same_Some}
+use Rattle.std.proofs.lemmas.Option.{same_Some}
 use Rattle.bib_spec.specs.Bytes.{name_limit}
 use Rattle.bib_spec.specs.Text.{Text, folded, same}
 use Rattle.std.specs.Str.{bytes_eq}
@@ -20,7 +20,7 @@ use Rattle.bib_scan.specs.View.{View, Field, view_of, fields_of, fields_after}
 use Rattle.bib_items.specs.declared.seeking.Sought.{Sought}
 use Rattle.bib_items.specs.declared.seeking.Sought.TheVariants as sought
 use Rattle.bib_items.specs.Seeking.{test_of, LacksPart}
-use Rattle.bib_items.specs.PartMarks.{mixed_all, name_mark, text_mark, part_mark, sought_mark, KeepsMarks, HasPartMark, HasMarksOf, HasValueMarks, HasFieldMarks, HasItemMarks, IsCovered}
+use Rattle.bib_items.specs.PartMarks.{mixed_all, name_mark, text_mark, sought_mark, KeepsMarks, HasPartMark, HasMarksOf, HasValueMarks, HasFieldMarks, HasItemMarks, IsCovered}
 
 -- ---- more marks
 

@@ -1,12 +1,13 @@
 -- The marks of parts: numbers that tell where a search need not look. A search and each part that it meets have the same
 -- mark; parts that are not alike may have the same mark too.
-use Rattle.std.specs.Prelude.{ℕ, ◌≡◌, ◌+◌, ◌*◌, ◌%◌, List, [], ◌∷◌, Option, Some, None, Contains}
+use Rattle.std.specs.Prelude.{ℕ, ◌≡◌, ◌+◌, ◌*◌, ◌%◌, List, [], ◌∷◌, Option, Some, None, All, Contains}
 use Rattle.std.specs.List.{AllByRecursion}
 use Rattle.bib_spec.specs.Bytes.{name_limit}
 use Rattle.bib_spec.specs.Text.{Text, folded}
 use Rattle.bib_spec.specs.Tree.{Part, Braced, Quoted, Digits, Macro, Value, Tree, IsValue, IsTree, value_bytes, tree_bytes}
 use Rattle.bib_spec.specs.Texts.{parts_of, values_of}
 use Rattle.bib_scan.specs.View.{Field}
+use Rattle.bib_items.specs.declared.list.Item.{Item}
 use Rattle.bib_items.specs.declared.seeking.Sought.{Sought}
 use Rattle.bib_items.specs.declared.seeking.Sought.TheVariants as sought
 
@@ -66,5 +67,9 @@ HasItemMarks marks body = (tree : Tree) → IsTree name_limit tree → tree_byte
 
 -- the marks of the item with this body are among these, if marks were made
 abbrev pub IsCovered : Option (List ℕ) → Text → Type 0
-IsCovered None body = ◌≡◌ {A = ℕ} 0 0
+IsCovered None body = Unit
 IsCovered (Some marks) body = HasItemMarks marks body
+
+-- the marks of each of these items are among these, if marks were made
+abbrev pub AreCovered : Option (List ℕ) → List Item → Type 0
+AreCovered marks items = All (λ (i : Item). IsCovered marks i.body) items

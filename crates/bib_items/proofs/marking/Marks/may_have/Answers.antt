@@ -1,7 +1,6 @@
-use Rattle.std.proofs.Common.{◌≡◌, ◌∙◌, ℕ, sym, subst}
+use Rattle.std.proofs.Common.{◌∙◌, sym, subst}
 use Rattle.std.specs.Prelude.{Contains}
 use Rattle.std.proofs.lemmas.Option.{none-some, same_Some}
-use Rattle.bib_items.specs.PartMarks.{sought_mark}
 use Rattle.bib_items.proofs.PartMarks.{item-unmet}
 use Rattle.bib_items.proofs.marking.Marks.may_have.Goals as goal
 
