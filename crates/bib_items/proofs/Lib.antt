@@ -5,6 +5,7 @@ pub mod PageSizes
 pub mod Walks
 pub mod PartMarks
 pub mod Covered
+pub mod Passed
 pub mod PageStarts
 pub mod Gathered
 pub mod WholePages
