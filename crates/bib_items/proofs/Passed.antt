@@ -1,5 +1,5 @@
 -- Items that a search passes over, page by page.
-use Rattle.std.proofs.Common.{◌≡◌, ℕ, ◌+◌, ◌-◌, ◌≤◌, ◌<◌, List, [], ◌++◌, length, take, drop, sym, subst, ◌∙◌, ap, arith, All}
+use Rattle.std.proofs.Common.{◌≡◌, ℕ, ◌+◌, ◌-◌, ◌≤◌, ◌<◌, List, ◌++◌, length, take, drop, sym, subst, ◌∙◌, ap, arith, All}
 use Rattle.std.proofs.lemmas.List.Elements.{All-nil, All-take, All-drop, All-append}
 use Rattle.std.specs.List.{between}
 use Rattle.bib_items.specs.declared.list.Item.{Item}
