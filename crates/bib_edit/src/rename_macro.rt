@@ -3,7 +3,7 @@
 ghost use Rattle.std.specs.Prelude.{◌≡◌, ◌&&◌, ◌∷◌, drop, OnOk, IfOk, IfErr};
 ghost use Rattle.bib_spec.specs.Text.{is_name};
 ghost use Rattle.bib_spec.specs.Tree.{Definition};
-ghost use Rattle.edit_spec.specs.Edits.{uses};
+ghost use Rattle.part_spec.specs.Parts.{uses};
 ghost use Rattle.bib_scan.specs.Layout.{start_of};
 ghost use Rattle.bib_store.specs.Meaning.{OfReading, IsItemPlace};
 ghost use Rattle.bib_edit.specs.Definitions.{IsDefinitionAt, IsDefinitionNumber, name_token, is_taken_before, is_taken_from};

@@ -56,7 +56,7 @@ pub record IsAppended (pages : List (List Item)) (p from to skip left : ℕ) (fr
   pub is : now ≡ front ++ all_bytes (between from (to - left) (joined pages))
 
 -- members that stand together in a page
-in_page : (pages : List (List Item)) (p n skip m : ℕ) → p < length pages → IsOnWay pages p n skip → skip + m ≤ length (page_at pages p) → between n (n + m) (joined pages) ≡ between skip (skip + m) (page_at pages p)
+pub in_page : (pages : List (List Item)) (p n skip m : ℕ) → p < length pages → IsOnWay pages p n skip → skip + m ≤ length (page_at pages p) → between n (n + m) (joined pages) ≡ between skip (skip + m) (page_at pages p)
 in_page pages p n skip m h way within =
     let front : List Item = joined (take p pages) in
     let page : List Item = page_at pages p in
@@ -74,7 +74,7 @@ in_page pages p n skip m h way within =
     ∙ take-append-le m (drop skip page) rest (omega (arith, within, length-drop skip page))
     ∙ sym (ap (λ k. take k (drop skip page)) long)
 
-between-both : (items : List Item) (from n m : ℕ) → from ≤ n → between from n items ++ between n (n + m) items ≡ between from (n + m) items
+pub between-both : (items : List Item) (from n m : ℕ) → from ≤ n → between from n items ++ between n (n + m) items ≡ between from (n + m) items
 between-both items from n m h =
     let far : n - from + m ≡ n + m - from = omega (arith, h) in
     let here : from + (n - from) ≡ n = omega (arith, h) in

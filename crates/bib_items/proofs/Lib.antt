@@ -3,6 +3,9 @@ pub mod Filled
 pub mod ItemsIn
 pub mod PageSizes
 pub mod Walks
+pub mod PartMarks
+pub mod Covered
+pub mod Passed
 pub mod PageStarts
 pub mod Gathered
 pub mod WholePages

@@ -4,3 +4,5 @@ pub mod SharedTexts
 pub mod Spans
 pub mod Pages
 pub mod Starts
+pub mod Seeking
+pub mod PartMarks

@@ -37,6 +37,7 @@ pub mod Insertions
 pub mod Numbered
 pub mod EntryItems
 pub mod KeptItems
+pub mod PassedItems
 -- ---- tables that are made, and tables that follow items
 pub mod TableSteps
 pub mod OpenedFiles

@@ -9,7 +9,7 @@ use crate::preambles::preamble_value;
 use crate::tables::Tables;
 use bib_definitions::MacrosAt;
 use bib_entries::Holders;
-use bib_items::{ItemList, StoreFault};
+use bib_items::{ItemList, Sought, StoreFault};
 use bib_scan::{ItemView, Note, ReadFault, Seq, Text};
 use bib_value::MacroTable;
 use std::alloc::Global;
@@ -45,7 +45,8 @@ impl<L: ItemList> Model for Database<L> {
 }
 
 impl<L: ItemList> Database<L> {
-    ghost use Rattle.std.specs.Prelude.{◌≡◌, ◌≤◌, [], Some, None, Err, length, slice_get, option_and_then, count_by, IsTrue, IfOk, IfErr, IfSome, OnOk};
+    ghost use Rattle.std.specs.List.{between};
+    ghost use Rattle.std.specs.Prelude.{◌≡◌, ◌≤◌, false, [], Some, None, Err, length, slice_get, option_and_then, count_by, IsTrue, IfOk, IfErr, IfSome, OnOk};
     ghost use Rattle.std.specs.Option.{option_copied, option_map};
     ghost use Rattle.bib_spec.specs.Bytes.{name_limit};
     ghost use Rattle.bib_spec.specs.Texts.{IsOpenable};
@@ -56,6 +57,8 @@ impl<L: ItemList> Database<L> {
     ghost use Rattle.bib_scan.specs.Layout.{start_of};
     ghost use Rattle.bib_entries.specs.EntryTable.{referrers, AreApart};
     ghost use Rattle.bib_store.specs.Tables.{crossrefs_of};
+    ghost use Rattle.part_spec.specs.Parts.{have_part};
+    ghost use Rattle.bib_items.specs.Seeking.{test_of};
     ghost use Rattle.bib_spec.specs.Text.{Text as Bytes};
     ghost use Rattle.bib_store.specs.Stored.{IsTaken, AreTablesOfFile};
     ghost use Rattle.bib_definitions.specs.Definitions.{definition_count, first_definition};
@@ -207,6 +210,28 @@ impl<L: ItemList> Database<L> {
         ensures { OfReading self.now (λ db. result ≡ start_of db n) }
     {
         self.front.as_slice().len() + self.items.start(n)
+    }
+
+    /// Announces that parts of the file will be sought. The file is unchanged, and nothing else is promised: the call only
+    /// saves time. The first call takes time and memory in the file's length, and a later one a few steps for each page.
+    pub fn note_parts(&mut self)
+        ensures { self.new ≡ self.old }
+    {
+        self.items.prepare(usize::MAX);
+        self.items.note_parts();
+    }
+
+    /// The number of an item, or the count of items, such that a search from item `n` on can pass over all items before it:
+    /// none of them has a part that one of the two seeks. The item itself may have such a part or not. It takes some steps
+    /// for each page of items that it passes.
+    pub fn next_with(&self, n: usize, sought: Sought<'_>, other: Sought<'_>) -> usize
+        requires { IsItemPlace self.now n }
+        ensures order { n ≤ result }
+        ensures within { IsItemPlace self.now result }
+        ensures sought { OfReading self.now (λ db. have_part (test_of sought.entry) (between n result db.items) ≡ false) }
+        ensures other { OfReading self.now (λ db. have_part (test_of other.entry) (between n result db.items) ≡ false) }
+    {
+        self.items.next_with(n, sought, other)
     }
 
     /// Entry `n`, as an item.

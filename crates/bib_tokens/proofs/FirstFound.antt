@@ -1,7 +1,7 @@
 -- The first item that passes a test, tried item by item, and that some do exactly where there is one.
-use Rattle.std.proofs.Common.{◌≡◌, ℕ, zero, suc, ◌+◌, ◌<◌, ◌==◌, Bool, true, false, ◌||◌, List, [], ◌∷◌, Option, Some, None, is_some, option_map, slice_get, length, count_by, ⊎_elim, refl, sym, ◌∙◌, ap, arith, suc-le-suc, zero-lt-suc, le_of_suc-le-suc, not-suc-le-zero}
+use Rattle.std.proofs.Common.{◌≡◌, ℕ, zero, suc, ◌<◌, Bool, true, false, ◌||◌, List, [], ◌∷◌, Option, Some, None, is_some, option_map, slice_get, length, take, count_by, ⊎_elim, refl, sym, ◌∙◌, ap, arith, le_of_suc-le-suc, not-suc-le-zero}
 use Rattle.std.specs.List.{list_any}
-use Rattle.std.proofs.lemmas.Bool.{cases_Bool, cond-true, cond-false, eqb-true, eqb-false}
+use Rattle.std.proofs.lemmas.Bool.{cases_Bool, cond-true, cond-false, or_parts}
 use Rattle.std.proofs.lemmas.Option.{none-some}
 use Rattle.bib_spec.specs.Tree.{Tree}
 use Rattle.bib_spec.specs.Reading.{Item}
@@ -10,31 +10,20 @@ use Rattle.bib_spec.proofs.Places.{suc_some}
 use Rattle.bib_tokens.specs.FirstItem.{first_item}
 
 module _ (test : Tree → Bool) where
-  -- none of the first n items passes the test
-  abbrev pub NoneTo : List Item → ℕ → Type 0
-  NoneTo items n = (k : ℕ) (item : Item) → k < n → slice_get items k ≡ Some item → test item.tree ≡ false
-
-  pub none-more : (items : List Item) (n : ℕ) → NoneTo items n → ((item : Item) → slice_get items n ≡ Some item → test item.tree ≡ false) → NoneTo items (n + 1)
-  none-more items n none this k item lt at = ⊎_elim
-      (λ t. let is : k ≡ n = eqb-true k n t in this item (ap (slice_get items) (sym is) ∙ at))
-      (λ t. let other = eqb-false k n t in none k item (omega (arith, lt, other)) at)
-      (cases_Bool (k == n))
-
-  none_later : (item : Item) (items : List Item) (n : ℕ) → NoneTo (item ∷ items) (suc n) → NoneTo items n
-  none_later item items n none k i lt at = none (suc k) i (suc-le-suc lt) at
-
-  pub first-is : (items : List Item) (n : ℕ) → NoneTo items n → n < length items → ((item : Item) → slice_get items n ≡ Some item → test item.tree ≡ true) → Some n ≡ first_item test items
+  pub first-is : (items : List Item) (n : ℕ) → list_any (λ item. test item.tree) (take n items) ≡ false → n < length items → ((item : Item) → slice_get items n ≡ Some item → test item.tree ≡ true) → Some n ≡ first_item test items
   first-is [] n none lt this = absurd (not-suc-le-zero lt)
   first-is (item ∷ items) zero none lt this = sym (cond-true (test item.tree) (Some 0) (option_map suc (first_item test items)) (this item refl))
   first-is (item ∷ items) (suc n) none lt this =
-      ap (option_map suc) (first-is items n (none_later item items n none) (le_of_suc-le-suc lt) this)
-      ∙ sym (cond-false (test item.tree) (Some 0) (option_map suc (first_item test items)) (none 0 item (zero-lt-suc n) refl))
+      let both = or_parts (test item.tree) (list_any (λ item. test item.tree) (take n items)) none in
+      ap (option_map suc) (first-is items n both.1 (le_of_suc-le-suc lt) this)
+      ∙ sym (cond-false (test item.tree) (Some 0) (option_map suc (first_item test items)) both.0)
 
-  pub first-none : (items : List Item) → NoneTo items (length items) → None ≡ first_item test items
+  pub first-none : (items : List Item) → list_any (λ item. test item.tree) items ≡ false → None ≡ first_item test items
   first-none [] none = refl
   first-none (item ∷ items) none =
-      ap (option_map suc) (first-none items (none_later item items (length items) none))
-      ∙ sym (cond-false (test item.tree) (Some 0) (option_map suc (first_item test items)) (none 0 item (zero-lt-suc (length items)) refl))
+      let both = or_parts (test item.tree) (list_any (λ item. test item.tree) items) none in
+      ap (option_map suc) (first-none items both.1)
+      ∙ sym (cond-false (test item.tree) (Some 0) (option_map suc (first_item test items)) both.0)
 
   -- ---- how many
 

@@ -4,3 +4,4 @@ pub mod PlacedValues
 pub mod PlacedFields
 pub mod PlacedItems
 pub mod MetParts
+pub mod PassedItems

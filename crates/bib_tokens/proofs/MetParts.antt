@@ -11,10 +11,10 @@ use Rattle.bib_spec.specs.Tree.{Part, Value, Row, Tree, CommentTree, DefinitionT
 use Rattle.bib_spec.specs.Texts.{parts_of}
 use Rattle.bib_spec.specs.Reading.{IsItem, Item, Reading, Reads}
 use Rattle.bib_store.proofs.KeptItems.{item_in}
-use Rattle.edit_spec.specs.Edits.{any_part}
+use Rattle.part_spec.specs.Parts.{any_part, have_part}
 use Rattle.bib_scan.specs.View.{View, Field, view_of, fields_after, fields_of}
 use Rattle.bib_value.specs.Raw.{OfValue}
-use Rattle.bib_tokens.specs.PlacedParts.{IsMetIn, have_part}
+use Rattle.bib_tokens.specs.PlacedParts.{IsMetIn}
 use Rattle.std.proofs.lemmas.List.Folds.{list_any-append}
 use Rattle.bib_tokens.proofs.Elements.{slice_get-within, drop-next}
 

@@ -7,7 +7,7 @@ use Rattle.bib_spec.specs.Bytes.{name_limit, comma, equals_sign}
 use Rattle.bib_spec.specs.Text.{Text}
 use Rattle.bib_spec.specs.Tree.{Part, Link, Value, Assignment, Row, Tree, CommentTree, DefinitionTree, PreambleTree, EntryTree, IsTree, IsRow, IsValue, link_bytes, part_bytes, value_bytes, row_bytes, opening_bytes, close_byte, last_comma_bytes, tree_bytes}
 use Rattle.bib_spec.specs.Texts.{parts_of, row_start, bytes_before_value}
-use Rattle.edit_spec.specs.Edits.{any_part}
+use Rattle.part_spec.specs.Parts.{any_part}
 use Rattle.edit_spec.proofs.TreeChunks.{row-parts}
 use Rattle.bib_scan.specs.View.{Field, field_after, fields_after, fields_of}
 use Rattle.bib_tokens.specs.PlacedParts.{links_placed, value_placed, rows_placed, tree_placed, tokens_of, token_at, ArePlacedFields, AreFieldTokens}

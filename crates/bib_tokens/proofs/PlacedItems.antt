@@ -10,7 +10,7 @@ use Rattle.bib_spec.specs.Tree.{Part, tree_bytes}
 use Rattle.bib_store.proofs.KeptItems.{item_in}
 use Rattle.bib_spec.specs.Reading.{IsItem, Item, Reading, item_bytes, Reads}
 use Rattle.bib_spec.specs.Texts.{IsOpenable}
-use Rattle.edit_spec.specs.Edits.{any_part}
+use Rattle.part_spec.specs.Parts.{any_part}
 use Rattle.bib_scan.specs.View.{View, Field, view_of}
 use Rattle.bib_scan.specs.Layout.{start_of}
 use Rattle.bib_scan.proofs.ReadingLaws.{start_more}

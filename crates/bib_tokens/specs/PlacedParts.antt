@@ -6,11 +6,8 @@ use Rattle.bib_spec.specs.Text.{Text}
 use Rattle.bib_spec.specs.Tree.{Part, Link, Value, Row, Tree, CommentTree, DefinitionTree, PreambleTree, EntryTree, part_bytes, link_bytes, row_bytes, opening_bytes}
 use Rattle.bib_spec.specs.Reading.{Item, IsValueWithin, item_bytes}
 use Rattle.bib_spec.specs.Texts.{row_start, bytes_before_value, parts_of}
-use Rattle.edit_spec.specs.Edits.{uses, holds, any_part}
 use Rattle.bib_scan.specs.View.{Field}
 use Rattle.bib_value.specs.Raw.{OfValue}
-use Rattle.bib_tokens.specs.declared.seeking.Sought.{Sought}
-use Rattle.bib_tokens.specs.declared.seeking.Sought.TheVariants as sought
 use Rattle.bib_tokens.specs.declared.tokens.Token.{Token}
 
 -- ---- parts with their places
@@ -42,12 +39,6 @@ items_placed at [] = []
 items_placed at (item ∷ items) = tree_placed at item.tree ++ items_placed (at + length (item_bytes item)) items
 
 -- ---- the parts that are sought
-
--- the test of the parts that are sought
-abbrev pub test_of : Sought → Part → Bool
-test_of sought.Nothing = λ part. false
-test_of (sought.Uses name) = uses name.now
-test_of (sought.Holds text) = holds text.now
 
 -- the place and the bytes of a part
 abbrev pub token_at : ℕ × Part → ℕ × Text
@@ -89,7 +80,3 @@ AreFieldTokens test start (field ∷ fields) old new =
 abbrev pub IsMetIn : (Part → Bool) → List Field → Bool → Type 0
 IsMetIn test [] met = met ≡ false
 IsMetIn test (field ∷ fields) met = (here rest : Bool) × OfValue field.value (λ v. here ≡ list_any test (parts_of v)) × IsMetIn test fields rest × (met ≡ (here || rest))
-
--- a part of one of these items passes the test
-abbrev pub have_part : (Part → Bool) → List Item → Bool
-have_part test items = list_any (λ item. any_part test item.tree) items

@@ -3,8 +3,7 @@
 //! promises exactly the parts of the definitions, in their order, or the one refusal, which is want of memory.
 #![tactic(auto)]
 
-mod seeking;
 mod tokens;
 
-pub use seeking::Sought;
+pub use bib_items::Sought;
 pub use tokens::{First, Token, first_with, is_met_before, push_from};

@@ -6,16 +6,17 @@ ghost use Rattle.std.specs.Option.{option_map};
 ghost use Rattle.bib_spec.specs.Bytes.{name_limit};
 ghost use Rattle.bib_spec.specs.Tree.{part_bytes};
 ghost use Rattle.bib_spec.specs.Reading.{Item, IsValueWithin};
-ghost use Rattle.edit_spec.specs.Edits.{any_part};
+ghost use Rattle.part_spec.specs.Parts.{any_part, have_part};
 ghost use Rattle.bib_scan.specs.PartView.{part_view};
 ghost use Rattle.bib_scan.specs.ValueParts.{parts_of, IsPartsOf};
 ghost use Rattle.bib_scan.specs.Layout.{start_of};
 ghost use Rattle.bib_value.specs.Raw.{OfValue};
 ghost use Rattle.bib_store.specs.Meaning.{OfReading, IsItemNumber, IsItemPlace};
 ghost use Rattle.bib_tokens.specs.FirstItem.{first_item};
-ghost use Rattle.bib_tokens.specs.PlacedParts.{value_placed, items_placed, test_of, token_at, tokens_of, token_seen, tokens_seen, ArePlacedFields, AreFieldTokens, IsMetIn, have_part};
+ghost use Rattle.bib_tokens.specs.PlacedParts.{value_placed, items_placed, token_at, tokens_of, token_seen, tokens_seen, ArePlacedFields, AreFieldTokens, IsMetIn};
+ghost use Rattle.bib_items.specs.Seeking.{test_of};
 
-use crate::seeking::Sought;
+use bib_items::Sought;
 use bib_scan::{Fields, Part, Parts, only_part, read_value};
 use bib_store::{Database, ItemList};
 use std::alloc::{AllocError, Global};
@@ -146,9 +147,19 @@ fn push_in_fields<'a>(
     Ok(met)
 }
 
+/// The place of item `n`, or of the file's end, if item `near` begins at the place `at`. It is known at once if both are the
+/// same item.
+fn place_of<L: ItemList>(db: &Database<L>, n: usize, near: usize, at: usize) -> usize
+    requires within { IsItemPlace db.now n }
+    requires near { OfReading db.now (λ r. at ≡ start_of r near) }
+    ensures { OfReading db.now (λ r. result ≡ start_of r n) }
+{
+    if n == near { at } else { db.item_place(n) }
+}
+
 /// Adds the sought parts of item `n` and of those after it to the tokens, in their order, and says whether a part of one
-/// is watched for. It looks at each field once, and takes time in the length of these items. If memory is refused, some of
-/// the tokens may have been added.
+/// is watched for. It looks at each field at most once, and passes over pages of items that have no such part, if the
+/// database was told to note parts. If memory is refused, some of the tokens may have been added.
 pub fn push_from<'a, L: ItemList>(
     alloc: Global,
     tokens: &mut Vec<Token<'a>>,
@@ -163,13 +174,18 @@ pub fn push_from<'a, L: ItemList>(
     ensures front { take (length tokens.old.items) tokens.new.items ≡ tokens.old.items }
 {
     db.opens();
-    let mut at = db.item_place(n);
+    let mut k = db.next_with(n, sought, watched);
+    let mut at = db.item_place(k);
     let mut met = false;
-    'items: for k in n..db.item_count() {
+    let count = db.item_count();
+    'items: while k < count {
         let view = db.item(k);
         let here = push_in_fields(alloc, tokens, at, view.fields(), sought, watched)?;
         met |= here;
-        at += view.body().len() + view.trail().len();
+        let end = at + (view.body().len() + view.trail().len());
+        let next = db.next_with(k + 1, sought, watched);
+        at = place_of(db, next, k + 1, end);
+        k = next;
     }
     Ok(met)
 }
@@ -202,7 +218,7 @@ fn look_at<L: ItemList>(
     })
 }
 
-/// Whether a part of an item before item `n` is watched for. It takes time in the length of these items.
+/// Whether a part of an item before item `n` is watched for. It passes over items as `push_from` does.
 pub fn is_met_before<L: ItemList>(
     alloc: Global,
     db: &Database<L>,
@@ -212,10 +228,12 @@ pub fn is_met_before<L: ItemList>(
     requires { IsItemPlace db.now n }
     ensures { IfOk result (λ met. OfReading db.now (λ r. met ≡ have_part (test_of watched.entry) (take n r.items))) }
 {
-    'items: for k in 0..n {
+    let mut k = db.next_with(0, watched, Sought::Nothing);
+    'items: while k < n {
         if look_at(alloc, db, k, Sought::Nothing, watched)?.watched {
             return Ok(true);
         }
+        k = db.next_with(k + 1, watched, Sought::Nothing);
     }
     Ok(false)
 }
@@ -227,8 +245,8 @@ pub struct First {
     pub met: bool,
 }
 
-/// Finds the first item with a part that is sought, and tells what was met before it. It takes time in the length of the
-/// items up to it.
+/// Finds the first item with a part that is sought, and tells what was met before it. It passes over items as `push_from`
+/// does.
 pub fn first_with<L: ItemList>(
     alloc: Global,
     db: &Database<L>,
@@ -238,13 +256,16 @@ pub fn first_with<L: ItemList>(
     ensures first { IfOk result (λ first. OfReading db.now (λ r. option_map (λ first. first.n) first ≡ first_item (any_part (test_of sought.entry)) r.items)) }
     ensures met { IfOk result (λ first. IfSome first (λ first. OfReading db.now (λ r. first.met ≡ have_part (test_of watched.entry) (take first.n r.items)))) }
 {
+    let count = db.item_count();
     let mut met = false;
-    'items: for n in 0..db.item_count() {
+    let mut n = db.next_with(0, sought, watched);
+    'items: while n < count {
         let has = look_at(alloc, db, n, sought, watched)?;
         if has.sought {
             return Ok(Some(First { n, met }));
         }
         met |= has.watched;
+        n = db.next_with(n + 1, sought, watched);
     }
     Ok(None)
 }

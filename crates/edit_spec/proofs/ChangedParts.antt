@@ -9,7 +9,8 @@ use Rattle.bib_spec.specs.Tree.{Part, Braced, Quoted, Digits, Macro, Link, Value
 use Rattle.bib_spec.specs.Reading.{Item, Reading, bytes_of, IsItem, Reads}
 use Rattle.bib_spec.specs.Texts.{seen}
 use Rattle.bib_spec.specs.Records.{Record}
-use Rattle.edit_spec.specs.Edits.{RenameMacro, InlineMacro, IntroduceMacro, WouldMerge, changed, link_with, value_with, assignment_with, row_with, tree_with, item_with, items_with, leaving, defines, holds, any_part, from_first, in_line, in_braces, name_renamed, use_renamed, rename_macro, use_inlined, uses_inlined, text_of_macro, inline_macro, definition_of, part_introduced, introduced, introduce_macro, IsAccepted}
+use Rattle.part_spec.specs.Parts.{holds, any_part}
+use Rattle.edit_spec.specs.Edits.{RenameMacro, InlineMacro, IntroduceMacro, WouldMerge, changed, link_with, value_with, assignment_with, row_with, tree_with, item_with, items_with, leaving, defines, from_first, in_line, in_braces, name_renamed, use_renamed, rename_macro, use_inlined, uses_inlined, text_of_macro, inline_macro, definition_of, part_introduced, introduced, introduce_macro, IsAccepted}
 use Rattle.edit_spec.proofs.Balanced.{empty_balanced, macros-balance}
 use Rattle.bib_spec.proofs.Keys.{option_cases}
 use Rattle.edit_spec.proofs.Unrefuted.{unrefuted_texts, given_names-are, given_values-are}

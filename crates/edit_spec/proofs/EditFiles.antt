@@ -11,7 +11,8 @@ use Rattle.bib_spec.specs.Texts.{row_start}
 use Rattle.bib_spec.specs.Records.{EntryTexts, Record, entries_of, crossref, entry_named, target}
 use Rattle.bib_spec.specs.Pieces.{Chunk, Kept, Replaced, Fit, applied}
 use Rattle.bib_spec.specs.MadeKeys.{new_keys}
-use Rattle.edit_spec.specs.Edits.{NewEntry, Edit, SetField, DropField, AddEntry, RemoveEntry, MoveEntry, RenameKey, RenameMacro, InlineMacro, IntroduceMacro, RegenerateKeys, AddMany, leaving, defines, any_part, holds, is_entry, from_first, with_first_tree, without_first, with_item, items_with, new_row, row_to, row_before, with_field, without_field, entry_with_rows, of_entry, item_of, in_line, in_braces, with_value, with_crossref, next_number, tree_with_keys, items_with_keys, key_for, name_renamed, use_renamed, use_inlined, uses_inlined, text_of_macro, definition_of, part_introduced, introduced, edited}
+use Rattle.part_spec.specs.Parts.{holds, any_part}
+use Rattle.edit_spec.specs.Edits.{NewEntry, Edit, SetField, DropField, AddEntry, RemoveEntry, MoveEntry, RenameKey, RenameMacro, InlineMacro, IntroduceMacro, RegenerateKeys, AddMany, leaving, defines, is_entry, from_first, with_first_tree, without_first, with_item, items_with, new_row, row_to, row_before, with_field, without_field, entry_with_rows, of_entry, item_of, in_line, in_braces, with_value, with_crossref, next_number, tree_with_keys, items_with_keys, key_for, name_renamed, use_renamed, use_inlined, uses_inlined, text_of_macro, definition_of, part_introduced, introduced, edited}
 use Rattle.edit_spec.specs.EditChunks.{token, entry_chunks, items_chunks, kept_item, kept_items, kept_rows, body_and_rest, chunks_from_first, without_body, entry_body, entry_as, value_replaced, field_set, field_dropped, crossref_chunks, tree_key_chunks, item_key_chunks, groups_without, inserted, moved, appended, changed_items, chunks, pieces_of}
 use Rattle.edit_spec.specs.Laws.{chunks_are_files, pieces_lead_to_edited}
 use Rattle.edit_spec.proofs.TreeChunks.{read, old-read, new-read, read-append, token_old, token_new, row-parts, last-read, entry-read, items-old, items-new, rows-kept, items-kept}

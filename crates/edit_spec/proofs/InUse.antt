@@ -6,7 +6,8 @@ use Rattle.bib_spec.specs.Text.{Text, same}
 use Rattle.bib_spec.specs.Tree.{Part, Value, Row, Tree, CommentTree, DefinitionTree, PreambleTree, EntryTree}
 use Rattle.bib_spec.specs.Reading.{Item}
 use Rattle.bib_spec.specs.Texts.{parts_of}
-use Rattle.edit_spec.specs.Edits.{defines, any_part}
+use Rattle.part_spec.specs.Parts.{any_part}
+use Rattle.edit_spec.specs.Edits.{defines}
 use Rattle.edit_spec.proofs.Simulation.{Parts, Rows, InTree, InItems}
 
 pub all_of : {X : Type 0} (P : X → Type 0) → ((x : X) → P x) → (xs : List X) → AllByRecursion P xs

@@ -7,7 +7,8 @@ use Rattle.bib_spec.specs.Tree.{Part, Braced, Quoted, Digits, Macro, Tree, Defin
 use Rattle.bib_spec.specs.Reading.{Item}
 use Rattle.bib_spec.specs.Texts.{Macros, updated, part_text, macros_after, macros_at, gathered}
 use Rattle.bib_spec.specs.Records.{entry_in, preamble_in}
-use Rattle.edit_spec.specs.Edits.{changed, leaving, tree_with, uses, holds, any_part, from_first, part_introduced, definition_of, introduced}
+use Rattle.part_spec.specs.Parts.{uses, holds, any_part}
+use Rattle.edit_spec.specs.Edits.{changed, leaving, tree_with, from_first, part_introduced, definition_of, introduced}
 use Rattle.edit_spec.specs.Laws.{is_reached}
 use Rattle.bib_spec.proofs.Names.{same-is, true-eq, eq-true}
 use Rattle.edit_spec.proofs.Simulation.{InTree, InItems, AgreeOn, names_stay, name_stays, entry_same, preamble_same, gathered_same, at_same}

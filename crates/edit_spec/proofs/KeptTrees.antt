@@ -6,7 +6,8 @@ use Rattle.std.proofs.lemmas.Bool.{or_parts}
 use Rattle.bib_spec.specs.Text.{Text}
 use Rattle.bib_spec.specs.Tree.{Part, Link, Value, Assignment, Row, Definition, Preamble, Entry, Tree, CommentTree, DefinitionTree, PreambleTree, EntryTree}
 use Rattle.bib_spec.specs.Texts.{parts_of}
-use Rattle.edit_spec.specs.Edits.{changed, link_with, value_with, assignment_with, row_with, tree_with, leaving, any_part}
+use Rattle.part_spec.specs.Parts.{any_part}
+use Rattle.edit_spec.specs.Edits.{changed, link_with, value_with, assignment_with, row_with, tree_with, leaving}
 
 -- the tree's defined name, if it has one, is left
 abbrev pub IsNameLeft : (Text → Option Text) → Tree → Type 0

@@ -7,7 +7,8 @@ use Rattle.bib_spec.specs.Tree.{Part, Braced, Quoted, Digits, Macro}
 use Rattle.bib_spec.specs.Reading.{Reading}
 use Rattle.bib_spec.specs.Texts.{months, macros_at, seen}
 use Rattle.bib_spec.specs.Records.{Record, entries_of, preambles_of, expanded, parent, listed, unknown}
-use Rattle.edit_spec.specs.Edits.{defines, uses, any_part, is_in_use, rename_macro, inline_macro, introduce_macro, text_of_macro, NotFound, Ambiguous, NameInUse}
+use Rattle.part_spec.specs.Parts.{uses, any_part}
+use Rattle.edit_spec.specs.Edits.{defines, is_in_use, rename_macro, inline_macro, introduce_macro, text_of_macro, NotFound, Ambiguous, NameInUse}
 use Rattle.edit_spec.specs.Laws.{record_with_key, no_new_key, KeepsEntries, KeepsCitations, is_after, SeesRenamed, rename_macro_keeps, inline_macro_keeps, introduce_macro_keeps}
 use Rattle.bib_spec.proofs.Accepted.{there_once}
 use Rattle.bib_spec.proofs.Names.{same-true, true-same}

@@ -10,7 +10,8 @@ use Rattle.bib_spec.specs.Texts.{row_start}
 use Rattle.bib_spec.specs.Records.{EntryTexts, Record, entries_of, crossref, entry_named, target}
 use Rattle.bib_spec.specs.Pieces.{Piece, Chunk, Kept, Replaced, pieces_of_chunks}
 use Rattle.bib_spec.specs.MadeKeys.{new_keys}
-use Rattle.edit_spec.specs.Edits.{NewEntry, Edit, SetField, DropField, AddEntry, RemoveEntry, MoveEntry, RenameKey, RenameMacro, InlineMacro, IntroduceMacro, RegenerateKeys, AddMany, leaving, defines, any_part, holds, is_entry, new_row, item_of, in_line, in_braces, next_number, key_for, name_renamed, use_renamed, use_inlined, text_of_macro, definition_of, part_introduced}
+use Rattle.part_spec.specs.Parts.{holds, any_part}
+use Rattle.edit_spec.specs.Edits.{NewEntry, Edit, SetField, DropField, AddEntry, RemoveEntry, MoveEntry, RenameKey, RenameMacro, InlineMacro, IntroduceMacro, RegenerateKeys, AddMany, leaving, defines, is_entry, new_row, item_of, in_line, in_braces, next_number, key_for, name_renamed, use_renamed, use_inlined, text_of_macro, definition_of, part_introduced}
 
 -- ---- trees
 

@@ -10,6 +10,7 @@ use Rattle.bib_spec.specs.Reading.{Item, Reading, bytes_of, IsValueWithin}
 use Rattle.bib_spec.specs.Texts.{months, parts_of, values_of, seen, too_long_at}
 use Rattle.bib_spec.specs.Records.{EntryTexts, Record, entries_of, keys_of, crossref, has_name, is_named, entry_named, target, parent, dangling_texts}
 use Rattle.bib_spec.specs.MadeKeys.{new_keys}
+use Rattle.part_spec.specs.Parts.{uses, holds, any_part}
 
 -- ---- edits
 
@@ -101,24 +102,6 @@ defines name (DefinitionTree d) = same d.assignment.name name
 defines name (CommentTree h) = false
 defines name (PreambleTree p) = false
 defines name (EntryTree e) = false
-
--- the part is the macro's name
-abbrev pub uses : Text → Part → Bool
-uses name (Macro used) = same used name
-uses name (Braced t) = false
-uses name (Quoted t) = false
-uses name (Digits t) = false
-
--- the part is `{text}` or `"text"`
-abbrev pub holds : Text → Part → Bool
-holds text (Braced t) = bytes_eq t text
-holds text (Quoted t) = bytes_eq t text
-holds text (Digits t) = false
-holds text (Macro name) = false
-
--- some part of the item passes the test
-abbrev pub any_part : (Part → Bool) → Tree → Bool
-any_part test tree = list_any (λ v. list_any test (parts_of v)) (values_of tree)
 
 -- the name is a month's, or defined or used anywhere
 abbrev pub is_in_use : Text → List Item → Bool

@@ -8,7 +8,8 @@ use Rattle.bib_spec.specs.Texts.{months, macros_in, macros_at, raw_text, seen}
 use Rattle.bib_spec.specs.Records.{EntryTexts, Record, entries_of, preambles_of, keys_of, entry_named, parent, expanded, cites_all, listed, unknown}
 use Rattle.bib_spec.specs.Pieces.{Fit, applied, old_of, new_of}
 use Rattle.bib_spec.specs.MadeKeys.{new_keys, IsKeyBase}
-use Rattle.edit_spec.specs.Edits.{Edit, RenameKey, RenameMacro, InlineMacro, IntroduceMacro, RegenerateKeys, defines, holds, any_part, key_for, edited, IsAccepted}
+use Rattle.part_spec.specs.Parts.{holds, any_part}
+use Rattle.edit_spec.specs.Edits.{Edit, RenameKey, RenameMacro, InlineMacro, IntroduceMacro, RegenerateKeys, defines, key_for, edited, IsAccepted}
 use Rattle.edit_spec.specs.EditChunks.{chunks, pieces_of}
 
 -- ---- macros

@@ -7,7 +7,8 @@ use Rattle.bib_spec.specs.Tree.{Part, Braced, Value, Row, Tree, EntryTree}
 use Rattle.bib_spec.specs.Reading.{Item, Reading}
 use Rattle.bib_spec.specs.MadeKeys.{new_keys}
 use Rattle.bib_spec.specs.Records.{EntryTexts, Record, entries_of, preambles_of, crossref, entry_named, target, parent, dangling_texts, expanded}
-use Rattle.edit_spec.specs.Edits.{NewEntry, Edit, SetField, DropField, AddEntry, RemoveEntry, MoveEntry, RenameKey, RenameMacro, InlineMacro, IntroduceMacro, RegenerateKeys, AddMany, given_keys, defines, uses, holds, any_part, is_entry, in_line, edited, IsAccepted}
+use Rattle.part_spec.specs.Parts.{uses, holds, any_part}
+use Rattle.edit_spec.specs.Edits.{NewEntry, Edit, SetField, DropField, AddEntry, RemoveEntry, MoveEntry, RenameKey, RenameMacro, InlineMacro, IntroduceMacro, RegenerateKeys, AddMany, given_keys, defines, is_entry, in_line, edited, IsAccepted}
 use Rattle.edit_spec.specs.Laws.{is_after, is_reached}
 
 -- ---- numbers

@@ -1,13 +1,8 @@
-use Rattle.std.proofs.Common.{◌≡◌, false, take, refl, sym, ◌∙◌, subst, arith, ℕ}
-use Rattle.bib_tokens.specs.PlacedParts.{test_of, have_part}
+use Rattle.std.proofs.Common.{◌+◌, false, sym, ◌∙◌, arith}
+use Rattle.bib_items.specs.Seeking.{test_of}
 use Rattle.bib_tokens.proofs.MetParts.{met-next, met-within}
+use Rattle.bib_tokens.proofs.PassedItems.{met-first, none-before}
 use Rattle.bib_tokens.proofs.tokens.is_met_before.Goals as goal
-
-pub items-init : goal.items-init
-items-init g c db reads = refl
-
-pub look_at-requires : goal.look_at-requires
-look_at-requires g c db reads = let within = c.requires db reads in omega (arith, within, c.items-test.true)
 
 pub returns-then-branch : goal.returns-then-branch
 returns-then-branch g c db reads =
@@ -17,9 +12,11 @@ returns-then-branch g c db reads =
 pub items-preserved : goal.items-preserved
 items-preserved g c db reads =
     let within = c.requires db reads in
-    met-next (test_of c.args.watched) db.items c.items.k false (omega (arith, within, c.items-test.true)) (c.items.invariant db reads) false (λ i at. sym c.if-branch.false ∙ c.in_ok-look_at.ensures.watched db reads i at)
+    let next = c.next_with-k-in-items.ensures in (
+      next.within db reads,
+      met-next (test_of c.args.watched) db.items c.items.k false (omega (arith, within, c.items-test.true)) (c.items.invariant db reads).1 false (λ i at. sym c.if-branch.false ∙ c.in_ok-look_at.ensures.watched db reads i at)
+          ∙ sym (met-first (test_of c.args.watched) db.items (c.items.k + 1) c.next_with-k-in-items.result next.order (next.sought db reads)),
+    )
 
 pub returns : goal.returns
-returns g c db reads =
-    let end : c.items.k ≡ c.args.n = omega (arith, c.items-test.false, c.items.auto.k-end) in
-    subst (λ (k : ℕ). false ≡ have_part (test_of c.args.watched) (take k db.items)) end (c.items.invariant db reads)
+returns g c db reads = none-before (test_of c.args.watched) db.items c.args.n c.items.k c.items-test.false (c.items.invariant db reads).1

@@ -4,6 +4,7 @@ use Rattle.bib_spec.specs.Reading.{Reads}
 use Rattle.bib_items.specs.declared.span.Span.{Span}
 use Rattle.bib_items.specs.Items.{all_stored}
 use Rattle.bib_items.specs.Spans.{items_in, LieInEither}
+use Rattle.bib_items.proofs.Covered.{covered-none}
 use Rattle.bib_items.proofs.Gathered.{AreSpansOf, spans_none, spans_more}
 use Rattle.bib_items.proofs.page.Page.of.Goals as goal
 
@@ -25,6 +26,7 @@ invariant_of-result c = record {
   lie = subst₂ (λ (shared own : Text). LieInEither shared own c.fill.spans.items) (sym c.in_ok-share.ensures) (sym c.new.ensures.items) c.fill.invariant.lie;
   len_is = omega (arith, c.fill.invariant.sum);
   fits = omega (arith, c.fill.auto.place-fits);
+  marked = covered-none _;
 }
 
 pub returns : goal.returns

@@ -2,8 +2,8 @@
 
 ghost use Rattle.std.specs.Prelude.{◌≡◌};
 ghost use Rattle.bib_scan.specs.PartView.{part_view};
-ghost use Rattle.edit_spec.specs.Edits.{uses, holds};
-ghost use Rattle.bib_tokens.specs.PlacedParts.{test_of};
+ghost use Rattle.part_spec.specs.Parts.{uses, holds};
+ghost use Rattle.bib_items.specs.Seeking.{test_of};
 
 use bib_scan::{Part, same_folded};
 

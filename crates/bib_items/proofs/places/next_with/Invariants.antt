@@ -1,0 +1,9 @@
+use Rattle.bib_items.specs.declared.list.Item.{Item}
+use Rattle.bib_items.specs.Seeking.{LacksPart}
+use Rattle.bib_items.proofs.Passed.{ArePassedOver}
+use Rattle.bib_items.proofs.places.next_with.Given as goal
+
+abbrev pub invariant-pass : goal.invariant-pass
+invariant-pass l =
+    ArePassedOver (λ (i : Item). LacksPart l.sought i.body) l.pages l.p l.from l.before l.next
+    × ArePassedOver (λ (i : Item). LacksPart l.other i.body) l.pages l.p l.from l.before l.next

@@ -1,0 +1,194 @@
+//! Marks of the parts of items, so that a search passes over pages in which it would find nothing.
+
+ghost use Rattle.std.specs.Prelude.{◌≡◌, ℕ, false, [], List, OnOk, IfOk, Contains};
+ghost use Rattle.bib_spec.specs.Bytes.{name_limit};
+ghost use Rattle.bib_spec.specs.Text.{Text as Bytes};
+ghost use Rattle.bib_spec.specs.Reading.{IsValueWithin};
+ghost use Rattle.bib_scan.specs.PartView.{part_view};
+ghost use Rattle.bib_scan.specs.ValueParts.{IsPartsOf};
+ghost use Rattle.bib_items.specs.Seeking.{LacksPart};
+ghost use Rattle.bib_items.specs.PartMarks.{mixed, mixed_all, name_mark, text_mark, part_mark, sought_mark, KeepsMarks, HasPartMark, HasValueMarks, HasFieldMarks, HasItemMarks, IsCovered};
+
+use crate::seeking::Sought;
+use bib_scan::{Fields, ItemView, Part, Parts, only_part, read_value};
+use std::alloc::{AllocError, Global};
+use std::marker::Model;
+
+/// A mark after one more byte.
+#[tactic(auto, unfolding(crate::specs::PartMarks::mixed))]
+fn mixed(mark: u32, byte: u8) -> u32
+    ensures { result ≡ mixed mark byte }
+{
+    ((mark as u64 * 16_777_619 + byte as u64) % 4_294_967_296) as u32
+}
+
+/// The mark of a macro's name. Names that are equal if case does not count have the same mark.
+fn name_mark(name: &[u8]) -> u32
+    ensures { result ≡ name_mark name.now }
+{
+    let mut mark = 1;
+    'bytes: for n in 0..name.len() {
+        mark = mixed(mark, name[n].to_ascii_lowercase());
+    }
+    mark
+}
+
+/// The mark of a text in braces or in quotes.
+fn text_mark(text: &[u8]) -> u32
+    ensures { result ≡ text_mark text.now }
+{
+    let mut mark = 2;
+    'bytes: for n in 0..text.len() {
+        mark = mixed(mark, text[n]);
+    }
+    mark
+}
+
+/// The mark of a part. Digits have none, since no search meets them.
+fn part_mark(part: Part<'_>) -> Option<u32>
+    ensures { result ≡ part_mark (part_view part.entry) }
+{
+    match part {
+        Part::Braced(text) | Part::Quoted(text) => Some(text_mark(text)),
+        Part::Digits(_) => None,
+        Part::Macro(name) => Some(name_mark(name)),
+    }
+}
+
+/// The mark of the parts that are sought.
+fn sought_mark(sought: Sought<'_>) -> Option<u32>
+    ensures { result ≡ sought_mark sought.entry }
+{
+    match sought {
+        Sought::Nothing => None,
+        Sought::Uses(name) => Some(name_mark(name)),
+        Sought::Holds(text) => Some(text_mark(text)),
+    }
+}
+
+/// Marks of parts, in ascending order.
+#[derive(Drop)]
+pub(crate) struct Marks {
+    marks: Vec<u32>,
+}
+
+impl Model for Marks {
+    ghost use Rattle.std.specs.Prelude.{ℕ, List};
+    ghost use Rattle.std.specs.List.Sorted.{IsNonDecreasing};
+
+    ghost Value = { List ℕ };
+
+    ghost view = { λ m. m.marks.items };
+
+    ghost invariant = { λ m. IsNonDecreasing m.marks.items };
+}
+
+impl Marks {
+    /// No marks. It asks for no memory.
+    pub(crate) fn new(alloc: Global) -> Self
+        ensures { result ≡ [] }
+    {
+        Marks {
+            marks: Vec::new(alloc),
+        }
+    }
+
+    /// Whether this mark is among them.
+    fn has(&self, mark: u32) -> bool
+        ensures { result ≡ false → Contains self.now mark → ⊥ }
+    {
+        self.marks.binary_search(&mark).is_ok()
+    }
+
+    /// Adds a mark, unless it is among them.
+    fn add(&mut self, mark: u32) -> Result<(), AllocError>
+        ensures kept { KeepsMarks self.old self.new }
+        ensures added { OnOk result (Contains self.new mark) }
+    {
+        if let Err(at) = self.marks.binary_search(&mark) {
+            self.marks.insert(at, mark)?;
+        }
+        Ok(())
+    }
+
+    /// Adds the mark of a part.
+    fn add_part(&mut self, part: Part<'_>) -> Result<(), AllocError>
+        ensures kept { KeepsMarks self.old self.new }
+        ensures added { OnOk result (HasPartMark self.new (part_view part.entry)) }
+    {
+        match part_mark(part) {
+            Some(mark) => self.add(mark),
+            None => Ok(()),
+        }
+    }
+
+    /// Adds the marks of a value that is taken apart.
+    fn add_parts(&mut self, value: &[u8], parts: &Parts) -> Result<(), AllocError>
+        requires { IsPartsOf value.now parts.now }
+        ensures kept { KeepsMarks self.old self.new }
+        ensures added { OnOk result (HasValueMarks self.new value.now) }
+    {
+        'parts: for n in 0..parts.len() {
+            self.add_part(parts.part(value, n))?;
+        }
+        Ok(())
+    }
+
+    /// Adds the marks of a value. Most values have one part, and are not taken apart.
+    fn add_value(&mut self, alloc: Global, value: &[u8]) -> Result<(), AllocError>
+        ensures kept { KeepsMarks self.old self.new }
+        ensures added { OnOk result (HasValueMarks self.new value.now) }
+    {
+        if let Some(part) = only_part(value) {
+            return self.add_part(part);
+        }
+        match read_value(alloc, value) {
+            Ok(parts) => self.add_parts(value, &parts),
+            // The value is valid in each item of a file, so only want of memory refuses it.
+            Err(_) => Err(AllocError),
+        }
+    }
+
+    /// Adds the marks of fields.
+    fn add_fields(&mut self, alloc: Global, fields: Fields<'_>) -> Result<(), AllocError>
+        ensures kept { KeepsMarks self.old self.new }
+        ensures added { OnOk result (HasFieldMarks self.new fields.entry) }
+    {
+        let mut rest = fields;
+        'fields: while let Some(field) = rest.next() {
+            self.add_value(alloc, field.value)?;
+        }
+        Ok(())
+    }
+
+    /// Adds the marks of the item with this body.
+    pub(crate) fn add_item(&mut self, alloc: Global, body: &[u8]) -> Result<(), AllocError>
+        ensures kept { KeepsMarks self.old self.new }
+        ensures added { OnOk result (HasItemMarks self.new body.now) }
+    {
+        self.add_fields(alloc, ItemView::of(body, b"").fields())
+    }
+
+    /// Whether an item whose marks are among these may have a part that is sought.
+    pub(crate) fn may_have(&self, sought: Sought<'_>) -> bool
+        ensures { result ≡ false → (body : Bytes) → HasItemMarks self.now body → LacksPart sought.entry body }
+    {
+        match sought_mark(sought) {
+            Some(mark) => self.has(mark),
+            None => false,
+        }
+    }
+}
+
+/// Adds the marks of the item with this body, if marks were made. If memory is refused, there are none afterwards.
+pub(crate) fn cover(alloc: Global, marks: &mut Option<Marks>, body: &[u8])
+    ensures kept { (other : Bytes) → IsCovered marks.old other → IsCovered marks.new other }
+    ensures added { IsCovered marks.new body.now }
+{
+    let Some(mut known) = marks.take() else {
+        return;
+    };
+    if known.add_item(alloc, body).is_ok() {
+        *marks = Some(known);
+    }
+}
