@@ -65,7 +65,7 @@ pub use Rattle.bib_tokens.proofs.FirstFound.{first-any, first-count, none-count}
 pub use Rattle.bib_tokens.proofs.PlacedFields.{tokens-append, value-place}
 pub use Rattle.bib_tokens.proofs.PlacedItems.{item-ends, only-tokens, place-next}
 pub use Rattle.bib_tokens.specs.FirstItem.{first_item}
-pub use Rattle.bib_tokens.specs.PlacedParts.{field_end, have_part, items_placed, links_placed, rows_placed, token_seen, tokens_of, tokens_seen, tree_placed, value_placed}
+pub use Rattle.bib_tokens.specs.PlacedParts.{field_end, items_placed, links_placed, rows_placed, token_seen, tokens_of, tokens_seen, tree_placed, value_placed}
 pub use Rattle.folded_map.specs.FoldedMap.{IsWith, value_at}
 pub use Rattle.edit_spec.proofs.EditFiles.{chunks-are-files, pieces-lead}
 pub use Rattle.edit_spec.proofs.RenameKey.{new_key_parts, only}
@@ -75,7 +75,7 @@ pub use Rattle.edit_spec.proofs.WrittenRows.{new_key-length}
 pub use Rattle.edit_spec.specs.EditChunks.{after_rows, assignment_chunks, chunks, chunks_from_first, crossref_chunks, entry_as, entry_chunks, field_dropped, field_set, groups_without, inserted, item_chunks, item_key_chunks, items_chunks, kept_item, kept_items, kept_rows, key_chunks, link_chunks}
 pub use Rattle.edit_spec.specs.EditChunks.{moved, part_token, pieces_of, row_chunks, token, tree_chunks, tree_key_chunks, value_chunks, value_replaced, without_body}
 pub use Rattle.edit_spec.specs.Edits.{Ambiguous, BadKey, BadName, BadPosition, BadValue, Edit, EditFault, FileTooLong, HasCleanTexts, InlineMacro, IntroduceMacro, IsAccepted, IsAmbiguous, IsFirstRefusal, IsKeyInUse, IsMissing, IsNameInUse, IsPositionTooHigh, IsReferred, KeyInUse, MergesText}
-pub use Rattle.part_spec.specs.Parts.{uses, holds, any_part}
+pub use Rattle.part_spec.specs.Parts.{any_part, have_part, holds, uses}
 pub use Rattle.edit_spec.specs.Edits.{MoveEntry, NameInUse, NotFound, Referred, Refuses, RemoveEntry, RenameMacro, Spells, TextTooLong, WouldMerge, changed, defines, definition_of, definitions, drop_field, edited, ends_in_key, entry_of, entry_with_field, entry_without_field, field_names}
 pub use Rattle.edit_spec.specs.Edits.{field_values, fields_named, from_first, given_keys, given_names, given_types, given_values, has_same, holders, in_braces, in_line, inline_macro, introduce_macro, introduced, is_entry, is_in_use, item_of, items_with, items_with_keys, key_for}
 pub use Rattle.edit_spec.specs.Edits.{last_position, leaving, line_end, name_renamed, new_row, new_rows, next_number, of_entry, part_introduced, rank, remove_entry, rename_macro, row_before, row_to, row_with, text_of_macro, tree_ends_in_key, tree_with, tree_with_keys, use_inlined, use_renamed}

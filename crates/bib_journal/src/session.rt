@@ -56,6 +56,14 @@ impl<L: ItemList> Model for Session<L> {
     ghost invariant = { λ s. IsKept (record { steps = kept s.past.items s.database (reverse s.undone.items); current = s.current }) s.past_len s.ends.items };
 }
 
+/// Whether the edit seeks parts of values in the whole file, as edits of macros do. Only time depends on it.
+fn seeks_parts(edit: &Edit) -> bool {
+    match edit {
+        Edit::RenameMacro { .. } | Edit::InlineMacro { .. } | Edit::IntroduceMacro { .. } => true,
+        _ => false,
+    }
+}
+
 /// A session of the open file, with the steps that a journal says, which fit it.
 fn with_steps<L: ItemList>(alloc: Global, database: Database<L>, said: Journal) -> Session<L>
     requires fit { FitFile said database }
@@ -274,6 +282,7 @@ impl<L: ItemList> Session<L> {
         ensures refused { IfErr result (λ fault. RefusesEdit fault edit.now self.old) }
         ensures err { OnErr result (self.new ≡ self.old) }
     {
+        self.note_parts(edit);
         let pieces = match plan(self.alloc, &self.database, edit) {
             Ok(pieces) => pieces,
             Err(fault) => return Err(refused(fault)),
@@ -282,6 +291,15 @@ impl<L: ItemList> Session<L> {
             self.join(pieces)
         } else {
             self.add(pieces)
+        }
+    }
+
+    /// Tells the database that parts will be sought, if the edit seeks some.
+    fn note_parts(&mut self, edit: &Edit)
+        ensures { self.new ≡ self.old }
+    {
+        if seeks_parts(edit) {
+            self.database.note_parts();
         }
     }
 
