@@ -24,7 +24,7 @@ impl Model for Definitions {
 }
 
 impl Definitions {
-    ghost use Rattle.std.specs.Prelude.{◌≡◌, ◌+◌, ◌<◌, ◌≤◌, ◌^◌, ◌++◌, ◌∷◌, [], true, false, ℕ, List, length, OnOk, OnErr};
+    ghost use Rattle.std.specs.Prelude.{◌≡◌, ◌+◌, ◌<◌, ◌≤◌, ◌^◌, ◌++◌, ◌∷◌, [], true, false, ℕ, List, length, IfOk, OnOk, OnErr};
     ghost use Rattle.bib_spec.specs.Bytes.{name_limit};
     ghost use Rattle.bib_spec.specs.Reading.{Item};
     ghost use Rattle.bib_spec.specs.Texts.{months, macros_at};
@@ -57,9 +57,9 @@ impl Definitions {
         }
     }
 
-    /// Puts a definition that gives `name` this text in the place of item `n`, which is a definition of `was`. The exchange can
-    /// be taken back until it is kept, and there is none after it until then. It takes time and memory in the definitions of
-    /// the two names. If it is refused, nothing changes.
+    /// Puts a definition that gives `name` this text in the place of item `n`, which is a definition of `was`, and returns
+    /// whether it could. It can't before the last exchange is kept; nothing changes then, nor if memory is refused. The exchange
+    /// can be taken back until it is kept. It takes time and memory in the definitions of the two names.
     pub fn exchange(
         &mut self,
         alloc: Global,
@@ -67,14 +67,16 @@ impl Definitions {
         was: &[u8],
         name: &[u8],
         text: &[u8],
-    ) -> Result<(), AllocError>
-        ensures ok { OnOk result ((before after : List Item) (old new : Item) → length before ≡ n → is_definition_of was.now old.tree ≡ true → Defines (macros_at months before n) new.tree name.now text.now → AreSettled after
+    ) -> Result<bool, AllocError>
+        ensures done { IfOk result (λ done. done ≡ true → (before after : List Item) (old new : Item) → length before ≡ n → is_definition_of was.now old.tree ≡ true → Defines (macros_at months before n) new.tree name.now text.now → AreSettled after
             → AreDefinitionsOf (before ++ old ∷ after) self.old → AreDefinitionsOf (before ++ new ∷ after) self.new) }
-        ensures back { OnOk result (taken_back self.new ≡ self.old) }
+        ensures back { IfOk result (λ done. done ≡ true → taken_back self.new ≡ self.old) }
+        ensures same { IfOk result (λ done. done ≡ false → self.new ≡ self.old) }
         ensures err { OnErr result (self.new ≡ self.old) }
     {
         let rank = self.numbers.rank(n);
-        self.names.exchange(alloc, rank, was, name, text)
+        let done = self.names.exchange(alloc, rank, was, name, text)?;
+        Ok(done)
     }
 
     /// Takes the last exchange back, unless it was kept. It asks for no memory.

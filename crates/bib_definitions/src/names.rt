@@ -41,7 +41,7 @@ impl Model for Names {
 }
 
 impl Names {
-    ghost use Rattle.std.specs.Prelude.{◌++◌, ◌∷◌, [], ◌+◌, ℕ, List, length, OnErr};
+    ghost use Rattle.std.specs.Prelude.{◌++◌, ◌∷◌, [], ◌+◌, true, false, ℕ, List, length, OnErr};
     ghost use Rattle.bib_definitions.specs.ByName.{AreAllOf, texts_after, without_exchange};
     ghost use Rattle.bib_definitions.specs.Definitions.{AreWithin};
 
@@ -79,9 +79,10 @@ impl Names {
         Ok(())
     }
 
-    /// Puts a definition of the name in the place of definition `rank`, counted from 0, which has the name `was`. It can be
-    /// taken back until it is kept. It takes time and memory in the definitions of the two names. If memory is refused, or
-    /// the exchange before is not kept, nothing changes.
+    /// Puts a definition of the name in the place of definition `rank`, counted from 0, which has the name `was`, and returns
+    /// whether it could. It can't before the last exchange is kept, nor if there is no such definition; nothing changes then,
+    /// nor if memory is refused. It can be taken back until it is kept. It takes time and memory in the definitions of the two
+    /// names.
     pub(crate) fn exchange(
         &mut self,
         alloc: Global,
@@ -89,23 +90,23 @@ impl Names {
         was: &[u8],
         name: &[u8],
         text: &[u8],
-    ) -> Result<(), AllocError>
-        ensures ok { OnOk result ((front rest : List (Bytes × Bytes)) (d : Bytes × Bytes) → length front ≡ rank → d.0 ≡ folded was.now → AreAllOf self.old (front ++ d ∷ rest) → AreAllOf self.new (front ++ (folded name.now, text.now) ∷ rest)) }
-        ensures back { OnOk result (without_exchange self.new ≡ self.old) }
+    ) -> Result<bool, AllocError>
+        ensures done { IfOk result (λ done. done ≡ true → (front rest : List (Bytes × Bytes)) (d : Bytes × Bytes) → length front ≡ rank → d.0 ≡ folded was.now → AreAllOf self.old (front ++ d ∷ rest) → AreAllOf self.new (front ++ (folded name.now, text.now) ∷ rest)) }
+        ensures back { IfOk result (λ done. done ≡ true → without_exchange self.new ≡ self.old) }
+        ensures same { IfOk result (λ done. done ≡ false → self.new ≡ self.old) }
         ensures err { OnErr result (self.new ≡ self.old) }
     {
-        // No definition has such a rank, and no name is longer.
         if rank >= self.count || was.len() > NAME_LIMIT || name.len() > NAME_LIMIT {
-            return Err(AllocError);
+            return Ok(false);
         }
         match &self.last {
             None => {}
-            Some(_) => return Err(AllocError),
+            Some(_) => return Ok(false),
         }
         let exchange = self.exchange_of(alloc, rank, was, name, text)?;
         self.last = Some(exchange);
         self.longest = self.longest.max(text.len());
-        Ok(())
+        Ok(true)
     }
 
     /// The definitions of both names with another in the place of definition `rank`, which has the name `was`.

@@ -84,9 +84,12 @@ pub(crate) fn redefine(
     let Ok(text) = tables.definition_text(alloc, n, field) else {
         return Err(StoreFault::BadSplice);
     };
-    tables
+    let done = tables
         .definitions
         .exchange(alloc, n, was.name, field.name, text.as_slice())?;
+    if !done {
+        return Err(StoreFault::BadSplice);
+    }
     let mut bounds = tables.bounds;
     bounds.admit(new.body().len(), true);
     if !are_short(bounds.longest_body, tables.definitions.longest()) {

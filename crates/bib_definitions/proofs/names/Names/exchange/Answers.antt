@@ -21,8 +21,8 @@ invariant_of-self c =
           (omega (arith, c.if-rank-self.false)) more (omega (arith, most)) c.self.invariant.0),
     )
 
-pub returns-clause-ok : goal.returns-clause-ok
-returns-clause-ok c front rest d at was_is are =
+pub returns-clause-done : goal.returns-clause-done
+returns-clause-done c is front rest d at was_is are =
     let base : Defined = c.self.inside.by_name in
     let was = folded c.args.was.now in
     let name = folded c.args.name.now in
