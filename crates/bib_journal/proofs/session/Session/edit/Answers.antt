@@ -1,7 +1,9 @@
 use Rattle.std.proofs.Common.{subst}
+use Rattle.std.specs.Prelude.{OnOk}
 use Rattle.history_spec.specs.Steps.{IsSound, IsAllowed}
 use Rattle.bib_edit.specs.Planning.{IsAllowedEdit, ArePiecesOf}
 use Rattle.bib_journal.specs.OpenSteps.{SessionState, IsOpenIn}
+use Rattle.bib_journal.specs.Session.{MakesEdit}
 use Rattle.bib_journal.proofs.Moves.{planned_leads, made_edit, where_accepted}
 use Rattle.bib_journal.proofs.session.Session.edit.Goals as goal
 
@@ -17,22 +19,24 @@ add-requires-clause-allowed g c =
 
 pub returns-then-is_last-clause-made : goal.returns-then-is_last-clause-made
 returns-then-is_last-clause-made g c =
-    where_accepted c.join.result
-    (λ makes current room. made_edit c.args.edit.now c.in-Ok.pieces c.args.self.now c.join.new.self
+    subst (λ (old : SessionState). OnOk c.join.result (MakesEdit c.args.edit.now old c.join.new.self)) c.note_parts.ensures
+    (where_accepted c.join.result
+    (λ makes current room. made_edit c.args.edit.now c.in-Ok.pieces c.note_parts.new.self c.join.new.self
     (subst (λ (s : SessionState). IsSound s.steps) c.self.view_is c.self.invariant.sound)
     (subst (λ (s : SessionState). IsOpenIn s.steps s.current) c.self.view_is c.self.invariant.current)
     (subst (λ (s : SessionState). IsAllowedEdit s.steps.present c.args.edit.now) c.self.view_is c.in-Ok.ensures.allowed)
     (subst (λ (s : SessionState). ArePiecesOf s.steps.present c.args.edit.now c.in-Ok.pieces) c.self.view_is c.in-Ok.ensures.pieces)
     room makes current)
-    c.join.ensures.joined c.join.ensures.current c.join.ensures.room
+    c.join.ensures.joined c.join.ensures.current c.join.ensures.room)
 
 pub returns-else-is_last-clause-made : goal.returns-else-is_last-clause-made
 returns-else-is_last-clause-made g c =
-    where_accepted c.add.result
-    (λ makes current room. made_edit c.args.edit.now c.in-Ok.pieces c.args.self.now c.add.new.self
+    subst (λ (old : SessionState). OnOk c.add.result (MakesEdit c.args.edit.now old c.add.new.self)) c.note_parts.ensures
+    (where_accepted c.add.result
+    (λ makes current room. made_edit c.args.edit.now c.in-Ok.pieces c.note_parts.new.self c.add.new.self
     (subst (λ (s : SessionState). IsSound s.steps) c.self.view_is c.self.invariant.sound)
     (subst (λ (s : SessionState). IsOpenIn s.steps s.current) c.self.view_is c.self.invariant.current)
     (subst (λ (s : SessionState). IsAllowedEdit s.steps.present c.args.edit.now) c.self.view_is c.in-Ok.ensures.allowed)
     (subst (λ (s : SessionState). ArePiecesOf s.steps.present c.args.edit.now c.in-Ok.pieces) c.self.view_is c.in-Ok.ensures.pieces)
     room makes current)
-    c.add.ensures.added c.add.ensures.current c.add.ensures.room
+    c.add.ensures.added c.add.ensures.current c.add.ensures.room)
