@@ -1,5 +1,5 @@
 -- An edit inside a piece of a step.
-use Rattle.std.proofs.Common.{⊎_elim, zero, suc, ◌≡◌, ℕ, get_or, ◌+◌, ◌-◌, ◌<◌, ◌≤◌, nat_le, List, [], ◌∷◌, ◌++◌, length, take, drop, refl, sym, subst, ◌∙◌, ap, ap₂, arith, append-nil, append_assoc, length-append, length-set, length-drop, take-append-drop}
+use Rattle.std.proofs.Common.{⊎_elim, zero, suc, ◌≡◌, ℕ, get_or, set, ◌+◌, ◌-◌, ◌<◌, ◌≤◌, nat_le, List, [], ◌∷◌, ◌++◌, length, take, drop, refl, sym, subst, ◌∙◌, ap, ap₂, arith, append-nil, append_assoc, length-append, length-set, length-drop, take-append-drop}
 use Rattle.std.proofs.lemmas.Bool.{le-leb, cond-true, cases_lt}
 use Rattle.std.proofs.lemmas.List.{take_at, drop_at, drop_all, take-append-le, drop-append-le, length-take-le, set_split}
 use Rattle.std.specs.List.{AllByRecursion, between}
@@ -8,7 +8,7 @@ use Rattle.bib_spec.specs.Text.{Text}
 use Rattle.bib_spec.specs.Pieces.{Piece, Stands, AscendFrom, reversed_from}
 use Rattle.history_spec.specs.Composing.{Back, On, in_order, put_in, Group, group_end, with_member, alone, groups_from, groups, group_old, group_new, composed_from, composed_at, composed_after, IsComposable, IsComposableAt, StandApart, old_end, new_end, ends_of}
 use Rattle.history_spec.proofs.Near.{ends_inside}
-use Rattle.bib_steps.specs.Amending.{IsNear, next_end, edited, BeginsInside, LiesInside, WereEnds}
+use Rattle.bib_steps.specs.Amending.{IsNear, next_end, edited, BeginsInside, HasSpot, edited_at, LiesInside, WereEnds}
 use Rattle.bib_steps.proofs.Positions.{near_value, near_composable, composable_as, composed_as, same_front_ends}
 use Rattle.bib_steps.proofs.MovedEnds.{ReplacedLast, replaced_last}
 
@@ -85,12 +85,37 @@ composed_inside at mid k first second p q c e f n l =
 
 -- ---- the list with the edited piece
 
--- the piece at a position, if the list there is this piece and others
-got_there : (n : ℕ) (ps : List Piece) (p d : Piece) → take 1 (drop n ps) ≡ p ∷ [] → get_or ps n d ≡ p
-got_there zero [] p d e = absurd (cc)
-got_there (suc n) [] p d e = absurd (cc)
-got_there zero (r ∷ ps) p d e = cc
-got_there (suc n) (r ∷ ps) p d e = got_there n ps p d e
+-- it is the list with the edited piece in place of the other
+pub edited_at-set : (n k : ℕ) (q : Piece) (ps : List Piece) (p : Piece) → HasSpot n k ps → p ≡ get_or ps n p → edited_at n k q ps ≡ set ps n (edited k q p)
+edited_at-set n k q [] p h e = absurd h
+edited_at-set zero k q (r ∷ ps) p h e = ap (λ (r : Piece). edited k q r ∷ ps) (sym e)
+edited_at-set (suc n) k q (r ∷ ps) p h e = ap (λ qs. r ∷ qs) (edited_at-set n k q ps p h e)
+
+pub spot_inside : (n k : ℕ) (ps : List Piece) → HasSpot n k ps → n < length ps
+spot_inside n k [] h = absurd h
+spot_inside zero k (r ∷ ps) h = omega arith
+spot_inside (suc n) k (r ∷ ps) h = omega (arith, spot_inside n k ps h)
+
+pub spot_within : (n k : ℕ) (ps : List Piece) (p : Piece) → HasSpot n k ps → p ≡ get_or ps n p → k ≤ length p.new
+spot_within n k [] p h e = absurd h
+spot_within zero k (r ∷ ps) p h e = subst (λ (r : Piece). k ≤ length r.new) (sym e) h
+spot_within (suc n) k (r ∷ ps) p h e = spot_within n k ps p h e
+
+has_spot : (n k : ℕ) (ps : List Piece) (p : Piece) → take 1 (drop n ps) ≡ p ∷ [] → k ≤ length p.new → HasSpot n k ps
+has_spot zero k [] p e h = absurd (cc)
+has_spot (suc n) k [] p e h = absurd (cc)
+has_spot zero k (r ∷ ps) p e h =
+    let same : p ≡ r = cc in
+    subst (λ (r : Piece). k ≤ length r.new) same h
+has_spot (suc n) k (r ∷ ps) p e h = has_spot n k ps p e h
+
+edited_in_three : (n k : ℕ) (q : Piece) (ps : List Piece) (p : Piece) → take 1 (drop n ps) ≡ p ∷ [] → edited_at n k q ps ≡ take n ps ++ (edited k q p ∷ drop (suc n) ps)
+edited_in_three zero k q [] p e = absurd (cc)
+edited_in_three (suc n) k q [] p e = absurd (cc)
+edited_in_three zero k q (r ∷ ps) p e =
+    let same : r ≡ p = cc in
+    ap (λ (r : Piece). edited k q r ∷ ps) same
+edited_in_three (suc n) k q (r ∷ ps) p e = ap (λ qs. r ∷ qs) (edited_in_three n k q ps p e)
 
 -- the edit begins inside the one piece near it
 pub lies_inside : (ps edit middle : List Piece) (from to at mid k : ℕ) → IsComposable ps edit → StandApart ps [] → IsNear ps edit from to
@@ -101,22 +126,19 @@ lies_inside ps edit middle from to at mid k c s n a m is found =
     let one : take (to - from) (drop from ps) ≡ p ∷ [] = sym is ∙ found.2 in
     let count : to - from ≡ 1 = sym (length-take-le (to - from) (drop from ps) (omega (arith, n.ordered, n.inside, length-drop from ps))) ∙ ap length one in
     let last : to ≡ suc from = omega (arith, count, n.ordered) in
-    let inside : from < length ps = omega (arith, last, n.inside) in
     let composable : IsComposableAt at mid middle edit
     = composable_as (old_end 0 (take from ps)) (new_end 0 0 (take from ps)) at mid (take (to - from) (drop from ps)) middle edit a m is (near_composable ps edit from to c s n) in
     let near : edited k q p ∷ [] ≡ composed_after (take from ps) (take (to - from) (drop from ps)) edit
     = composed_inside at mid k middle edit p q composable found.2 found.3 found.4 found.5
     ∙ composed_as (old_end 0 (take from ps)) (new_end 0 0 (take from ps)) at mid (take (to - from) (drop from ps)) middle edit a m is in
+    let single : take 1 (drop from ps) ≡ p ∷ [] = sym (ap (λ j. take j (drop from ps)) count) ∙ one in
     record {
-      inside = inside;
-      piece = p;
+      spot = has_spot from k ps p single found.5;
       more = q;
-      there = λ d. got_there from ps p d (sym (ap (λ j. take j (drop from ps)) count) ∙ one);
       one = found.3;
-      within = found.5;
       joined = sym (near_value ps edit from to (edited k q p ∷ []) c s n near)
           ∙ ap (λ j. take from ps ++ (edited k q p ∷ drop j ps)) last
-          ∙ sym (set_split ps from (edited k q p) inside);
+          ∙ sym (edited_in_three from k q ps p single);
     }
 
 -- ---- its ends

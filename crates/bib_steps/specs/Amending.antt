@@ -101,16 +101,25 @@ edited k q p = record {
 abbrev pub BeginsInside : ℕ → ℕ → ℕ → List Piece → List Piece → Type 0
 BeginsInside at mid k first second = (p : Piece) × (q : Piece) × (first ≡ p ∷ []) × (second ≡ q ∷ []) × (q.place ≡ mid + (p.place - at) + k) × (k ≤ length p.new)
 
--- The edit is one piece, and begins at byte `k` of the new text of the piece at this position. The pieces of the step and the
--- edit as one are those of the step, with that piece edited.
+-- the new text of the piece at position `n` has at least `k` bytes
+abbrev pub HasSpot : ℕ → ℕ → List Piece → Type 0
+HasSpot n k [] = ⊥
+HasSpot zero k (p ∷ ps) = k ≤ length p.new
+HasSpot (suc n) k (p ∷ ps) = HasSpot n k ps
+
+-- the pieces, with that at position `n` edited
+abbrev pub edited_at : ℕ → ℕ → Piece → List Piece → List Piece
+edited_at n k q [] = []
+edited_at zero k q (p ∷ ps) = edited k q p ∷ ps
+edited_at (suc n) k q (p ∷ ps) = p ∷ edited_at n k q ps
+
+-- The edit is one piece, and begins at byte `k` of the new text of the piece at position `n`, or at its end. The pieces of the
+-- step and the edit as one are those of the step, with that piece edited.
 pub record LiesInside (ps edit : List Piece) (n k : ℕ) : Type 0 where
-  pub inside : n < length ps
-  pub piece : Piece
+  pub spot : HasSpot n k ps
   pub more : Piece
-  pub there : (d : Piece) → slice_index_or ps n d ≡ piece
   pub one : edit ≡ more ∷ []
-  pub within : k ≤ length piece.new
-  pub joined : composed ps edit ≡ slice_set ps n (edited k more piece)
+  pub joined : composed ps edit ≡ edited_at n k more ps
 
 -- the places are the ends of pieces that were these, except for the one at this position
 abbrev pub WereEnds : ℕ → List Piece → List ℕ → Type 0
