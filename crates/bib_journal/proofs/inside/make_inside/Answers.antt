@@ -1,4 +1,4 @@
-use Rattle.std.proofs.Common.{◌≡◌, ◌<◌, ℕ, get_or, set, List, length, sym, subst, ◌∙◌, ap, arith}
+use Rattle.std.proofs.Common.{◌≡◌, ℕ, get_or, set, List, sym, subst, ◌∙◌, ap, arith}
 use Rattle.bib_spec.specs.Bytes.{file_limit}
 use Rattle.bib_spec.specs.Pieces.{Piece, EndBy, reversed}
 use Rattle.bib_steps.specs.Amending.{HasSpot, edited, edited_at}

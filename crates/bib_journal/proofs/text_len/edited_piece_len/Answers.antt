@@ -1,4 +1,4 @@
-use Rattle.std.proofs.Common.{◌≡◌, ℕ, ◌+◌, ◌-◌, ◌^◌, ◌≤◌, min, length, decimal, sym, ◌∙◌, ap, ap₂, arith}
+use Rattle.std.proofs.Common.{◌≡◌, ℕ, ◌+◌, ◌-◌, ◌^◌, min, length, decimal, ◌∙◌, ap, ap₂, arith}
 use Rattle.bib_spec.specs.Pieces.{Piece}
 use Rattle.bib_steps.specs.Amending.{edited}
 use Rattle.bib_journal.proofs.TextLens.{written, edited_text, length-edited_old, length-edited_new}

@@ -1,4 +1,4 @@
-use Rattle.std.proofs.Common.{rules, ◌≡◌, length, ap, arith}
+use Rattle.std.proofs.Common.{rules, ◌≡◌, length}
 use Rattle.bib_steps.proofs.Edited.{only_piece, next_short}
 use Rattle.bib_steps.proofs.inside.begin_inside.Goals as goal
 

@@ -1,4 +1,4 @@
-use Rattle.std.proofs.Common.{◌≡◌, ◌-◌, ◌≤◌, length, take, drop, ◌∙◌, ap, arith}
+use Rattle.std.proofs.Common.{◌-◌, ◌≤◌, length, take, drop, ◌∙◌, ap, arith}
 use Rattle.history_spec.specs.Composing.{old_end, new_end}
 use Rattle.bib_steps.proofs.Positions.{part_short, as_many_ends, end_at_new, near_composable, composable_as}
 use Rattle.bib_steps.proofs.Edited.{lies_inside}
