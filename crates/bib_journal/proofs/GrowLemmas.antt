@@ -1,12 +1,12 @@
 -- A step that another edit joins.
-use Rattle.std.proofs.Common.{◌≡◌, ℕ, ◌+◌, ◌-◌, ◌≤◌, get_or, List, length, sym, subst, ◌∙◌, ap, ap₂, arith}
+use Rattle.std.proofs.Common.{◌≡◌, ℕ, ◌≤◌, get_or, List, length, sym, subst, ◌∙◌, ap, ap₂}
 use Rattle.bib_spec.specs.Bytes.{file_limit}
 use Rattle.bib_spec.specs.Text.{Text}
 use Rattle.bib_spec.specs.Pieces.{Piece, Fit, applied, reversed, EndBy}
 use Rattle.bib_spec.proofs.WayBack.{fit_back}
 use Rattle.history_spec.specs.Composing.{FitInTurn, composed}
 use Rattle.history_spec.specs.Steps.{IsAllowed, Leads, before}
-use Rattle.bib_steps.specs.Amending.{lengthened, ContinuesAt}
+use Rattle.bib_steps.specs.Amending.{edited_at, LiesInside}
 use Rattle.history_spec.proofs.Glued.{composed-fit, composed-lead}
 use Rattle.history_spec.proofs.Near.{ends_inside}
 
@@ -36,8 +36,8 @@ grown_ends_short pieces edit new file l a e =
     let short : length (applied (composed pieces edit) old) ≤ file_limit = subst (λ (t : Text). length t ≤ file_limit) (sym made) a.made.1.short in
     subst (λ (ps : List Piece). EndBy file_limit (reversed ps)) (sym e) (ends_inside file_limit (applied (composed pieces edit) old) (reversed (composed pieces edit)) short fit.standing)
 
--- the one piece of an edit makes a piece of the step longer
-pub joined_longer : (pieces list edit : List Piece) (n : ℕ) (q : Piece) → ContinuesAt pieces edit n → q ≡ get_or edit 0 q → list ≡ pieces → lengthened n q list ≡ composed pieces edit
-joined_longer pieces list edit n q at e same =
-    let more : q ≡ at.more = e ∙ ap (λ (ps : List Piece). get_or ps 0 q) at.one in
-    ap₂ (lengthened n) more same ∙ sym at.joined
+-- the one piece of an edit changes the piece of the step in which it begins
+pub joined_inside : (pieces list edit : List Piece) (n k : ℕ) (q : Piece) → LiesInside pieces edit n k → q ≡ get_or edit 0 q → list ≡ pieces → edited_at n k q list ≡ composed pieces edit
+joined_inside pieces list edit n k q inside e same =
+    let more : q ≡ inside.more = e ∙ ap (λ (ps : List Piece). get_or ps 0 q) inside.one in
+    ap₂ (edited_at n k) more same ∙ sym inside.joined

@@ -4,12 +4,10 @@ use Rattle.std.proofs.lemmas.List.{same_from_push, length_push}
 use Rattle.std.proofs.lemmas.Option.{none-some, same_Some}
 use Rattle.bib_spec.specs.Text.{Text}
 use Rattle.bib_spec.specs.Pieces.{Piece, applied}
-use Rattle.bib_spec.specs.Reading.{Reading, Reads}
 use Rattle.bib_spec.specs.Texts.{IsOpenable}
-use Rattle.history_spec.specs.Steps.{Step, KeptSteps, with_edit, before, Adds, Joins, GoesBack, GoesOn}
+use Rattle.history_spec.specs.Steps.{Step, KeptSteps, with_edit, before, Adds, GoesBack, GoesOn}
 use Rattle.edit_spec.specs.Edits as edits
 use Rattle.edit_spec.specs.Edits.{rank, IsFirstRefusal}
-use Rattle.edit_spec.specs.EditChunks.{pieces_of}
 use Rattle.bib_data.specs.declared.edit.Edit.{Edit}
 use Rattle.bib_data.specs.declared.request.Request.{Request}
 use Rattle.bib_data.specs.declared.request.Request.TheVariants as request
@@ -28,7 +26,7 @@ use Rattle.bib_journal.specs.declared.open_step.OpenStep.{OpenStep}
 use Rattle.bib_journal.specs.declared.open_step.OpenStep.TheVariants.{NoStep, NewStep, LastStep}
 use Rattle.bib_journal.specs.Loading.{Saves}
 use Rattle.bib_journal.specs.OpenSteps.{SessionState, JoinsLast, MakesSteps, LacksRoom, new_step}
-use Rattle.bib_journal.specs.Session.{MakesEdit, Does, DoesAll, Refuses, StopsAt, Performs}
+use Rattle.bib_journal.specs.Session.{MakesEdit, Does, DoesAll, Refuses, StopsAt}
 use Rattle.bib_journal.specs.OneResult.{IsGood, one_result}
 use Rattle.bib_journal.proofs.SeveralRuns.{does_keeps_good}
 

@@ -10,7 +10,6 @@ use Rattle.bib_store.specs.Meaning.{IsOpenFault}
 use Rattle.journal_format.proofs.JournalLaws.{one-contents}
 use Rattle.bib_journal.specs.declared.fault.SessionFault.{SessionFault}
 use Rattle.bib_journal.specs.declared.fault.SessionFault.TheVariants.{Unopened, Refused, JournalFull, NothingToUndo, NothingToRedo, BadJournal, JournalMismatch, StepOpen, NoOpenStep, Memory}
-use Rattle.bib_journal.specs.declared.saving.Saved.{Saved}
 use Rattle.bib_journal.specs.Loading.{FitFile, Loads, contents_of}
 use Rattle.bib_journal.specs.Session.{Opens, RefusesStart, RefusesLoad, RefusesOpen}
 use Rattle.bib_journal.specs.SavedLoads.{what_is_saved_is_loaded}

@@ -1,5 +1,5 @@
 -- How long the text of a step is after an edit joins it.
-use Rattle.std.proofs.Common.{zero, suc, ◌≡◌, ℕ, ◌+◌, ◌-◌, ◌^◌, ◌<◌, ◌≤◌, min, get_or, List, [], ◌∷◌, ◌++◌, length, take, drop, decimal, sym, ◌∙◌, ap, ap₂, arith, length-append, length-drop}
+use Rattle.std.proofs.Common.{zero, suc, ◌≡◌, ℕ, ◌+◌, ◌-◌, ◌^◌, ◌≤◌, min, get_or, List, [], ◌∷◌, ◌++◌, length, take, drop, decimal, refl, sym, ◌∙◌, ap, arith, length-append, length-drop}
 use Rattle.std.proofs.lemmas.List.{length-take-le, drop-take, take-take}
 use Rattle.std.proofs.lemmas.Grind.{flat_map-append}
 use Rattle.std.specs.List.{flat_map}
@@ -9,9 +9,8 @@ use Rattle.bib_spec.specs.Pieces.{Piece}
 use Rattle.history_spec.specs.Composing.{Replacement, replaced}
 use Rattle.history_spec.specs.Steps.{piece_text, pieces_text, step_text_len}
 use Rattle.journal_format.proofs.StepTextLemmas.{step_len, pieces_len}
-use Rattle.bib_steps.specs.Amending.{longer, lengthened}
+use Rattle.bib_steps.specs.Amending.{HasSpot, edited, edited_at}
 use Rattle.bib_steps.proofs.Positions.{in_three, front_kept}
-use Rattle.bib_steps.proofs.Lengthened.{length-lengthened}
 
 -- the texts of pieces, together
 abbrev pub texts_of : List Piece → Text
@@ -105,7 +104,7 @@ amended_count first last ps h k m inside =
     let once : length (replaced last ps) ≡ length ps - (last.to - last.from) + length last.pieces = count_replaced last ps m inside in
     omega (arith, once, count_replaced first (replaced last ps) h (omega (arith, h, k, m, inside, once)))
 
--- ---- a piece that becomes longer
+-- ---- a piece that is edited
 
 -- the length of a piece's text
 piece_len : (p : Piece) → length (piece_text p) ≡ length (decimal p.place) + (length (decimal (length p.old)) + length (decimal (length p.new))) + (length p.old + length p.new) + 4
@@ -119,40 +118,67 @@ piece_len p =
       length-append p.new (line_feed ∷ []),
     )
 
--- the texts of the pieces before and after the change, by the text of the piece that changes and a rest
-texts_around : (n : ℕ) (q : Piece) (ps : List Piece) (p : Piece) → n < length ps → p ≡ get_or ps n p
-    → (rest : ℕ) × (length (texts_of ps) ≡ rest + length (piece_text p)) × (length (texts_of (lengthened n q ps)) ≡ rest + length (piece_text (longer p q)))
-texts_around n q [] p h e = absurd (none h) where
-  none : n < 0 → ⊥
-  none h = omega (arith, h)
-texts_around zero q (r ∷ ps) p h e = (
+-- the texts of the pieces before and after one of them is edited, by its text and a rest
+texts_around : (n k : ℕ) (q : Piece) (ps : List Piece) (p : Piece) → HasSpot n k ps → p ≡ get_or ps n p
+    → (rest : ℕ) × (length (texts_of ps) ≡ rest + length (piece_text p)) × (length (texts_of (edited_at n k q ps)) ≡ rest + length (piece_text (edited k q p)))
+texts_around n k q [] p h e = absurd h
+texts_around zero k q (r ∷ ps) p h e = (
   length (texts_of ps),
   omega (arith, length-append (piece_text r) (texts_of ps), ap (λ (s : Piece). length (piece_text s)) e),
-  omega (arith, length-append (piece_text (longer r q)) (texts_of ps), ap (λ (s : Piece). length (piece_text (longer s q))) e),
+  omega (arith, length-append (piece_text (edited k q r)) (texts_of ps), ap (λ (s : Piece). length (piece_text (edited k q s))) e),
 )
-texts_around (suc n) q (r ∷ ps) p h e =
-    let more = texts_around n q ps p (omega (arith, h)) e in (
+texts_around (suc n) k q (r ∷ ps) p h e =
+    let more = texts_around n k q ps p h e in (
       length (piece_text r) + more.0,
       omega (arith, length-append (piece_text r) (texts_of ps), more.1),
-      omega (arith, length-append (piece_text r) (texts_of (lengthened n q ps)), more.2),
+      omega (arith, length-append (piece_text r) (texts_of (edited_at n k q ps)), more.2),
     )
 
--- the text of a step with a longer piece
-pub lengthened_text : (len result digits more_digits bytes n : ℕ) (label : Text) (ps : List Piece) (p q : Piece)
-    → step_text_len (record { label = label; pieces = ps }) ≤ len → n < length ps → p ≡ get_or ps n p
-    → digits ≡ length (decimal (length p.old)) + length (decimal (length p.new))
-    → more_digits ≡ length (decimal (length p.old + length q.old)) + length (decimal (length p.new + length q.new))
-    → bytes ≡ length q.old + length q.new
-    → result ≡ min (min (len - digits + bytes) (2 ^ 64 - 1) + more_digits) (2 ^ 64 - 1)
-    → result ≡ min (len - step_text_len (record { label = label; pieces = ps }) + step_text_len (record { label = label; pieces = lengthened n q ps })) (2 ^ 64 - 1)
-lengthened_text len result digits more_digits bytes n label ps p q short h e digits_is more_is bytes_is result_is =
-    let around = texts_around n q ps p h e in
-    let old_len : step_text_len (record { label = label; pieces = ps }) ≡ length (pieces_text ps) + (length label + 1) = step_len (record { label = label; pieces = ps }) in
-    let new_len : step_text_len (record { label = label; pieces = lengthened n q ps }) ≡ length (pieces_text (lengthened n q ps)) + (length label + 1) = step_len (record { label = label; pieces = lengthened n q ps }) in
-    let many : length (decimal (length (lengthened n q ps))) ≡ length (decimal (length ps)) = ap (λ n. length (decimal n)) (length-lengthened n q ps) in
-    let old : length (decimal (length (p.old ++ q.old))) ≡ length (decimal (length p.old + length q.old)) = ap (λ n. length (decimal n)) (length-append p.old q.old) in
-    let new : length (decimal (length (p.new ++ q.new))) ≡ length (decimal (length p.new + length q.new)) = ap (λ n. length (decimal n)) (length-append p.new q.new) in
+length-edited_at : (n k : ℕ) (q : Piece) (ps : List Piece) → length (edited_at n k q ps) ≡ length ps
+length-edited_at n k q [] = refl
+length-edited_at zero k q (p ∷ ps) = refl
+length-edited_at (suc n) k q (p ∷ ps) = omega (arith, length-edited_at n k q ps)
+
+-- how long the texts of an edited piece are
+pub length-edited_old : (k : ℕ) (q p : Piece) → length (edited k q p).old ≡ length p.old + (length q.old - (length p.new - k))
+length-edited_old k q p = omega (arith, length-append p.old (drop (length p.new - k) q.old), length-drop (length p.new - k) q.old)
+
+pub length-edited_new : (k : ℕ) (q p : Piece) → k ≤ length p.new → length (edited k q p).new ≡ k + length q.new + (length p.new - (k + length q.old))
+length-edited_new k q p h =
     omega (
-      arith, short, digits_is, more_is, bytes_is, result_is, around.1, around.2, old_len, new_len, many, old, new,
-      pieces_len ps, pieces_len (lengthened n q ps), piece_len p, piece_len (longer p q), length-append p.old q.old, length-append p.new q.new,
+      arith,
+      length-append (take k p.new) (q.new ++ drop (k + length q.old) p.new),
+      length-append q.new (drop (k + length q.old) p.new),
+      length-drop (k + length q.old) p.new,
+      length-take-le k p.new h,
+    )
+
+-- the length of a piece's texts and of their lengths in digits
+abbrev pub written : Piece → ℕ
+written p = length p.old + length p.new + (length (decimal (length p.old)) + length (decimal (length p.new)))
+
+-- the text of a step with an edited piece
+pub edited_text : (len result n k : ℕ) (label : Text) (ps : List Piece) (p q : Piece) → HasSpot n k ps → p ≡ get_or ps n p
+    → step_text_len (record { label = label; pieces = ps }) ≤ len → len ≤ 67174399
+    → result ≡ min (len - min (written p) (2 ^ 64 - 1) + min (written (edited k q p)) (2 ^ 64 - 1)) (2 ^ 64 - 1)
+    → result ≡ min (len - step_text_len (record { label = label; pieces = ps }) + step_text_len (record { label = label; pieces = edited_at n k q ps })) (2 ^ 64 - 1)
+edited_text len result n k label ps p q h e short limit result_is =
+    let around = texts_around n k q ps p h e in
+    let old_len : step_text_len (record { label = label; pieces = ps }) ≡ length (pieces_text ps) + (length label + 1) = step_len (record { label = label; pieces = ps }) in
+    let new_len : step_text_len (record { label = label; pieces = edited_at n k q ps }) ≡ length (pieces_text (edited_at n k q ps)) + (length label + 1) = step_len (record { label = label; pieces = edited_at n k q ps }) in
+    let many : length (decimal (length (edited_at n k q ps))) ≡ length (decimal (length ps)) = ap (λ n. length (decimal n)) (length-edited_at n k q ps) in
+    omega (
+      arith,
+      short,
+      limit,
+      result_is,
+      around.1,
+      around.2,
+      old_len,
+      new_len,
+      many,
+      pieces_len ps,
+      pieces_len (edited_at n k q ps),
+      piece_len p,
+      piece_len (edited k q p),
     )

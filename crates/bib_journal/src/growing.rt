@@ -5,15 +5,15 @@ ghost use Rattle.bib_spec.specs.Bytes.{file_limit};
 ghost use Rattle.bib_spec.specs.Pieces.{EndBy, applied, reversed};
 ghost use Rattle.history_spec.specs.Composing.{IsComposable, AreEnds, composed, ends_of};
 ghost use Rattle.history_spec.specs.Steps.{IsAllowed, Leads, before, with_edit, step_text_len};
-ghost use Rattle.bib_steps.specs.Amending.{AreWithin, amended, ContinuesAt};
+ghost use Rattle.bib_steps.specs.Amending.{AreWithin, amended, LiesInside};
 ghost use Rattle.bib_journal.specs.declared.fault.SessionFault.TheVariants.{JournalFull, Memory};
 
 use crate::fault::SessionFault;
-use crate::lengthening::make_longer;
+use crate::inside::make_inside;
 use crate::stepping::go_on;
-use crate::text_len::{amended_len, lengthened_len};
+use crate::text_len::{amended_len, edited_len};
 use bib_scan::Seq;
-use bib_steps::{Amendment, amend, continued, put, renew_ends};
+use bib_steps::{Amendment, Spot, amend, put, renew_ends, spot_of};
 use bib_store::{Database, ItemList, Piece, compose};
 use journal_format::{STEP_TEXTS_LIMIT, Step, step_text_len};
 use std::alloc::{AllocError, Global};
@@ -88,17 +88,17 @@ fn make<L: ItemList>(
     Ok(())
 }
 
-/// Makes the pieces, which continue the piece of a step at this position: that piece becomes longer in place.
-fn grow_longer<L: ItemList>(
+/// Makes the pieces, which begin at this spot of a step: the piece there changes in place.
+fn grow_inside<L: ItemList>(
     alloc: Global,
     db: &mut Database<L>,
     step: &mut Step,
     ends: &mut Vec<u64>,
-    position: usize,
+    spot: Spot,
     pieces: &[Piece],
     len: u64,
 ) -> Result<u64, SessionFault>
-    requires continues { ContinuesAt step.old.pieces pieces.now position }
+    requires inside { LiesInside step.old.pieces pieces.now spot.position spot.byte }
     requires leads { Leads step.old.pieces (before step.old.pieces db.old) db.old }
     requires allowed { IsAllowed pieces.now db.old }
     requires ends { AreEnds step.old.pieces ends.old.items }
@@ -116,9 +116,9 @@ fn grow_longer<L: ItemList>(
     ensures err { OnErr result (db.new ≡ db.old) }
 {
     let more = &pieces[0];
-    let new = allowed_len(lengthened_len(len, step.pieces.as_slice(), position, more))?;
+    let new = allowed_len(edited_len(len, step.pieces.as_slice(), spot, more))?;
     let mut list = replace(&mut step.pieces, Seq::from_vec(Vec::new(alloc))).into_vec();
-    let made = make_longer(alloc, db, &mut list, ends, position, pieces, more);
+    let made = make_inside(alloc, db, &mut list, ends, spot, pieces, more);
     step.pieces = Seq::from_vec(list);
     made?;
     Ok(new)
@@ -149,8 +149,8 @@ fn grow_near<L: ItemList>(
     ensures same_ends { OnErr result (ends.new.items ≡ ends.old.items) }
     ensures err { OnErr result (db.new ≡ db.old) }
 {
-    if let Some(position) = continued(step.pieces.as_slice(), ends.as_slice(), pieces) {
-        return grow_longer(alloc, db, step, ends, position, pieces, len);
+    if let Some(spot) = spot_of(step.pieces.as_slice(), ends.as_slice(), pieces) {
+        return grow_inside(alloc, db, step, ends, spot, pieces, len);
     }
     let change = amendment(alloc, step.pieces.as_slice(), ends.as_slice(), pieces)?;
     let new = allowed_len(amended_len(len, step.pieces.as_slice(), &change))?;

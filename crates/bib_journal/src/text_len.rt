@@ -1,12 +1,13 @@
 //! How long the text of a step is after an edit joins it.
 
-ghost use Rattle.std.specs.Prelude.{◌≡◌, ◌+◌, ◌-◌, ◌^◌, ◌<◌, ◌≤◌, length, min, take, drop, decimal};
+ghost use Rattle.std.specs.Prelude.{◌≡◌, ℕ, List, slice_index_or, ◌+◌, ◌-◌, ◌^◌, ◌<◌, ◌≤◌, length, min, take, drop, decimal};
 ghost use Rattle.std.specs.List.{flat_map};
 ghost use Rattle.bib_spec.specs.Text.{Text};
+ghost use Rattle.bib_spec.specs.Pieces.{Piece as FilePiece};
 ghost use Rattle.history_spec.specs.Steps.{piece_text, step_text_len};
-ghost use Rattle.bib_steps.specs.Amending.{IsWithin, AreWithin, amended, lengthened};
+ghost use Rattle.bib_steps.specs.Amending.{IsWithin, AreWithin, HasSpot, amended, edited_at};
 
-use bib_steps::{Amendment, Replacement};
+use bib_steps::{Amendment, Replacement, Spot};
 use bib_store::Piece;
 use journal_format::{decimal_len, piece_texts_len};
 
@@ -53,21 +54,40 @@ pub(crate) fn amended_len(len: u64, pieces: &[Piece], change: &Amendment) -> u64
     }
 }
 
-/// The length of the texts of steps, or the greatest number, once another piece has made longer the piece at this position of
-/// one of them, which has these pieces. It was `len` before.
-pub(crate) fn lengthened_len(len: u64, pieces: &[Piece], position: usize, more: &Piece) -> u64
-    requires { position < length pieces.now }
-    ensures { (label : Text) → step_text_len (record { label = label; pieces = pieces.now }) ≤ len → len ≤ 67174399
-        → result ≡ min (len - step_text_len (record { label = label; pieces = pieces.now }) + step_text_len (record { label = label; pieces = lengthened position more.now pieces.now })) (2 ^ 64 - 1) }
+/// The length of two texts and of the numbers that say how long they are, or the greatest number.
+fn written_len(old: usize, new: usize) -> u64
+    ensures { result ≡ min (old + new + (length (decimal old) + length (decimal new))) (2 ^ 64 - 1) }
 {
-    let piece = &pieces[position];
+    let digits = decimal_len(old as u64) + decimal_len(new as u64);
+    (old as u64)
+        .saturating_add(new as u64)
+        .saturating_add(digits)
+}
+
+/// The length of the texts of steps, or the greatest number, once this piece of one of them is edited. It was `len` before.
+fn edited_piece_len(len: u64, piece: &Piece, byte: usize, more: &Piece) -> u64
+    requires { byte ≤ length piece.now.new }
+    ensures { (label : Text) (pieces : List FilePiece) (n : ℕ) → HasSpot n byte pieces → piece.now ≡ slice_index_or pieces n piece.now
+        → step_text_len (record { label = label; pieces = pieces }) ≤ len → len ≤ 67174399
+        → result ≡ min (len - step_text_len (record { label = label; pieces = pieces }) + step_text_len (record { label = label; pieces = edited_at n byte more.now pieces })) (2 ^ 64 - 1) }
+{
     let old = piece.old.as_slice().len();
     let new = piece.new.as_slice().len();
-    let more_old = more.old.as_slice().len();
-    let more_new = more.new.as_slice().len();
-    let digits = decimal_len(old as u64) + decimal_len(new as u64);
-    let more_digits = decimal_len((old + more_old) as u64) + decimal_len((new + more_new) as u64);
-    len.saturating_sub(digits)
-        .saturating_add((more_old + more_new) as u64)
-        .saturating_add(more_digits)
+    let gone = more.old.as_slice().len();
+    let come = more.new.as_slice().len();
+    let now_old = old + gone.saturating_sub(new - byte);
+    let now_new = byte + come + new.saturating_sub(byte + gone);
+    len.saturating_sub(written_len(old, new))
+        .saturating_add(written_len(now_old, now_new))
+}
+
+/// The length of the texts of steps, or the greatest number, once an edit has begun at this spot of one of them, which has
+/// these pieces. It was `len` before.
+pub(crate) fn edited_len(len: u64, pieces: &[Piece], spot: Spot, more: &Piece) -> u64
+    requires inside { spot.position < length pieces.now }
+    requires spot { HasSpot spot.position spot.byte pieces.now }
+    ensures { (label : Text) → step_text_len (record { label = label; pieces = pieces.now }) ≤ len → len ≤ 67174399
+        → result ≡ min (len - step_text_len (record { label = label; pieces = pieces.now }) + step_text_len (record { label = label; pieces = edited_at spot.position spot.byte more.now pieces.now })) (2 ^ 64 - 1) }
+{
+    edited_piece_len(len, &pieces[spot.position], spot.byte, more)
 }

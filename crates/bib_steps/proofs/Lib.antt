@@ -1,5 +1,5 @@
 pub mod Positions
 mod Renewed
 mod MovedEnds
-pub mod Lengthened
+pub mod Edited
 mod Turned

@@ -1,5 +1,5 @@
 -- How an edit changes the pieces of a step. (dialect)
-use Rattle.std.specs.Prelude.{ℕ, zero, suc, ◌≡◌, ◌+◌, ◌-◌, ◌<◌, ◌≤◌, Option, Some, None, List, [], ◌∷◌, ◌++◌, length, map, take, drop, slice_index_or}
+use Rattle.std.specs.Prelude.{ℕ, zero, suc, ◌≡◌, ◌+◌, ◌-◌, ◌≤◌, Option, Some, None, List, [], ◌∷◌, ◌++◌, length, map, take, drop, slice_index_or, slice_set}
 use Rattle.std.specs.List.{AllByRecursion}
 use Rattle.bib_spec.specs.Bytes.{file_limit}
 use Rattle.bib_spec.specs.Pieces.{Piece, end_of, reversed_from}
@@ -86,30 +86,41 @@ moved old new place = place - old + new
 abbrev pub CanMove : ℕ → ℕ → List ℕ → Type 0
 CanMove old new places = AllByRecursion (λ place. (old ≤ place) × (moved old new place ≤ file_limit)) places
 
--- ---- pieces that an edit continues
+-- ---- an edit inside a piece
 
--- each edit is one piece, and the second begins where the first ends in the text between them
-abbrev pub Continues : ℕ → ℕ → List Piece → List Piece → Type 0
-Continues at mid first second = (p : Piece) × (q : Piece) × (first ≡ p ∷ []) × (second ≡ q ∷ []) × (q.place ≡ next_end at mid p)
+-- The piece, after a piece `q` of a later edit has begun at byte `k` of its new text. The old bytes of `q` that reach past that
+-- text come after its own old bytes.
+abbrev pub edited : ℕ → Piece → Piece → Piece
+edited k q p = record {
+  place = p.place;
+  old = p.old ++ drop (length p.new - k) q.old;
+  new = take k p.new ++ (q.new ++ drop (k + length q.old) p.new);
+}
 
--- the piece, with the bytes of the other after its own
-abbrev pub longer : Piece → Piece → Piece
-longer p q = record { place = p.place; old = p.old ++ q.old; new = p.new ++ q.new }
+-- each edit is one piece, and the second begins at byte `k` of the first one's new text, or at its end
+abbrev pub BeginsInside : ℕ → ℕ → ℕ → List Piece → List Piece → Type 0
+BeginsInside at mid k first second = (p : Piece) × (q : Piece) × (first ≡ p ∷ []) × (second ≡ q ∷ []) × (q.place ≡ mid + (p.place - at) + k) × (k ≤ length p.new)
 
--- the pieces, with the bytes of another after those of the piece at this position, if there is one
-abbrev pub lengthened : ℕ → Piece → List Piece → List Piece
-lengthened n q [] = []
-lengthened zero q (p ∷ ps) = longer p q ∷ ps
-lengthened (suc n) q (p ∷ ps) = p ∷ lengthened n q ps
+-- the new text of the piece at position `n` has at least `k` bytes
+abbrev pub HasSpot : ℕ → ℕ → List Piece → Type 0
+HasSpot n k [] = ⊥
+HasSpot zero k (p ∷ ps) = k ≤ length p.new
+HasSpot (suc n) k (p ∷ ps) = HasSpot n k ps
 
--- The edit is one piece, and it continues the piece at this position: the pieces of the step and the edit as one are those of
--- the step, with that piece longer.
-pub record ContinuesAt (ps edit : List Piece) (n : ℕ) : Type 0 where
-  pub inside : n < length ps
+-- the pieces, with that at position `n` edited
+abbrev pub edited_at : ℕ → ℕ → Piece → List Piece → List Piece
+edited_at n k q [] = []
+edited_at zero k q (p ∷ ps) = edited k q p ∷ ps
+edited_at (suc n) k q (p ∷ ps) = p ∷ edited_at n k q ps
+
+-- The edit is one piece, and begins at byte `k` of the new text of the piece at position `n`, or at its end. The pieces of the
+-- step and the edit as one are those of the step, with that piece edited.
+pub record LiesInside (ps edit : List Piece) (n k : ℕ) : Type 0 where
+  pub spot : HasSpot n k ps
   pub more : Piece
   pub one : edit ≡ more ∷ []
-  pub joined : composed ps edit ≡ lengthened n more ps
+  pub joined : composed ps edit ≡ edited_at n k more ps
 
--- the places are the ends of pieces that were these ones before the piece at this position became longer
+-- the places are the ends of pieces that were these, except for the one at this position
 abbrev pub WereEnds : ℕ → List Piece → List ℕ → Type 0
-WereEnds n ps ends = (old : List Piece) × (more : Piece) × (ps ≡ lengthened n more old) × (ends ≡ ends_of old)
+WereEnds n ps ends = (old : List Piece) × (p : Piece) × (ps ≡ slice_set old n p) × (ends ≡ ends_of old)

@@ -7,11 +7,10 @@ ghost use Rattle.history_spec.specs.Composing.{IsComposable, AreEnds, composed, 
 ghost use Rattle.bib_steps.specs.Amending.{IsNear, AreWithin, amended};
 
 use crate::amendment::{Amendment, Replacement};
-use crate::joining::compose_near;
 use crate::near::{Span, ends_before, near};
 use crate::spans::{end_before, end_of};
 use bib_data::Piece;
-use bib_store::StoreFault;
+use bib_store::{StoreFault, compose_at};
 use std::alloc::Global;
 
 /// What a part of an edit replaces. It is near the pieces of the span.
@@ -35,7 +34,7 @@ fn replacement(
     let (middle, _) = rest.split_at(span.to - span.from);
     let end = end_of(front);
     let middle_end = end_before(ends, span.from);
-    let pieces = compose_near(alloc, end, middle_end, middle, part)?;
+    let pieces = compose_at(alloc, end, middle_end, middle, part)?;
     Ok(Replacement {
         from: span.from,
         to: span.to,
@@ -67,8 +66,7 @@ fn widest_gap(pieces: &[Piece]) -> usize
 /// How an edit changes the pieces of a step: they are then those of the step and the edit as one. No two pieces of the step
 /// touch, and `ends` are the places where they end in the present text. It takes memory and time in the number and the bytes
 /// of the pieces that the edit is near. If the edit's own pieces are far from one another, those on either side of the widest
-/// gap between them are looked at alone. If its one piece begins where the one piece near it ends, the bytes of both are
-/// copied once.
+/// gap between them are looked at alone.
 pub fn amend(
     alloc: Global,
     pieces: &[Piece],

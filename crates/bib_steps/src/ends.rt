@@ -174,9 +174,9 @@ fn renew_end(ends: &mut Vec<u64>, pieces: &[Piece], position: usize)
     ends[position] = end_after(&pieces[position], end, new_end);
 }
 
-/// Makes the ends those of these pieces, after the bytes of another piece have joined the one at this position. It asks for no
-/// memory. It moves the ends after that position by one number.
-pub fn lengthen_ends(ends: &mut Vec<u64>, pieces: &[Piece], position: usize)
+/// Makes the ends those of these pieces, after the piece at this position has changed. It asks for no memory. It moves the ends
+/// after that position by one number.
+pub fn renew_ends_after(ends: &mut Vec<u64>, pieces: &[Piece], position: usize)
     requires inside { position < length pieces.now }
     requires ends { WereEnds position pieces.now ends.old.items }
     requires short { EndBy file_limit pieces.now }

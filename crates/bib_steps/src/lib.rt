@@ -5,9 +5,8 @@
 
 mod amending;
 mod amendment;
-mod continuing;
 mod ends;
-mod joining;
+mod inside;
 mod near;
 mod placing;
 mod replacing;
@@ -15,6 +14,7 @@ mod spans;
 
 pub use amending::amend;
 pub use amendment::{Amendment, Replacement};
-pub use continuing::continued;
-pub use ends::{lengthen_ends, renew_ends};
+pub use ends::{renew_ends, renew_ends_after};
+pub use inside::{Spot, spot_of};
 pub use placing::put;
+pub use replacing::replace;

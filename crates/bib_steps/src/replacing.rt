@@ -39,7 +39,7 @@ pub(crate) fn bring<T: Drop>(items: &mut Vec<T>, from: usize, to: usize, count: 
 
 /// Puts new items in place of those from one position up to another. There is room for them, so it asks for no memory. It
 /// moves the items after them as memory.
-pub(crate) fn replace<T: Drop>(items: &mut Vec<T>, from: usize, to: usize, new: Vec<T>)
+pub fn replace<T: Drop>(items: &mut Vec<T>, from: usize, to: usize, new: Vec<T>)
     requires ordered { from ≤ to }
     requires inside { to ≤ vec_len items.old }
     requires room { vec_len items.old + vec_len new ≤ vec_capacity items.old }

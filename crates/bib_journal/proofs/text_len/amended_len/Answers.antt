@@ -1,7 +1,7 @@
-use Rattle.std.proofs.Common.{rules, ◌≡◌, ◌≤◌, ◌+◌, ◌-◌, ◌^◌, min, None, Some, length, sym, ◌∙◌, ap, arith}
+use Rattle.std.proofs.Common.{rules, ◌≡◌, ◌+◌, ◌-◌, ◌^◌, min, length, ◌∙◌, ap, arith}
 use Rattle.history_spec.specs.Composing.{Replacement, replaced}
 use Rattle.bib_steps.specs.Amending.{amended, IsWithin}
-use Rattle.bib_journal.proofs.TextLens.{texts_of, taken, texts_replaced, count_replaced, taken_before, taken_short, both_taken_short, amended_texts, amended_count, changed}
+use Rattle.bib_journal.proofs.TextLens.{texts_of, taken, texts_replaced, count_replaced, taken_short, both_taken_short, amended_texts, amended_count, changed}
 use Rattle.bib_journal.proofs.text_len.amended_len.Goals as goal
 
 pub returns-in-None : goal.returns-in-None

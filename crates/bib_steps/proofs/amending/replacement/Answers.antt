@@ -6,8 +6,8 @@ use Rattle.bib_steps.proofs.amending.replacement.Goals as goal
 pub end_before-middle_end-requires : goal.end_before-middle_end-requires
 end_before-middle_end-requires c = omega (arith, c.requires.near.ordered, c.requires.near.inside, as_many_ends c.args.pieces.now c.args.ends.now c.requires.ends)
 
-pub compose_near-requires : goal.compose_near-requires
-compose_near-requires c =
+pub compose_at-requires : goal.compose_at-requires
+compose_at-requires c =
     let within : c.args.span.from ≤ length c.args.pieces.now = omega (arith, c.requires.near.ordered, c.requires.near.inside) in
     record {
       composable = composable_as (old_end 0 (take c.args.span.from c.args.pieces.now)) (new_end 0 0 (take c.args.span.from c.args.pieces.now)) _ _

@@ -1,4 +1,4 @@
-use Rattle.std.proofs.Common.{◌<◌, ◌≤◌, length, take, ◌∙◌, ap, arith}
+use Rattle.std.proofs.Common.{◌<◌, length, ◌∙◌, ap, arith}
 use Rattle.history_spec.specs.Composing.{old_end}
 use Rattle.bib_steps.specs.Amending.{end_at}
 use Rattle.bib_steps.proofs.MovedEnds.{mid_is, next_short, end_put}
