@@ -109,6 +109,19 @@ def articles_of_one_publisher(count):
         for n in range(count))
 
 
+def definitions(count):
+    """So many macros of one line each, and nothing else."""
+    return b"".join(b"@string{m%d = {Journal of Examples %d}}\n" % (n, n) for n in range(count))
+
+
+def abbreviated(count):
+    """So many macros, and then as many articles as long as those of a database are, each with a use of one of them and a publisher of its own."""
+    return definitions(count) + b"".join(
+        ("@article{key%d,\n  author = {%s},\n  title = {%s},\n  journal = m%d,\n  publisher = {Publisher %d},\n  note = {%s},\n  abstract = {%s},\n  year = %d\n}\n\n"
+         % (n, people_of(n), text_of(n, 9), n, n, text_of(n + 1, 16), text_of(n + 3, 48), 1950 + n % 75)).encode()
+        for n in range(count))
+
+
 def chained_macros(count):
     """So many macros, each defined by the one before, and an entry that uses the last."""
     links = b"".join(b"@string{m%d = m%d}\n" % (n, n - 1) for n in range(1, count))
@@ -135,6 +148,21 @@ def moves(count):
 def removes(count):
     """A script of so many edits: each removes an article."""
     return b"".join(b"remove\tkey%d\n" % n for n in articles(count))
+
+
+def macro_renames(count):
+    """A script of so many edits: each gives a macro of a file by rule another name."""
+    return b"".join(b"rename-macro\tm%d\tother%d\n" % (n, n) for n in range(count))
+
+
+def inlinings(count):
+    """A script of so many edits: each takes a macro of a file by rule out."""
+    return b"".join(b"inline\tm%d\n" % n for n in range(count))
+
+
+def introductions(count):
+    """A script of so many edits: each gives a publisher of a file by rule a name."""
+    return b"".join(b"introduce\tp%d\tPublisher %d\n" % (n, n) for n in range(count))
 
 
 def renames(count):
@@ -348,6 +376,9 @@ CONTENTS = {
     "library 4": lambda: library(4000000),
     "library 8": lambda: library(8000000),
     "library 16": lambda: library(16000000),
+    "definitions 3": lambda: definitions(3000),
+    "abbreviated 4": lambda: abbreviated(5000),
+    "abbreviated 8": lambda: abbreviated(10000),
     "use 100": lambda: one_macro(100000),
     "use 100 in 4": lambda: one_macro_among_words(100000),
     "journal 100": lambda: articles_of_one_journal(100000),

@@ -42,6 +42,20 @@ const RENAMINGS: &[Renaming] = &[
         is_refused: false,
     },
     Renaming {
+        name: "a macro together with another",
+        file: b"@string{p={A}}@misc{x}@misc{y}@misc{z}@string{r={B}}",
+        changes: &[(8, b"p", b"q"), (46, b"r", b"s")],
+        back: &[(8, b"q", b"p"), (46, b"s", b"r")],
+        is_refused: false,
+    },
+    Renaming {
+        name: "a macro together with the one after it",
+        file: b"@string{p={A}}@string{r={B}}@misc{x}",
+        changes: &[(8, b"p", b"q"), (22, b"r", b"s")],
+        back: &[(8, b"q", b"p"), (22, b"s", b"r")],
+        is_refused: false,
+    },
+    Renaming {
         name: "a macro whose pieces lead to no file",
         file: USED,
         changes: &[(7, b"}", b","), (24, b"p", b"q"), (48, b"p", b"q")],
