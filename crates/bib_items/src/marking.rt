@@ -11,7 +11,7 @@ ghost use Rattle.bib_items.specs.PartMarks.{mixed, mixed_all, name_mark, text_ma
 
 use crate::seeking::Sought;
 use bib_scan::{Fields, ItemView, Part, Parts, only_part, read_value};
-use std::alloc::{AllocError, Global};
+use std::alloc::{AllocFailed, Global};
 use std::marker::Model;
 
 /// A mark after one more byte.
@@ -66,6 +66,30 @@ fn sought_mark(sought: Sought<'_>) -> Option<u32>
     }
 }
 
+/// How many marks are kept at most for the items of a page. Only time depends on it: a search looks at all items of a page
+/// with more.
+const MOST_MARKS: usize = 2048;
+
+/// Why items have no marks.
+#[derive(Clone, Copy, Debug, PartialEq, Eq)]
+pub(crate) enum Unmarked {
+    /// There would be too many.
+    TooMany,
+    /// Memory was refused.
+    Memory,
+}
+
+impl<T: Drop> From<AllocFailed<T>> for Unmarked {
+    ghost use Rattle.std.specs.Prelude.{◌≡◌};
+    ghost use Rattle.bib_items.specs.declared.marking.Unmarked.TheVariants.{Memory as UnmarkedMemory};
+
+    ghost from_gives = { λ _ fault. fault ≡ UnmarkedMemory };
+
+    fn from(_failed: AllocFailed<T>) -> Unmarked {
+        Unmarked::Memory
+    }
+}
+
 /// Marks of parts, in ascending order.
 #[derive(Drop)]
 pub(crate) struct Marks {
@@ -100,19 +124,22 @@ impl Marks {
         self.marks.binary_search(&mark).is_ok()
     }
 
-    /// Adds a mark, unless it is among them.
-    fn add(&mut self, mark: u32) -> Result<(), AllocError>
+    /// Adds a mark, unless it is among them or there would be too many.
+    fn add(&mut self, mark: u32) -> Result<(), Unmarked>
         ensures kept { KeepsMarks self.old self.new }
         ensures added { OnOk result (Contains self.new mark) }
     {
         if let Err(at) = self.marks.binary_search(&mark) {
+            if self.marks.len() >= MOST_MARKS {
+                return Err(Unmarked::TooMany);
+            }
             self.marks.insert(at, mark)?;
         }
         Ok(())
     }
 
     /// Adds the mark of a part.
-    fn add_part(&mut self, part: Part<'_>) -> Result<(), AllocError>
+    fn add_part(&mut self, part: Part<'_>) -> Result<(), Unmarked>
         ensures kept { KeepsMarks self.old self.new }
         ensures added { OnOk result (HasPartMark self.new (part_view part.entry)) }
     {
@@ -123,7 +150,7 @@ impl Marks {
     }
 
     /// Adds the marks of a value that is taken apart.
-    fn add_parts(&mut self, value: &[u8], parts: &Parts) -> Result<(), AllocError>
+    fn add_parts(&mut self, value: &[u8], parts: &Parts) -> Result<(), Unmarked>
         requires { IsPartsOf value.now parts.now }
         ensures kept { KeepsMarks self.old self.new }
         ensures added { OnOk result (HasValueMarks self.new value.now) }
@@ -135,7 +162,7 @@ impl Marks {
     }
 
     /// Adds the marks of a value. Most values have one part, and are not taken apart.
-    fn add_value(&mut self, alloc: Global, value: &[u8]) -> Result<(), AllocError>
+    fn add_value(&mut self, alloc: Global, value: &[u8]) -> Result<(), Unmarked>
         ensures kept { KeepsMarks self.old self.new }
         ensures added { OnOk result (HasValueMarks self.new value.now) }
     {
@@ -145,12 +172,12 @@ impl Marks {
         match read_value(alloc, value) {
             Ok(parts) => self.add_parts(value, &parts),
             // The value is valid in each item of a file, so only want of memory refuses it.
-            Err(_) => Err(AllocError),
+            Err(_) => Err(Unmarked::Memory),
         }
     }
 
     /// Adds the marks of fields.
-    fn add_fields(&mut self, alloc: Global, fields: Fields<'_>) -> Result<(), AllocError>
+    fn add_fields(&mut self, alloc: Global, fields: Fields<'_>) -> Result<(), Unmarked>
         ensures kept { KeepsMarks self.old self.new }
         ensures added { OnOk result (HasFieldMarks self.new fields.entry) }
     {
@@ -162,7 +189,7 @@ impl Marks {
     }
 
     /// Adds the marks of the item with this body.
-    pub(crate) fn add_item(&mut self, alloc: Global, body: &[u8]) -> Result<(), AllocError>
+    pub(crate) fn add_item(&mut self, alloc: Global, body: &[u8]) -> Result<(), Unmarked>
         ensures kept { KeepsMarks self.old self.new }
         ensures added { OnOk result (HasItemMarks self.new body.now) }
     {
@@ -180,7 +207,7 @@ impl Marks {
     }
 }
 
-/// Adds the marks of the item with this body, if marks were made. If memory is refused, there are none afterwards.
+/// Adds the marks of the item with this body, if marks were made. If that is refused, there are none afterwards.
 pub(crate) fn cover(alloc: Global, marks: &mut Option<Marks>, body: &[u8])
     ensures kept { (other : Bytes) → IsCovered marks.old other → IsCovered marks.new other }
     ensures added { IsCovered marks.new body.now }
