@@ -201,7 +201,7 @@ fn grow_whole<L: ItemList>(
 /// longer than `STEP_TEXTS_LIMIT` then. It returns their length, which was `len` before. `ends` are the places where the
 /// step's pieces end in the present file, or none. It takes time and memory as the splice does and, if there are ends, in the
 /// number and the bytes of the step's pieces that the new ones are near. It moves the others as memory, and their ends by one
-/// number.
+/// number. One piece that begins inside a piece of the step changes that piece in place: only the bytes after it move, as memory.
 pub(crate) fn grow<L: ItemList>(
     alloc: Global,
     db: &mut Database<L>,

@@ -275,7 +275,8 @@ impl<L: ItemList> Session<L> {
 
     /// Makes an edit: a step by itself, or one of the edits of the step that is open. It forgets what could be made again. It
     /// takes time and memory as `plan` and `Database::splice` do. If the step that is open has edits, it also takes them for
-    /// those of its pieces that the edit is near. It moves the others as memory, and their ends by one number.
+    /// those of its pieces that the edit is near. It moves the others as memory, and their ends by one number. An edit of one
+    /// piece that begins inside a piece of the step changes that piece in place: only the bytes after it move, as memory.
     pub fn edit(&mut self, edit: &Edit) -> Result<(), SessionFault>
         requires { HasDepth edit.now }
         ensures made { OnOk result (MakesEdit edit.now self.old self.new) }
