@@ -1,6 +1,6 @@
 -- The marks of parts: numbers that tell where a search need not look. A search and each part that it meets have the same
 -- mark; parts that are not alike may have the same mark too.
-use Rattle.std.specs.Prelude.{ℕ, ◌≡◌, ◌+◌, ◌*◌, ◌%◌, List, [], ◌∷◌, Option, Some, None, All, Contains}
+use Rattle.std.specs.Prelude.{ℕ, ◌≡◌, ◌+◌, ◌*◌, ◌%◌, List, [], ◌∷◌, Option, Some, None, take, All, Contains}
 use Rattle.std.specs.List.{AllByRecursion}
 use Rattle.bib_spec.specs.Bytes.{name_limit}
 use Rattle.bib_spec.specs.Text.{Text, folded}
@@ -24,9 +24,13 @@ mixed_all mark (b ∷ t) = mixed_all (mixed mark b) t
 abbrev pub name_mark : Text → ℕ
 name_mark name = mixed_all 1 (folded name)
 
--- the mark of a text in braces or in quotes
+-- how many bytes of a text its mark is made of, at most
+abbrev pub mark_len : ℕ
+mark_len = 32
+
+-- the mark of a text in braces or in quotes, made of its first bytes
 abbrev pub text_mark : Text → ℕ
-text_mark text = mixed_all 2 text
+text_mark text = mixed_all 2 (take mark_len text)
 
 -- the mark of a part; digits have none
 abbrev pub part_mark : Part → Option ℕ
