@@ -12,7 +12,7 @@ use Rattle.bib_spec.specs.Texts.{Macros, parts_of}
 use Rattle.bib_scan.specs.View.{Field}
 use Rattle.bib_scan.specs.ValueParts.{IsPartsOf, spans_of, spans_after, span_start}
 use Rattle.bib_scan.specs.declared.parts.PartSpan.{PartSpan}
-use Rattle.bib_scan.proofs.TakenApart.{one_value}
+use Rattle.bib_scan.proofs.TakenApart.{one_value, length-spans_of}
 use Rattle.bib_value.specs.Raw.{OfValue}
 use Rattle.bib_answers.specs.Check.{Assigned}
 use Rattle.bib_answers.specs.Fields.{AreFieldsOf, AreSound}
@@ -34,16 +34,8 @@ findings_append w xs ys = ap (λ (t : Text). record w { text = t })
 -- ---- uses
 
 -- as many places as parts
-length-spans : (before : Text) (links : List Link) → length (spans_after before links) ≡ length links
-length-spans before [] = refl
-length-spans before (l ∷ links) = omega (arith, length-spans (before ++ link_bytes l) links)
-
 length-placed : (v : Value) → length (map span_start (spans_of v)) ≡ length (parts_of v)
-length-placed v =
-    let spans = length-map (spans_of v) span_start in
-    let links = length-spans (part_bytes v.first) v.links in
-    let parts = length-map v.links (λ (l : Link). l.part) in
-    omega (arith, spans, links, parts)
+length-placed v = length-map (spans_of v) span_start ∙ length-spans_of v
 
 length-zip_same : {X Y : Type 0} (xs : List X) (ys : List Y) → length xs ≡ length ys → length (zip xs ys) ≡ length ys
 length-zip_same [] [] same = refl
