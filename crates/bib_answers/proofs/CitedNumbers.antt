@@ -1,5 +1,5 @@
 -- A cited list has numbers of entries, and positions of keys.
-use Rattle.std.proofs.Common.{◌==◌, ◌≡◌, ℕ, zero, suc, ◌+◌, ◌<◌, Bool, not, List, [], ◌∷◌, ◌++◌, length, map, filter, filter_map, Option, None, Some, is_none, All, refl, sym, subst, ⊎_elim, arith}
+use Rattle.std.proofs.Common.{◌==◌, ◌≡◌, ℕ, zero, suc, ◌+◌, ◌<◌, not, List, [], ◌∷◌, length, map, filter, filter_map, Option, None, Some, is_none, All, refl, sym, subst, ⊎_elim, arith}
 use Rattle.std.specs.List.{range_with_len, enumerate_from, cons_option}
 use Rattle.std.proofs.lemmas.List.Elements.{All-nil, All-cons, All-head, All-tail, All-append, All-filter, All-map}
 use Rattle.std.proofs.lemmas.Bool.{cases_Bool, cond-true, cond-false}

@@ -1,4 +1,4 @@
-use Rattle.std.proofs.Common.{◌≡◌, ◌∙◌, ◌+◌, ℕ, refl, sym, arith}
+use Rattle.std.proofs.Common.{◌≡◌, ◌∙◌, ◌+◌, ℕ, arith}
 use Rattle.std.specs.Option.{option_copied}
 use Rattle.bib_spec.specs.Tree.{Part}
 use Rattle.bib_scan.specs.PartView.{part_view}
