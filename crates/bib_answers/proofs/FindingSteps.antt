@@ -1,23 +1,24 @@
 -- How findings are added: of a value use by use, of an item field by field, and of a file item by item.
-use Rattle.std.proofs.Common.{◌≡◌, ◌∙◌, ℕ, ◌+◌, ◌<◌, List, [], ◌∷◌, ◌++◌, length, map, take, Option, Some, slice_get, get_or, zip, refl, sym, ap, ap₂, subst, arith, append-nil, append_assoc}
+use Rattle.std.proofs.Common.{◌≡◌, ◌∙◌, ℕ, ◌+◌, ◌<◌, List, [], ◌∷◌, ◌++◌, length, map, take, Option, Some, slice_get, get_or, zip, refl, sym, ap, ap₂, arith, append-nil, append_assoc}
 use Rattle.std.specs.List.{flat_map}
-use Rattle.std.proofs.lemmas.Option.{slice_get_within, get_or_from_slice_get, slice_get-map}
-use Rattle.std.proofs.lemmas.List.{take_more, length-map}
-use Rattle.std.proofs.lemmas.Slice.Zip.{get_or-zip}
+use Rattle.std.proofs.lemmas.Option.{slice_get_within, get_or_from_slice_get}
+use Rattle.std.proofs.lemmas.List.{length-map}
+use Rattle.std.proofs.lemmas.Slice.Zip.{get_or-zip, length-zip}
 use Rattle.std.proofs.lemmas.Grind.{flat_map-append}
 use Rattle.std.proofs.Math.Seq.{take-length}
 use Rattle.bib_spec.specs.Text.{Text}
-use Rattle.bib_spec.specs.Tree.{Part, Value, Link, part_bytes, link_bytes}
+use Rattle.bib_spec.specs.Tree.{Part, Value, Link}
 use Rattle.bib_spec.specs.Texts.{Macros, parts_of}
 use Rattle.bib_scan.specs.View.{Field}
-use Rattle.bib_scan.specs.ValueParts.{IsPartsOf, spans_of, spans_after, span_start}
+use Rattle.bib_scan.specs.ValueParts.{IsPartsOf, spans_of, span_start}
 use Rattle.bib_scan.specs.declared.parts.PartSpan.{PartSpan}
-use Rattle.bib_scan.proofs.TakenApart.{one_value}
+use Rattle.bib_scan.proofs.TakenApart.{one_value, length-spans_of}
 use Rattle.bib_value.specs.Raw.{OfValue}
 use Rattle.bib_answers.specs.Check.{Assigned}
 use Rattle.bib_answers.specs.Fields.{AreFieldsOf, AreSound}
-use Rattle.bib_answers.specs.Lint.{Finding, finding_line, placed_parts, use_findings, value_findings, name_findings, field_findings}
+use Rattle.bib_answers.specs.Lint.{Finding, finding_line, placed_parts, value_findings, name_findings, field_findings}
 use Rattle.bib_answers.specs.FindingLines.{Written, with_findings}
+use Rattle.bib_answers.proofs.LineLists.{lines_more}
 
 -- no findings add nothing
 pub findings_none : (w : Written) → with_findings w [] ≡ w
@@ -34,25 +35,11 @@ findings_append w xs ys = ap (λ (t : Text). record w { text = t })
 -- ---- uses
 
 -- as many places as parts
-length-spans : (before : Text) (links : List Link) → length (spans_after before links) ≡ length links
-length-spans before [] = refl
-length-spans before (l ∷ links) = omega (arith, length-spans (before ++ link_bytes l) links)
-
 length-placed : (v : Value) → length (map span_start (spans_of v)) ≡ length (parts_of v)
-length-placed v =
-    let spans = length-map (spans_of v) span_start in
-    let links = length-spans (part_bytes v.first) v.links in
-    let parts = length-map v.links (λ (l : Link). l.part) in
-    omega (arith, spans, links, parts)
-
-length-zip_same : {X Y : Type 0} (xs : List X) (ys : List Y) → length xs ≡ length ys → length (zip xs ys) ≡ length ys
-length-zip_same [] [] same = refl
-length-zip_same [] (y ∷ ys) same = absurd (omega (arith, same))
-length-zip_same (x ∷ xs) [] same = absurd (omega (arith, same))
-length-zip_same (x ∷ xs) (y ∷ ys) same = omega (arith, length-zip_same xs ys (omega (arith, same)))
+length-placed v = length-map (spans_of v) span_start ∙ length-spans_of v
 
 pub length-placed_parts : (v : Value) → length (placed_parts v) ≡ length (parts_of v)
-length-placed_parts v = length-zip_same (map span_start (spans_of v)) (parts_of v) (length-placed v)
+length-placed_parts v = omega (arith, length-zip (map span_start (spans_of v)) (parts_of v), length-placed v)
 
 -- the findings on the first n parts are added
 abbrev pub UsesTo : Text → (ℕ × Part → List Finding) → ℕ → Written → Written → Type 0
@@ -69,13 +56,6 @@ part_placed v n place p at is =
           ∙ ap₂ (λ (k : ℕ) (q : Part). (k, q)) (get_or_from_slice_get (map span_start (spans_of v)) n place place at) (get_or_from_slice_get (parts_of v) n p p is),
     )
 
-says_more : {X Y : Type 0} (says : X → List Y) (xs : List X) (n : ℕ) (x : X) → n < length xs → get_or xs n x ≡ x → flat_map says (take n xs) ++ says x ≡ flat_map says (take (n + 1) xs)
-says_more says xs n x within is =
-    ap (λ t. flat_map says (take n xs) ++ t) (sym (append-nil (says x)))
-    ∙ ap (λ y. flat_map says (take n xs) ++ flat_map says (y ∷ [])) (sym is)
-    ∙ sym (flat_map-append says (take n xs) (get_or xs n x ∷ []))
-    ∙ sym (ap (flat_map says) (take_more xs n x within))
-
 pub uses_more : (bytes : Text) (spans : List PartSpan) (says : ℕ × Part → List Finding) (n place : ℕ) (p : Part) (start out out1 : Written)
     → IsPartsOf bytes spans → slice_get (map span_start spans) n ≡ Some place → OfValue bytes (λ v. slice_get (parts_of v) n ≡ Some p)
     → out1 ≡ with_findings out (says (place, p)) → UsesTo bytes says n start out → UsesTo bytes says (n + 1) start out1
@@ -85,7 +65,7 @@ uses_more bytes spans says n place p start out out1 is at part more to v ok same
     more
     ∙ ap (λ (w : Written). with_findings w (says (place, p))) (to v ok same)
     ∙ findings_append start (flat_map says (take n (placed_parts v))) (says (place, p))
-    ∙ ap (with_findings start) (says_more says (placed_parts v) n (place, p) placed.0 placed.1)
+    ∙ ap (with_findings start) (ap (λ q. flat_map says (take n (placed_parts v)) ++ says q) (sym placed.1) ∙ lines_more says (placed_parts v) n (place, p) placed.0)
 
 pub uses_all : (bytes : Text) (says : ℕ × Part → List Finding) (n : ℕ) (start out : Written) → OfValue bytes (λ v. n ≡ length (parts_of v))
     → UsesTo bytes says n start out → OfValue bytes (λ v. out ≡ with_findings start (flat_map says (placed_parts v)))

@@ -1,5 +1,5 @@
 -- The lines of entries as JSON, one after another.
-use Rattle.std.proofs.Common.{◌≡◌, ◌∙◌, ℕ, ◌+◌, ◌<◌, Bool, true, false, not, List, [], ◌∷◌, ◌++◌, length, take, drop, get_or, filter_map, find, if◌then◌else◌, option_map, Option, None, Some, refl, sym, ap, ap₂, arith, append-nil}
+use Rattle.std.proofs.Common.{◌≡◌, ◌∙◌, ℕ, ◌+◌, ◌<◌, Bool, true, false, not, List, [], ◌∷◌, ◌++◌, length, take, drop, get_or, find, if◌then◌else◌, option_map, Option, None, Some, sym, ap, append-nil}
 use Rattle.std.specs.List.{flat_map, cons_option}
 use Rattle.std.specs.Option.{option_map_or, option_or}
 use Rattle.std.proofs.lemmas.List.{take_more, take-append-drop}
@@ -7,8 +7,7 @@ use Rattle.std.proofs.lemmas.List.Elements.{filter_map-append}
 use Rattle.std.proofs.lemmas.List.Folds.{find-append}
 use Rattle.std.proofs.lemmas.Grind.{flat_map-append}
 use Rattle.bib_spec.specs.Text.{Text}
-use Rattle.bib_spec.specs.Records.{EntryTexts, record_of, parent, expanded, entries_of}
-use Rattle.bib_spec.specs.Reading.{Reading}
+use Rattle.bib_spec.specs.Records.{EntryTexts, record_of, parent}
 use Rattle.bib_keys.proofs.Walks.{next-of}
 use Rattle.entry_json.specs.EntryJson.{Told, json_line, is_told_utf8}
 use Rattle.bib_answers.specs.Entries.{key_at}

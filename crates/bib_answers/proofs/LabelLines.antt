@@ -1,20 +1,16 @@
 -- Labels beside their keys, one after another.
-use Rattle.std.proofs.Common.{◌≡◌, ◌∙◌, ℕ, ◌+◌, ◌≤◌, ◌<◌, List, [], ◌∷◌, ◌++◌, length, take, get_or, filter_map, map, zip, min, slice_get, Option, None, Some, option_map, refl, sym, ap, ap₂, arith}
+use Rattle.std.proofs.Common.{◌≡◌, ◌∙◌, ℕ, ◌+◌, ◌≤◌, ◌<◌, List, [], ◌∷◌, ◌++◌, length, take, get_or, map, zip, min, slice_get, Option, Some, option_map, refl, sym, ap, ap₂, arith}
 use Rattle.std.specs.List.{flat_map, cons_option}
 use Rattle.std.specs.Option.{option_map_or}
 use Rattle.std.proofs.lemmas.List.{take_all, map-append}
-use Rattle.std.proofs.lemmas.Slice.Zip.{get_or-zip}
+use Rattle.std.proofs.lemmas.List.Elements.{filter_map-append}
+use Rattle.std.proofs.lemmas.Slice.Zip.{get_or-zip, length-zip}
 use Rattle.bib_spec.specs.Text.{Text}
 use Rattle.bib_spec.specs.Records.{EntryTexts, Record, record_of, expanded}
 use Rattle.bib_names.specs.Label.{label_base, labels_of}
 use Rattle.bib_answers.specs.Labels.{label_line, labelled, keyed_line, records_at, AreLabelRows}
 use Rattle.bib_answers.specs.Entries.{key_at}
 use Rattle.bib_answers.proofs.LineLists.{lines_more}
-
-length-zip : {X Y : Type 0} (xs : List X) (ys : List Y) → length (zip xs ys) ≡ min (length xs) (length ys)
-length-zip [] ys = omega arith
-length-zip (x ∷ xs) [] = omega arith
-length-zip (x ∷ xs) (y ∷ ys) = omega (arith, length-zip xs ys)
 
 -- one more label and key
 pub label_more : (labels keys : List Text) (n : ℕ) (label key : Text) → n < min (length labels) (length keys) → label ≡ get_or labels n label → key ≡ get_or keys n key
@@ -47,20 +43,14 @@ rows_more records more r bases keys base key is also next rows = record {
       ∙ sym (map-append (λ (x : Record). x.key) records (r ∷ [])) ∙ ap (map (λ (x : Record). x.key)) next;
 }
 
-filter_map-append : {X Y : Type 0} (f : X → Option Y) (xs : List X) (x : X) (y : Y) → f x ≡ Some y → filter_map f (xs ++ x ∷ []) ≡ filter_map f xs ++ y ∷ []
-filter_map-append f [] x y e = ap (λ o. cons_option o []) e
-filter_map-append f (z ∷ xs) x y e = ap (cons_option (f z)) (filter_map-append f xs x y e) ∙ apart (f z) (filter_map f xs) (y ∷ [])
-  where
-    apart : {Y : Type 0} (o : Option Y) (ys zs : List Y) → cons_option o (ys ++ zs) ≡ cons_option o ys ++ zs
-    apart None ys zs = refl
-    apart (Some x) ys zs = refl
-
 -- one more entry
 pub rows_with_one : (depth : ℕ) (entries : List EntryTexts) (list : List ℕ) (n : ℕ) (entry : EntryTexts) (bases keys : List Text) (base key : Text) → slice_get entries n ≡ Some entry
     → base ≡ label_base (record_of depth entries n entry).fields → key ≡ key_at entries n
     → AreLabelRows (records_at depth entries list) bases keys → AreLabelRows (records_at depth entries (list ++ n ∷ [])) (bases ++ base ∷ []) (keys ++ key ∷ [])
 rows_with_one depth entries list n entry bases keys base key at is also rows =
     let rec : Record = record_of depth entries n entry in
-    let next : records_at depth entries (list ++ n ∷ []) ≡ records_at depth entries list ++ rec ∷ [] = filter_map-append (expanded depth entries) list n rec (ap (option_map (record_of depth entries n)) at) in
+    let next : records_at depth entries (list ++ n ∷ []) ≡ records_at depth entries list ++ rec ∷ [] =
+    filter_map-append (expanded depth entries) list (n ∷ [])
+    ∙ ap (λ (o : Option EntryTexts). records_at depth entries list ++ cons_option (option_map (record_of depth entries n) o) []) at in
     rows_more (records_at depth entries list) (records_at depth entries (list ++ n ∷ [])) rec bases keys base key is
     (also ∙ ap (λ (o : Option EntryTexts). option_map_or (λ e. e.key) o []) at) (sym next) rows

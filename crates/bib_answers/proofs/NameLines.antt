@@ -9,17 +9,9 @@ use Rattle.bib_names.specs.Label.{balances}
 use Rattle.bib_names.specs.declared.name.Name.{Name}
 use Rattle.bib_names.specs.declared.fault.NameFault.{NameFault}
 use Rattle.bib_names.specs.declared.fault.NameFault.TheVariants.{Memory, TooManyCommas, UnbalancedName}
-use Rattle.bib_names.proofs.BalanceLaws.{balances-is, IsBalanced-from_test}
+use Rattle.bib_names.proofs.BalanceLaws.{balances-yes, balances-no, IsBalanced-from_test}
 use Rattle.bib_names.proofs.CommaLemmas.{few_commas, many_commas}
 use Rattle.bib_answers.specs.Names.{listed_in, given_parts, parts_in, name_line, before_lines, joined_lines, name_lines}
-
--- ---- balance
-
-yes_balances : (text : Text) → IsBalanced text → balances text ≡ true
-yes_balances text is = sym (balances-is text true (λ _. is) (λ _. refl))
-
-no_balances : (text : Text) → (IsBalanced text → ⊥) → balances text ≡ false
-no_balances text is_not = sym (balances-is text false (λ e. absurd (cc)) (λ is. absurd (is_not is)))
 
 -- ---- lists of names
 
@@ -27,7 +19,7 @@ pub listed_names : {A : Type 0} (result : Result A NameFault) (names_in : A → 
     → IfOk result (λ x. listed_in text ≡ Ok (names_in x))
 listed_names (Err f) names_in text names is = tt
 listed_names (Ok x) names_in text names is =
-    ap (λ b. cond b (Ok (names_of text)) (Err UnbalancedName)) (yes_balances text is) ∙ ap (λ (ns : List Text). Ok ns) (sym names)
+    ap (λ b. cond b (Ok (names_of text)) (Err UnbalancedName)) (balances-yes text is) ∙ ap (λ (ns : List Text). Ok ns) (sym names)
 
 pub listed_fault : {A : Type 0} (result : Result A NameFault) (text : Text) → (IsBalanced text → IfErr result (λ f. f ≡ Memory)) → ((IsBalanced text → ⊥) → result ≡ Err UnbalancedName)
     → IfErr result (λ f. f ≢ Memory → listed_in text ≡ Err f)
@@ -36,14 +28,14 @@ listed_fault (Err f) text memory unbalanced = λ other.
     let is_not : IsBalanced text → ⊥ = λ is. other (memory is) in
     let refusal = unbalanced is_not in
     let same : UnbalancedName ≡ f = cc in
-    ap (λ b. cond b (Ok (names_of text)) (Err UnbalancedName)) (no_balances text is_not) ∙ ap (λ (g : NameFault). Err g) same
+    ap (λ b. cond b (Ok (names_of text)) (Err UnbalancedName)) (balances-no text is_not) ∙ ap (λ (g : NameFault). Err g) same
 
 -- ---- the parts of a name
 
 pub given_name : (result : Result Name NameFault) (name : Text) → IfOk result (λ parts. parts_of name ≡ Some parts) → OnOk result (IsBalanced name) → IfOk result (λ parts. parts_in name ≡ Ok parts)
 given_name (Err f) name parts is = tt
 given_name (Ok x) name parts is =
-    ap (λ b. cond b (given_parts (parts_of name)) (Err UnbalancedName)) (yes_balances name is) ∙ ap given_parts parts
+    ap (λ b. cond b (given_parts (parts_of name)) (Err UnbalancedName)) (balances-yes name is) ∙ ap given_parts parts
 
 pub name_fault : {A : Type 0} (result : Result A NameFault) (name : Text)
     → (IsBalanced name → length (commas (without_end name)) ≤ 2 → IfErr result (λ f. f ≡ Memory))
@@ -63,7 +55,7 @@ name_fault (Err f) name memory unbalanced many = λ other. by_balance other (bal
     by_balance : f ≢ Memory → (b : Bool) → balances name ≡ b → cond b (given_parts (parts_of name)) (Err UnbalancedName) ≡ Err f
     by_balance other true e = by_parts other (IsBalanced-from_test name e) (parts_of name) refl
     by_balance other false e =
-        let is_not : IsBalanced name → ⊥ = λ is. (let yes_is = yes_balances name is in absurd (cc)) in
+        let is_not : IsBalanced name → ⊥ = λ is. (let yes_is = balances-yes name is in absurd (cc)) in
         let refusal = unbalanced is_not in
         let same : UnbalancedName ≡ f = cc in
         ap (λ (g : NameFault). Err g) same

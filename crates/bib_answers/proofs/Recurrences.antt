@@ -1,5 +1,5 @@
 -- Which names an item may have twice.
-use Rattle.std.proofs.Common.{◌≡◌, ◌∙◌, ◌==◌, ◌||◌, ℕ, suc, ◌+◌, ◌%◌, ◌<◌, ◌≤◌, Bool, true, false, cond, List, [], ◌∷◌, length, get_or, set, replicate, Option, None, Some, refl, sym, ap, subst, ⊎_elim, arith}
+use Rattle.std.proofs.Common.{◌≡◌, ◌∙◌, ◌==◌, ◌||◌, ℕ, suc, ◌+◌, ◌%◌, ◌<◌, ◌≤◌, Bool, true, false, cond, List, [], ◌∷◌, length, get_or, set, replicate, Option, None, Some, refl, zero-add, sym, ap, subst, ⊎_elim, arith}
 use Rattle.std.specs.List.{list_any}
 use Rattle.std.proofs.Math.Nat.{mod-lt}
 use Rattle.std.proofs.lemmas.Bool.{cases_Bool, eq-eqb, eqb-true, both_ways}
@@ -48,12 +48,10 @@ one_more_more o some = go (o == 0) refl
 
 -- the tally of any other bucket stays
 counted_other : (b : Bool) (t : ℕ) → b ≡ false → cond b 1 0 + t ≡ t
-counted_other true t h = absurd (both_ways true h refl)
-counted_other false t h = let e : 0 + t ≡ t = omega arith in e
+counted_other b t h = ap (λ c. cond c 1 0 + t) h ∙ zero-add t
 
 counted_same : (b : Bool) (t : ℕ) → b ≡ true → cond b 1 0 + t ≡ 1 + t
-counted_same true t h = refl
-counted_same false t h = absurd (both_ways false refl h)
+counted_same b t h = ap (λ c. cond c 1 0 + t) h
 
 -- one more name is counted
 counts_with : (counts : List ℕ) (name : Text) (names : List Text) → AreCounts counts (length counts) names → AreCounts (with_one_more counts name) (length counts) (name ∷ names)

@@ -44,17 +44,13 @@ others_more filter few old new names one unit with seen name may =
     ∙ middle_first (list_any (λ (f : Bor (List ℕ)). same name f.now) few) (same name one) (is_some (value_at old (folded name)))
     ∙ ap (λ b. same name one || b) (seen name may)
 
-or_none : (a b : Bool) → a ≡ false → b ≡ (a || b)
-or_none true b h = absurd (both_ways true h refl)
-or_none false b h = refl
-
 -- a name that does not recur is the same as no name that may
 pub none_more : (filter : Option NameFilter) (few : List (Bor (List ℕ))) (others : List (Text × Unit {0})) (names : List Text) (one : Text) → may_recur filter one ≡ false → AreSeen filter few others names → AreSeen filter few others (one ∷ names)
 none_more filter few others names one lone seen name may =
-    seen name may ∙ or_none (same name one) (list_any (same name) names) (⊎_elim
+    seen name may ∙ ap (λ b. b || list_any (same name) names) (sym (⊎_elim
     (λ t. absurd (both_ways (may_recur filter one) lone (sym (recur_same filter name one t) ∙ may)))
     (λ f. f)
-    (cases_Bool (same name one)))
+    (cases_Bool (same name one))))
 
 -- a name may recur and was seen exactly if it was seen
 pub seen_is : (may few other any : Bool) → (may ≡ true → (few || other) ≡ any) → (any ≡ true → may ≡ true) → (may && (few || other)) ≡ any

@@ -3,7 +3,7 @@ use Rattle.std.specs.Prelude.{ℕ, List, [], ◌++◌, zip, codes}
 use Rattle.std.specs.List.{flat_map}
 use Rattle.bib_spec.specs.Text.{Text}
 use Rattle.bib_spec.specs.Reading.{Reading}
-use Rattle.bib_spec.specs.Records.{EntryTexts, entries_of, keys_of}
+use Rattle.bib_spec.specs.Records.{entries_of, keys_of}
 use Rattle.bib_spec.specs.MadeKeys.{new_keys}
 use Rattle.bib_keys.specs.MadeBase.{made_base}
 use Rattle.bib_answers.specs.declared.answers.Answer.{Answer}

@@ -1,5 +1,5 @@
 -- Where a byte is in a file, as editors and compilers say it. (dialect)
-use Rattle.std.specs.Prelude.{ℕ, ◌≡◌, ◌+◌, ◌≤◌, ◌==◌, Bool, List, length, take, fold, if◌then◌else◌}
+use Rattle.std.specs.Prelude.{ℕ, ◌≡◌, ◌+◌, ◌≤◌, ◌==◌, Bool, length, take, fold, if◌then◌else◌}
 use Rattle.bib_spec.specs.Bytes.{line_feed}
 use Rattle.bib_spec.specs.Text.{Text}
 use Rattle.bib_answers.specs.declared.positions.Position.{Position}

@@ -31,15 +31,15 @@ fn check(alloc: Global, db: &Database<Paged>) -> Result<Answer, AllocError>
     ensures { IfOk result (λ answer. OfReading db.now (λ r. answer ≡ check_answer r)) }
 {
     let found = look_through(alloc, db)?;
-    let counts = write_counts(
-        alloc,
+    let counts = format!(in alloc;
+        "items {}\nentries {}\nmacros {}\npreambles {}\ncomments {}\n",
         db.item_count(),
         db.entry_count(),
         found.definitions,
         db.preamble_count(),
-        found.comments,
+        found.comments
     )?;
-    let out = put_first(counts.as_slice(), found.reports)?;
+    let out = put_first(counts.as_bytes(), found.reports)?;
     Ok(done(alloc, Text::from_vec(out)))
 }
 
@@ -52,24 +52,6 @@ fn put_first(bytes: &[u8], text: Vec<u8>) -> Result<Vec<u8>, AllocError>
     out.extend_from_slice(bytes)?;
     out.rotate_left(len);
     Ok(out)
-}
-
-/// How many items, entries, macro definitions, preambles and comments there are.
-fn write_counts(
-    alloc: Global,
-    items: usize,
-    entries: usize,
-    definitions: usize,
-    preambles: usize,
-    comments: usize,
-) -> Result<Vec<u8>, AllocError>
-    ensures { IfOk result (λ text. text.items ≡ count_lines items entries definitions preambles comments) }
-{
-    let text = format!(in alloc;
-        "items {}\nentries {}\nmacros {}\npreambles {}\ncomments {}\n",
-        items, entries, definitions, preambles, comments
-    )?;
-    Ok(text.into_bytes())
 }
 
 /// What is found in one pass over the items: the reports on them in order, and how many are entries, definitions and

@@ -71,14 +71,8 @@ impl<'a> FindingLines<'a> {
     {
         let place = self.start.saturating_add(at).saturating_add(more);
         self.known = known_at(self.file, self.known, place);
-        add_warning(
-            &mut self.text,
-            self.name,
-            self.known.at,
-            before,
-            name,
-            after,
-        )
+        add_place(&mut self.text, self.name, self.known.at)?;
+        add_all(&mut self.text, &[b"warning: ", before, name, after, b"\n"])
     }
 
     /// The same at a place in the item.
@@ -100,21 +94,6 @@ impl<'a> FindingLines<'a> {
     {
         self.text
     }
-}
-
-/// Adds a line: the file's name, a position, and these words, with a name or text between them.
-fn add_warning(
-    out: &mut Vec<u8>,
-    file: &[u8],
-    at: Position,
-    before: &[u8],
-    name: &[u8],
-    after: &[u8],
-) -> Result<(), AllocError>
-    ensures { OnOk result (out.new.items ≡ out.old.items ++ warning_line file.now at (before.now ++ (name.now ++ after.now))) }
-{
-    add_place(out, file, at)?;
-    add_all(out, &[b"warning: ", before, name, after, b"\n"])
 }
 
 /// Adds the file's name and a position.

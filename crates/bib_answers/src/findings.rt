@@ -163,33 +163,24 @@ fn add_crossref(
     match crossref.text {
         None => Ok(()),
         Some([]) => Ok(()),
-        Some(text) => add_target(
-            lines,
-            at,
-            crossref.n,
-            text,
-            crossref.target,
-            crossref.grandparent,
-        ),
+        Some(text) => add_target(lines, at, crossref, text),
     }
 }
 
 fn add_target(
     lines: &mut FindingLines<'_>,
     at: usize,
-    n: usize,
+    crossref: Crossref<'_>,
     text: &[u8],
-    target: Option<usize>,
-    grandparent: Option<usize>,
 ) -> Result<(), AllocError>
-    ensures { OnOk result (lines.new ≡ with_findings lines.old (target_findings at n text.now target grandparent)) }
+    ensures { OnOk result (lines.new ≡ with_findings lines.old (target_findings at crossref.entry.n text.now crossref.entry.target crossref.entry.grandparent)) }
 {
-    match target {
+    match crossref.target {
         None => lines.add(at, b"crossref ", text, b" names no entry"),
-        Some(m) if m == n => lines.add(at, b"crossref ", text, b" names its own entry"),
+        Some(m) if m == crossref.n => lines.add(at, b"crossref ", text, b" names its own entry"),
         Some(m) => {
-            add_order(lines, at, n, text, m)?;
-            add_nested(lines, at, text, grandparent)
+            add_order(lines, at, crossref.n, text, m)?;
+            add_nested(lines, at, text, crossref.grandparent)
         }
     }
 }
@@ -250,14 +241,12 @@ fn add_field_findings<'a, M: MacroTable>(
     'fields: while let Some(field) = fields.next() {
         earlier.fill_filter(item)?;
         add_name(lines, earlier, field, crossref)?;
-        add_uses(
-            alloc,
-            lines,
-            field.value_at,
-            macros,
-            defined_in(item.kind(), field.name),
-            field.value,
-        )?;
+        let value = PlacedValue {
+            at: field.value_at,
+            own: defined_in(item.kind(), field.name),
+            bytes: field.value,
+        };
+        add_uses(alloc, lines, macros, value)?;
         earlier.add(field.name)?;
     }
     Ok(())
@@ -284,38 +273,42 @@ fn add_name(
 
 // ---- uses
 
-/// Adds the macros that are used wrongly in a value at this place. Most values have one part, and are not taken apart.
+/// A value: its place in its item, the name of the macro that it defines, if it defines one, and its bytes.
+#[derive(Clone, Copy)]
+struct PlacedValue<'a> {
+    at: usize,
+    own: Option<&'a [u8]>,
+    bytes: &'a [u8],
+}
+
+/// Adds the macros that are used wrongly in a value. Most values have one part, and are not taken apart.
 fn add_uses<M: MacroTable>(
     alloc: Global,
     lines: &mut FindingLines<'_>,
-    at: usize,
     macros: &M,
-    own: Option<&[u8]>,
-    value: &[u8],
+    value: PlacedValue<'_>,
 ) -> Result<(), AllocError>
-    requires { IsValueWithin name_limit value.now }
-    ensures { OnOk result (OfValue value.now (λ v. lines.new ≡ with_findings lines.old (value_findings (option_copied own.entry) (M.macros macros.now) at v))) }
+    requires { IsValueWithin name_limit value.bytes.now }
+    ensures { OnOk result (OfValue value.entry.bytes.now (λ v. lines.new ≡ with_findings lines.old (value_findings (option_copied value.entry.own) (M.macros macros.now) value.entry.at v))) }
 {
-    if let Some(part) = only_part(value) {
-        return add_use(lines, at, 0, part, macros, own);
+    if let Some(part) = only_part(value.bytes) {
+        return add_use(lines, macros, value, 0, part);
     }
-    add_each_use(alloc, lines, at, macros, own, value)
+    add_each_use(alloc, lines, macros, value)
 }
 
 /// The same, of a value that is taken apart.
 fn add_each_use<M: MacroTable>(
     alloc: Global,
     lines: &mut FindingLines<'_>,
-    at: usize,
     macros: &M,
-    own: Option<&[u8]>,
-    value: &[u8],
+    value: PlacedValue<'_>,
 ) -> Result<(), AllocError>
-    requires { IsValueWithin name_limit value.now }
-    ensures { OnOk result (OfValue value.now (λ v. lines.new ≡ with_findings lines.old (value_findings (option_copied own.entry) (M.macros macros.now) at v))) }
+    requires { IsValueWithin name_limit value.bytes.now }
+    ensures { OnOk result (OfValue value.entry.bytes.now (λ v. lines.new ≡ with_findings lines.old (value_findings (option_copied value.entry.own) (M.macros macros.now) value.entry.at v))) }
 {
-    match read_value(alloc, value) {
-        Ok(parts) => add_part_uses(lines, at, macros, own, value, &parts),
+    match read_value(alloc, value.bytes) {
+        Ok(parts) => add_part_uses(lines, macros, value, &parts),
         Err(fault) if fault.kind == MEMORY => Err(AllocError),
         Err(_) => unreachable!(),
     }
@@ -324,17 +317,21 @@ fn add_each_use<M: MacroTable>(
 /// The same, of a value whose parts these are.
 fn add_part_uses<M: MacroTable>(
     lines: &mut FindingLines<'_>,
-    at: usize,
     macros: &M,
-    own: Option<&[u8]>,
-    value: &[u8],
+    value: PlacedValue<'_>,
     parts: &Parts,
 ) -> Result<(), AllocError>
-    requires { IsPartsOf value.now parts.now }
-    ensures { OnOk result (OfValue value.now (λ v. lines.new ≡ with_findings lines.old (value_findings (option_copied own.entry) (M.macros macros.now) at v))) }
+    requires { IsPartsOf value.bytes.now parts.now }
+    ensures { OnOk result (OfValue value.entry.bytes.now (λ v. lines.new ≡ with_findings lines.old (value_findings (option_copied value.entry.own) (M.macros macros.now) value.entry.at v))) }
 {
     'uses: for n in 0..parts.len() {
-        add_use(lines, at, parts.place(n), parts.part(value, n), macros, own)?;
+        add_use(
+            lines,
+            macros,
+            value,
+            parts.place(n),
+            parts.part(value.bytes, n),
+        )?;
     }
     Ok(())
 }
@@ -342,22 +339,27 @@ fn add_part_uses<M: MacroTable>(
 /// Adds a wrong use of a macro, `more` bytes after the value's place.
 fn add_use<M: MacroTable>(
     lines: &mut FindingLines<'_>,
-    at: usize,
+    macros: &M,
+    value: PlacedValue<'_>,
     more: usize,
     part: Part<'_>,
-    macros: &M,
-    own: Option<&[u8]>,
 ) -> Result<(), AllocError>
-    ensures { OnOk result (lines.new ≡ with_findings lines.old (use_findings (option_copied own.entry) (M.macros macros.now) (at + more) (part_view part.entry))) }
+    ensures { OnOk result (lines.new ≡ with_findings lines.old (use_findings (option_copied value.entry.own) (M.macros macros.now) (value.entry.at + more) (part_view part.entry))) }
 {
     let Part::Macro(name) = part else {
         return Ok(());
     };
-    if is_own(name, own) {
-        return lines.add_after(at, more, b"macro ", name, b" is used in its own definition");
+    if is_own(name, value.own) {
+        return lines.add_after(
+            value.at,
+            more,
+            b"macro ",
+            name,
+            b" is used in its own definition",
+        );
     }
     if macros.text_of(name).is_none() {
-        return lines.add_after(at, more, b"macro ", name, b" is not defined");
+        return lines.add_after(value.at, more, b"macro ", name, b" is not defined");
     }
     Ok(())
 }

@@ -6,7 +6,7 @@ use Rattle.std.proofs.Math.Seq.{drop-append_seam, take-append_seam}
 use Rattle.std.proofs.lemmas.Slice.{between_is, between_from_start, between_to_end}
 use Rattle.std.proofs.lemmas.List.{take_more, drop-append-le, flat_map_more, length-take-le}
 use Rattle.std.proofs.lemmas.Option.{get_or_from_slice_get, slice_get_within}
-use Rattle.std.proofs.lemmas.List.Elements.{All-from_recursion, All-get_or}
+use Rattle.std.proofs.lemmas.List.Elements.{All-from_recursion, All-append, All-get_or}
 use Rattle.std.proofs.lemmas.List.Sums.{sum_by-le}
 use Rattle.bib_spec.specs.Text.{Text}
 use Rattle.bib_spec.specs.Pieces.{Piece}
@@ -21,13 +21,9 @@ future_between past future =
     between_to_end (past ++ future) (length past) (length past + length future) (omega (arith, length-append past future)) ∙ drop-append_seam past future
 
 -- a step of a journal can be written
-all_both : {X : Type 0} (P : X → Type 0) (xs ys : List X) → AllByRecursion P xs → AllByRecursion P ys → AllByRecursion P (xs ++ ys)
-all_both P [] ys a b = b
-all_both P (x ∷ xs) ys a b = (a.0, all_both P xs ys a.1 b)
-
 pub is_step_at : (past future : List Step) (n : ℕ) (step : Step) → AreSteps past future → slice_get (past ++ future) n ≡ Some step → IsStep step
 is_step_at past future n step steps at =
-    let all : All IsStep (past ++ future) = All-from_recursion IsStep (past ++ future) (all_both IsStep past future steps.past_steps steps.future_steps) in
+    let all : All IsStep (past ++ future) = All-append IsStep past future (All-from_recursion IsStep past steps.past_steps) (All-from_recursion IsStep future steps.future_steps) in
     subst IsStep (get_or_from_slice_get (past ++ future) n step step at) (All-get_or IsStep (past ++ future) n step (slice_get_within (past ++ future) n step at) all)
 
 -- one more line

@@ -55,7 +55,7 @@ use Rattle.bib_answers.specs.NewKeys.{newkeys_answer}
 use Rattle.bib_answers.specs.Positions.{position_of}
 use Rattle.bib_answers.specs.Lint.{IsLintAnswer, lint_answer, error_line}
 use Rattle.bib_run.specs.Ris.{ris_answer}
-use Rattle.bib_run.specs.Sessions.{IsUnopened, IsUnopenedAnswer, IsUnfit, OpensWith, judged_journal, bad_journal_line, fault_line, outcome_left}
+use Rattle.bib_run.specs.Sessions.{IsUnopened, IsUnopenedAnswer, IsUnfit, OpensWith, judged_journal, bad_journal_line, fault_line, outcome_after}
 use Rattle.bib_run.specs.Inputs.{AnswersSession, AnswersInput}
 use Rattle.bib_run.specs.EditAnswer.{HasEdited, HasEditedBy, HasEditedByWords, IsEditAnswer, IsWordsAnswer, edited_answer, stop_line, fault_message}
 use Rattle.bib_run.specs.ImportAnswer.{HasAdded, HasImported, IsImportAnswer, import_fault_line, added_answer}
@@ -221,7 +221,7 @@ one_words words s good a b (HasEditedByWords.bad none e) (HasEditedByWords.said 
 one_words words s good a b (HasEditedByWords.bad none e) (HasEditedByWords.bad none' e') = e ∙ sym e'
 
 abbrev of_turn : Text → ℕ → Option SessionFault → Saved → Answer
-of_turn word done fault saved = record { output = turned_line word done; outcome = outcome_left done (option_map fault_line fault) saved }
+of_turn word done fault saved = record { output = turned_line word done; outcome = outcome_after done (option_map fault_line fault) saved }
 
 one_turned : (word : Text) (request : Request) (n : ℕ) (file : Text) (journal : Option Text) → One (IsTurnAnswer word request n file journal)
 one_turned word request n file journal a b (IsTurnAnswer.turned t turns is) (IsTurnAnswer.turned u turns' is') =

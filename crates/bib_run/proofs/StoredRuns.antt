@@ -37,7 +37,7 @@ use Rattle.bib_script.specs.Script.{Said, said_of, said_by, said_first, nothing_
 use Rattle.bib_script.specs.Words.{asked_by_words, step_of, label_of_words}
 use Rattle.bib_words.specs.declared.commands.Command.{Command}
 use Rattle.bib_answers.specs.declared.answers.Answer.{Answer}
-use Rattle.bib_run.specs.Sessions.{IsUnopened, IsUnfit, OpensWith, judged_journal, bad_journal_line, mismatch_line, fault_line, outcome_left}
+use Rattle.bib_run.specs.Sessions.{IsUnopened, IsUnfit, OpensWith, judged_journal, bad_journal_line, mismatch_line, fault_line, outcome_after}
 use Rattle.bib_run.specs.Inputs.{AnswersSession, AnswersInput}
 use Rattle.bib_run.specs.EditAnswer.{HasEdited, HasEditedBy, HasEditedByWords, IsEditAnswer, IsWordsAnswer, changes_of, edits_in, stop_line, fault_message}
 use Rattle.bib_run.specs.ImportAnswer.{HasAdded, HasImported, IsImportAnswer}
@@ -160,7 +160,7 @@ stored_by old saved message b = stored old (record { file = text_by b saved.file
 
 -- the outcome of a session is stored, or leaves what was there where the session changed nothing
 stored_left : (changes : ℕ) (message : Option Text) (saved : Saved) (old : OnDisk) →
-    (stored old (outcome_left changes message saved) ≡ left saved) ⊎ ((changes ≡ 0) × (stored old (outcome_left changes message saved) ≡ old))
+    (stored old (outcome_after changes message saved) ≡ left saved) ⊎ ((changes ≡ 0) × (stored old (outcome_after changes message saved) ≡ old))
 stored_left changes None saved old = inl refl
 stored_left changes (Some message) saved old =
     ⊎_elim
@@ -244,14 +244,14 @@ asks_nothing command input kept old new asks opens is =
 -- what a session leaves after these requests is stored
 leave_session : (command : Command) (input : Text) (kept : KeptSteps) (old new : OnDisk) (requests : List Request) (done : ℕ) (fault : Option SessionFault) (reached : SessionState)
     (saved : Saved) (changes : ℕ) (message : Option Text) → Opens old.file old.journal kept → Asks command kept.present input requests → fault ≢ Some Memory
-    → Performs requests done fault (idle kept) reached → Saves reached.steps saved → (changes ≡ 0 → reached.steps ≡ kept) → new ≡ stored old (outcome_left changes message saved)
+    → Performs requests done fault (idle kept) reached → Saves reached.steps saved → (changes ≡ 0 → reached.steps ≡ kept) → new ≡ stored old (outcome_after changes message saved)
     → IsSession command input kept new
 leave_session command input kept old new requests done fault reached saved changes message opens asks told performs saves unchanged stores =
     let sound : IsSound reached.steps = (all_keep_sound (take done requests) (idle kept) reached (opened_is_sound old.file old.journal kept opens, tt) performs.did).0 in
     as_session command input kept new requests done fault reached asks told performs
     (⊎_elim
-    (λ (is : stored old (outcome_left changes message saved) ≡ left saved). left_opens reached.steps saved new sound saves (stores ∙ is))
-    (λ (is : (changes ≡ 0) × (stored old (outcome_left changes message saved) ≡ old)).
+    (λ (is : stored old (outcome_after changes message saved) ≡ left saved). left_opens reached.steps saved new sound saves (stores ∙ is))
+    (λ (is : (changes ≡ 0) × (stored old (outcome_after changes message saved) ≡ old)).
     same_disk reached.steps old new (stores ∙ is.1) (subst (λ (k : KeptSteps). Opens old.file old.journal k) (sym (unchanged is.0)) opens))
     (stored_left changes message saved old))
 

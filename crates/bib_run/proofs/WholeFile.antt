@@ -16,6 +16,7 @@ use Rattle.bib_data.specs.declared.request.Request.{Request}
 use Rattle.bib_data.specs.declared.request.Request.TheVariants.{Undo, Redo}
 use Rattle.bib_journal.specs.OpenSteps.{SessionState}
 use Rattle.bib_journal.specs.Session.{Opens}
+use Rattle.bib_journal.proofs.LoadLemmas.{opened_short}
 use Rattle.bib_store.specs.Meaning.{IsOpenFault}
 use Rattle.bib_answers.specs.Opened as opening
 use Rattle.bib_answers.specs.Opened.{AnswersFile, opened}
@@ -97,15 +98,11 @@ AnswersFile-long answers bytes answer long (opened db opens is) = absurd (let wi
 AnswersFile-long answers bytes answer long (opening.refused kind place other fault is) = opening.refused kind place other (IsOpenFault-long bytes kind place long fault) is
 
 -- a file that is too long is not opened, with whatever journal
-opened_is_short : (file : Text) (journal : Option Text) (kept : KeptSteps) → Opens file journal kept → length file ≤ file_limit
-opened_is_short file None kept opens = opens.0.1.short
-opened_is_short file (Some text) kept loads = loads.fit.opens.1.short
-
 front_is_long : (bytes : Text) → file_limit < length bytes → length (take (file_limit + 1) bytes) ≤ file_limit → ⊥
 front_is_long bytes long within = omega (arith, long, within, length-take-le (file_limit + 1) bytes (omega (arith, long)))
 
 not_opened : (bytes : Text) (journal : Option Text) (kept : KeptSteps) → file_limit < length bytes → Opens (take (file_limit + 1) bytes) journal kept → ⊥
-not_opened bytes journal kept long opens = front_is_long bytes long (opened_is_short (take (file_limit + 1) bytes) journal kept opens)
+not_opened bytes journal kept long opens = front_is_long bytes long (opened_short (take (file_limit + 1) bytes) journal kept opens)
 
 IsUnopened-long : (bytes : Text) (journal : Option Text) (message : Text) → file_limit < length bytes → IsUnopened (take (file_limit + 1) bytes) journal message → IsUnopened bytes journal message
 IsUnopened-long bytes journal message long (why.file j kind place other fault) = why.file j kind place other (IsOpenFault-long bytes kind place long fault)

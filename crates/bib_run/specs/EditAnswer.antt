@@ -16,7 +16,7 @@ use Rattle.bib_script.specs.Words.{asked_by_words}
 use Rattle.bib_answers.specs.declared.answers.Answer.{Answer}
 use Rattle.bib_run.specs.SessionNames.{session_fault_name}
 use Rattle.bib_answers.specs.Outcome.{answer_of}
-use Rattle.bib_run.specs.Sessions.{fault_line, outcome_left}
+use Rattle.bib_run.specs.Sessions.{fault_line, outcome_after}
 use Rattle.bib_run.specs.Inputs.{AnswersSession, AnswersInput}
 
 -- the line `bibkeep: line L: N Name`
@@ -57,7 +57,7 @@ edits_in requests = sum_by changes_of requests
 abbrev pub edited_answer : List Request → ℕ → Option Text → Saved → Answer
 edited_answer requests done message saved =
     let made = edits_in (take done requests) in
-    record { output = applied_line made; outcome = outcome_left made message saved }
+    record { output = applied_line made; outcome = outcome_after made message saved }
 
 -- The answer to requests of a session that was opened in this state: they are done in order, up to the first that is refused.
 -- `message` gives what is said, from how many were done and the fault of the next one.

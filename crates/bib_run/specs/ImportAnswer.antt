@@ -18,7 +18,7 @@ use Rattle.bib_ris.specs.Import.{AreAdditions, RefusesImport}
 use Rattle.bib_answers.specs.declared.answers.Answer.{Answer}
 use Rattle.bib_answers.specs.Messages.{placed_line}
 use Rattle.bib_answers.specs.Outcome.{answer_of}
-use Rattle.bib_run.specs.Sessions.{fault_line, outcome_left}
+use Rattle.bib_run.specs.Sessions.{fault_line, outcome_after}
 use Rattle.bib_run.specs.Inputs.{AnswersSession, AnswersInput}
 
 -- ---- messages
@@ -44,7 +44,7 @@ import_fault_line import_fault.Memory = codes "bibkeep: 10 Memory\n"
 
 -- the answer when `added` entries were added, `skipped` lines were skipped, and `saved` is the file and the journal
 abbrev pub added_answer : ℕ → ℕ → Saved → Answer
-added_answer added skipped saved = record { output = added_line added skipped; outcome = outcome_left 1 None saved }
+added_answer added skipped saved = record { output = added_line added skipped; outcome = outcome_after 1 None saved }
 
 -- The answer of a session to entries: they are added all at once, as one step; or why they cannot be added.
 pub data HasAdded (a : Additions) (opened : SessionState) (answer : Answer) : Type 0 where

@@ -77,6 +77,6 @@ text_left done text = if done == 0 then None else Some text
 
 -- The outcome after `done` changes: the new file and its journal are stored. If something stopped the changes, the message says
 -- what; then nothing is stored if there was no change.
-abbrev pub outcome_left : ℕ → Option Text → Saved → Outcome
-outcome_left done None saved = record { file = Some saved.file; journal = Some saved.journal; message = []; status = 0 }
-outcome_left done (Some message) saved = record { file = text_left done saved.file; journal = text_left done saved.journal; message = message; status = 1 }
+abbrev pub outcome_after : ℕ → Option Text → Saved → Outcome
+outcome_after done None saved = record { file = Some saved.file; journal = Some saved.journal; message = []; status = 0 }
+outcome_after done (Some message) saved = record { file = text_left done saved.file; journal = text_left done saved.journal; message = message; status = 1 }

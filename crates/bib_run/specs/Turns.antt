@@ -6,7 +6,7 @@ use Rattle.bib_data.specs.declared.request.Request.{Request}
 use Rattle.bib_journal.specs.declared.changing.Turned.{Turned}
 use Rattle.bib_journal.specs.Turns.{Turns}
 use Rattle.bib_answers.specs.declared.answers.Answer.{Answer}
-use Rattle.bib_run.specs.Sessions.{IsUnopenedAnswer, fault_line, outcome_left}
+use Rattle.bib_run.specs.Sessions.{IsUnopenedAnswer, fault_line, outcome_after}
 
 -- a line with the word and the number of changes
 abbrev pub turned_line : Text → ℕ → Text
@@ -17,7 +17,7 @@ turned_line word done = word ++ (codes " " ++ (decimal done ++ codes "\n"))
 abbrev pub turned_answer : Text → Turned → Answer
 turned_answer word turned = record {
   output = turned_line word turned.performed.done;
-  outcome = outcome_left turned.performed.done (option_map fault_line turned.performed.fault) turned.saved;
+  outcome = outcome_after turned.performed.done (option_map fault_line turned.performed.fault) turned.saved;
 }
 
 -- `undo F` and `redo F`: the request is done `n` times, up to the first refusal; or, with nothing done, why the file and its

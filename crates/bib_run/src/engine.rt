@@ -1,8 +1,9 @@
 //! One run of a command: all sources are read, then the answer is made, then it is written.
 
-ghost use Rattle.std.specs.Prelude.{◌≡◌, ◌≢◌, ◌≤◌, true, Option, IfOk, OnErr, Err, option_map, codes, length};
-ghost use Rattle.bib_words.specs.Command.{IsCommand, ReadsJournal, TakesInput};
-ghost use Rattle.bib_run.specs.Answers.{IsAnswer, IsStoredAnswer};
+ghost use Rattle.std.specs.Prelude.{◌≡◌, ◌≢◌, ◌≤◌, ◌<◌, true, [], Option, IfOk, OnErr, Err, option_map, slice_index_or, codes, length};
+ghost use Rattle.bib_spec.specs.Text.{Text as FileText};
+ghost use Rattle.bib_words.specs.Command.{HasItsWords, IsCommand, ReadsJournal, TakesInput};
+ghost use Rattle.bib_run.specs.Answers.{IsAnswer, IsStoredAnswer, key_words};
 ghost use Rattle.bib_run.specs.Shown.{printed, shown};
 ghost use Rattle.bib_answers.specs.Outcome.{outcome_of};
 ghost use Rattle.bib_run.specs.Lent.{held_before, held_after};
@@ -310,36 +311,32 @@ fn stored_answer_of(
     requires { IsCommand command.now }
     ensures { IfOk result (IsStoredAnswer command.now file.items (option_map (λ text. text.now) journal.entry) input.now) }
 {
-    if command.is_named(b"cat") {
-        return answer_cat(alloc, file);
+    if command.reads_journal() {
+        return answer_with_journal(alloc, command, file, journal, input);
     }
-    if command.is_named(b"check") {
-        return answer_check(alloc, file);
+    if command.depth > 0 {
+        return answer_at_depth(alloc, command, file);
     }
+    answer_alone(alloc, command, file)
+}
+
+/// The answer of a command that reads its journal.
+fn answer_with_journal(
+    alloc: Global,
+    command: &Command,
+    file: Vec<u8>,
+    journal: Option<&[u8]>,
+    input: &[u8],
+) -> Result<Answer, AllocError>
+    requires words { HasItsWords command.now }
+    requires journal { ReadsJournal command.now }
+    ensures { IfOk result (IsStoredAnswer command.now file.items (option_map (λ text. text.now) journal.entry) input.now) }
+{
     if command.is_named(b"edit") {
         return answer_edits(alloc, command, file, journal, input);
     }
-    let words = command.words.as_slice();
-    if command.is_named(b"show") {
-        return answer_show(alloc, file, words[1].as_slice(), command.depth);
-    }
-    if command.is_named(b"cite") {
-        return answer_cite(alloc, file, &words[1..], command.n);
-    }
-    if command.is_named(b"labels") {
-        return answer_labels(alloc, file, &words[1..], command.depth);
-    }
-    if command.is_named(b"ris") {
-        return answer_ris(alloc, file, &words[1..], command.depth, command.dropped);
-    }
-    if command.is_named(b"names") {
-        return answer_names(
-            alloc,
-            file,
-            words[1].as_slice(),
-            command.depth,
-            words[2].as_slice(),
-        );
+    if command.is_named(b"import") {
+        return answer_import(alloc, file, journal, command.new_journal, input);
     }
     if command.is_named(b"undo") {
         return answer_undo(alloc, file, journal, command.n as usize);
@@ -347,28 +344,79 @@ fn stored_answer_of(
     if command.is_named(b"redo") {
         return answer_redo(alloc, file, journal, command.n as usize);
     }
-    if command.is_named(b"log") {
-        return answer_log(alloc, file, journal);
+    answer_log(alloc, file, journal)
+}
+
+/// The answer of a command that shows records to a depth.
+fn answer_at_depth(alloc: Global, command: &Command, file: Vec<u8>) -> Result<Answer, AllocError>
+    requires words { HasItsWords command.now }
+    requires depth { 1 ≤ command.now.depth }
+    ensures { IfOk result (λ answer. (journal : Option FileText) (input : FileText) → IsStoredAnswer command.now file.items journal input answer) }
+{
+    if command.is_named(b"newkeys") {
+        return answer_newkeys(alloc, file, command.depth);
+    }
+    let keys = words_after_file(command);
+    if command.is_named(b"show") {
+        return answer_show(alloc, file, word(command, 1), command.depth);
+    }
+    if command.is_named(b"labels") {
+        return answer_labels(alloc, file, keys, command.depth);
+    }
+    if command.is_named(b"ris") {
+        return answer_ris(alloc, file, keys, command.depth, command.dropped);
+    }
+    if command.is_named(b"json") {
+        return answer_json(alloc, file, keys, command.depth);
+    }
+    answer_names(
+        alloc,
+        file,
+        word(command, 1),
+        command.depth,
+        word(command, 2),
+    )
+}
+
+/// The answer of a command that reads no journal and shows no records to a depth.
+fn answer_alone(alloc: Global, command: &Command, file: Vec<u8>) -> Result<Answer, AllocError>
+    requires words { HasItsWords command.now }
+    requires journal { ¬ ReadsJournal command.now }
+    requires depth { command.now.depth ≡ 0 }
+    ensures { IfOk result (λ answer. (journal : Option FileText) (input : FileText) → IsStoredAnswer command.now file.items journal input answer) }
+{
+    if command.is_named(b"cat") {
+        return answer_cat(alloc, file);
+    }
+    if command.is_named(b"check") {
+        return answer_check(alloc, file);
+    }
+    if command.is_named(b"cite") {
+        return answer_cite(alloc, file, words_after_file(command), command.n);
     }
     if command.is_named(b"forget") {
         return answer_forget(alloc, file);
     }
-    if command.is_named(b"import") {
-        return answer_import(alloc, file, journal, command.new_journal, input);
-    }
     if command.is_named(b"lint") {
-        return answer_lint(alloc, words[0].as_slice(), file.as_slice());
+        return answer_lint(alloc, word(command, 0), file.as_slice());
     }
-    if command.is_named(b"json") {
-        return answer_json(alloc, file, &words[1..], command.depth);
-    }
-    if command.is_named(b"newkeys") {
-        return answer_newkeys(alloc, file, command.depth);
-    }
-    if command.is_named(b"explain") {
-        return answer_explain(alloc, words[0].as_slice());
-    }
-    unreachable!()
+    answer_explain(alloc, word(command, 0))
+}
+
+/// The command's word with this index.
+fn word(command: &Command, i: usize) -> &[u8]
+    requires { i < length command.now.words }
+    ensures { result.now ≡ slice_index_or command.now.words i [] }
+{
+    command.words.as_slice()[i].as_slice()
+}
+
+/// The words after the file.
+fn words_after_file(command: &Command) -> &[Text]
+    requires { 1 ≤ length command.now.words }
+    ensures { result.now ≡ key_words command.now }
+{
+    &command.words.as_slice()[1..]
 }
 
 /// What `edit` answers: to the words of one edit, or to a script if there are no words.
@@ -383,9 +431,14 @@ fn answer_edits(
     requires words { 1 ≤ length command.now.words }
     ensures { IfOk result (IsStoredAnswer command.now file.items (option_map (λ text. text.now) journal.entry) input.now) }
 {
-    let words = command.words.as_slice();
-    if words.len() == 1 {
+    if command.words.as_slice().len() == 1 {
         return answer_edit(alloc, file, journal, command.new_journal, input);
     }
-    answer_words(alloc, file, journal, command.new_journal, &words[1..])
+    answer_words(
+        alloc,
+        file,
+        journal,
+        command.new_journal,
+        words_after_file(command),
+    )
 }

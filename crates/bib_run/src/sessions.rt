@@ -4,7 +4,7 @@ ghost use Rattle.std.specs.Prelude.{◌≡◌, true, Option, None, IfOk, IfErr, 
 ghost use Rattle.bib_spec.specs.Text.{Text as FileText};
 ghost use Rattle.bib_journal.specs.Session.{RefusesOpen};
 ghost use Rattle.bib_answers.specs.Messages.{fault_name};
-ghost use Rattle.bib_run.specs.Sessions.{IsUnopenedAnswer, OpensWith, judged_journal, is_of_journal, bad_journal_line, fault_line, outcome_left};
+ghost use Rattle.bib_run.specs.Sessions.{IsUnopenedAnswer, OpensWith, judged_journal, is_of_journal, bad_journal_line, fault_line, outcome_after};
 ghost use Rattle.bib_run.specs.SessionNames.{session_fault_name};
 
 use crate::messages::JOURNAL_MISMATCH;
@@ -77,8 +77,8 @@ pub fn unopened(alloc: Global, fault: SessionFault) -> Result<Answer, AllocError
 
 /// The outcome after `done` changes: file and journal are stored. If something stopped the changes, the message says
 /// what; then nothing is stored if there was no change.
-pub fn outcome_left(alloc: Global, done: usize, message: Option<Text>, saved: Saved) -> Outcome
-    ensures { result ≡ outcome_left done message saved }
+pub fn outcome_after(alloc: Global, done: usize, message: Option<Text>, saved: Saved) -> Outcome
+    ensures { result ≡ outcome_after done message saved }
 {
     match message {
         None => Outcome {

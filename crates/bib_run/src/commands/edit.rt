@@ -9,7 +9,7 @@ ghost use Rattle.bib_answers.specs.Outcome.{answer_of};
 ghost use Rattle.bib_run.specs.Inputs.{AnswersInput};
 ghost use Rattle.bib_run.specs.EditAnswer.{script_line, refused_line, bad_line, stop_line, applied_line, changes_of, edits_in, edited_answer, bad_words_line, fault_message, HasEdited, HasEditedBy, HasEditedByWords, IsEditAnswer, IsWordsAnswer};
 
-use crate::sessions::{message_of, open_with, outcome_left, session_fault_name, unopened};
+use crate::sessions::{message_of, open_with, outcome_after, session_fault_name, unopened};
 use bib_answers::{Answer, outcome_of, too_long};
 use bib_data::Request;
 use bib_journal::{Performed, Saved, Session, SessionFault, perform};
@@ -189,7 +189,7 @@ fn edited_answer(
 {
     let made = edits_in(requests.split_at(done).0);
     let output = applied_line(alloc, made)?;
-    let outcome = outcome_left(alloc, made, message, saved);
+    let outcome = outcome_after(alloc, made, message, saved);
     Ok(Answer { output, outcome })
 }
 

@@ -10,7 +10,7 @@ ghost use Rattle.bib_run.specs.Sessions.{fault_line};
 ghost use Rattle.bib_run.specs.Inputs.{AnswersInput};
 ghost use Rattle.bib_run.specs.ImportAnswer.{added_line, unread_line, import_fault_line, HasAdded, HasImported, IsImportAnswer};
 
-use crate::sessions::{fault_line, open_with, outcome_left, unopened};
+use crate::sessions::{fault_line, open_with, outcome_after, unopened};
 use bib_answers::{Answer, placed_line, refused, too_long};
 use bib_data::{Edit, NewEntry};
 use bib_journal::{Session, SessionFault};
@@ -86,7 +86,7 @@ fn add(
     let Ok(saved) = session.saved() else {
         return Err(AllocError);
     };
-    let outcome = outcome_left(alloc, 1, None, saved);
+    let outcome = outcome_after(alloc, 1, None, saved);
     Ok(Answer { output, outcome })
 }
 

@@ -4,7 +4,7 @@ ghost use Rattle.std.specs.Prelude.{◌≡◌, IfOk, option_map, codes};
 ghost use Rattle.bib_data.specs.declared.request.Request.TheVariants.{Undo, Redo};
 ghost use Rattle.bib_run.specs.Turns.{turned_line, turned_answer, IsTurnAnswer};
 
-use crate::sessions::{message_of, outcome_left, unopened};
+use crate::sessions::{message_of, outcome_after, unopened};
 use bib_answers::Answer;
 use bib_journal::{Turned, redo_changes, undo_changes};
 use bib_scan::Text;
@@ -48,7 +48,7 @@ fn turned_answer(alloc: Global, word: &str, turned: Turned) -> Result<Answer, Al
     let done = turned.performed.done;
     let output = turned_line(alloc, word, done)?;
     let message = message_of(alloc, turned.performed.fault)?;
-    let outcome = outcome_left(alloc, done, message, turned.saved);
+    let outcome = outcome_after(alloc, done, message, turned.saved);
     Ok(Answer { output, outcome })
 }
 

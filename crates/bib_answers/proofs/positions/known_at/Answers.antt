@@ -1,4 +1,4 @@
-use Rattle.std.proofs.Common.{◌≡◌, ◌∙◌, ◌≤◌, ◌<◌, ◌^◌, ◌-◌, length, take, drop, fold, rules, ap, arith}
+use Rattle.std.proofs.Common.{◌∙◌, ◌<◌, ◌^◌, ◌-◌, length, take, drop, fold, rules, ap, arith}
 use Rattle.bib_answers.specs.declared.positions.Position.{Position}
 use Rattle.bib_answers.specs.Positions.{position_after, IsKnown}
 use Rattle.bib_answers.proofs.PositionSteps.{position_later, position_end, numbers_fit}
