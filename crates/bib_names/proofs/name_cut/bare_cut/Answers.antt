@@ -1,6 +1,6 @@
 use Rattle.std.proofs.Common.{sym, ◌∙◌}
 use Rattle.bib_names.proofs.CommaLemmas.{parts_of_more}
-use Rattle.bib_names.proofs.name.parts_of_bare.Goals as goal
+use Rattle.bib_names.proofs.name_cut.bare_cut.Goals as goal
 
 pub returns-then-is_some-clause-parts : goal.returns-then-is_some-clause-parts
 returns-then-is_some-clause-parts c =
