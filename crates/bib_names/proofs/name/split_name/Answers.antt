@@ -1,4 +1,5 @@
 use Rattle.std.proofs.Common.{◌∙◌, sym, refl, arith}
+use Rattle.std.proofs.lemmas.Result.{err_from_is_err_and}
 use Rattle.bib_names.specs.Name.{without_end}
 use Rattle.bib_names.proofs.CommaLemmas.{few_commas, many_commas}
 use Rattle.bib_names.proofs.name.split_name.Goals as goal
@@ -14,7 +15,8 @@ returns-in_ok-into_name-in-Some-clause-commas c =
 pub returns-in_err-into_name-in-Some-clause-commas : goal.returns-in_err-into_name-in-Some-clause-commas
 returns-in_err-into_name-in-Some-clause-commas c =
     let few = few_commas (without_end c.args.text.now) c.in-Some.cut (sym c.in_ok-cut.ensures.parts ∙ c.in-Some.is) in
-    (λ e. absurd (cc), λ many. absurd (omega (arith, few, many.1)))
+    let p = err_from_is_err_and c.from_residual-in_err-into_name-in-Some.result c.from_residual-in_err-into_name-in-Some.ensures.1 in
+    rw (p.1, p.2) (λ e. absurd (cc), λ many. absurd (omega (arith, few, many.1)))
 
 pub returns-in-None-clause-memory : goal.returns-in-None-clause-memory
 returns-in-None-clause-memory c =
