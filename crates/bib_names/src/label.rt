@@ -117,16 +117,6 @@ fn last_printed(alloc: Global, name: &NameCut<'_>) -> Result<Vec<u8>, AllocError
     printed_group(alloc, &last, name.last())
 }
 
-/// The print of a name by `{v{}}{l{}}`, empty if the name is refused.
-fn print_of_initials(alloc: Global, name: &[u8]) -> Result<Vec<u8>, AllocError>
-    ensures { IfOk result (λ t. t.items ≡ print_of initials_template name.now) }
-{
-    match read_name(alloc, name)? {
-        Some(name) => initials_printed(alloc, &name),
-        None => Ok(Vec::new(alloc)),
-    }
-}
-
 /// The first three text characters, without ordinary braces.
 pub(crate) fn first_three(alloc: Global, text: &[u8]) -> Result<Text, AllocError>
     ensures { IfOk result (λ t. t ≡ first_three text.now) }
@@ -158,11 +148,14 @@ pub(crate) fn letters_of_one(alloc: Global, name: &[u8]) -> Result<Text, AllocEr
     }
 }
 
-/// Adds the print of a name by `{v{}}{l{}}`.
+/// Adds the print of a name by `{v{}}{l{}}`, or nothing if the name is refused.
 fn push_initials(alloc: Global, out: &mut Vec<u8>, name: &[u8]) -> Result<(), AllocError>
     ensures { OnOk result (out.new.items ≡ out.old.items ++ print_of initials_template name.now) }
 {
-    out.extend_from_slice(print_of_initials(alloc, name)?.as_slice())
+    match read_name(alloc, name)? {
+        Some(name) => out.extend_from_slice(initials_printed(alloc, &name)?.as_slice()),
+        None => Ok(()),
+    }
 }
 
 /// The prints of names by `{v{}}{l{}}`, joined.

@@ -1,9 +1,10 @@
 //! A name cut into its parts, as far as its first comma.
 
-ghost use Rattle.std.specs.Prelude.{◌≡◌, ◌<◌, ◌≤◌, ◌+◌, [], IfOk, OnErr, length, drop, vec_len};
+ghost use Rattle.std.specs.Prelude.{◌≡◌, ◌<◌, ◌≤◌, ◌+◌, [], Some, None, IfOk, OnErr, IfSome, IfNone, length, drop, vec_len};
 ghost use Rattle.std.specs.List.{slice_range};
 ghost use Rattle.bib_names.specs.Places.{stretch};
 ghost use Rattle.bib_names.specs.Words.{words_of};
+ghost use Rattle.bib_names.specs.FirstComma.{IsFirstComma};
 ghost use Rattle.bib_names.specs.Name.{commas, cut_at, without_comma, with_commas, without_end, parts_of_bare, parts_of};
 
 use crate::name::{Name, comma_from, hyphened_start, von_end, von_start};
@@ -121,13 +122,6 @@ fn with_commas<'a>(words: Vec<Word<'a>>, jr: Piece<'a>, first: Piece<'a>) -> Nam
     }
 }
 
-/// The name of one piece.
-fn of_one_piece(alloc: Global, bare: &[u8]) -> Result<NameCut<'_>, AllocError>
-    ensures { IfOk result (λ cut. cut ≡ without_comma (words_of (stretch 0 bare.now))) }
-{
-    Ok(without_comma(words(alloc, bare, 0)?))
-}
-
 /// The piece after the comma at this place.
 fn piece_after(bare: &[u8], comma: usize) -> Piece<'_>
     requires { comma < length bare.now }
@@ -139,32 +133,23 @@ fn piece_after(bare: &[u8], comma: usize) -> Piece<'_>
     }
 }
 
-/// The name of two pieces, with its comma at this place.
-fn of_two_pieces(alloc: Global, bare: &[u8], one: usize) -> Result<NameCut<'_>, AllocError>
-    requires { one < length bare.now }
-    ensures { IfOk result (λ cut. cut ≡ with_commas (words_of (stretch 0 (slice_range bare.now 0 one))) [] (words_of (stretch (one + 1) (drop (one + 1) bare.now)))) }
+/// The pieces of Jr and of First, after the first comma, which is at this place; none if the name has more than two.
+fn pieces_after(bare: &[u8], one: usize) -> Option<(Piece<'_>, Piece<'_>)>
+    requires { IsFirstComma bare.now 0 one }
+    ensures parts { IfSome result (λ pieces. parts_of_bare bare.now ≡ Some (with_commas (words_of (stretch 0 (slice_range bare.now 0 one))) (words_of pieces.0) (words_of pieces.1))) }
+    ensures many { IfNone result (parts_of_bare bare.now ≡ None) }
 {
-    let words = words(alloc, &bare[..one], 0)?;
-    Ok(with_commas(words, no_piece(), piece_after(bare, one)))
-}
-
-/// The name of three pieces, with its commas at these places.
-fn of_three_pieces(
-    alloc: Global,
-    bare: &[u8],
-    one: usize,
-    two: usize,
-) -> Result<NameCut<'_>, AllocError>
-    requires ordered { one < two }
-    requires within { two < length bare.now }
-    ensures { IfOk result (λ cut. cut ≡ with_commas (words_of (stretch 0 (slice_range bare.now 0 one))) (words_of (stretch (one + 1) (slice_range bare.now (one + 1) two))) (words_of (stretch (two + 1) (drop (two + 1) bare.now)))) }
-{
-    let words = words(alloc, &bare[..one], 0)?;
+    let Some(two) = comma_from(bare, one + 1) else {
+        return Some((no_piece(), piece_after(bare, one)));
+    };
+    if comma_from(bare, two + 1).is_some() {
+        return None;
+    }
     let jr = Piece {
         at: one + 1,
         text: &bare[one + 1..two],
     };
-    Ok(with_commas(words, jr, piece_after(bare, two)))
+    Some((jr, piece_after(bare, two)))
 }
 
 /// The name that ends with no separator and no comma; none if it has more than two commas.
@@ -173,15 +158,12 @@ fn bare_cut(alloc: Global, bare: &[u8]) -> Result<Option<NameCut<'_>>, AllocErro
     ensures few { OnErr result (length (commas bare.now) ≤ 2) }
 {
     let Some(one) = comma_from(bare, 0) else {
-        return Ok(Some(of_one_piece(alloc, bare)?));
+        return Ok(Some(without_comma(words(alloc, bare, 0)?)));
     };
-    let Some(two) = comma_from(bare, one + 1) else {
-        return Ok(Some(of_two_pieces(alloc, bare, one)?));
-    };
-    if comma_from(bare, two + 1).is_some() {
+    let Some((jr, first)) = pieces_after(bare, one) else {
         return Ok(None);
-    }
-    Ok(Some(of_three_pieces(alloc, bare, one, two)?))
+    };
+    Ok(Some(with_commas(words(alloc, &bare[..one], 0)?, jr, first)))
 }
 
 /// A name whose braces balance, cut into its parts; none if it has more than two commas.
