@@ -16,10 +16,9 @@ use crate::name_list::names_of;
 use crate::printing::{finished, printed_group};
 use crate::special::{Chars, char_count};
 use crate::template::{Form, Group, Part};
-use crate::text::is_balanced;
 use crate::word::Word;
 use bib_data::Record;
-use bib_scan::{Seq, Text};
+use bib_scan::{Seq, Text, is_balanced};
 use std::alloc::{AllocError, Global};
 
 /// The text of the first field of exactly this name, empty if there is none: the names in a record are in lower case.

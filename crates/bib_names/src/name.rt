@@ -9,9 +9,8 @@ ghost use Rattle.bib_names.specs.FirstComma.{commas_from, IsFirstComma};
 use crate::braces::Braces;
 use crate::fault::NameFault;
 use crate::name_cut::name_cut;
-use crate::text::is_balanced;
 use crate::word::Word;
-use bib_scan::Seq;
+use bib_scan::{Seq, is_balanced};
 use std::alloc::Global;
 
 /// The parts of a name: the words of First, von, Last and Jr, each in the name's order. (btxhak 5.4)
