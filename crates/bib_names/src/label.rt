@@ -4,13 +4,13 @@ ghost use Rattle.std.specs.Prelude.{◌≡◌, ◌≤◌, ◌<◌, ◌++◌, ◌
 ghost use Rattle.std.specs.Char.{is_ascii_digit};
 ghost use Rattle.bib_names.specs.Label.{text_in, label_names, balances, listed_names, group, initials_template, print_of, initials_of, first_three, letters_of_one, ends_with_others, letters_of_many, or_anon, last_two, label_base};
 ghost use Rattle.bib_names.specs.Printing.{printed_group};
-ghost use Rattle.bib_names.specs.LabelNames.{read_name, initials_printed, last_printed};
+ghost use Rattle.bib_names.specs.LabelNames.{read_name, initials_printed, last_printed, is_one_letter, letters_printed};
 ghost use Rattle.bib_names.specs.declared.template.Form.TheVariants.{Initials};
 ghost use Rattle.bib_names.specs.declared.template.Part.{Part as PartOf};
 
 use crate::fault::NameFault;
-use crate::label_fields::base_of;
 use crate::initial::initial;
+use crate::label_fields::base_of;
 use crate::name_cut::{NameCut, name_cut};
 use crate::name_list::names_of;
 use crate::printing::{finished, printed_group};
@@ -132,18 +132,31 @@ pub(crate) fn first_three(alloc: Global, text: &[u8]) -> Result<Text, AllocError
     Ok(Seq::from_vec(out))
 }
 
+/// Whether the text has fewer than two text characters.
+fn is_one_letter(text: &[u8]) -> bool
+    ensures { result ≡ is_one_letter text.now }
+{
+    char_count(text, 2) < 2
+}
+
+/// The letters of a name that is not refused.
+fn letters_printed(alloc: Global, name: &NameCut<'_>) -> Result<Text, AllocError>
+    ensures { IfOk result (λ t. t ≡ letters_printed name.now) }
+{
+    let initials = initials_printed(alloc, name)?;
+    if is_one_letter(initials.as_slice()) {
+        return first_three(alloc, last_printed(alloc, name)?.as_slice());
+    }
+    Ok(Seq::from_vec(initials))
+}
+
 /// The letters of one name.
 pub(crate) fn letters_of_one(alloc: Global, name: &[u8]) -> Result<Text, AllocError>
     ensures { IfOk result (λ t. t ≡ letters_of_one name.now) }
 {
-    let Some(name) = read_name(alloc, name)? else {
-        return Ok(Seq::from_vec(Vec::new(alloc)));
-    };
-    let initials = initials_printed(alloc, &name)?;
-    if char_count(initials.as_slice(), 2) < 2 {
-        first_three(alloc, last_printed(alloc, &name)?.as_slice())
-    } else {
-        Ok(Seq::from_vec(initials))
+    match read_name(alloc, name)? {
+        Some(name) => letters_printed(alloc, &name),
+        None => Ok(Seq::from_vec(Vec::new(alloc))),
     }
 }
 

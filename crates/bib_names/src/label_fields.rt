@@ -107,6 +107,7 @@ fn year_digits(alloc: Global, text: &[u8]) -> Result<Text, AllocError>
     copied(alloc, last_two(digits.as_slice()))
 }
 
+/// A copy of a text.
 fn copied(alloc: Global, text: &[u8]) -> Result<Text, AllocError>
     ensures { IfOk result (λ copy. copy ≡ text.now) }
 {
