@@ -2,7 +2,7 @@
 
 ghost use Rattle.std.specs.Prelude.{◌≡◌, ◌≤◌, ◌<◌, ◌++◌, ◌∷◌, [], Some, None, IfOk, IfErr, OnOk, length, map, filter, take};
 ghost use Rattle.std.specs.Char.{is_ascii_digit};
-ghost use Rattle.bib_names.specs.Label.{text_in, label_names, balances, listed_names, group, initials_template, print_of, initials_of, first_three, letters_of_one, ends_with_others, letters_of_many, or_anon, last_two, label_base};
+ghost use Rattle.bib_names.specs.Label.{text_in, label_names, balances, listed_names, group, initials_template, print_of, initials_of, first_three, letters_of_one, ends_with_others, letters_of_many, or_anon, label_base};
 ghost use Rattle.bib_names.specs.Printing.{printed_group};
 ghost use Rattle.bib_names.specs.LabelNames.{read_name, initials_printed, last_printed, is_one_letter, letters_printed};
 ghost use Rattle.bib_names.specs.declared.template.Form.TheVariants.{Initials};
@@ -228,13 +228,6 @@ pub(crate) fn digits_of(alloc: Global, text: &[u8]) -> Result<Vec<u8>, AllocErro
         .copied()
         .filter(|b| b.is_ascii_digit())
         .collect(alloc)
-}
-
-/// The last two bytes of a text, or all if there are fewer.
-pub(crate) fn last_two(text: &[u8]) -> &[u8]
-    ensures { result.now ≡ last_two text.now }
-{
-    text.split_at(text.len().saturating_sub(2)).1
 }
 
 /// The base of a record's label: letters from its names, and the last two digits of its year. All rules are this

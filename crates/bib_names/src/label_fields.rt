@@ -7,8 +7,7 @@ ghost use Rattle.bib_names.specs.LabelParts.{letters_if_any, letters_in, year_di
 
 use crate::fault::NameFault;
 use crate::label::{
-    digits_of, first_three, last_two, letters_of_many, letters_of_one, listed_names, or_anon,
-    text_in,
+    digits_of, first_three, letters_of_many, letters_of_one, listed_names, or_anon, text_in,
 };
 use bib_scan::{Seq, Text, same_folded};
 use std::alloc::{AllocError, Global};
@@ -103,8 +102,10 @@ fn letters_in(alloc: Global, text: &[u8]) -> Result<Option<Text>, AllocError>
 fn year_digits(alloc: Global, text: &[u8]) -> Result<Text, AllocError>
     ensures { IfOk result (λ digits. digits ≡ year_digits text.now) }
 {
-    let digits = digits_of(alloc, text)?;
-    copied(alloc, last_two(digits.as_slice()))
+    let mut digits = digits_of(alloc, text)?;
+    let end = digits.len().saturating_sub(2);
+    digits.drain(..end);
+    Ok(Seq::from_vec(digits))
 }
 
 /// A copy of a text.
