@@ -16,6 +16,7 @@ mod made_key;
 mod name;
 mod name_cut;
 mod name_list;
+mod pieces;
 mod printing;
 mod special;
 mod tally;

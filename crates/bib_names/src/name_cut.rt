@@ -1,21 +1,51 @@
-//! A name cut into its parts, as far as its first comma.
+//! A name cut into its parts, with the words after its first comma not read yet.
 
-ghost use Rattle.std.specs.Prelude.{◌≡◌, ◌<◌, ◌≤◌, ◌+◌, [], Some, None, IfOk, OnErr, IfSome, IfNone, length, drop, vec_len};
-ghost use Rattle.std.specs.List.{slice_range};
-ghost use Rattle.bib_names.specs.Places.{stretch};
+ghost use Rattle.std.specs.Prelude.{◌≡◌, ◌≤◌, IfOk, OnErr, length, vec_len};
 ghost use Rattle.bib_names.specs.Words.{words_of};
-ghost use Rattle.bib_names.specs.FirstComma.{IsFirstComma};
-ghost use Rattle.bib_names.specs.Name.{commas, cut_at, without_comma, with_commas, without_end, parts_of_bare, parts_of};
+ghost use Rattle.bib_names.specs.Name.{commas, von_end, von_start, hyphened_start, cut_at, without_comma, with_commas, without_end, parts_of_bare, parts_of};
 
-use crate::name::{Name, comma_from, hyphened_start, von_end, von_start};
+use crate::name::Name;
+use crate::pieces::{Piece, comma_from, no_piece, pieces_after};
 use crate::text::without_end;
-use crate::word::{Piece, Word, words};
+use crate::word::{Word, words};
 use bib_scan::Seq;
 use std::alloc::{AllocError, Global};
 use std::marker::Model;
 
-/// A name whose words before its first comma are found, and where von and Last begin and end among them. The words of
-/// the pieces after a comma are not found yet. A contract sees the parts of the name.
+/// How many words there are up to the last von word, if the final word is left out.
+fn von_end(words: &[Word<'_>]) -> usize
+    ensures end { result ≡ von_end words.now }
+    ensures within { result ≤ length words.now }
+{
+    let mut end = words.len().saturating_sub(1);
+    while end > 0 && !words[end - 1].is_von() {
+        end -= 1;
+    }
+    end
+}
+
+/// How many words are before the first von word.
+fn von_start(words: &[Word<'_>]) -> usize
+    ensures start { result ≡ von_start words.now }
+    ensures within { result ≤ length words.now }
+{
+    words.iter().take_while(|word| !word.is_von()).count()
+}
+
+/// How many words are before the last word that no hyphen joins to the one before it.
+fn hyphened_start(words: &[Word<'_>]) -> usize
+    ensures start { result ≡ hyphened_start words.now }
+    ensures within { result ≤ length words.now }
+{
+    let mut end = words.len();
+    while end > 0 && !words[end - 1].is_free() {
+        end -= 1;
+    }
+    end.saturating_sub(1)
+}
+
+/// A name with the words before its first comma, or with all words if it has no comma. Among them von begins at `start`
+/// and Last at `end`. The words after a comma are not found yet. A contract sees the parts of the name.
 #[derive(Drop)]
 pub(crate) struct NameCut<'a> {
     words: Vec<Word<'a>>,
@@ -73,13 +103,6 @@ impl<'a> NameCut<'a> {
     }
 }
 
-/// A piece of no bytes.
-fn no_piece<'a>() -> Piece<'a>
-    ensures { result ≡ stretch 0 [] }
-{
-    Piece { at: 0, text: b"" }
-}
-
 /// The name without a comma whose von is the words from `start` up to `end`.
 fn cut_at(words: Vec<Word<'_>>, start: usize, end: usize) -> NameCut<'_>
     requires ordered { start ≤ end }
@@ -120,36 +143,6 @@ fn with_commas<'a>(words: Vec<Word<'a>>, jr: Piece<'a>, first: Piece<'a>) -> Nam
         jr,
         first,
     }
-}
-
-/// The piece after the comma at this place.
-fn piece_after(bare: &[u8], comma: usize) -> Piece<'_>
-    requires { comma < length bare.now }
-    ensures { result ≡ stretch (comma + 1) (drop (comma + 1) bare.now) }
-{
-    Piece {
-        at: comma + 1,
-        text: bare.split_at(comma + 1).1,
-    }
-}
-
-/// The pieces of Jr and of First, after the first comma, which is at this place; none if the name has more than two.
-fn pieces_after(bare: &[u8], one: usize) -> Option<(Piece<'_>, Piece<'_>)>
-    requires { IsFirstComma bare.now 0 one }
-    ensures parts { IfSome result (λ pieces. parts_of_bare bare.now ≡ Some (with_commas (words_of (stretch 0 (slice_range bare.now 0 one))) (words_of pieces.0) (words_of pieces.1))) }
-    ensures many { IfNone result (parts_of_bare bare.now ≡ None) }
-{
-    let Some(two) = comma_from(bare, one + 1) else {
-        return Some((no_piece(), piece_after(bare, one)));
-    };
-    if comma_from(bare, two + 1).is_some() {
-        return None;
-    }
-    let jr = Piece {
-        at: one + 1,
-        text: &bare[one + 1..two],
-    };
-    Some((jr, piece_after(bare, two)))
 }
 
 /// The name that ends with no separator and no comma; none if it has more than two commas.

@@ -93,33 +93,3 @@ pub(crate) fn words(alloc: Global, piece: &[u8], at: usize) -> Result<Vec<Word<'
     }
     Ok(words)
 }
-
-/// A piece of a name: its place in the name, and its bytes.
-#[derive(Drop)]
-pub(crate) struct Piece<'a> {
-    pub at: usize,
-    pub text: &'a [u8],
-}
-
-impl<'a> Model for Piece<'a> {
-    ghost use Rattle.std.specs.Prelude.{◌<◌, ◌+◌, ◌^◌, length};
-    ghost use Rattle.bib_names.specs.Places.{Stretch, stretch};
-
-    ghost Value = { Stretch };
-
-    ghost view = { λ p. stretch p.at p.text.now };
-
-    ghost invariant = { λ p. p.at + length p.text.now < 2 ^ 64 };
-}
-
-impl<'a> Piece<'a> {
-    ghost use Rattle.std.specs.Prelude.{◌≡◌, IfOk};
-    ghost use Rattle.bib_names.specs.Words.{words_of};
-
-    /// The words of the piece.
-    pub fn words(&self, alloc: Global) -> Result<Vec<Word<'a>>, AllocError>
-        ensures { IfOk result (λ words. words.items ≡ words_of self.now) }
-    {
-        words(alloc, self.text, self.at)
-    }
-}

@@ -1,6 +1,6 @@
 use Rattle.std.proofs.Common.{sym, ◌∙◌}
 use Rattle.bib_names.proofs.CommaLemmas.{parts_of_more}
-use Rattle.bib_names.proofs.name_cut.pieces_after.Goals as goal
+use Rattle.bib_names.proofs.pieces.pieces_after.Goals as goal
 
 pub returns-then-is_some-clause-many : goal.returns-then-is_some-clause-many
 returns-then-is_some-clause-many c =
