@@ -7,12 +7,6 @@ use Rattle.bib_spec.specs.Text.{Text, opened_before, closed_before}
 use Rattle.bib_names.specs.Places.{is_level}
 use Rattle.bib_names.specs.Scanning.{AreBraces}
 
--- the depth after the bytes seen, and no front of them closes more than it opens
-pub record IsDepth (text : Text) (seen depth : ℕ) : Type 0 where
-  pub level : depth + closed_before text seen ≡ opened_before text seen
-  pub never_negative : (n : ℕ) → n ≤ seen → closed_before text n ≤ opened_before text n
-  pub small : depth ≤ seen
-
 -- one where the byte is this one
 abbrev pub one_if : ℕ → ℕ → ℕ
 one_if brace byte = cond (eqb byte brace) 1 0

@@ -18,7 +18,7 @@ pub mod PrintLemmas
 pub mod TemplateLaws
 -- ---- labels and made keys
 pub mod LabelLaws
-pub mod SurnameLaws
+pub mod LabelNameLaws
 pub mod LabelFields
 pub mod LabelPartLaws
 pub mod MadeKeyLaws

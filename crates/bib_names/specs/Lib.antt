@@ -14,5 +14,5 @@ pub mod Printing
 pub mod Outputs
 pub mod Label
 pub mod LabelParts
-pub mod Surname
+pub mod LabelNames
 pub mod Counts

@@ -2,19 +2,23 @@
 
 ghost use Rattle.std.specs.Prelude.{◌≡◌, ◌≤◌, ◌<◌, ◌++◌, ◌∷◌, [], Some, None, IfOk, IfErr, OnOk, length, map, filter, take};
 ghost use Rattle.std.specs.Char.{is_ascii_digit};
-ghost use Rattle.bib_names.specs.Label.{text_in, label_names, balances, listed_names, group, initials_template, print_of, initials_of, first_three, letters_of_one, ends_with_others, letters_of_many, or_anon, last_two, label_base};
-ghost use Rattle.bib_names.specs.Surname.{initials_printed, last_printed};
+ghost use Rattle.bib_names.specs.Label.{text_in, label_names, balances, listed_names, group, initials_template, print_of, initials_of, first_three, letters_of_one, ends_with_others, letters_of_many, or_anon, label_base};
+ghost use Rattle.bib_names.specs.Printing.{printed_group};
+ghost use Rattle.bib_names.specs.LabelNames.{read_name, initials_printed, last_printed, is_one_letter, letters_printed};
+ghost use Rattle.bib_names.specs.declared.template.Form.TheVariants.{Initials};
+ghost use Rattle.bib_names.specs.declared.template.Part.{Part as PartOf};
 
 use crate::fault::NameFault;
+use crate::initial::initial;
 use crate::label_fields::base_of;
+use crate::name_cut::{NameCut, name_cut};
 use crate::name_list::names_of;
-use crate::printing::printed_group;
+use crate::printing::{finished, printed_group};
 use crate::special::{Chars, char_count};
-use crate::surname::{Surname, initials, surname_in};
 use crate::template::{Form, Group, Part};
-use crate::text::is_balanced;
+use crate::word::Word;
 use bib_data::Record;
-use bib_scan::{Seq, Text};
+use bib_scan::{Seq, Text, is_balanced};
 use std::alloc::{AllocError, Global};
 
 /// The text of the first field of exactly this name, empty if there is none: the names in a record are in lower case.
@@ -70,34 +74,46 @@ fn group(alloc: Global, part: Part, form: Form, between: Option<Text>) -> Group
     }
 }
 
-/// The print of a surname by `{v{}}{l{}}`.
-fn initials_printed(alloc: Global, surname: &Surname<'_>) -> Result<Vec<u8>, AllocError>
-    ensures { IfOk result (λ t. t.items ≡ initials_printed surname.now) }
+/// The name cut into its parts; none if the name is refused: its braces do not balance, or it has more than two commas.
+fn read_name(alloc: Global, name: &[u8]) -> Result<Option<NameCut<'_>>, AllocError>
+    ensures { IfOk result (λ cut. cut ≡ read_name name.now) }
 {
-    let mut out = initials(alloc, surname.von())?;
-    if out.is_empty() {
-        return initials(alloc, surname.last());
+    if balances(name) {
+        name_cut(alloc, name)
+    } else {
+        Ok(None)
     }
-    out.extend_from_slice(initials(alloc, surname.last())?.as_slice())?;
+}
+
+/// The initials of words, as a group prints them whose text between words is empty.
+fn initials(alloc: Global, words: &[Word<'_>]) -> Result<Vec<u8>, AllocError>
+    ensures { IfOk result (λ r. (part : PartOf) → r.items ≡ printed_group (group part Initials (Some [])) words.now) }
+{
+    let mut out = Vec::new(alloc);
+    for word in words {
+        out.extend_from_slice(initial(word.text))?;
+    }
+    finished(out)
+}
+
+/// The print of a name by `{v{}}{l{}}`.
+fn initials_printed(alloc: Global, name: &NameCut<'_>) -> Result<Vec<u8>, AllocError>
+    ensures { IfOk result (λ t. t.items ≡ initials_printed name.now) }
+{
+    let mut out = initials(alloc, name.von())?;
+    if out.is_empty() {
+        return initials(alloc, name.last());
+    }
+    out.extend_from_slice(initials(alloc, name.last())?.as_slice())?;
     Ok(out)
 }
 
-/// The print of a surname by `{ll}`.
-fn last_printed(alloc: Global, surname: &Surname<'_>) -> Result<Vec<u8>, AllocError>
-    ensures { IfOk result (λ t. t.items ≡ last_printed surname.now) }
+/// The print of a name by `{ll}`.
+fn last_printed(alloc: Global, name: &NameCut<'_>) -> Result<Vec<u8>, AllocError>
+    ensures { IfOk result (λ t. t.items ≡ last_printed name.now) }
 {
     let last = group(alloc, Part::Last, Form::Words, None);
-    printed_group(alloc, &last, surname.last())
-}
-
-/// The print of a name by `{v{}}{l{}}`, empty if the name is refused.
-fn print_of_initials(alloc: Global, name: &[u8]) -> Result<Vec<u8>, AllocError>
-    ensures { IfOk result (λ t. t.items ≡ print_of initials_template name.now) }
-{
-    match surname_in(alloc, name)? {
-        Some(surname) => initials_printed(alloc, &surname),
-        None => Ok(Vec::new(alloc)),
-    }
+    printed_group(alloc, &last, name.last())
 }
 
 /// The first three text characters, without ordinary braces.
@@ -116,26 +132,42 @@ pub(crate) fn first_three(alloc: Global, text: &[u8]) -> Result<Text, AllocError
     Ok(Seq::from_vec(out))
 }
 
+/// Whether the text has fewer than two text characters.
+fn is_one_letter(text: &[u8]) -> bool
+    ensures { result ≡ is_one_letter text.now }
+{
+    char_count(text, 2) < 2
+}
+
+/// The letters of a name that is not refused.
+fn letters_printed(alloc: Global, name: &NameCut<'_>) -> Result<Text, AllocError>
+    ensures { IfOk result (λ t. t ≡ letters_printed name.now) }
+{
+    let initials = initials_printed(alloc, name)?;
+    if is_one_letter(initials.as_slice()) {
+        return first_three(alloc, last_printed(alloc, name)?.as_slice());
+    }
+    Ok(Seq::from_vec(initials))
+}
+
 /// The letters of one name.
 pub(crate) fn letters_of_one(alloc: Global, name: &[u8]) -> Result<Text, AllocError>
     ensures { IfOk result (λ t. t ≡ letters_of_one name.now) }
 {
-    let Some(surname) = surname_in(alloc, name)? else {
-        return Ok(Seq::from_vec(Vec::new(alloc)));
-    };
-    let initials = initials_printed(alloc, &surname)?;
-    if char_count(initials.as_slice(), 2) < 2 {
-        first_three(alloc, last_printed(alloc, &surname)?.as_slice())
-    } else {
-        Ok(Seq::from_vec(initials))
+    match read_name(alloc, name)? {
+        Some(name) => letters_printed(alloc, &name),
+        None => Ok(Seq::from_vec(Vec::new(alloc))),
     }
 }
 
-/// Adds the print of a name by `{v{}}{l{}}`.
+/// Adds the print of a name by `{v{}}{l{}}`, or nothing if the name is refused.
 fn push_initials(alloc: Global, out: &mut Vec<u8>, name: &[u8]) -> Result<(), AllocError>
     ensures { OnOk result (out.new.items ≡ out.old.items ++ print_of initials_template name.now) }
 {
-    out.extend_from_slice(print_of_initials(alloc, name)?.as_slice())
+    match read_name(alloc, name)? {
+        Some(name) => out.extend_from_slice(initials_printed(alloc, &name)?.as_slice()),
+        None => Ok(()),
+    }
 }
 
 /// The prints of names by `{v{}}{l{}}`, joined.
@@ -196,13 +228,6 @@ pub(crate) fn digits_of(alloc: Global, text: &[u8]) -> Result<Vec<u8>, AllocErro
         .copied()
         .filter(|b| b.is_ascii_digit())
         .collect(alloc)
-}
-
-/// The last two bytes of a text, or all if there are fewer.
-pub(crate) fn last_two(text: &[u8]) -> &[u8]
-    ensures { result.now ≡ last_two text.now }
-{
-    text.split_at(text.len().saturating_sub(2)).1
 }
 
 /// The base of a record's label: letters from its names, and the last two digits of its year. All rules are this

@@ -7,8 +7,7 @@ ghost use Rattle.bib_names.specs.LabelParts.{letters_if_any, letters_in, year_di
 
 use crate::fault::NameFault;
 use crate::label::{
-    digits_of, first_three, last_two, letters_of_many, letters_of_one, listed_names, or_anon,
-    text_in,
+    digits_of, first_three, letters_of_many, letters_of_one, listed_names, or_anon, text_in,
 };
 use bib_scan::{Seq, Text, same_folded};
 use std::alloc::{AllocError, Global};
@@ -103,23 +102,16 @@ fn letters_in(alloc: Global, text: &[u8]) -> Result<Option<Text>, AllocError>
 fn year_digits(alloc: Global, text: &[u8]) -> Result<Text, AllocError>
     ensures { IfOk result (λ digits. digits ≡ year_digits text.now) }
 {
-    let digits = digits_of(alloc, text)?;
-    copied(alloc, last_two(digits.as_slice()))
+    let mut digits = digits_of(alloc, text)?;
+    let end = digits.len().saturating_sub(2);
+    Ok(Seq::from_vec(digits.split_off(end)?))
 }
 
+/// A copy of a text.
 fn copied(alloc: Global, text: &[u8]) -> Result<Text, AllocError>
     ensures { IfOk result (λ copy. copy ≡ text.now) }
 {
     Ok(Seq::from_vec(Vec::from_slice(alloc, text)?))
-}
-
-fn copied_if_any(alloc: Global, text: &Option<Text>) -> Result<Option<Text>, AllocError>
-    ensures { IfOk result (λ copy. copy ≡ text.now) }
-{
-    match text {
-        Some(text) => Ok(Some(copied(alloc, text.as_slice())?)),
-        None => Ok(None),
-    }
 }
 
 /// The letters of the names in the field of this name, if there is one.
@@ -173,72 +165,33 @@ pub fn label_parts(alloc: Global, fields: &[(Text, Text)]) -> Result<LabelParts,
     })
 }
 
-/// The letters that are inherited, if there are any.
-fn inherited_letters(
-    alloc: Global,
-    inherited: Option<&Option<Text>>,
-) -> Result<Option<Text>, AllocError>
-    ensures { IfOk result (λ letters. letters ≡ option_flatten (option_copied inherited.entry)) }
-{
-    match inherited {
-        Some(letters) => copied_if_any(alloc, letters),
-        None => Ok(None),
-    }
-}
-
-/// The letters of the names in a field, or the inherited letters if there is no such field.
+/// The own letters, or the inherited ones if no own field gives any.
 fn letters_or(
     alloc: Global,
-    fields: &[(Text, Text)],
-    name: &[u8],
+    own: Option<Option<Text>>,
     inherited: Option<&Option<Text>>,
 ) -> Result<Option<Text>, AllocError>
-    ensures { IfOk result (λ letters. letters ≡ option_flatten (option_or (given letters_in fields.now name.now) (option_copied inherited.entry))) }
+    ensures { IfOk result (λ letters. letters ≡ option_flatten (option_or own (option_copied inherited.entry))) }
 {
-    match letters_given(alloc, fields, name)? {
-        Some(letters) => Ok(letters),
-        None => inherited_letters(alloc, inherited),
+    if let Some(letters) = own {
+        return Ok(letters);
     }
-}
-
-/// The inherited text, or nothing.
-fn or_empty<'a>(inherited: Option<&'a Text>) -> &'a [u8]
-    ensures { result.now ≡ unwrap_or (option_copied inherited.entry) [] }
-{
     match inherited {
-        Some(text) => text.as_slice(),
-        None => b"",
+        Some(Some(letters)) => Ok(Some(copied(alloc, letters.as_slice())?)),
+        _ => Ok(None),
     }
 }
 
-/// The first three characters of `key`, or the inherited ones if there is no such field.
-fn key_or(
-    alloc: Global,
-    fields: &[(Text, Text)],
-    inherited: Option<&Text>,
-) -> Result<Text, AllocError>
-    ensures { IfOk result (λ key. key ≡ unwrap_or (option_or (given first_three fields.now (codes "key")) (option_copied inherited.entry)) []) }
+/// The own text, or the inherited one if there is none; empty if there is neither.
+fn text_or(alloc: Global, own: Option<Text>, inherited: Option<&Text>) -> Result<Text, AllocError>
+    ensures { IfOk result (λ text. text ≡ unwrap_or (option_or own (option_copied inherited.entry)) []) }
 {
-    match key_given(alloc, fields)? {
-        Some(key) => Ok(key),
-        None => copied(alloc, or_empty(inherited)),
+    if let Some(text) = own {
+        return Ok(text);
     }
-}
-
-/// Adds the digits of the year, or the inherited ones if there is no such field.
-fn add_year(
-    alloc: Global,
-    out: &mut Vec<u8>,
-    fields: &[(Text, Text)],
-    inherited: Option<&Text>,
-) -> Result<(), AllocError>
-    ensures { OnOk result (out.new.items ≡ out.old.items ++ unwrap_or (option_or (given year_digits fields.now (codes "year")) (option_copied inherited.entry)) []) }
-{
-    if has_field(fields, b"year") {
-        let digits = digits_of(alloc, text_in(fields, b"year"))?;
-        out.extend_from_slice(last_two(digits.as_slice()))
-    } else {
-        out.extend_from_slice(or_empty(inherited))
+    match inherited {
+        Some(text) => copied(alloc, text.as_slice()),
+        None => Ok(Seq::from_vec(Vec::new(alloc))),
     }
 }
 
@@ -250,13 +203,15 @@ fn letters_with(
 ) -> Result<Text, AllocError>
     ensures { IfOk result (λ letters. letters ≡ letters_from (parts_with (parts_of fields.now) inherited.now)) }
 {
-    if let Some(letters) = letters_or(alloc, fields, b"author", inherited.author)? {
+    let author = letters_given(alloc, fields, b"author")?;
+    if let Some(letters) = letters_or(alloc, author, inherited.author)? {
         return Ok(letters);
     }
-    if let Some(letters) = letters_or(alloc, fields, b"editor", inherited.editor)? {
+    let editor = letters_given(alloc, fields, b"editor")?;
+    if let Some(letters) = letters_or(alloc, editor, inherited.editor)? {
         return Ok(letters);
     }
-    key_or(alloc, fields, inherited.key)
+    text_or(alloc, key_given(alloc, fields)?, inherited.key)
 }
 
 /// The label base of fields together with what is inherited.
@@ -269,7 +224,8 @@ fn base_with(
 {
     let letters = letters_with(alloc, fields, inherited)?;
     let mut out = or_anon(alloc, letters.into_vec())?;
-    add_year(alloc, &mut out, fields, inherited.year)?;
+    let year = text_or(alloc, year_given(alloc, fields)?, inherited.year)?;
+    out.extend_from_slice(year.as_slice())?;
     Ok(Seq::from_vec(out))
 }
 

@@ -9,8 +9,8 @@ ghost use Rattle.bib_names.specs.NameList.{is_and, is_cut, names_of};
 
 use crate::braces::Braces;
 use crate::fault::NameFault;
-use crate::text::{is_balanced, is_blank};
-use bib_scan::{Seq, same_folded};
+use crate::text::is_blank;
+use bib_scan::{Seq, is_balanced, same_folded};
 use bib_text::{is_space, trimmed};
 use std::alloc::{AllocError, Global};
 

@@ -1,8 +1,8 @@
 //! Classes of bytes, plain tests of texts, and names without the separators and commas at their ends.
 
-ghost use Rattle.std.specs.Prelude.{◌≡◌, ◌↔◌, ◌≤◌, ◌||◌, ◌==◌, IsTrue, not, length, drop, take};
+ghost use Rattle.std.specs.Prelude.{◌≡◌, ◌≤◌, ◌||◌, ◌==◌, not, length, drop, take};
 ghost use Rattle.std.specs.List.{prefix_len, list_all};
-ghost use Rattle.bib_spec.specs.Text.{is_space, IsBalanced};
+ghost use Rattle.bib_spec.specs.Text.{is_space};
 ghost use Rattle.bib_names.specs.Marks.{is_separator, is_dropped_at_end, goes_on};
 ghost use Rattle.bib_names.specs.Name.{without_end};
 
@@ -34,24 +34,6 @@ pub(crate) fn is_blank(text: &[u8]) -> bool
     ensures { result ≡ list_all is_space text.now }
 {
     text.iter().all(|b| is_space(*b))
-}
-
-/// Whether the braces of the text balance. (btxdoc 4)
-pub(crate) fn is_balanced(text: &[u8]) -> bool
-    ensures { IsTrue result ↔ IsBalanced text.now }
-{
-    let mut depth: usize = 0;
-    for &byte in text {
-        if byte == b'{' {
-            depth += 1;
-        } else if byte == b'}' {
-            if depth == 0 {
-                return false;
-            }
-            depth -= 1;
-        }
-    }
-    depth == 0
 }
 
 /// The text of a name without the separators and commas at its end.

@@ -1,7 +1,7 @@
 use Rattle.std.proofs.Common.{sym, ◌∙◌, arith, refl}
 use Rattle.bib_names.proofs.BraceLemmas.{more_braces_from}
 use Rattle.bib_names.proofs.CommaLemmas.{comma_found, comma_on}
-use Rattle.bib_names.proofs.name.comma_from.Goals as goal
+use Rattle.bib_names.proofs.pieces.comma_from.Goals as goal
 
 pub returns-then-is_comma-clause-found : goal.returns-then-is_comma-clause-found
 returns-then-is_comma-clause-found c =

@@ -1,6 +1,6 @@
 use Rattle.bib_names.proofs.BraceLemmas.{AreBracesFrom}
 use Rattle.bib_names.proofs.CommaLemmas.{NoCommaYet}
-use Rattle.bib_names.proofs.name.comma_from.Given as goal
+use Rattle.bib_names.proofs.pieces.comma_from.Given as goal
 
 abbrev pub invariant-loop-place : goal.invariant-loop-place
 invariant-loop-place l = record {

@@ -4,8 +4,8 @@ use Rattle.std.proofs.lemmas.List.{drop_all}
 use Rattle.std.proofs.lemmas.Result.{IfOk-weaker}
 use Rattle.bib_names.specs.Words.{NameWord}
 use Rattle.bib_names.specs.Printing.{initial, finished}
-use Rattle.bib_names.proofs.SurnameLaws.{group_initials}
-use Rattle.bib_names.proofs.surname.initials.Goals as goal
+use Rattle.bib_names.proofs.LabelNameLaws.{group_initials}
+use Rattle.bib_names.proofs.label.initials.Goals as goal
 
 pub returns : goal.returns
 returns c =

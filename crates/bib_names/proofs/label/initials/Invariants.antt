@@ -1,7 +1,7 @@
 use Rattle.std.proofs.Common.{◌≡◌, ◌++◌, drop}
 use Rattle.std.specs.List.{flat_map}
 use Rattle.bib_names.specs.Printing.{initial}
-use Rattle.bib_names.proofs.surname.initials.Given as goal
+use Rattle.bib_names.proofs.label.initials.Given as goal
 
 -- the initials so far with those of the words that are left
 abbrev pub invariant-loop-word : goal.invariant-loop-word
