@@ -15,7 +15,7 @@ use std::alloc::Global;
 
 /// The pieces that take the macro's one definition out and replace each use after it by its text in braces, or the
 /// first reason against it. A file that would be too long is refused before the text is copied. It takes time and
-/// memory in the length of the file and of the new one.
+/// memory in the length of the items that it looks at, and of the new file.
 pub(crate) fn inline_macro<L: ItemList>(
     alloc: Global,
     db: &Database<L>,

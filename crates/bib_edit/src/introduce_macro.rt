@@ -17,8 +17,8 @@ use std::alloc::{AllocError, Global};
 
 /// The pieces that define the macro as this text and replace each part that is the text, in braces or in quotes, by its
 /// name, or the first reason against it. The definition comes before the first item with such a part. It looks at each
-/// field once, except at those of that item, at which it looks twice. It takes time and memory in the length of the
-/// file.
+/// field at most once, except at those of that item, at which it looks twice. It takes time and memory in the length of
+/// the items that it looks at.
 pub(crate) fn introduce_macro<L: ItemList>(
     alloc: Global,
     db: &Database<L>,

@@ -23,8 +23,9 @@ use std::alloc::Global;
 
 /// The pieces that make the edit, or the first reason that refuses it. Nothing has changed yet. It takes time in the
 /// length of the edit and of the entries that it changes, beside what the database takes to find these and their
-/// places; new keys for all entries and an edit of macros take time in the length of the file, old and new. Want of
-/// memory may come before any other reason. (dialect)
+/// places; new keys for all entries take time in the length of the file, old and new. So does an edit of macros, unless
+/// `Database::note_parts` was called before: then it takes time in the length of the pages of items that have what it
+/// seeks. Want of memory may come before any other reason. (dialect)
 pub fn plan<L: ItemList>(
     alloc: Global,
     db: &Database<L>,

@@ -22,7 +22,7 @@ use std::alloc::Global;
 
 /// The pieces that give the macro another name in its one definition and in each use from there on, its own definition
 /// among them, or the first reason against it. A use before the definition means a month, or nothing, and is left. It
-/// looks at each field once, and takes time and memory in the length of the file.
+/// looks at each field at most once, and takes time and memory in the length of the items that it looks at.
 pub(crate) fn rename_macro<L: ItemList>(
     alloc: Global,
     db: &Database<L>,
@@ -90,7 +90,8 @@ struct Names<'a> {
     is_taken: bool,
 }
 
-/// The macro's name in its definition, which is item `n`, and in each use from there on. It looks at each field once.
+/// The macro's name in its definition, which is item `n`, and in each use from there on. It looks at each field at most
+/// once.
 fn names_from<'a, L: ItemList>(
     alloc: Global,
     db: &'a Database<L>,

@@ -1,5 +1,6 @@
-//! Keeps a list of items. It knows how their bytes are stored; it does not know what they say. It promises that an edit
-//! takes time in the bytes of one page and a few steps for each page, however long the list is.
+//! Keeps a list of items. It knows how their bytes are stored, and marks the parts that they have; it does not know what
+//! they mean. It promises that an edit takes time in the bytes of one page and a few steps for each page, however long the
+//! list is.
 #![tactic(auto)]
 
 mod fault;

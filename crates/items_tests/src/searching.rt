@@ -33,7 +33,10 @@ fn a_search_passes_over_pages_without_what_it_seeks(rt: HostRuntime) -> Result<(
     assert_eq!(rt; begins(&paged, Sought::Uses(b"feb"), none), 200);
     assert_eq!(rt; begins(&paged, Sought::Uses(b"JAN"), none), 128);
     assert_eq!(rt; begins(&paged, none, Sought::Uses(b"jan")), 128);
-    assert_eq!(rt; begins(&paged, Sought::Holds(b"3~"), Sought::Uses(b"feb")), 128);
+    assert_eq!(rt;
+        begins(&paged, Sought::Holds(b"3~"), Sought::Uses(b"feb")),
+        128
+    );
     assert_eq!(rt; begins(&paged, Sought::Holds(b"1999"), none), 200);
     assert_eq!(rt; begins(&paged, Sought::Holds(b"T"), none), 0);
     if paged.count() == 200 {
