@@ -104,8 +104,7 @@ fn year_digits(alloc: Global, text: &[u8]) -> Result<Text, AllocError>
 {
     let mut digits = digits_of(alloc, text)?;
     let end = digits.len().saturating_sub(2);
-    digits.drain(..end);
-    Ok(Seq::from_vec(digits))
+    Ok(Seq::from_vec(digits.split_off(end)?))
 }
 
 /// A copy of a text.
