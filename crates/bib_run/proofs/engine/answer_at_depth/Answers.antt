@@ -1,7 +1,5 @@
-use Rattle.std.proofs.Common.{◌≡◌, codes, rules, subst}
+use Rattle.std.proofs.Common.{◌≡◌, codes, rules}
 use Rattle.std.proofs.lemmas.Result.{IfOk-weaker}
-use Rattle.bib_answers.specs.Opened.{AnswersFile}
-use Rattle.bib_answers.specs.Names.{Spells, names_answer}
 use Rattle.bib_run.specs.Answers.{of_reading, show, labels, json, newkeys, ris, names}
 use Rattle.bib_run.proofs.engine.answer_at_depth.Goals as goal
 
