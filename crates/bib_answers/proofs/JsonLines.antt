@@ -1,11 +1,10 @@
 -- The lines of entries as JSON, one after another.
-use Rattle.std.proofs.Common.{◌≡◌, ◌∙◌, ℕ, ◌+◌, ◌<◌, Bool, true, false, not, List, [], ◌∷◌, ◌++◌, length, take, drop, get_or, find, if◌then◌else◌, option_map, Option, None, Some, sym, ap, append-nil}
+use Rattle.std.proofs.Common.{◌≡◌, ◌∙◌, ℕ, ◌+◌, ◌<◌, Bool, true, false, not, List, [], ◌∷◌, ◌++◌, length, take, drop, get_or, find, if◌then◌else◌, option_map, Option, None, Some, sym, ap}
 use Rattle.std.specs.List.{flat_map, cons_option}
 use Rattle.std.specs.Option.{option_map_or, option_or}
-use Rattle.std.proofs.lemmas.List.{take_more, take-append-drop}
+use Rattle.std.proofs.lemmas.List.{take_more, take-append-drop, flat_map_more}
 use Rattle.std.proofs.lemmas.List.Elements.{filter_map-append}
 use Rattle.std.proofs.lemmas.List.Folds.{find-append}
-use Rattle.std.proofs.lemmas.Grind.{flat_map-append}
 use Rattle.bib_spec.specs.Text.{Text}
 use Rattle.bib_spec.specs.Records.{EntryTexts, record_of, parent}
 use Rattle.bib_keys.proofs.Walks.{next-of}
@@ -46,8 +45,7 @@ module _ (depth : ℕ) (entries : List EntryTexts) (list : List ℕ) (i d : ℕ)
         ∙ ap (λ b. if not b then Some told else None) utf8;
     lines_are =
         line ∙ ap (λ (t : Text). t ++ json_line told) to.lines_are
-        ∙ ap (λ (t : Text). flat_map json_line (told_of depth entries (take i list)) ++ t) (sym (append-nil (json_line told)))
-        ∙ sym (flat_map-append json_line (told_of depth entries (take i list)) (told ∷ []))
+        ∙ flat_map_more json_line [] (told_of depth entries (take i list)) told
         ∙ sym (ap (flat_map json_line) next);
   }
 

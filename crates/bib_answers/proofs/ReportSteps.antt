@@ -1,14 +1,15 @@
 -- How reports are added: of a value use by use, of an item field by field, and of a file item by item.
-use Rattle.std.proofs.Common.{◌≡◌, ◌∙◌, ℕ, zero, suc, ◌+◌, List, [], ◌∷◌, ◌++◌, length, take, Option, Some, slice_get, refl, sym, ap, subst, arith, append-nil, append_assoc}
+use Rattle.std.proofs.Common.{◌≡◌, ◌∙◌, ℕ, ◌+◌, List, [], ◌∷◌, ◌++◌, length, take, Option, Some, slice_get, refl, sym, ap, subst, append-nil, append_assoc}
 use Rattle.std.specs.List.{flat_map, range_with_len}
 use Rattle.std.proofs.lemmas.Option.{slice_get_within, get_or_from_slice_get}
-use Rattle.std.proofs.lemmas.Grind.{flat_map-append}
+use Rattle.std.proofs.lemmas.List.{flat_map_more}
 use Rattle.std.proofs.Math.Seq.{take-length}
 use Rattle.bib_spec.specs.Text.{Text, same}
 use Rattle.bib_spec.specs.Tree.{Part}
 use Rattle.bib_spec.specs.Texts.{Macros, parts_of}
 use Rattle.bib_scan.specs.View.{Field}
 use Rattle.bib_value.specs.Raw.{OfValue}
+use Rattle.bib_store.proofs.Citations.{range_more}
 use Rattle.bib_answers.specs.Check.{Assigned, use_reports, extra_report, field_reports}
 use Rattle.bib_answers.specs.Fields.{AreFieldsOf, AreSound}
 use Rattle.bib_answers.proofs.LineLists.{lines_more}
@@ -110,17 +111,10 @@ reporting_all own macros key all start out seen is values are = go left.values l
 
 -- ---- items
 
-range_more : (a n : ℕ) → range_with_len a (n + 1) ≡ range_with_len a n ++ (a + n) ∷ []
-range_more a zero = ap (λ k. k ∷ []) (let e : a ≡ a + 0 = omega arith in e)
-range_more a (suc n) = ap (range_with_len a) (let e : suc n + 1 ≡ suc (n + 1) = omega arith in e) ∙ ap (λ (ns : List ℕ). a ∷ ns) (range_more (a + 1) n ∙ ap (λ k. range_with_len (a + 1) n ++ k ∷ []) (let e : (a + 1) + n ≡ a + suc n = omega arith in e))
-
 -- one more item's reports
 pub items_more : (line : ℕ → Text) (n : ℕ) (start out out1 : Text) → out ≡ start ++ flat_map line (range_with_len 0 n) → out1 ≡ out ++ line n
     → out1 ≡ start ++ flat_map line (range_with_len 0 (n + 1))
 items_more line n start out out1 is more =
     more ∙ ap (λ (t : Text). t ++ line n) is
-    ∙ append_assoc start (flat_map line (range_with_len 0 n)) (line n)
-    ∙ ap (λ (t : Text). start ++ t)
-    (ap (λ (t : Text). flat_map line (range_with_len 0 n) ++ t) (sym (append-nil (line n)))
-    ∙ sym (flat_map-append line (range_with_len 0 n) (n ∷ []))
-    ∙ sym (ap (flat_map line) (range_more 0 n ∙ ap (λ k. range_with_len 0 n ++ k ∷ []) (let e : 0 + n ≡ n = omega arith in e))))
+    ∙ flat_map_more line start (range_with_len 0 n) n
+    ∙ sym (ap (λ (ns : List ℕ). start ++ flat_map line ns) (range_more n))

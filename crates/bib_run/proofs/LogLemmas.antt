@@ -1,12 +1,12 @@
 -- The steps of a log, and the lengths in its lines.
 use Rattle.std.proofs.Common.{◌≡◌, ℕ, ◌+◌, ◌*◌, ◌≤◌, ◌<◌, ◌^◌, ◌-◌, min, List, [], ◌∷◌, ◌++◌, length, Some, sym, ◌∙◌, ap, subst, arith, length-append, take, drop}
-use Rattle.std.specs.List.{AllByRecursion, All, between, flat_map, slice_get}
+use Rattle.std.specs.List.{All, between, flat_map, slice_get}
 use Rattle.std.proofs.Math.Nat.{min-eq_left}
 use Rattle.std.proofs.Math.Seq.{drop-append_seam, take-append_seam}
 use Rattle.std.proofs.lemmas.Slice.{between_is, between_from_start, between_to_end}
 use Rattle.std.proofs.lemmas.List.{take_more, drop-append-le, flat_map_more, length-take-le}
 use Rattle.std.proofs.lemmas.Option.{get_or_from_slice_get, slice_get_within}
-use Rattle.std.proofs.lemmas.List.Elements.{All-from_recursion, All-append, All-get_or}
+use Rattle.std.proofs.lemmas.List.Elements.{All-from_recursion, All-append, All-get_or, All-weaker}
 use Rattle.std.proofs.lemmas.List.Sums.{sum_by-le}
 use Rattle.bib_spec.specs.Text.{Text}
 use Rattle.bib_spec.specs.Pieces.{Piece}
@@ -44,25 +44,19 @@ lines_more word steps from n step start out line new order at so_far said made =
     ∙ flat_map_more (step_line word) start (between from n steps) step
     ∙ ap (λ (ss : List Step). start ++ flat_map (step_line word) ss) (sym (between_more steps from n step order at))
 
-old_small : (ps : List Piece) → AllByRecursion HasSmallNumbers ps → AllByRecursion (λ p. length p.old ≤ number_limit) ps
-old_small [] h = tt
-old_small (p ∷ ps) h = (h.0.old, old_small ps h.1)
-
-new_small : (ps : List Piece) → AllByRecursion HasSmallNumbers ps → AllByRecursion (λ p. length p.new ≤ number_limit) ps
-new_small [] h = tt
-new_small (p ∷ ps) h = (h.0.new, new_small ps h.1)
-
 -- the sum of small lengths of few pieces is small
 few_small : (n sum : ℕ) → n ≤ number_limit → sum ≤ n * number_limit → sum < 2 ^ 64
 few_small n sum few small = omega (arith, few, small)
 
 pub old_len_small : (pieces : List Piece) → AreWritable pieces → old_len pieces < 2 ^ 64
 old_len_small pieces s =
-    few_small (length pieces) (old_len pieces) s.few (sum_by-le (λ (p : Piece). length p.old) number_limit pieces (All-from_recursion (λ (p : Piece). length p.old ≤ number_limit) pieces (old_small pieces s.small)))
+    few_small (length pieces) (old_len pieces) s.few (sum_by-le (λ (p : Piece). length p.old) number_limit pieces
+    (All-weaker HasSmallNumbers (λ p. length p.old ≤ number_limit) (λ p small. small.old) pieces (All-from_recursion HasSmallNumbers pieces s.small)))
 
 pub new_len_small : (pieces : List Piece) → AreWritable pieces → new_len pieces < 2 ^ 64
 new_len_small pieces s =
-    few_small (length pieces) (new_len pieces) s.few (sum_by-le (λ (p : Piece). length p.new) number_limit pieces (All-from_recursion (λ (p : Piece). length p.new ≤ number_limit) pieces (new_small pieces s.small)))
+    few_small (length pieces) (new_len pieces) s.few (sum_by-le (λ (p : Piece). length p.new) number_limit pieces
+    (All-weaker HasSmallNumbers (λ p. length p.new ≤ number_limit) (λ p small. small.new) pieces (All-from_recursion HasSmallNumbers pieces s.small)))
 
 -- so a step's lengths are shown as they are
 shown_whole : (n : ℕ) → n < 2 ^ 64 → min n (2 ^ 64 - 1) ≡ n
