@@ -30,6 +30,8 @@ pub struct Database<L: ItemList> {
     pub(crate) notes: Seq<Note>,
     // how many bytes were read when the file was opened, or was changed last
     pub(crate) scanned: usize,
+    // whether it was announced that parts will be sought
+    seeks_parts: bool,
 }
 
 impl<L: ItemList> Model for Database<L> {
@@ -126,6 +128,7 @@ impl<L: ItemList> Database<L> {
             tables,
             notes: kept_notes(alloc, notes, len),
             scanned: len,
+            seeks_parts: false,
         }
     }
 
@@ -213,12 +216,16 @@ impl<L: ItemList> Database<L> {
     }
 
     /// Announces that parts of the file will be sought. The file is unchanged, and nothing else is promised: the call only
-    /// saves time. The first call takes time and memory in the file's length, and a later one a few steps for each page.
+    /// saves time. The second call marks what all items have, since a search that is the only one is quicker without. It takes
+    /// time and memory in the file's length, and any other call a few steps for each page.
     pub fn note_parts(&mut self)
         ensures { self.new ≡ self.old }
     {
         self.items.prepare(usize::MAX);
-        self.items.note_parts();
+        if self.seeks_parts {
+            self.items.note_parts();
+        }
+        self.seeks_parts = true;
     }
 
     /// The number of an item, or the count of items, such that a search from item `n` on can pass over all items before it:
