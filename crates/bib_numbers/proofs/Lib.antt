@@ -3,3 +3,4 @@ pub mod FilledPages
 pub mod SoughtPages
 pub mod MovedNumbers
 pub mod ItemNumbers
+pub mod RisingLabels

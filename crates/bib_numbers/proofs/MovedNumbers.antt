@@ -2,10 +2,10 @@
 use Rattle.std.proofs.Common.{◌≡◌, ℕ, zero, suc, ◌+◌, ◌-◌, ◌≤◌, ◌<◌, ◌^◌, List, [], ◌∷◌, ◌++◌, length, map, take, drop, get_or, insert, remove, sym, subst, ◌∙◌, ap, ap₂, ⊎_elim, refl, arith, length-append, append_assoc, zero-add}
 use Rattle.std.specs.List.{AllByRecursion}
 use Rattle.std.specs.Prelude.{◌≢◌, nat_lt, max, true, false, Bool, cond, filter}
-use Rattle.bib_pages.proofs.Paging.{all_append}
+use Rattle.bib_pages.proofs.Paging.{all_append, all_back}
 use Rattle.std.specs.List.Sorted.{IsPartitionedBy, IsPartitionPoint}
 use Rattle.std.proofs.lemmas.Bool.{cases_lt, lt-ltb, le-ltb, ltb-true, both_ways}
-use Rattle.bib_numbers.specs.Numbers.{Ascend, rank_in, PartAt, HaveNext}
+use Rattle.bib_numbers.specs.Numbers.{Ascend, rank_in, PartAt, HasParts, HaveNext}
 use Rattle.bib_numbers.specs.Moves.{plus, moved_from}
 
 -- ---- parts
@@ -106,13 +106,14 @@ taken_number n k front rest now is at =
     past [] = refl
     past (m ∷ front) = past front
 
--- ---- the order
+-- a number that comes and goes leaves what was there
+pub put_back : (n : ℕ) (old now back : List ℕ) → HasParts n old → HaveNext old → ((front rest : List ℕ) → PartAt n front rest old → HaveNext rest → now ≡ front ++ n ∷ map suc rest)
+    → ((front rest : List ℕ) → PartAt n front rest (front ++ rest) → HaveNext rest → now ≡ front ++ n ∷ map suc rest → back ≡ front ++ rest) → back ≡ old
+put_back n old now back p fit put taken =
+    let next = all_back (λ m. m + 1 < 2 ^ 64) p.front p.rest (subst HaveNext p.are.whole fit) in
+    taken p.front p.rest (record { whole = refl; below = p.are.below; above = p.are.above }) next (put p.front p.rest p.are next) ∙ sym p.are.whole
 
--- the numbers below n, and those that are not
-pub record HasParts (n : ℕ) (numbers : List ℕ) : Type 0 where
-  pub front : List ℕ
-  pub rest : List ℕ
-  pub are : PartAt n front rest numbers
+-- ---- the order
 
 pub parted_at : (n : ℕ) (numbers : List ℕ) → Ascend numbers → HasParts n numbers
 parted_at n [] ascend = record { front = []; rest = []; are = record { whole = refl; below = tt; above = tt } }
@@ -285,17 +286,18 @@ module _ (n k : ℕ) (numbers : List ℕ) (ascend : Ascend numbers) (is : k ≡ 
       let p = parted_at n numbers ascend in
       subst (AllByRecursion (λ m. n ≤ m)) (sym (dropped_front p.front p.rest) ∙ ap₂ (λ (j : ℕ) (l : List ℕ). drop j l) (sym (ends p.front p.rest p.are)) (sym p.are.whole)) p.are.above
 
+-- what holds of all holds of all but one
+pub all_removed : (P : ℕ → Type 0) (numbers : List ℕ) (k : ℕ) → AllByRecursion P numbers → AllByRecursion P (remove numbers k)
+all_removed P [] zero all = tt
+all_removed P [] (suc k) all = tt
+all_removed P (j ∷ numbers) zero all = all.1
+all_removed P (j ∷ numbers) (suc k) all = (all.0, all_removed P numbers k all.1)
+
 pub ascend_removed : (k : ℕ) (numbers : List ℕ) → Ascend numbers → Ascend (remove numbers k)
 ascend_removed zero [] ascend = tt
 ascend_removed (suc k) [] ascend = tt
 ascend_removed zero (m ∷ numbers) ascend = ascend.1
-ascend_removed (suc k) (m ∷ numbers) ascend = (fewer k numbers ascend.0, ascend_removed k numbers ascend.1)
-  where
-    fewer : (k : ℕ) (numbers : List ℕ) → AllByRecursion (λ j. m ≤ j) numbers → AllByRecursion (λ j. m ≤ j) (remove numbers k)
-    fewer zero [] all = tt
-    fewer (suc k) [] all = tt
-    fewer zero (j ∷ numbers) all = all.1
-    fewer (suc k) (j ∷ numbers) all = (all.0, fewer k numbers all.1)
+ascend_removed (suc k) (m ∷ numbers) ascend = (all_removed (λ j. m ≤ j) numbers k ascend.0, ascend_removed k numbers ascend.1)
 
 -- ---- as a machine counts
 

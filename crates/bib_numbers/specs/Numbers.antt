@@ -19,6 +19,12 @@ pub record PartAt (n : ℕ) (front rest numbers : List ℕ) : Type 0 where
   pub below : AllByRecursion (λ m. m < n) front
   pub above : AllByRecursion (λ m. n ≤ m) rest
 
+-- the numbers below n, and those that are not
+pub record HasParts (n : ℕ) (numbers : List ℕ) : Type 0 where
+  pub front : List ℕ
+  pub rest : List ℕ
+  pub are : PartAt n front rest numbers
+
 -- the successor of each of these numbers is less than 2^64
 abbrev pub HaveNext : List ℕ → Type 0
 HaveNext numbers = AllByRecursion (λ m. m + 1 < 2 ^ 64) numbers

@@ -1,7 +1,7 @@
 //! Numbers in ascending order.
 
 ghost use Rattle.std.specs.Prelude.{◌≡◌, ◌≤◌, ◌<◌, ◌+◌, ◌^◌, ℕ, List, length};
-ghost use Rattle.bib_numbers.specs.Numbers.{PartAt, HaveNext};
+ghost use Rattle.bib_numbers.specs.Numbers.{PartAt, HasParts, HaveNext};
 
 use crate::paged::Paged;
 use std::alloc::{AllocError, Global};
@@ -67,6 +67,7 @@ impl Numbers {
     /// The place of number `n` in the order, counted from 0, if it is one of the numbers.
     pub fn position(&self, n: usize) -> Option<usize>
         ensures found { IfSome result (λ k. slice_get self.now k ≡ Some n) }
+        ensures rank { IfSome result (λ k. k ≡ rank_in n self.now) }
         ensures none { IfNone result (AllByRecursion (λ m. m ≢ n) self.now) }
     {
         let k = self.list.count_below(n);
@@ -93,6 +94,7 @@ impl Numbers {
     pub fn insert(&mut self, n: usize) -> Result<(), AllocError>
         ensures ok { OnOk result ((front rest : List ℕ) → PartAt n front rest self.old → HaveNext rest → self.new ≡ front ++ n ∷ map suc rest) }
         ensures count { OnOk result (length self.new ≡ suc (length self.old)) }
+        ensures parts { OnOk result (HasParts n self.old × HaveNext self.old) }
         ensures err { OnErr result (self.new ≡ self.old) }
     {
         if self.has_greatest() {

@@ -1,7 +1,7 @@
 use Rattle.std.proofs.Common.{refl, ◌≡◌, ◌<◌, ◌+◌, ◌^◌, ◌∙◌, suc, insert, sym, ap, subst}
-use Rattle.bib_numbers.specs.Numbers.{PartAt, Ascend, HaveNext, rank_in}
+use Rattle.bib_numbers.specs.Numbers.{PartAt, HasParts, Ascend, HaveNext, rank_in}
 use Rattle.bib_numbers.specs.Moves.{plus, moved_from}
-use Rattle.bib_numbers.proofs.MovedNumbers.{put_number, plus_one, rest_put, ends, ascend_put}
+use Rattle.bib_numbers.proofs.MovedNumbers.{put_number, plus_one, rest_put, parted_at, ends, ascend_put}
 use Rattle.bib_numbers.proofs.numbers.Numbers.insert.Goals as goal
 
 rank : (c : goal.After-shift_from) → c.count_below-k.result ≡ rank_in c.args.n c.self.inside.list
@@ -21,3 +21,6 @@ pub returns-clause-ok : goal.returns-clause-ok
 returns-clause-ok c front rest p fit =
     let inside = subst (PartAt c.args.n front rest) (sym c.self.view_is) p in
     now c ∙ put_number c.args.n c.count_below-k.result front rest c.self.inside.list inside (ends c.args.n c.count_below-k.result c.self.inside.list c.self.invariant (rank c) front rest inside)
+
+pub returns-clause-parts : goal.returns-clause-parts
+returns-clause-parts c = (subst (HasParts c.args.n) c.self.view_is (parted_at c.args.n c.self.inside.list c.self.invariant), c.if-has_greatest.ensures.none refl)
