@@ -1,21 +1,35 @@
--- The table of definitions, when one more comes after the others, one is replaced by another, and other items come and
--- go.
-use Rattle.std.proofs.Common.{◌≡◌, ℕ, zero, suc, ◌+◌, ◌<◌, ◌≤◌, ◌^◌, true, false, cond, List, [], ◌∷◌, ◌++◌, length, map, take, drop, ⊎_elim, refl, sym, ◌∙◌, ap, ap₂, subst, arith, zero-add, append-nil, take-append-drop}
+-- The table of definitions, when definitions and other items come and go.
+use Rattle.std.proofs.Common.{◌≡◌, ◌≢◌, ℕ, zero, suc, ◌+◌, ◌<◌, ◌≤◌, ◌^◌, true, false, cond, List, [], ◌∷◌, ◌++◌, Some, length, map, take, drop, insert, remove, slice_get, ⊎_elim, refl, sym, ◌∙◌, ap, ap₂, subst, arith, length-append, take-append-drop}
+use Rattle.std.specs.Str.{bytes_eq}
 use Rattle.std.specs.List.{AllByRecursion}
 use Rattle.std.proofs.lemmas.Bool.{cases_lt, both_ways}
+use Rattle.std.proofs.lemmas.Option.{none-some, same_Some, slice_get_within}
 use Rattle.std.proofs.lemmas.List.{take_all, take_at, length-take-le}
 use Rattle.bib_spec.specs.Text.{Text, folded}
 use Rattle.bib_spec.specs.Tree.{Tree, CommentTree, DefinitionTree, PreambleTree, EntryTree}
 use Rattle.bib_spec.specs.Reading.{Item}
 use Rattle.bib_spec.specs.Texts.{Macros, months, macros_at, macros_after, gathered}
 use Rattle.bib_spec.proofs.Names.{eq-true}
+use Rattle.bib_value.specs.Macros.{or_else}
+use Rattle.bib_numbers.specs.Labels.{Rise, AreLabels}
 use Rattle.bib_numbers.specs.Numbers.{PartAt, HaveNext, rank_in, numbered, numbers}
-use Rattle.bib_numbers.proofs.MovedNumbers.{rank_all, rank_of}
-use Rattle.bib_numbers.proofs.ItemNumbers.{front_numbers, rest_numbers, parts_at, numbers-below, numbers-parts, numbers-with, put_numbers, moved_numbers, closed_numbers}
-use Rattle.bib_definitions.specs.ByName.{Named, AreAllOf}
-use Rattle.bib_definitions.specs.Definitions.{Known, texts_at, is_definition_of, is_definition_tree, definition_numbers, defined_by, definitions_in, AreDefinitionsOf, Defines, AreSettled}
+use Rattle.bib_numbers.proofs.MovedNumbers.{rank_all, rank_of, taken_number}
+use Rattle.bib_numbers.proofs.ItemNumbers.{front_numbers, rest_numbers, parts_at, numbers-below, numbers-parts, numbers-with, put_numbers, moved_numbers, taken_numbers, closed_numbers}
+use Rattle.bib_definitions.specs.declared.held.Definition.{Definition}
+use Rattle.bib_definitions.specs.ByName.{definitions_of, text_before, labelled, named_among, with_definition, without_label, Gives, AreAsLong}
+use Rattle.bib_definitions.specs.Definitions.{Known, label_at, texts_at, is_definition_of, is_definition_tree, definition_numbers, defined_by, definitions_in, AreDefinitionsOf, Defines, AreSettled}
 use Rattle.bib_definitions.proofs.MacrosAfter.{after_other, gathered-append}
-use Rattle.bib_definitions.proofs.OrderedNames.{after_all, texts_of_all}
+use Rattle.bib_definitions.proofs.OrderedNames.{after_all, texts_listed, named_come, named_go}
+
+-- a label with those before it and after it
+label_parts : (labels : List ℕ) (k l : ℕ) → slice_get labels k ≡ Some l → labels ≡ take k labels ++ l ∷ drop (suc k) labels
+label_parts [] k l is = absurd (none-some l is)
+label_parts (m ∷ labels) zero l is = ap (λ (j : ℕ). j ∷ labels) (same_Some m l is)
+label_parts (m ∷ labels) (suc k) l is = ap (λ (ls : List ℕ). m ∷ ls) (label_parts labels k l is)
+
+-- a label that comes and goes leaves what was there
+pub label_back : (labels put back : List ℕ) (k l : ℕ) → k ≤ length labels → put ≡ insert labels k l → back ≡ remove put k → back ≡ labels
+label_back labels put back k l le come go = go ∙ taken_number l k (take k labels) (drop k labels) put come (sym (length-take-le k labels le)) ∙ take-append-drop k labels
 
 -- ---- as many definitions as numbers
 
@@ -74,47 +88,34 @@ rank_defined items n = ⊎_elim
     ∙ counted 0 months before)
     (cases_lt (length items) n)
 
--- definitions in file order say what macros stand for before each item
-pub of_listed : (items : List Item) (known : Known) → known.numbers ≡ definition_numbers items → AreAllOf known.names (definitions_in items) → AreDefinitionsOf items known
-of_listed items known numbers_are all_are = record { numbers = numbers_are; all = all_are; texts = λ n i x. at n x i }
+-- labelled definitions in file order say what macros stand for before each item
+pub of_listed : (items : List Item) (known : Known) → known.numbers ≡ definition_numbers items → AreLabels known.labels → length known.labels ≡ length (definitions_in items)
+    → ((name : Text) → definitions_of known.defined name ≡ named_among name (labelled known.labels (definitions_in items))) → AreAsLong known.longest known.defined → AreDefinitionsOf items known
+of_listed items known numbers_are labels_are same named_are long = record {
+  numbers = numbers_are;
+  labels = labels_are;
+  counted = same;
+  named = named_are;
+  longest = long;
+  texts = λ n i x. at n x i;
+}
   where
     at : (n : ℕ) (x : Text) → texts_at known n x ≡ macros_at months items n x
     at n x =
-        texts_of_all known.names (definitions_in items) all_are (rank_in n known.numbers) x
+        ap (λ (ds : List Definition). or_else (text_before (label_at known.labels (rank_in n known.numbers)) ds) (months x)) (named_are x)
+        ∙ texts_listed x months (rank_in n known.numbers) known.labels (definitions_in items) labels_are same
         ∙ ap (λ (l : List (Text × Text)). after_all months l x)
         (ap (λ (ns : List ℕ). take (rank_in n ns) (definitions_in items)) numbers_are ∙ ap (λ (k : ℕ). take k (definitions_in items)) (rank_defined items n) ∙ first_defined items n)
         ∙ ap (λ (m : Macros). m x) (sym (macros_defined months items n))
 
--- ---- one more definition
-
-module _ (old new : Known) (name text : Text) (items : List Item) (item : Item) (n : ℕ) (count : length items ≡ n) (fits : n < 2 ^ 64) (is : is_definition_tree item.tree ≡ true) (are : AreDefinitionsOf items old)
-    (moved : (front rest : List ℕ) → PartAt n front rest old.numbers → HaveNext rest → new.numbers ≡ front ++ n ∷ map suc rest)
-    (put : (all : List (Text × Text)) → AreAllOf old.names all → AreAllOf new.names (all ++ (folded name, text) ∷ [])) where
-  -- the table is that of one more item
-  pub definitions-defined : Defines (macros_at months items n) item.tree name text → AreDefinitionsOf (items ++ item ∷ []) new
-  definitions-defined says =
-      let fit_last : n + length {A = Item} [] < 2 ^ 64 = omega (arith, fits) in
-      let more : definitions_in (items ++ item ∷ []) ≡ definitions_in items ++ (folded name, text) ∷ []
-      = gathered-append defined_by months items (item ∷ [])
-      ∙ ap (λ (l : List (Text × Text)). definitions_in items ++ l) (append-nil (defined_by (macros_at months items (length items)) item.tree) ∙ ap (λ (k : ℕ). defined_by (macros_at months items k) item.tree) count ∙ says) in
-      of_listed (items ++ item ∷ []) new
-      (put_numbers is_definition_tree items [] item n count fit_last old.numbers new.numbers is moved (are.numbers ∙ ap definition_numbers (sym (append-nil items))))
-      (subst (AreAllOf new.names) (sym more) (put (definitions_in items) are.all))
-
--- taken back
-pub definitions-kept : (old new : Known) (items : List Item) (n : ℕ) → length items ≡ n → AreDefinitionsOf items old → (put : List ℕ)
-    → ((front rest : List ℕ) → PartAt n front rest old.numbers → HaveNext rest → put ≡ front ++ n ∷ map suc rest)
-    → ((front rest : List ℕ) → PartAt n front rest (front ++ rest) → HaveNext rest → put ≡ front ++ n ∷ map suc rest → new.numbers ≡ front ++ rest)
-    → new.names ≡ old.names → AreDefinitionsOf items new
-definitions-kept old new items n count are put puts takes same =
-    let below = subst (AllByRecursion (λ m. m < n)) (sym are.numbers) (subst (λ (k : ℕ). AllByRecursion (λ m. m < k) (definition_numbers items)) (zero-add (length items) ∙ count) (numbers-below is_definition_tree 0 items)) in
-    let back : new.numbers ≡ old.numbers =
-    takes old.numbers [] (record { whole = refl; below = below; above = tt }) tt (puts old.numbers [] (record { whole = sym (append-nil old.numbers); below = below; above = tt }) tt) ∙ append-nil old.numbers in
-    of_listed items new (back ∙ are.numbers) (subst (λ (named : Named). AreAllOf named (definitions_in items)) (sym same) are.all)
+-- of no items, none is a definition
+pub none_listed : (known : Known) → known.numbers ≡ [] → known.labels ≡ [] → AreLabels known.labels → ((name : Text) → definitions_of known.defined name ≡ []) → AreAsLong known.longest known.defined → AreDefinitionsOf [] known
+none_listed known numbers_are none labels_are named_are long =
+    of_listed [] known numbers_are labels_are (ap (length {A = ℕ}) none) (λ name. named_are name ∙ sym (ap (λ (ls : List ℕ). named_among name (labelled ls [])) none)) long
 
 -- ---- another item comes, or goes
 
-module _ (before after : List Item) (item : Item) (n : ℕ) (count : length before ≡ n) (fits : n + length after < 2 ^ 64) (other : is_definition_tree item.tree ≡ false) (names : Named) (few many : List ℕ) where
+module _ (before after : List Item) (item : Item) (n : ℕ) (count : length before ≡ n) (fits : n + length after < 2 ^ 64) (other : is_definition_tree item.tree ≡ false) (old : Known) (now : List ℕ) where
   silent : (m : Macros) (tree : Tree) → is_definition_tree tree ≡ false → defined_by m tree ≡ []
   silent m (CommentTree h) e = refl
   silent m (PreambleTree p) e = refl
@@ -128,31 +129,30 @@ module _ (before after : List Item) (item : Item) (n : ℕ) (count : length befo
       ∙ ap₂ (λ (l : List (Text × Text)) (m : Macros). definitions_in before ++ (l ++ gathered defined_by m after)) (silent here item.tree other) (after_other here item.tree other)
       ∙ sym (gathered-append defined_by months before after)
 
-  pub definitions_come : ((front rest : List ℕ) → PartAt n front rest few → HaveNext rest → many ≡ front ++ map suc rest)
-      → AreDefinitionsOf (before ++ after) (record { numbers = few; names = names }) → AreDefinitionsOf (before ++ item ∷ after) (record { numbers = many; names = names })
+  abbrev moved_to : Known
+  moved_to = record { numbers = now; labels = old.labels; defined = old.defined; longest = old.longest }
+
+  moved_table : (few many : List Item) → now ≡ definition_numbers many → definitions_in few ≡ definitions_in many → AreDefinitionsOf few old → AreDefinitionsOf many moved_to
+  moved_table few many is same are =
+      of_listed many moved_to is are.labels (are.counted ∙ ap (length {A = Text × Text}) same)
+      (λ x. are.named x ∙ ap (λ (all : List (Text × Text)). named_among x (labelled old.labels all)) same) are.longest
+
+  pub definitions_come : ((front rest : List ℕ) → PartAt n front rest old.numbers → HaveNext rest → now ≡ front ++ map suc rest) → AreDefinitionsOf (before ++ after) old → AreDefinitionsOf (before ++ item ∷ after) moved_to
   definitions_come moved are =
-      of_listed (before ++ item ∷ after) (record { numbers = many; names = names })
-      (moved_numbers is_definition_tree before after item n count fits few many other moved are.numbers) (subst (AreAllOf names) (sym same) are.all)
+      moved_table (before ++ after) (before ++ item ∷ after) (moved_numbers is_definition_tree before after item n count fits old.numbers now other moved are.numbers) (sym same) are
 
-  pub definitions_go : ((front rest : List ℕ) → PartAt n front rest (front ++ rest) → HaveNext rest → many ≡ front ++ map suc rest → few ≡ front ++ rest)
-      → AreDefinitionsOf (before ++ item ∷ after) (record { numbers = many; names = names }) → AreDefinitionsOf (before ++ after) (record { numbers = few; names = names })
+  pub definitions_go : ((front rest : List ℕ) → PartAt n front rest (front ++ rest) → HaveNext rest → old.numbers ≡ front ++ map suc rest → now ≡ front ++ rest)
+      → AreDefinitionsOf (before ++ item ∷ after) old → AreDefinitionsOf (before ++ after) moved_to
   definitions_go moved are =
-      of_listed (before ++ after) (record { numbers = few; names = names })
-      (closed_numbers is_definition_tree before after item n count fits many few other moved are.numbers) (subst (AreAllOf names) same are.all)
+      moved_table (before ++ item ∷ after) (before ++ after) (closed_numbers is_definition_tree before after item n count fits old.numbers now other moved are.numbers) same are
 
--- ---- a definition is replaced by another
+-- ---- a definition comes, or goes
 
 one_defined : (m : Macros) (tree : Tree) → is_definition_tree tree ≡ true → (d : Text × Text) × (defined_by m tree ≡ d ∷ [])
 one_defined m (DefinitionTree d) is = (_, refl)
 one_defined m (CommentTree h) is = absurd (both_ways false refl is)
 one_defined m (PreambleTree p) is = absurd (both_ways false refl is)
 one_defined m (EntryTree e) is = absurd (both_ways false refl is)
-
-is_one : (m : Macros) (tree : Tree) (d : Text × Text) → defined_by m tree ≡ d ∷ [] → is_definition_tree tree ≡ true
-is_one m (DefinitionTree d) x says = refl
-is_one m (CommentTree h) x says = absurd (omega (arith, ap (length {A = Text × Text}) says))
-is_one m (PreambleTree p) x says = absurd (omega (arith, ap (length {A = Text × Text}) says))
-is_one m (EntryTree e) x says = absurd (omega (arith, ap (length {A = Text × Text}) says))
 
 -- the name that it defines
 name_defined : (m : Macros) (tree : Tree) (name : Text) (d : Text × Text) → is_definition_of name tree ≡ true → defined_by m tree ≡ d ∷ [] → d.0 ≡ folded name
@@ -171,26 +171,113 @@ definition_of (CommentTree h) name is = absurd (both_ways false refl is)
 definition_of (PreambleTree p) name is = absurd (both_ways false refl is)
 definition_of (EntryTree e) name is = absurd (both_ways false refl is)
 
-pub definitions_exchanged : (known : Known) (names : Named) (before after : List Item) (old new : Item) (n rank : ℕ) (was name text : Text) → length before ≡ n → is_definition_of was old.tree ≡ true
-    → Defines (macros_at months before n) new.tree name text → AreSettled after → rank ≡ rank_in n known.numbers
-    → ((front rest : List (Text × Text)) (d : Text × Text) → length front ≡ rank → d.0 ≡ folded was → AreAllOf known.names (front ++ d ∷ rest) → AreAllOf names (front ++ (folded name, text) ∷ rest))
-    → AreDefinitionsOf (before ++ old ∷ after) known → AreDefinitionsOf (before ++ new ∷ after) (record { numbers = known.numbers; names = names })
-definitions_exchanged known names before after old new n rank was name text count is_was says settled rank_is put are =
+-- as many numbers are below that of an item as definitions come before it
+rank_front : (n : ℕ) (before after : List Item) (ns : List ℕ) → length before ≡ n → ns ≡ definition_numbers (before ++ after) → rank_in n ns ≡ length (definitions_in before)
+rank_front n before after ns count is =
+    rank_of n (front_numbers is_definition_tree before) (rest_numbers is_definition_tree before after) ns (parts_at is_definition_tree n before after ns count (is ∙ numbers-parts is_definition_tree before after))
+    ∙ counted 0 months before
+
+-- the definitions with one of them
+abbrev rest_defined : List Item → List Item → List (Text × Text)
+rest_defined before after = gathered defined_by (macros_at months before (length before)) after
+
+all_defined : (before after : List Item) (item : Item) (d : Text × Text) → defined_by (macros_at months before (length before)) item.tree ≡ d ∷ [] → AreSettled after
+    → definitions_in (before ++ item ∷ after) ≡ definitions_in before ++ d ∷ rest_defined before after
+all_defined before after item d says settled =
     let here = macros_at months before (length before) in
-    let front : List (Text × Text) = definitions_in before in
-    let rest : List (Text × Text) = gathered defined_by (macros_after here old.tree) after in
-    let is : is_definition_tree old.tree ≡ true = definition_of old.tree was is_was in
-    let gone = one_defined here old.tree is in
-    let old_all : definitions_in (before ++ old ∷ after) ≡ front ++ gone.0 ∷ rest
-    = gathered-append defined_by months before (old ∷ after) ∙ ap (λ (l : List (Text × Text)). front ++ (l ++ rest)) gone.1 in
-    let now_says : defined_by here new.tree ≡ (folded name, text) ∷ [] = ap (λ (k : ℕ). defined_by (macros_at months before k) new.tree) count ∙ says in
-    let new_all : definitions_in (before ++ new ∷ after) ≡ front ++ (folded name, text) ∷ rest
-    = gathered-append defined_by months before (new ∷ after)
-    ∙ ap₂ (λ (l r : List (Text × Text)). front ++ (l ++ r)) now_says (settled (macros_after here new.tree) (macros_after here old.tree)) in
-    let same_numbers : definition_numbers (before ++ old ∷ after) ≡ definition_numbers (before ++ new ∷ after)
-    = numbers-with is_definition_tree before after old is ∙ sym (numbers-with is_definition_tree before after new (is_one here new.tree (folded name, text) now_says)) in
-    let parts = parts_at is_definition_tree n before (old ∷ after) known.numbers count (are.numbers ∙ numbers-parts is_definition_tree before (old ∷ after)) in
-    let place : length front ≡ rank
-    = sym (rank_is ∙ rank_of n (front_numbers is_definition_tree before) (rest_numbers is_definition_tree before (old ∷ after)) known.numbers parts ∙ counted 0 months before) in
-    of_listed (before ++ new ∷ after) (record { numbers = known.numbers; names = names }) (are.numbers ∙ same_numbers)
-    (subst (AreAllOf names) (sym new_all) (put front rest gone.0 place (name_defined here old.tree was gone.0 is_was gone.1) (subst (AreAllOf known.names) old_all are.all)))
+    gathered-append defined_by months before (item ∷ after)
+    ∙ ap₂ (λ (l r : List (Text × Text)). definitions_in before ++ (l ++ r)) says (settled (macros_after here item.tree) here)
+
+module _ (before after : List Item) (item : Item) (n : ℕ) (count : length before ≡ n) (fits : n + length after < 2 ^ 64) (settled : AreSettled after) (old new : Known) where
+  abbrev front : List (Text × Text)
+  front = definitions_in before
+
+  abbrev rest : List (Text × Text)
+  rest = rest_defined before after
+
+  others : definitions_in (before ++ after) ≡ front ++ rest
+  others = gathered-append defined_by months before after
+
+  -- a definition of `name` comes, with label l as label k
+  pub definition_comes : (k l : ℕ) (name text : Text) → is_definition_tree item.tree ≡ true → Defines (macros_at months before n) item.tree name text → (rank_in n old.numbers ≤ length old.labels → k ≡ rank_in n old.numbers)
+      → ((front rest : List ℕ) → PartAt n front rest old.numbers → HaveNext rest → new.numbers ≡ front ++ n ∷ map suc rest) → AreLabels new.labels → new.labels ≡ insert old.labels k l
+      → Gives old.defined name (with_definition (record { label = l; text = text }) (definitions_of old.defined (folded name))) new.defined → AreAsLong new.longest new.defined
+      → AreDefinitionsOf (before ++ after) old → AreDefinitionsOf (before ++ item ∷ after) new
+  definition_comes k l name text is says place numbers_are labels_are put gives long are =
+      let rank = rank_front n before after old.numbers count are.numbers in
+      let many = are.counted ∙ ap (length {A = Text × Text}) others ∙ length-append front rest in
+      let at = place (omega (arith, rank, many)) in
+      let few = take k old.labels in
+      let more = drop k old.labels in
+      let short : length few ≡ length front = length-take-le k old.labels (omega (arith, at, rank, many)) ∙ at ∙ rank in
+      let whole : few ++ more ≡ old.labels = take-append-drop k old.labels in
+      let rise : Rise (few ++ l ∷ more) = subst Rise put labels_are.rise in
+      let now : definitions_in (before ++ item ∷ after) ≡ front ++ (folded name, text) ∷ rest
+      = all_defined before after item (folded name, text) (ap (λ (j : ℕ). defined_by (macros_at months before j) item.tree) count ∙ says) settled in
+      let was : (x : Text) → definitions_of old.defined x ≡ named_among x (labelled (few ++ more) (front ++ rest))
+      = λ x. are.named x ∙ ap₂ (λ (ls : List ℕ) (all : List (Text × Text)). named_among x (labelled ls all)) (sym whole) others in
+      let d : Definition = record { label = l; text = text } in
+      of_listed (before ++ item ∷ after) new
+      (put_numbers is_definition_tree before after item n count fits old.numbers new.numbers is numbers_are are.numbers)
+      labels_are
+      (let one = ap (length {A = ℕ}) put ∙ length-append few (l ∷ more) in let all = ap (length {A = Text × Text}) now ∙ length-append front ((folded name, text) ∷ rest) in
+      let both = ap (length {A = ℕ}) whole in let sum = length-append few more in omega (arith, one, all, both, sum, many))
+      (λ x.
+      gives x
+      ∙ ap₂ (λ (mine theirs : List Definition). cond (bytes_eq x (folded name)) (with_definition d mine) theirs) (was (folded name)) (was x)
+      ∙ named_come few more front rest l (folded name) text short rise x
+      ∙ ap₂ (λ (ls : List ℕ) (all : List (Text × Text)). named_among x (labelled ls all)) (sym put) (sym now))
+      long
+
+  -- the definition of `name` goes, whose label is label k
+  pub definition_goes : (k l : ℕ) (name : Text) → is_definition_of name item.tree ≡ true → k ≡ rank_in n old.numbers → slice_get old.labels k ≡ Some l
+      → ((front rest : List ℕ) → PartAt n front rest (front ++ rest) → HaveNext rest → old.numbers ≡ front ++ n ∷ map suc rest → new.numbers ≡ front ++ rest) → AreLabels new.labels → new.labels ≡ remove old.labels k
+      → Gives old.defined name (without_label l (definitions_of old.defined (folded name))) new.defined → AreAsLong new.longest new.defined
+      → AreDefinitionsOf (before ++ item ∷ after) old → AreDefinitionsOf (before ++ after) new
+  definition_goes k l name is place there numbers_are labels_are gone gives long are =
+      let here = macros_at months before (length before) in
+      let is_one = definition_of item.tree name is in
+      let it = one_defined here item.tree is_one in
+      let text : Text = it.0.1 in
+      let says : defined_by here item.tree ≡ (folded name, text) ∷ [] = it.1 ∙ ap (λ (y : Text). (y, text) ∷ []) (name_defined here item.tree name it.0 is it.1) in
+      let rank = rank_front n before (item ∷ after) old.numbers count are.numbers in
+      let few = take k old.labels in
+      let more = drop (suc k) old.labels in
+      let inside = slice_get_within old.labels k l there in
+      let short : length few ≡ length front = length-take-le k old.labels (omega (arith, inside)) ∙ place ∙ rank in
+      let whole : old.labels ≡ few ++ l ∷ more = label_parts old.labels k l there in
+      let rise : Rise (few ++ l ∷ more) = subst Rise whole are.labels.rise in
+      let was : definitions_in (before ++ item ∷ after) ≡ front ++ (folded name, text) ∷ rest = all_defined before after item (folded name, text) says settled in
+      let named_was : (x : Text) → definitions_of old.defined x ≡ named_among x (labelled (few ++ l ∷ more) (front ++ (folded name, text) ∷ rest))
+      = λ x. are.named x ∙ ap₂ (λ (ls : List ℕ) (all : List (Text × Text)). named_among x (labelled ls all)) whole was in
+      let now : new.labels ≡ few ++ more = gone ∙ taken_number l k few more old.labels whole (sym (length-take-le k old.labels (omega (arith, inside)))) in
+      of_listed (before ++ after) new
+      (taken_numbers is_definition_tree before after item n count fits old.numbers new.numbers is_one numbers_are are.numbers)
+      labels_are
+      (let one = ap (length {A = ℕ}) now ∙ length-append few more in let all = ap (length {A = Text × Text}) was ∙ length-append front ((folded name, text) ∷ rest) in
+      let both = ap (length {A = ℕ}) whole ∙ length-append few (l ∷ more) in let sum = ap (length {A = Text × Text}) others ∙ length-append front rest in let same = are.counted in omega (arith, one, all, both, sum, same))
+      (λ x.
+      gives x
+      ∙ ap₂ (λ (mine theirs : List Definition). cond (bytes_eq x (folded name)) (without_label l mine) theirs) (named_was (folded name)) (named_was x)
+      ∙ named_go few more front rest l (folded name) text short rise x
+      ∙ ap₂ (λ (ls : List ℕ) (all : List (Text × Text)). named_among x (labelled ls all)) (sym now) (sym others))
+      long
+
+  -- a definition has a number, and a label
+  pub definition_numbered : (name : Text) → is_definition_of name item.tree ≡ true → AreDefinitionsOf (before ++ item ∷ after) old → AllByRecursion (λ m. m ≢ n) old.numbers → ⊥
+  definition_numbered name is are absent =
+      there (front_numbers is_definition_tree before) (map suc (rest_numbers is_definition_tree before after))
+      (subst (AllByRecursion (λ m. m ≢ n)) (are.numbers ∙ numbers-with is_definition_tree before after item (definition_of item.tree name is)) absent)
+    where
+      there : (few more : List ℕ) → AllByRecursion (λ m. m ≢ n) (few ++ length before ∷ more) → ⊥
+      there [] more all = all.0 count
+      there (m ∷ few) more all = there few more all.1
+
+  pub definition_labelled : (name : Text) (k : ℕ) → is_definition_of name item.tree ≡ true → AreDefinitionsOf (before ++ item ∷ after) old → k ≡ rank_in n old.numbers → k < length old.labels
+  definition_labelled name k is are place =
+      let here = macros_at months before (length before) in
+      let it = one_defined here item.tree (definition_of item.tree name is) in
+      let rank = rank_front n before (item ∷ after) old.numbers count are.numbers in
+      let all = ap (length {A = Text × Text}) (all_defined before after item it.0 it.1 settled) ∙ length-append front (it.0 ∷ rest) in
+      let same = are.counted in
+      omega (arith, place, rank, all, same)

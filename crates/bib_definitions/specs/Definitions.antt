@@ -1,33 +1,33 @@
 -- The macros that a file defines, and what they stand for before each item.
-use Rattle.std.specs.Prelude.{◌≡◌, ◌≤◌, ℕ, suc, Bool, true, false, List, [], ◌∷◌, length, map, filter, count_by, Option, Some, None, option_map, if◌then◌else◌}
+use Rattle.std.specs.Prelude.{◌≡◌, ◌≤◌, ℕ, suc, Bool, true, false, List, [], ◌∷◌, length, map, filter, slice_index_or, count_by, Option, Some, None, option_map, if◌then◌else◌}
 use Rattle.std.specs.List.{enumerate_from}
 use Rattle.bib_spec.specs.Text.{Text, folded, same}
 use Rattle.bib_spec.specs.Tree.{Tree, CommentTree, DefinitionTree, PreambleTree, EntryTree}
 use Rattle.bib_spec.specs.Reading.{Item}
 use Rattle.bib_spec.specs.Texts.{Macros, months, raw_text, macros_in, macros_at, gathered}
+use Rattle.bib_numbers.specs.Labels.{label_limit, AreLabels}
 use Rattle.bib_numbers.specs.Numbers.{rank_in}
-use Rattle.bib_definitions.specs.ByName.{Defined, Named, AreAllOf, texts_after, without_exchange}
+use Rattle.bib_definitions.specs.ByName.{Defined, definitions_of, texts_before, labelled, named_among, AreAsLong}
 
--- the numbers that the definitions have among the items, and the definitions of each name
+-- The numbers that the definitions have among the items, their labels, the definitions of each name, and how long their
+-- texts are at most. Labels stand for the order of the definitions: a definition keeps its label when others come or go.
 pub record Known : Type 0 where
   pub numbers : List ℕ
-  pub names : Named
+  pub labels : List ℕ
+  pub defined : Defined
+  pub longest : ℕ
 
--- the definitions, once the last exchange is taken back
-abbrev pub taken_back : Known → Known
-taken_back known = record { numbers = known.numbers; names = without_exchange known.names }
+-- the label of definition k, or the limit if there are no more than k
+abbrev pub label_at : List ℕ → ℕ → ℕ
+label_at labels k = slice_index_or labels k label_limit
 
 -- what macros stand for before item n: what they stand for after the definitions that come before it
 abbrev pub texts_at : Known → ℕ → Macros
-texts_at known n = texts_after known.names.defined (rank_in n known.numbers)
+texts_at known n = texts_before known.defined (label_at known.labels (rank_in n known.numbers))
 
 -- no name stands for a longer text
 abbrev pub AreAtMost : ℕ → Macros → Type 0
 AreAtMost longest macros = (name text : Text) → macros name ≡ Some text → length text ≤ longest
-
--- nor does a name stand for a longer text after any of the definitions
-abbrev pub AreWithin : ℕ → Defined → Type 0
-AreWithin longest names = (r : ℕ) → AreAtMost longest (texts_after names r)
 
 -- the item is a macro definition
 abbrev pub is_definition_tree : Tree → Bool
@@ -71,7 +71,10 @@ definitions_in items = gathered defined_by months items
 -- before each item, and after the last
 pub record AreDefinitionsOf (items : List Item) (known : Known) : Type 0 where
   pub numbers : known.numbers ≡ definition_numbers items
-  pub all : AreAllOf known.names (definitions_in items)
+  pub labels : AreLabels known.labels
+  pub counted : length known.labels ≡ length (definitions_in items)
+  pub named : (name : Text) → definitions_of known.defined name ≡ named_among name (labelled known.labels (definitions_in items))
+  pub longest : AreAsLong known.longest known.defined
   pub texts : (n : ℕ) → texts_at known n ≡ macros_at months items n
 
 -- an item that sees these macros is a definition, and gives the name this text

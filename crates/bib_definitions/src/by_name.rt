@@ -1,14 +1,15 @@
 //! The definitions of each name.
 
-ghost use Rattle.std.specs.Prelude.{◌≡◌, ◌++◌, ◌∷◌, [], ◌<◌, ◌≤◌, length, IfSome, IsSome, OnOk, OnErr};
+ghost use Rattle.std.specs.Prelude.{◌≡◌, [], ◌<◌, ◌≤◌, ℕ, length, IfSome, IsSome, OnOk, OnErr};
+ghost use Rattle.std.specs.Option.{option_copied};
 ghost use Rattle.bib_spec.specs.Bytes.{name_limit};
 ghost use Rattle.bib_spec.specs.Text.{Text, folded};
-ghost use Rattle.folded_map.specs.FoldedMap.{value_at, IsWith};
+ghost use Rattle.folded_map.specs.FoldedMap.{value_at};
 ghost use Rattle.bib_definitions.specs.Held.{Fits};
-ghost use Rattle.bib_definitions.specs.ByName.{definitions_of, each_held, Ascends};
+ghost use Rattle.bib_definitions.specs.ByName.{definitions_of, each_held, text_before, texts_before, with_definition, without_label, Gives, Ascends, AreInOrder};
 
-use crate::held::{Definition, Held};
-use bib_text::NAME_LIMIT;
+use crate::held::{Definition, Held, count_below};
+use bib_value::month;
 use folded_map::FoldedMap;
 use std::alloc::{AllocError, Global};
 use std::marker::Model;
@@ -30,31 +31,33 @@ impl Model for ByName {
 }
 
 impl ByName {
-    ghost use Rattle.std.specs.Prelude.{ℕ};
-    ghost use Rattle.bib_spec.specs.Texts.{months};
-    ghost use Rattle.bib_definitions.specs.ByName.{texts_after, EndsBy};
-
     /// No definitions: only the names of months stand for texts. It takes no memory.
     pub(crate) fn new(alloc: Global) -> Self
-        ensures months { (r : ℕ) → texts_after result r ≡ months }
-        ensures ends { EndsBy 0 result }
+        ensures { (name : Text) → definitions_of result name ≡ [] }
     {
         ByName {
             lists: FoldedMap::new(alloc),
         }
     }
 
-    /// Adds a definition after the others of its name. If memory is refused, nothing changes.
+    /// Puts a definition among those of its name, in the order of their labels. If memory is refused, nothing changes. It
+    /// takes time in the logarithm of their count, and in the count of those after it.
     pub(crate) fn put(&mut self, name: &[u8], definition: Definition) -> Result<(), AllocError>
-        requires short { length name.now ≤ name_limit }
-        requires last { EndsBy definition.rank self.old }
-        ensures ok { OnOk result (IsWith self.old name.now (definitions_of self.old (folded name.now) ++ definition ∷ []) self.new) }
+        requires { length name.now ≤ name_limit }
+        ensures ok { OnOk result (Gives self.old name.now (with_definition definition (definitions_of self.old (folded name.now))) self.new) }
         ensures err { OnErr result (self.new ≡ self.old) }
     {
         put(&mut self.lists, name, definition)
     }
 
-    /// The definitions of a name.
+    /// Takes the definition with this label from those of its name. It asks for no memory.
+    pub(crate) fn take(&mut self, name: &[u8], label: usize)
+        ensures { Gives self.old name.now (without_label label (definitions_of self.old (folded name.now))) self.new }
+    {
+        take(&mut self.lists, name, label);
+    }
+
+    /// The definitions of a name. It takes time in the length of the name.
     pub(crate) fn of(&self, name: &[u8]) -> &[Definition]
         ensures is { result.now ≡ definitions_of self.now (folded name.now) }
         ensures ascend { Ascends result.now }
@@ -65,35 +68,41 @@ impl ByName {
         }
     }
 
-    /// Makes a place for the name, so that `give` needs no memory. No name gets other definitions.
-    pub(crate) fn make_place(&mut self, name: &[u8]) -> Result<(), AllocError>
-        ensures same { (x : Text) → definitions_of self.new x ≡ definitions_of self.old x }
-        ensures place { OnOk result (IsSome (value_at self.new (folded name.now))) }
-        ensures stay { (x : Text) → IsSome (value_at self.old x) → IsSome (value_at self.new x) }
+    /// What the name stands for after the definitions with a label below this one. It takes time in the length of the name
+    /// and, for a name that is defined m times, log m; it takes no memory.
+    pub(crate) fn text_before(&self, label: usize, name: &[u8]) -> Option<&[u8]>
+        ensures { option_copied result ≡ texts_before self.now label (folded name.now) }
     {
-        make_place(&mut self.lists, name)
-    }
-
-    /// Gives a name that has a place these definitions. It asks for no memory.
-    pub(crate) fn give(&mut self, name: &[u8], list: Vec<Definition>)
-        requires place { IsSome (value_at self.old (folded name.now)) }
-        requires ascend { Ascends list.items }
-        ensures { IsWith self.old name.now list.items self.new }
-    {
-        self.lists.replace(name, Held::Many(list));
+        match text_before(self.of(name), label) {
+            Some(text) => Some(text),
+            None => month(name),
+        }
     }
 }
 
-/// Adds a definition after those that its name has. If memory is refused, nothing changes.
+/// The text of the last definition with a label below this one.
+fn text_before(definitions: &[Definition], label: usize) -> Option<&[u8]>
+    requires { Ascends definitions.now }
+    ensures { option_copied result ≡ text_before label definitions.now }
+{
+    let count = count_below(definitions, label);
+    if count == 0 {
+        return None;
+    }
+    Some(definitions[count - 1].text.as_slice())
+}
+
+/// Puts a definition among those that its name has. If memory is refused, nothing changes.
 fn put(lists: &mut FoldedMap<Held>, name: &[u8], definition: Definition) -> Result<(), AllocError>
-    requires { length name.now ≤ name_limit }
-    ensures ok { OnOk result (IsWith (each_held lists.old) name.now (definitions_of (each_held lists.old) (folded name.now) ++ definition ∷ []) (each_held lists.new)) }
+    requires short { length name.now ≤ name_limit }
+    requires order { AreInOrder (each_held lists.old) }
+    ensures ok { OnOk result (Gives (each_held lists.old) name.now (with_definition definition (definitions_of (each_held lists.old) (folded name.now))) (each_held lists.new)) }
     ensures err { OnErr result (lists.new ≡ lists.old) }
 {
     match lists.get(name) {
         Some(held) => {
             let room = held.room(lists.allocator())?;
-            put_last(lists, name, room, definition);
+            put_among(lists, name, room, definition);
         }
         None => {
             lists.insert(name, Held::One(definition))?;
@@ -102,31 +111,32 @@ fn put(lists: &mut FoldedMap<Held>, name: &[u8], definition: Definition) -> Resu
     Ok(())
 }
 
-/// Adds a definition after those that its name has. If they have no room for it, all of them move to `room`. It asks for no
+/// Puts a definition among those that its name has. If they have no room for it, all of them move to `room`. It asks for no
 /// more memory.
-fn put_last(lists: &mut FoldedMap<Held>, name: &[u8], room: Vec<Definition>, definition: Definition)
+fn put_among(
+    lists: &mut FoldedMap<Held>,
+    name: &[u8],
+    room: Vec<Definition>,
+    definition: Definition,
+)
     requires some { IsSome (value_at lists.old (folded name.now)) }
     requires fits { IfSome (value_at lists.old (folded name.now)) (λ held. Fits held room) }
-    ensures { IsWith (each_held lists.old) name.now (definitions_of (each_held lists.old) (folded name.now) ++ definition ∷ []) (each_held lists.new) }
+    requires order { AreInOrder (each_held lists.old) }
+    ensures { Gives (each_held lists.old) name.now (with_definition definition (definitions_of (each_held lists.old) (folded name.now))) (each_held lists.new) }
 {
     let Some(held) = lists.replace(name, Held::Nothing) else {
         unreachable!();
     };
-    lists.replace(name, held.with_last(room, definition));
+    lists.replace(name, held.with(room, definition));
 }
 
-/// Makes a place for the name. No name gets other definitions.
-fn make_place(lists: &mut FoldedMap<Held>, name: &[u8]) -> Result<(), AllocError>
-    ensures same { (x : Text) → definitions_of (each_held lists.new) x ≡ definitions_of (each_held lists.old) x }
-    ensures place { OnOk result (IsSome (value_at (each_held lists.new) (folded name.now))) }
-    ensures stay { (x : Text) → IsSome (value_at (each_held lists.old) x) → IsSome (value_at (each_held lists.new) x) }
+/// Takes the definition with this label from those of its name. It asks for no memory.
+fn take(lists: &mut FoldedMap<Held>, name: &[u8], label: usize)
+    requires { AreInOrder (each_held lists.old) }
+    ensures { Gives (each_held lists.old) name.now (without_label label (definitions_of (each_held lists.old) (folded name.now))) (each_held lists.new) }
 {
-    // No name is longer.
-    if name.len() > NAME_LIMIT {
-        return Err(AllocError);
-    }
-    if lists.get(name).is_none() {
-        lists.insert(name, Held::Nothing)?;
-    }
-    Ok(())
+    let Some(held) = lists.replace(name, Held::Nothing) else {
+        return;
+    };
+    lists.replace(name, held.without(label));
 }

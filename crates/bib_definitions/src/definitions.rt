@@ -1,34 +1,51 @@
 //! The macros that a file defines, and where.
 
+ghost use Rattle.std.specs.Prelude.{◌≡◌, ◌≤◌, ◌++◌, ◌∷◌, suc, ℕ, List, length, map, OnOk, OnErr};
+ghost use Rattle.bib_spec.specs.Bytes.{name_limit};
+ghost use Rattle.bib_spec.specs.Text.{folded};
+ghost use Rattle.bib_numbers.specs.Numbers.{PartAt, HaveNext};
+ghost use Rattle.bib_definitions.specs.ByName.{definitions_of, with_definition, Gives};
+
+use crate::by_name::ByName;
+use crate::held::Definition;
 use crate::macros_at::MacrosAt;
-use crate::names::Names;
-use bib_numbers::Numbers;
-use bib_text::Text;
+use bib_numbers::{Labels, Numbers};
+use bib_text::{NAME_LIMIT, Text};
 use std::alloc::{AllocError, Global};
 use std::marker::Model;
 
-/// All definitions of a file, and the numbers that they have among its items. An item that comes or goes and defines
-/// nothing costs one step for each page of definitions, and some for the definitions of one page.
+/// How long the longest text of a month is: `September`.
+const LONGEST_MONTH: usize = 9;
+
+/// All definitions of a file, and the numbers that they have among its items. An item that comes or goes costs a few steps
+/// for each page of definitions, and some for the definitions of one page; if it is a definition, also time in the
+/// definitions of its name.
 #[derive(Drop)]
 pub struct Definitions {
     numbers: Numbers,
-    names: Names,
+    labels: Labels,
+    by_name: ByName,
+    // no name stands for a longer text
+    longest: usize,
 }
 
 impl Model for Definitions {
+    ghost use Rattle.bib_definitions.specs.ByName.{AreAsLong};
     ghost use Rattle.bib_definitions.specs.Definitions.{Known};
 
     ghost Value = { Known };
 
-    ghost view = { λ d. record { numbers = d.numbers; names = d.names } };
+    ghost view = { λ d. record { numbers = d.numbers; labels = d.labels; defined = d.by_name; longest = d.longest } };
+
+    ghost invariant = { λ d. AreAsLong d.longest d.by_name };
 }
 
 impl Definitions {
-    ghost use Rattle.std.specs.Prelude.{◌≡◌, ◌+◌, ◌<◌, ◌≤◌, ◌^◌, ◌++◌, ◌∷◌, [], true, false, ℕ, List, length, IfOk, OnOk, OnErr};
+    ghost use Rattle.std.specs.Prelude.{◌≡◌, ◌+◌, ◌<◌, ◌≤◌, ◌^◌, ◌++◌, ◌∷◌, [], true, false, max, ℕ, List, length, IfOk, OnOk, OnErr};
     ghost use Rattle.bib_spec.specs.Bytes.{name_limit};
     ghost use Rattle.bib_spec.specs.Reading.{Item};
     ghost use Rattle.bib_spec.specs.Texts.{months, macros_at};
-    ghost use Rattle.bib_definitions.specs.Definitions.{texts_at, is_definition_of, is_definition_tree, taken_back, definition_count, first_definition, AreDefinitionsOf, Defines, AreAtMost, AreSettled};
+    ghost use Rattle.bib_definitions.specs.Definitions.{label_at, texts_at, is_definition_of, is_definition_tree, definition_count, first_definition, AreDefinitionsOf, Defines, AreAtMost, AreSettled};
     ghost use Rattle.bib_definitions.specs.MacrosSeen.{macros_seen};
 
     /// No definitions: only the names of months stand for texts. It takes no memory.
@@ -37,67 +54,66 @@ impl Definitions {
     {
         Definitions {
             numbers: Numbers::new(alloc),
-            names: Names::new(alloc),
+            labels: Labels::new(alloc),
+            by_name: ByName::new(alloc),
+            longest: LONGEST_MONTH,
         }
     }
 
-    /// Adds the definition that is item `n`, after all others. If memory is refused, it says what it said.
-    pub fn define(&mut self, n: usize, name: &[u8], text: Text) -> Result<(), AllocError>
-        requires { length name.now ≤ name_limit }
-        ensures ok { OnOk result ((items : List Item) (item : Item) → length items ≡ n → is_definition_tree item.tree ≡ true → AreDefinitionsOf items self.old → Defines (macros_at months items n) item.tree name.now text → AreDefinitionsOf (items ++ item ∷ []) self.new) }
-        ensures err { OnErr result ((items : List Item) → length items ≡ n → AreDefinitionsOf items self.old → AreDefinitionsOf items self.new) }
-    {
-        self.numbers.insert(n)?;
-        match self.names.put(name, text) {
-            Ok(()) => Ok(()),
-            Err(fault) => {
-                self.numbers.remove(n);
-                Err(fault)
-            }
-        }
-    }
-
-    /// Puts a definition that gives `name` this text in the place of item `n`, which is a definition of `was`, and returns
-    /// whether it could. It can't before the last exchange is kept; nothing changes then, nor if memory is refused. The exchange
-    /// can be taken back until it is kept. It takes time and memory in the definitions of the two names.
-    pub fn exchange(
-        &mut self,
-        alloc: Global,
-        n: usize,
-        was: &[u8],
-        name: &[u8],
-        text: &[u8],
-    ) -> Result<bool, AllocError>
-        ensures done { IfOk result (λ done. done ≡ true → (before after : List Item) (old new : Item) → length before ≡ n → is_definition_of was.now old.tree ≡ true → Defines (macros_at months before n) new.tree name.now text.now → AreSettled after
-            → AreDefinitionsOf (before ++ old ∷ after) self.old → AreDefinitionsOf (before ++ new ∷ after) self.new) }
-        ensures back { IfOk result (λ done. done ≡ true → taken_back self.new ≡ self.old) }
+    /// Adds the definition that is item `n`, before the items with the numbers from `n` on, and returns whether it could. It
+    /// can't if no label is left between those of its neighbours, which only happens after many others came there; nothing
+    /// changes then, nor if memory is refused. The definitions after it may not depend on macros.
+    pub fn insert(&mut self, n: usize, name: &[u8], text: Text) -> Result<bool, AllocError>
+        ensures come { IfOk result (λ done. done ≡ true → (before after : List Item) (item : Item) → length before ≡ n → n + length after < 2 ^ 64 → is_definition_tree item.tree ≡ true
+            → Defines (macros_at months before n) item.tree name.now text → AreSettled after → AreDefinitionsOf (before ++ after) self.old → AreDefinitionsOf (before ++ item ∷ after) self.new) }
+        ensures longest { OnOk result (self.new.longest ≤ max self.old.longest (length text)) }
         ensures same { IfOk result (λ done. done ≡ false → self.new ≡ self.old) }
         ensures err { OnErr result (self.new ≡ self.old) }
     {
-        let rank = self.numbers.rank(n);
-        let done = self.names.exchange(alloc, rank, was, name, text)?;
-        Ok(done)
+        // No item has a longer name.
+        if name.len() > NAME_LIMIT {
+            return Ok(false);
+        }
+        let k = self.numbers.rank(n).min(self.labels.count());
+        let Some(label) = self.labels.make(k)? else {
+            return Ok(false);
+        };
+        let len = text.as_slice().len();
+        let definition = Definition { label, text };
+        match put(&mut self.numbers, &mut self.by_name, n, name, definition) {
+            Ok(()) => {}
+            Err(fault) => {
+                self.labels.remove(k);
+                return Err(fault);
+            }
+        }
+        self.longest = self.longest.max(len);
+        Ok(true)
     }
 
-    /// Takes the last exchange back, unless it was kept. It asks for no memory.
-    pub fn take_back(&mut self)
-        ensures { self.new ≡ taken_back self.old }
+    /// Removes the definition of this name that is item `n`. The definitions after it may not depend on macros. It asks for
+    /// no memory.
+    pub fn remove(&mut self, n: usize, name: &[u8])
+        ensures go { (before after : List Item) (item : Item) → length before ≡ n → n + length after < 2 ^ 64 → is_definition_of name.now item.tree ≡ true → AreSettled after
+            → AreDefinitionsOf (before ++ item ∷ after) self.old → AreDefinitionsOf (before ++ after) self.new }
+        ensures longest { self.new.longest ≡ self.old.longest }
     {
-        self.names.take_back();
-    }
-
-    /// Keeps the last exchange, if memory allows it. What the definitions say is unchanged.
-    pub fn keep(&mut self)
-        ensures { (items : List Item) → AreDefinitionsOf items self.old → AreDefinitionsOf items self.new }
-    {
-        self.names.keep();
+        let Some(k) = self.numbers.position(n) else {
+            return;
+        };
+        if k >= self.labels.count() {
+            return;
+        }
+        self.by_name.take(name, self.labels.get(k));
+        self.labels.remove(k);
+        self.numbers.remove(n);
     }
 
     /// Makes way for an item that comes as item `n` and defines nothing. At item `n` macros stand for what they stood for.
     pub fn make_way(&mut self, n: usize)
         ensures come { (before after : List Item) (item : Item) → length before ≡ n → n + length after < 2 ^ 64 → is_definition_tree item.tree ≡ false → AreDefinitionsOf (before ++ after) self.old → AreDefinitionsOf (before ++ item ∷ after) self.new }
         ensures seen { texts_at self.new n ≡ texts_at self.old n }
-        ensures names { self.new.names ≡ self.old.names }
+        ensures longest { self.new.longest ≡ self.old.longest }
     {
         self.numbers.make_way(n);
     }
@@ -105,23 +121,24 @@ impl Definitions {
     /// Closes the gap of item `n`, which goes and defined nothing.
     pub fn close(&mut self, n: usize)
         ensures go { (before after : List Item) (item : Item) → length before ≡ n → n + length after < 2 ^ 64 → is_definition_tree item.tree ≡ false → AreDefinitionsOf (before ++ item ∷ after) self.old → AreDefinitionsOf (before ++ after) self.new }
-        ensures names { self.new.names ≡ self.old.names }
+        ensures longest { self.new.longest ≡ self.old.longest }
     {
         self.numbers.close(n);
     }
 
-    /// A length in bytes: before any item, no name stands for a longer text.
+    /// A length in bytes: before any item, no name stands for a longer text. It never becomes less.
     pub fn longest(&self) -> usize
-        ensures { (n : ℕ) → AreAtMost result (texts_at self.now n) }
+        ensures is { result ≡ self.now.longest }
+        ensures most { (n : ℕ) → AreAtMost result (texts_at self.now n) }
     {
-        self.names.longest()
+        self.longest
     }
 
     /// How many items define the name, folded. It takes time in the length of the name.
     pub fn count(&self, name: &[u8]) -> usize
         ensures { (items : List Item) → AreDefinitionsOf items self.now → result ≡ definition_count name.now items }
     {
-        self.names.of(name).len()
+        self.by_name.of(name).len()
     }
 
     /// The number of the first item that defines the name, folded. It takes time in the length of the name, and in the
@@ -130,8 +147,8 @@ impl Definitions {
         requires { (items : List Item) × AreDefinitionsOf items self.now }
         ensures { (items : List Item) → AreDefinitionsOf items self.now → result ≡ first_definition name.now items }
     {
-        match self.names.of(name).first() {
-            Some(definition) => Some(self.numbers.get(definition.rank)),
+        match self.by_name.of(name).first() {
+            Some(definition) => Some(self.numbers.get(self.labels.rank(definition.label))),
             None => None,
         }
     }
@@ -141,8 +158,41 @@ impl Definitions {
         ensures { macros_seen result ≡ texts_at self.now n }
     {
         MacrosAt {
-            names: &self.names,
-            rank: self.numbers.rank(n),
+            names: &self.by_name,
+            label: self.label_of(self.numbers.rank(n)),
+        }
+    }
+
+    /// The label of definition `k`, or the greatest number if there are no more than `k`.
+    fn label_of(&self, k: usize) -> usize
+        ensures { result ≡ label_at self.now.labels k }
+    {
+        if k >= self.labels.count() {
+            return usize::MAX;
+        }
+        self.labels.get(k)
+    }
+}
+
+/// Puts number `n` among the numbers, and a definition among those of its name. If memory is refused, nothing changes.
+fn put(
+    numbers: &mut Numbers,
+    by_name: &mut ByName,
+    n: usize,
+    name: &[u8],
+    definition: Definition,
+) -> Result<(), AllocError>
+    requires { length name.now ≤ name_limit }
+    ensures numbers { OnOk result ((front rest : List ℕ) → PartAt n front rest numbers.old → HaveNext rest → numbers.new ≡ front ++ n ∷ map suc rest) }
+    ensures names { OnOk result (Gives by_name.old name.now (with_definition definition (definitions_of by_name.old (folded name.now))) by_name.new) }
+    ensures err { OnErr result ((numbers.new ≡ numbers.old) × (by_name.new ≡ by_name.old)) }
+{
+    numbers.insert(n)?;
+    match by_name.put(name, definition) {
+        Ok(()) => Ok(()),
+        Err(fault) => {
+            numbers.remove(n);
+            Err(fault)
         }
     }
 }

@@ -1,7 +1,8 @@
-use Rattle.std.proofs.Common.{◌≡◌, [], unwrap_or, sym, ap, ◌∙◌, subst}
+use Rattle.std.proofs.Common.{◌≡◌, sym, ap, ◌∙◌, subst}
 use Rattle.std.specs.Option.{option_copied}
 use Rattle.bib_spec.specs.Text.{folded}
 use Rattle.bib_definitions.specs.ByName.{definitions_of, each_held, Ascends}
+use Rattle.bib_definitions.proofs.DefinedNames.{none_of}
 use Rattle.bib_definitions.proofs.HeldLists.{of-each, none-each}
 use Rattle.bib_definitions.proofs.by_name.ByName.of.Goals as goal
 
@@ -16,5 +17,5 @@ returns-in-Some-clause-ascend c = subst Ascends (sym (is_held c)) (c.self.invari
 
 pub returns-in-None-clause-is : goal.returns-in-None-clause-is
 returns-in-None-clause-is c =
-    sym (ap (λ o. unwrap_or o []) (none-each c.self.inside.lists (folded c.args.name.now) (sym c.get.ensures ∙ ap option_copied c.in-None.is)))
+    sym (none_of (each_held c.self.inside.lists) (folded c.args.name.now) (none-each c.self.inside.lists (folded c.args.name.now) (sym c.get.ensures ∙ ap option_copied c.in-None.is)))
     ∙ ap (λ d. definitions_of d (folded c.args.name.now)) c.self.view_is

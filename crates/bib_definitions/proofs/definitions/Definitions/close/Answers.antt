@@ -1,9 +1,9 @@
 use Rattle.std.proofs.Common.{sym, subst}
-use Rattle.bib_definitions.specs.Definitions.{AreDefinitionsOf}
+use Rattle.bib_definitions.specs.Definitions.{Known, AreDefinitionsOf}
 use Rattle.bib_definitions.proofs.DefinitionTables.{definitions_go}
 use Rattle.bib_definitions.proofs.definitions.Definitions.close.Goals as goal
 
 pub returns-clause-go : goal.returns-clause-go
 returns-clause-go c before after item count fits other are =
-    definitions_go before after item c.args.n count fits other c.self.inside.names c.close.new.self c.self.inside.numbers c.close.ensures.moved
-    (subst (AreDefinitionsOf _) (sym c.self.view_is) are)
+    let old : Known = record { numbers = c.self.inside.numbers; labels = c.self.inside.labels; defined = c.self.inside.by_name; longest = c.self.inside.longest } in
+    definitions_go before after item c.args.n count fits other old c.close.new.self c.close.ensures.moved (subst (AreDefinitionsOf _) (sym c.self.view_is) are)
