@@ -6,3 +6,4 @@ pub mod OrderedNames
 pub mod DefinitionTables
 pub mod LongestTexts
 pub mod FirstDefinitions
+pub mod AlikeDefinitions

@@ -6,11 +6,13 @@ use Rattle.std.specs.List.{AllByRecursion}
 use Rattle.std.proofs.lemmas.Bool.{cases_Bool, cond-true, cond-false}
 use Rattle.std.proofs.lemmas.Option.{none-some, same_Some}
 use Rattle.bib_spec.specs.Text.{Text, folded}
+use Rattle.bib_spec.specs.Reading.{Item}
 use Rattle.bib_spec.specs.Texts.{months, month_names}
 use Rattle.bib_definitions.specs.declared.held.Definition.{Definition}
 use Rattle.bib_value.specs.Macros.{or_else}
 use Rattle.bib_definitions.specs.ByName.{Defined, definitions_of, text_before, texts_before, with_definition, without_label, Gives, AreAsLong}
-use Rattle.bib_definitions.specs.Definitions.{AreAtMost}
+use Rattle.bib_numbers.specs.Numbers.{rank_in}
+use Rattle.bib_definitions.specs.Definitions.{Known, label_at, texts_at, AreDefinitionsOf, AreAtMost}
 use Rattle.bib_definitions.proofs.DefinedNames.{given_all}
 use Rattle.bib_definitions.proofs.PlacedDefinitions.{all_by_recursion, all_by_place, all_with, all_without}
 
@@ -53,6 +55,10 @@ at_most longest l defined long name text is =
     at : (o : Option Text) → (o ≡ Some text → length text ≤ longest) → or_else o (months name) ≡ Some text → length text ≤ longest
     at (Some t) later e = later e
     at None later e = let low = months_within name text e in let most = long.month in omega (arith, low, most)
+
+-- so it is before any item
+pub texts_within : (items : List Item) (known : Known) → AreDefinitionsOf items known → (n : ℕ) → AreAtMost known.longest (texts_at known n)
+texts_within items known are n = at_most known.longest (label_at known.labels (rank_in n known.numbers)) known.defined are.longest
 
 -- no definition has a longer text than a month
 pub long_none : (defined : Defined) → ((name : Text) → definitions_of defined name ≡ []) → AreAsLong 9 defined

@@ -1,11 +1,11 @@
 -- What the loop over groups keeps, and how it continues.
-use Rattle.std.proofs.Common.{◌≡◌, ℕ, ◌+◌, ◌-◌, ◌<◌, ◌≤◌, List, [], ◌∷◌, ◌++◌, length, take, drop, sum_by, All, refl, sym, subst, ◌∙◌, ap, ap₂, arith, append_assoc, append-nil, length-append}
+use Rattle.std.proofs.Common.{◌≡◌, ℕ, ◌+◌, ◌-◌, ◌<◌, ◌≤◌, List, [], ◌∷◌, ◌++◌, length, take, drop, sum_by, All, refl, sym, subst, ◌∙◌, ap, ap₂, arith, append_assoc, append-nil}
 use Rattle.std.proofs.lemmas.List.Elements.{All-from_recursion}
 use Rattle.std.proofs.lemmas.List.Sums.{sum_by-cons}
-use Rattle.std.specs.List.{AllByRecursion, between}
+use Rattle.std.specs.List.{AllByRecursion}
 use Rattle.bib_spec.specs.Bytes.{file_limit}
 use Rattle.bib_spec.specs.Text.{Text}
-use Rattle.bib_spec.specs.Pieces.{Piece, end_of, Stands, IsAscending, Fit, applied, reversed_from, EndBy}
+use Rattle.bib_spec.specs.Pieces.{Piece, end_of, Stands, Fit, applied, reversed_from, EndBy}
 use Rattle.bib_store.specs.Reversing.{new_bytes_limit}
 use Rattle.history_spec.proofs.Shifts.{none-moved}
 use Rattle.history_spec.specs.Shifting.{all_moved_back, FitAfter}

@@ -14,7 +14,7 @@ use Rattle.bib_spec.specs.Records.{EntryTexts, entry_in, keys_of, crossref_text}
 use Rattle.bib_scan.proofs.OneReading.{tree_unique}
 use Rattle.bib_store.specs.declared.tables.Tables.{Tables}
 use Rattle.bib_store.specs.Meaning.{is_entry_tree}
-use Rattle.bib_definitions.specs.ByName.{AreAllOf}
+use Rattle.bib_definitions.proofs.AlikeDefinitions.{definitions_alike}
 use Rattle.bib_definitions.specs.Definitions.{is_definition_tree, defined_by}
 use Rattle.bib_store.specs.declared.bounds.Bounds.{Bounds}
 use Rattle.bib_store.specs.Bounds.{IsBounded, AreBounded}
@@ -96,11 +96,7 @@ tables_alike xs ys t e are = record {
   entries = are.entries ∙ numbers_alike is_entry_tree 0 xs ys e;
   preambles = are.preambles ∙ numbers_alike is_preamble_tree 0 xs ys e;
   named = subst (λ (es : List EntryTexts). IsTableOf (keys_of es) (map crossref_text es) t.named) (gathered_alike entry_in months xs ys e) are.named;
-  definitions = record {
-    numbers = are.definitions.numbers ∙ numbers_alike is_definition_tree 0 xs ys e;
-    all = subst (AreAllOf t.definitions.names) (gathered_alike defined_by months xs ys e) are.definitions.all;
-    texts = λ n. are.definitions.texts n ∙ macros_alike months xs ys n e;
-  };
+  definitions = definitions_alike xs ys t.definitions (numbers_alike is_definition_tree 0 xs ys e) (gathered_alike defined_by months xs ys e) (λ n. macros_alike months xs ys n e) are.definitions;
   bounds = bounded_alike t.bounds xs ys e are.bounds;
 }
 

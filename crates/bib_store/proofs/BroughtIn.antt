@@ -11,7 +11,8 @@ use Rattle.bib_store.specs.declared.tables.Tables.{Tables}
 use Rattle.bib_store.specs.declared.window.Window.{Window}
 use Rattle.bib_store.specs.Beside.{AreTablesOf}
 use Rattle.bib_definitions.specs.Definitions.{texts_at}
-use Rattle.bib_store.specs.Following.{bodies_between, AreOthersOf, DefineNothingBetween, HaveShortTexts}
+use Rattle.bib_store.specs.Firm.{IsFirm}
+use Rattle.bib_store.specs.Following.{bodies_between, AreOthersOf, HaveShortTexts, MayPass, MayPassBetween}
 use Rattle.bib_store.specs.Runs.{AreFollowed}
 use Rattle.bib_store.specs.Windows.{ArePut, HasLead, IsLead}
 use Rattle.bib_store.proofs.KeptItems.{length-stored}
@@ -133,7 +134,7 @@ module _ (c : Change) (old now : List Item) (count lead : ℕ) (p : ArePut c old
   pub split_old : (rest : List Item) → take to old ++ rest ≡ take from old ++ (stay ++ (gone ++ rest))
   split_old rest = ap (λ (l : List Item). l ++ rest) head_parts ∙ append_assoc (take from old) (stay ++ gone) rest ∙ ap (λ (l : List Item). take from old ++ l) (append_assoc stay gone rest)
 
-  module _ (leads : IsLead c.window count lead now) (t : Tables) (plain : DefineNothingBetween (from + lead) (from + count) now) (few : length now < 2 ^ 64) (rest : List Item) (room : length rest ≤ length old - to) (f : AreFollowed (take to old ++ rest) t) where
+  module _ (leads : IsLead c.window count lead now) (t : Tables) (may : MayPassBetween t (from + lead) (from + count) now) (few : length now < 2 ^ 64) (rest : List Item) (room : length rest ≤ length old - to) (f : AreFollowed (take to old ++ rest) t) where
     old_parts : take to old ++ rest ≡ take from old ++ (stay ++ (gone ++ rest))
     old_parts = split_old rest
 
@@ -155,22 +156,22 @@ module _ (c : Change) (old now : List Item) (count lead : ℕ) (p : ArePut c old
     come_here : bodies_between (from + lead) (from + count) now ≡ bodies_in (drop (length stay) new)
     come_here = ap bodies_in come_put ∙ ap (λ (n : ℕ). bodies_in (drop n new)) (sym long_stay)
 
-    pub brought_followed : (learnt : Tables)
-        → ((before new after : List reading.Item) → length before ≡ from + lead → AreOthersOf (bodies_between (from + lead) (from + count) now) new → from + lead + (length new + length after) < 2 ^ 64
+    pub brought_followed : (learnt : Tables) → (IsFirm t → IsFirm learnt)
+        → ((before new after : List reading.Item) → length before ≡ from + lead → MayPass t (bodies_between (from + lead) (from + count) now) new → from + lead + (length new + length after) < 2 ^ 64
         → AreTablesOf (before ++ after) t → AreTablesOf (before ++ (new ++ after)) learnt)
         → ((new : List reading.Item) → AreOthersOf (bodies_between (from + lead) (from + count) now) new → HaveShortTexts (texts_at t.definitions (from + lead)) new)
         → AreFollowed ((take from old ++ (new ++ gone)) ++ rest) learnt
-    brought_followed learnt learn short =
+    brought_followed learnt firm learn short =
         subst (λ (l : List Item). AreFollowed l learnt) (simp append_assoc)
-        (come_followed (take from old) stay gone rest inner.items (from + lead) t (bodies_between (from + lead) (from + count) now) parts reads.items inside place same_here come_here plain short_enough learnt learn short)
+        (come_followed (take from old) stay gone rest inner.items (from + lead) t (bodies_between (from + lead) (from + count) now) parts reads.items inside place same_here come_here may short_enough learnt firm learn short)
 
     pub brought_back : (back : Tables)
-        → ((before new after : List reading.Item) → length before ≡ from + lead → AreOthersOf (bodies_between (from + lead) (from + count) now) new → from + lead + (length new + length after) < 2 ^ 64
+        → ((before new after : List reading.Item) → length before ≡ from + lead → MayPass t (bodies_between (from + lead) (from + count) now) new → from + lead + (length new + length after) < 2 ^ 64
         → AreTablesOf (before ++ after) t → AreTablesOf (before ++ after) back)
         → AreFollowed (take to old ++ rest) back
     brought_back back same =
         subst (λ (l : List Item). AreFollowed l back) (sym old_parts)
-        (come_back (take from old) stay gone rest inner.items (from + lead) t (bodies_between (from + lead) (from + count) now) parts reads.items inside place same_here come_here plain short_enough back same)
+        (come_back (take from old) stay gone rest inner.items (from + lead) t (bodies_between (from + lead) (from + count) now) parts reads.items inside place same_here come_here may short_enough back same)
 
   -- once those that came are gone, those that stay have their old trails again
   pub trails_back : IsLead c.window count lead now → (t back : Tables) (rest : List Item) → AreFollowed (take to old ++ rest) t → AreFollowed ((take from old ++ take lead new) ++ (gone ++ rest)) back → AreFollowed (take to old ++ rest) back

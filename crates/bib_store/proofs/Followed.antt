@@ -1,5 +1,5 @@
 -- Tables that follow items which come and go.
-use Rattle.std.proofs.Common.{◌≡◌, ◌≢◌, ℕ, zero, suc, ◌+◌, ◌-◌, ◌≤◌, ◌<◌, ◌^◌, List, [], ◌∷◌, ◌++◌, length, map, take, drop, slice_get, get_or, None, Some, sym, subst, ◌∙◌, ap, ap₂, refl, arith, length-append}
+use Rattle.std.proofs.Common.{◌≡◌, ◌≢◌, ⊎_elim, inl, inr, ℕ, zero, suc, ◌+◌, ◌-◌, ◌≤◌, ◌<◌, ◌^◌, List, [], ◌∷◌, ◌++◌, length, map, take, drop, slice_get, get_or, None, Some, sym, subst, ◌∙◌, ap, ap₂, refl, arith, length-append}
 use Rattle.std.specs.List.{AllByRecursion, between}
 use Rattle.std.proofs.lemmas.Option.{none-some, same_Some, slice_get-get_or}
 use Rattle.std.proofs.lemmas.List.{length-map, length-take-le, length-drop, drop-map, get_or-map, get_or-take, get_or-drop, drop-drop, drop_all, take_all}
@@ -16,8 +16,12 @@ use Rattle.bib_entries.proofs.Tables.{heads}
 use Rattle.bib_store.specs.declared.tables.Tables.{Tables}
 use Rattle.bib_definitions.specs.Definitions.{texts_at}
 use Rattle.bib_store.specs.ItemTexts.{first_too_long, placed_texts}
-use Rattle.bib_store.specs.Beside.{AreTablesOf, IsInsertion, IsRemoval, IsTooLongAt, OfOther, SayTheSame, item_with}
-use Rattle.bib_store.specs.Following.{bodies_between, AreItemsOf, AreOthersOf, DefineNothing, HaveShortTexts}
+use Rattle.bib_store.specs.Beside.{AreTablesOf, IsInsertion, IsRemoval, IsTooLongAt, OfSeen, SayTheSame, item_with}
+use Rattle.bib_store.specs.Bounds.{AreAllSettled}
+use Rattle.bib_store.specs.Firm.{IsFirm}
+use Rattle.bib_store.specs.Following.{bodies_between, AreItemsOf, AreOthersOf, DefineNothing, HaveShortTexts, MayPass}
+use Rattle.bib_store.proofs.BoundedItems.{bounded_after}
+use Rattle.bib_store.proofs.Settled.{all_settled}
 
 -- ---- one item of several
 
@@ -48,13 +52,13 @@ all_drop P items zero all = all
 all_drop P [] (suc n) all = tt
 all_drop P (i ∷ items) (suc n) all = all_drop P items n all.1
 
-pub dropped : (bodies : List Text) (items : List reading.Item) (n : ℕ) → AreOthersOf bodies items → AreOthersOf (drop n bodies) (drop n items)
-dropped bodies items n are = record {
+pub dropped : (t : Tables) (bodies : List Text) (items : List reading.Item) (n : ℕ) → MayPass t bodies items → MayPass t (drop n bodies) (drop n items)
+dropped t bodies items n pass = record {
   are = record {
-    trees = all_drop (λ (i : reading.Item). IsTree name_limit i.tree) items n are.are.trees;
-    same = sym (drop-map (λ (i : reading.Item). tree_bytes i.tree) n items) ∙ ap (drop n) are.are.same;
+    trees = all_drop (λ (i : reading.Item). IsTree name_limit i.tree) items n pass.are.trees;
+    same = sym (drop-map (λ (i : reading.Item). tree_bytes i.tree) n items) ∙ ap (drop n) pass.are.same;
   };
-  others = all_drop (λ (i : reading.Item). kind_of i.tree ≢ kind.Macro) items n are.others;
+  may = ⊎_elim (λ plain. inl (all_drop (λ (i : reading.Item). kind_of i.tree ≢ kind.Macro) items n plain)) (λ firm. inr firm) pass.may;
 }
 
 pub counted_items : (bodies : List Text) (items : List reading.Item) → AreItemsOf bodies items → length items ≡ length bodies
@@ -114,98 +118,120 @@ between_later items from to n low =
 -- ---- some went
 
 -- the first n of the items are out of the tables
-abbrev pub TakenSoFar : ℕ → ℕ → ℕ → ℕ → List Item → Tables → Tables → Type 0
-TakenSoFar n at from to items old new =
-    (before gone after : List reading.Item) → length before ≡ at → AreOthersOf (bodies_between from to items) gone → at + (length gone + length after) < 2 ^ 64 →
-    AreTablesOf (before ++ (gone ++ after)) old → AreTablesOf (before ++ (drop n gone ++ after)) new
+pub record TakenSoFar (n at from to : ℕ) (items : List Item) (old now : Tables) : Type 0 where
+  pub tables : (before gone after : List reading.Item) → length before ≡ at → MayPass old (bodies_between from to items) gone → at + (length gone + length after) < 2 ^ 64
+      → AreTablesOf (before ++ (gone ++ after)) old → AreTablesOf (before ++ (drop n gone ++ after)) now
+  pub firm : IsFirm old → IsFirm now
 
 -- the items from the n-th on are in the tables
-abbrev pub PutSoFar : ℕ → ℕ → ℕ → ℕ → List Item → Tables → Tables → Type 0
-PutSoFar n at from to items old now =
-    ((before new after : List reading.Item) → length before ≡ at → AreOthersOf (bodies_between from to items) new → at + (length new + length after) < 2 ^ 64 →
-    AreTablesOf (before ++ after) old → AreTablesOf (before ++ (drop n new ++ after)) now)
-    × (texts_at now.definitions at ≡ texts_at old.definitions at)
-    × ((new : List reading.Item) → AreOthersOf (bodies_between from to items) new → HaveShortTexts (texts_at old.definitions at) (drop n new))
+pub record PutSoFar (n at from to : ℕ) (items : List Item) (old now : Tables) : Type 0 where
+  pub tables : (before new after : List reading.Item) → length before ≡ at → MayPass old (bodies_between from to items) new → at + (length new + length after) < 2 ^ 64
+      → AreTablesOf (before ++ after) old → AreTablesOf (before ++ (drop n new ++ after)) now
+  pub firm : IsFirm old → IsFirm now
+  pub sees : (new : List reading.Item) → AreOthersOf (bodies_between from to items) new → texts_at now.definitions at ≡ texts_at old.definitions at
+  pub short : (new : List reading.Item) → AreOthersOf (bodies_between from to items) new → HaveShortTexts (texts_at old.definitions at) (drop n new)
+
+-- items after others of which firm tables tell are settled
+settled_after : (t : Tables) (before after : List reading.Item) → IsFirm t → AreTablesOf (before ++ after) t → AreAllSettled after
+settled_after t before after firm are = all_settled t.bounds after firm.settled (bounded_after t.bounds before after are.bounds)
 
 -- ---- one more
 
 module _ (n at from to : ℕ) (items : List Item) (old now next : Tables) (body : Text) (view : View)
     (stands : slice_get (bodies_between from to items) n ≡ Some body)
     (sees : (tree : Tree) → IsTree name_limit tree → tree_bytes tree ≡ body → view ≡ view_of (item_with tree [])) where
-  abbrev body_of : (some : List reading.Item) → AreOthersOf (bodies_between from to items) some → IsNext some n body
-  body_of some are = next_of (bodies_between from to items) some n body are.are stands
+  abbrev body_of : (some : List reading.Item) → AreItemsOf (bodies_between from to items) some → IsNext some n body
+  body_of some are = next_of (bodies_between from to items) some n body are stands
 
-  other_of : (some : List reading.Item) (are : AreOthersOf (bodies_between from to items) some) → kind_of (body_of some are).it.tree ≢ kind.Macro
-  other_of some are = let b = body_of some are in all_next (λ (i : reading.Item). kind_of i.tree ≢ kind.Macro) some (drop (suc n) some) n b.it b.parts are.others
+  other_of : (some : List reading.Item) (are : AreItemsOf (bodies_between from to items) some) → DefineNothing some → kind_of (body_of some are).it.tree ≢ kind.Macro
+  other_of some are plain = let b = body_of some are in all_next (λ (i : reading.Item). kind_of i.tree ≢ kind.Macro) some (drop (suc n) some) n b.it b.parts plain
 
   few : (some after : List reading.Item) → at + (length some + length after) < 2 ^ 64 → at + length (drop (suc n) some ++ after) < 2 ^ 64
   few some after fits = omega (arith, fits, length-append (drop (suc n) some) after, length-drop (suc n) some)
 
-  pub forget_more : TakenSoFar n at from to items old now → OfOther view (λ tree. IsRemoval at tree now next) → TakenSoFar (suc n) at from to items old next
-  forget_more taken step before gone after count are fits t =
-      let b = body_of gone are in
-      step b.it.tree b.tree (other_of gone are) (sees b.it.tree b.tree b.bytes) before (drop (suc n) gone ++ after) b.it.trail count (few gone after fits)
-      (subst (λ (l : List reading.Item). AreTablesOf (before ++ (l ++ after)) now) b.parts (taken before gone after count are fits t))
+  -- if it is a definition, the items after it are settled
+  still : (some before after : List reading.Item) (pass : MayPass old (bodies_between from to items) some) → (IsFirm old → AreAllSettled after) → kind_of (body_of some pass.are).it.tree ≡ kind.Macro → AreAllSettled after
+  still some before after pass settled is = ⊎_elim (λ plain. absurd (other_of some pass.are plain is)) settled pass.may
 
-  pub learn_more : PutSoFar (suc n) at from to items old now → OfOther view (λ tree. IsInsertion at tree now next) → texts_at next.definitions at ≡ texts_at now.definitions at → PutSoFar n at from to items old next
-  learn_more put step kept = (
-    (λ before new after count are fits t.
-        let b = body_of new are in
+  pub forget_more : TakenSoFar n at from to items old now → OfSeen view (λ tree. IsRemoval at tree now next) → (IsFirm now → IsFirm next) → TakenSoFar (suc n) at from to items old next
+  forget_more taken step firm = record {
+    tables = λ before gone after count pass fits t.
+        let b = body_of gone pass.are in
+        let rest : List reading.Item = drop (suc n) gone ++ after in
+        let u : AreTablesOf (before ++ b.it ∷ rest) now = subst (λ (l : List reading.Item). AreTablesOf (before ++ (l ++ after)) now) b.parts (taken.tables before gone after count pass fits t) in
+        step b.it.tree b.tree (sees b.it.tree b.tree b.bytes) before rest b.it.trail count (few gone after fits)
+        (still gone before rest pass (λ f. (settled_after now before (b.it ∷ rest) (taken.firm f) u).1)) u;
+    firm = λ f. firm (taken.firm f);
+  }
+
+  pub learn_more : PutSoFar (suc n) at from to items old now → OfSeen view (λ tree. IsInsertion at tree now next) → (IsFirm now → IsFirm next)
+      → ((view.kind ≡ kind.Macro → ⊥) → texts_at next.definitions at ≡ texts_at now.definitions at) → PutSoFar n at from to items old next
+  learn_more put step firm kept = record {
+    tables = λ before new after count pass fits t.
+        let b = body_of new pass.are in
+        let rest : List reading.Item = drop (suc n) new ++ after in
+        let u : AreTablesOf (before ++ rest) now = put.tables before new after count pass fits t in
         subst (λ (l : List reading.Item). AreTablesOf (before ++ (l ++ after)) next) (sym b.parts)
-        ((step b.it.tree b.tree (other_of new are) (sees b.it.tree b.tree b.bytes)).tables before (drop (suc n) new ++ after) b.it.trail count (few new after fits)
-        (put.0 before new after count are fits t))),
-    kept ∙ put.1,
-    (λ new are.
-        let b = body_of new are in
+        ((step b.it.tree b.tree (sees b.it.tree b.tree b.bytes)).tables before rest b.it.trail count (few new after fits)
+        (still new before rest pass (λ f. settled_after now before rest (put.firm f) u)) u);
+    firm = λ f. firm (put.firm f);
+    sees = λ new others.
+        let b = body_of new others.are in
+        kept (λ is. other_of new others.are others.others (sym (ap (λ (v : View). v.kind) (sees b.it.tree b.tree b.bytes)) ∙ is)) ∙ put.sees new others;
+    short = λ new others.
+        let b = body_of new others.are in
         subst (HaveShortTexts (texts_at old.definitions at)) (sym b.parts) (
-          ap (λ (m : Macros). first_too_long (placed_texts m b.it.tree)) (sym put.1) ∙ (step b.it.tree b.tree (other_of new are) (sees b.it.tree b.tree b.bytes)).texts,
-          put.2 new are,
-        )),
-  )
+          ap (λ (m : Macros). first_too_long (placed_texts m b.it.tree)) (sym (put.sees new others)) ∙ (step b.it.tree b.tree (sees b.it.tree b.tree b.bytes)).texts,
+          put.short new others,
+        );
+  }
 
   -- an item whose text is too long is not one of those that fit
-  pub learn_over : (place : ℕ) → texts_at now.definitions at ≡ texts_at old.definitions at → OfOther view (λ tree. IsTooLongAt at tree now place)
+  pub learn_over : (place : ℕ) → PutSoFar (suc n) at from to items old now → OfSeen view (λ tree. IsTooLongAt at tree now place)
       → (new : List reading.Item) → AreOthersOf (bodies_between from to items) new → HaveShortTexts (texts_at old.definitions at) new → ⊥
-  learn_over place kept over new are short =
-      let b = body_of new are in
+  learn_over place put over new others short =
+      let b = body_of new others.are in
       none-some place (sym (all_next (λ (i : reading.Item). first_too_long (placed_texts (texts_at old.definitions at) i.tree) ≡ None) new (drop (suc n) new) n b.it b.parts short)
-      ∙ ap (λ (m : Macros). first_too_long (placed_texts m b.it.tree)) (sym kept) ∙ over b.it.tree b.tree (other_of new are) (sees b.it.tree b.tree b.bytes))
+      ∙ ap (λ (m : Macros). first_too_long (placed_texts m b.it.tree)) (sym (put.sees new others)) ∙ over b.it.tree b.tree (sees b.it.tree b.tree b.bytes))
 
 -- none is in the tables yet
 pub learn_none : (at from to : ℕ) (items : List Item) (old : Tables) → from ≤ to → to ≤ length items → PutSoFar (to - from) at from to items old old
-learn_none at from to items old order within = (
-  (λ before new after count are fits t. subst (λ (l : List reading.Item). AreTablesOf (before ++ (l ++ after)) old) (sym (gone new are)) t),
-  refl,
-  (λ new are. subst (HaveShortTexts (texts_at old.definitions at)) (sym (gone new are)) tt),
-)
+learn_none at from to items old order within = record {
+  tables = λ before new after count pass fits t. subst (λ (l : List reading.Item). AreTablesOf (before ++ (l ++ after)) old) (sym (gone new pass.are)) t;
+  firm = λ f. f;
+  sees = λ new others. refl;
+  short = λ new others. subst (HaveShortTexts (texts_at old.definitions at)) (sym (gone new others.are)) tt;
+}
   where
-    gone : (new : List reading.Item) → AreOthersOf (bodies_between from to items) new → drop (to - from) new ≡ []
-    gone new are = drop_all (to - from) new (omega (arith, counted_items (bodies_between from to items) new are.are, length-between items from to order within))
+    gone : (new : List reading.Item) → AreItemsOf (bodies_between from to items) new → drop (to - from) new ≡ []
+    gone new are = drop_all (to - from) new (omega (arith, counted_items (bodies_between from to items) new are, length-between items from to order within))
 
 pub forget_none : (at from to : ℕ) (items : List Item) (old : Tables) → TakenSoFar 0 at from to items old old
-forget_none at from to items old before gone after count are fits t = t
+forget_none at from to items old = record { tables = λ before gone after count pass fits t. t; firm = λ f. f }
 
 pub forget_all : (n at from to : ℕ) (items : List Item) (old now : Tables) → from ≤ to → to ≤ length items → to - from ≤ n → TakenSoFar n at from to items old now
-    → (before gone after : List reading.Item) → length before ≡ at → AreOthersOf (bodies_between from to items) gone → at + (length gone + length after) < 2 ^ 64 →
-    AreTablesOf (before ++ (gone ++ after)) old → AreTablesOf (before ++ after) now
-forget_all n at from to items old now order within all taken before gone after count are fits t =
+    → (before gone after : List reading.Item) → length before ≡ at → MayPass old (bodies_between from to items) gone → at + (length gone + length after) < 2 ^ 64
+    → AreTablesOf (before ++ (gone ++ after)) old → AreTablesOf (before ++ after) now
+forget_all n at from to items old now order within all taken before gone after count pass fits t =
     subst (λ (l : List reading.Item). AreTablesOf (before ++ (l ++ after)) now)
-    (drop_all n gone (omega (arith, all, counted_items (bodies_between from to items) gone are.are, length-between items from to order within)))
-    (taken before gone after count are fits t)
+    (drop_all n gone (omega (arith, all, counted_items (bodies_between from to items) gone pass.are, length-between items from to order within)))
+    (taken.tables before gone after count pass fits t)
 
 -- those that came are taken out again
-pub learn_back : (n m at from to : ℕ) (items : List Item) (old now tried back : Tables) → m ≡ from + suc n → m ≤ to → to ≤ length items → PutSoFar (suc n) at from to items old now → SayTheSame now tried
-    → ((before gone after : List reading.Item) → length before ≡ at → AreOthersOf (bodies_between m to items) gone → at + (length gone + length after) < 2 ^ 64 →
-    AreTablesOf (before ++ (gone ++ after)) tried → AreTablesOf (before ++ after) back)
-    → (before new after : List reading.Item) → length before ≡ at → AreOthersOf (bodies_between from to items) new → at + (length new + length after) < 2 ^ 64 →
-    AreTablesOf (before ++ after) old → AreTablesOf (before ++ after) back
-learn_back n m at from to items old now tried back is low within put same taken before new after count are fits t =
+pub learn_back : (n m at from to : ℕ) (items : List Item) (old now tried back : Tables) → m ≡ from + suc n → m ≤ to → to ≤ length items → PutSoFar (suc n) at from to items old now → SayTheSame now tried → (IsFirm now → IsFirm tried)
+    → ((before gone after : List reading.Item) → length before ≡ at → MayPass tried (bodies_between m to items) gone → at + (length gone + length after) < 2 ^ 64
+    → AreTablesOf (before ++ (gone ++ after)) tried → AreTablesOf (before ++ after) back)
+    → (before new after : List reading.Item) → length before ≡ at → MayPass old (bodies_between from to items) new → at + (length new + length after) < 2 ^ 64
+    → AreTablesOf (before ++ after) old → AreTablesOf (before ++ after) back
+learn_back n m at from to items old now tried back is low within put same firm taken before new after count pass fits t =
     let later : bodies_between m to items ≡ drop (suc n) (bodies_between from to items)
     = ap (λ (k : ℕ). bodies_between k to items) is ∙ between_later items from to (suc n) (omega (arith, is, low)) in
+    let rest : MayPass old (bodies_between m to items) (drop (suc n) new)
+    = subst (λ (bodies : List Text). MayPass old bodies (drop (suc n) new)) (sym later) (dropped old (bodies_between from to items) new (suc n) pass) in
     taken before (drop (suc n) new) after count
-    (subst (λ (bodies : List Text). AreOthersOf bodies (drop (suc n) new)) (sym later) (dropped (bodies_between from to items) new (suc n) are))
+    (record { are = rest.are; may = ⊎_elim (λ plain. inl plain) (λ f. inr (firm (put.firm f))) rest.may })
     (omega (arith, fits, length-drop (suc n) new))
-    (same.tables (before ++ (drop (suc n) new ++ after)) (put.0 before new after count are fits t))
+    (same.tables (before ++ (drop (suc n) new ++ after)) (put.tables before new after count pass fits t))
 
 -- ---- none is a definition
 

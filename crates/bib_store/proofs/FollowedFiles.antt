@@ -1,9 +1,9 @@
--- The file of a change whose items come and go and define no macro: its tables, and its raw texts.
-use Rattle.std.proofs.Common.{◌≡◌, ◌≢◌, ℕ, ◌+◌, ◌-◌, ◌≤◌, ◌<◌, ◌^◌, List, [], ◌∷◌, ◌++◌, length, map, take, drop, None, sym, subst, ◌∙◌, ap, ap₂, refl, arith, append_assoc, length-append, take-append-drop}
+-- The file of a change whose items come and go: its tables, and its raw texts.
+use Rattle.std.proofs.Common.{◌≡◌, ◌≢◌, ◌⊎◌, ⊎_elim, inl, inr, ℕ, ◌+◌, ◌-◌, ◌≤◌, ◌<◌, ◌^◌, List, [], ◌∷◌, ◌++◌, length, map, take, drop, None, sym, subst, ◌∙◌, ap, ap₂, refl, arith, append_assoc, length-append, take-append-drop}
 use Rattle.std.specs.List.{AllByRecursion, All, flat_map}
 use Rattle.std.specs.Option.{option_or}
 use Rattle.std.proofs.lemmas.List.{map-append, length-map, take-map, drop-map, drop_at, length-take-le, length-drop, drop-drop}
-use Rattle.std.proofs.lemmas.List.Elements.{All-head, All-tail, All-take, All-drop}
+use Rattle.std.proofs.lemmas.List.Elements.{All-take, All-drop}
 use Rattle.bib_spec.specs.Bytes.{name_limit}
 use Rattle.bib_spec.specs.Text.{Text}
 use Rattle.bib_spec.specs.Tree.{Tree, IsTree, CommentTree, DefinitionTree, PreambleTree, EntryTree, tree_bytes}
@@ -17,12 +17,14 @@ use Rattle.bib_items.specs.Items.{stored, all_stored}
 use Rattle.bib_store.specs.declared.change.Change.{Change}
 use Rattle.bib_store.specs.declared.tables.Tables.{Tables}
 use Rattle.bib_definitions.specs.Definitions.{texts_at}
+use Rattle.bib_store.specs.Firm.{IsFirm}
 use Rattle.bib_store.specs.ItemTexts.{first_too_long}
 use Rattle.bib_store.specs.Beside.{AreTablesOf}
 use Rattle.bib_store.specs.Stored.{IsKeptAs}
 use Rattle.bib_store.specs.Windows.{IsLead, ArePut, joined}
-use Rattle.bib_store.specs.Following.{bodies_between, AreItemsOf, AreOthersOf, DefineNothing, DefineNothingBetween, HaveShortTexts}
-use Rattle.bib_store.proofs.KeptItems.{count_kept}
+use Rattle.bib_store.specs.Following.{bodies_between, AreOthersOf, DefineNothing, HaveShortTexts, MayPass, MayPassBetween}
+use Rattle.bib_store.proofs.FirmTables.{firm_short}
+use Rattle.bib_store.proofs.KeptItems.{count_kept, trees_good}
 use Rattle.bib_store.proofs.OneItemMore.{raw_texts-append, first-append}
 use Rattle.bib_store.proofs.Placed.{none_both, fit_parts, fit_joined}
 use Rattle.bib_store.proofs.Appended.{trees, trees_of, trees_between, tables_alike, fit_alike}
@@ -33,10 +35,6 @@ use Rattle.bib_definitions.proofs.MacrosAfter.{macros_in_front}
 others_split : (xs ys : List reading.Item) → DefineNothing (xs ++ ys) → (DefineNothing xs) × (DefineNothing ys)
 others_split [] ys all = (tt, all)
 others_split (x ∷ xs) ys all = let rest = others_split xs ys all.1 in ((all.0, rest.0), rest.1)
-
-pub trees_good : (xs : List reading.Item) → All (IsItem name_limit) xs → AllByRecursion (λ i. IsTree name_limit i.tree) xs
-trees_good [] all = tt
-trees_good (x ∷ xs) all = ((All-head (IsItem name_limit) x xs all).tree, trees_good xs (All-tail (IsItem name_limit) x xs all))
 
 both_good : (xs ys : List reading.Item) → AllByRecursion (λ i. IsTree name_limit i.tree) xs → AllByRecursion (λ i. IsTree name_limit i.tree) ys → AllByRecursion (λ i. IsTree name_limit i.tree) (xs ++ ys)
 both_good [] ys a b = b
@@ -123,6 +121,23 @@ exchanged_shorts : (there : ℕ) (before new after : List reading.Item) → Defi
 exchanged_shorts there before new after plain fits =
     shorts_of (there + length (flat_map item_bytes before)) (macros_at months before (length before)) new after plain (parts_fit there before (new ++ after) fits).1
 
+-- items that may come and go
+pub moved_fits : (t u : Tables) → (IsFirm t → IsFirm u) → (before gone new after : List reading.Item) → DefineNothing gone ⊎ IsFirm t → DefineNothing new ⊎ IsFirm t
+    → (DefineNothing new → HaveShortTexts (macros_at months before (length before)) new)
+    → All (IsItem name_limit) (before ++ (new ++ after)) → AreTablesOf (before ++ (new ++ after)) u
+    → first_too_long (raw_texts_from 0 months (before ++ (gone ++ after))) ≡ None → first_too_long (raw_texts_from 0 months (before ++ (new ++ after))) ≡ None
+moved_fits t u firm before gone new after go come short good tables fits =
+    let firmly = λ (f : IsFirm t). firm_short u (firm f) (before ++ (new ++ after)) good tables in
+    ⊎_elim (λ old_plain. ⊎_elim (λ new_plain. exchanged_fits 0 0 before gone new after old_plain new_plain (short new_plain) fits) firmly come) firmly go
+
+-- what may pass in tables may pass in those that are firm if the first are
+pub still_pass : (t u : Tables) (bodies : List Text) (items : List reading.Item) → (IsFirm t → IsFirm u) → MayPass t bodies items → MayPass u bodies items
+still_pass t u bodies items firm pass = record { are = pass.are; may = ⊎_elim (λ p. inl p) (λ f. inr (firm f)) pass.may }
+
+pub still_between : (t u : Tables) (from to : ℕ) (items again : List Item) → (IsFirm t → IsFirm u) → again ≡ items → MayPassBetween t from to items → MayPassBetween u from to again
+still_between t u from to items again firm same pass =
+    subst (MayPassBetween u from to) (sym same) (λ all are. still_pass t u (bodies_between from to items) all firm (pass all are))
+
 -- ---- a list in parts
 
 -- a list is its first `from` elements, `many` after them, those up to number `to`, and the rest
@@ -140,7 +155,7 @@ four_parts {X} from many to xs order =
 
 module _ (c : Change) (old now : List Item) (count lead : ℕ) (put : ArePut c old now count) (front : Text) (db inner : Reading) (t : Tables) (k : IsKeptAs db front old t) (reads : Reads c.text inner)
     (few : length now < 2 ^ 64) (is : IsLead c.window count lead now)
-    (come_plain : DefineNothingBetween (c.window.from + lead) (c.window.from + count) now) (gone_plain : DefineNothingBetween (c.window.from + count + lead) (c.window.to + count) now) where
+    (come_may : MayPassBetween t (c.window.from + lead) (c.window.from + count) now) (gone_may : MayPassBetween t (c.window.from + count + lead) (c.window.to + count) now) where
   abbrev from : ℕ
   from = c.window.from
 
@@ -292,15 +307,11 @@ module _ (c : Change) (old now : List Item) (count lead : ℕ) (put : ArePut c o
       ∙ trees_between before stay again (come ++ after) same_trees
       ∙ ap (λ (l : List reading.Item). trees (before ++ l)) (sym (append_assoc again come after) ∙ ap (λ (l : List reading.Item). l ++ after) (sym new_parts))
 
-  come_others : AreOthersOf (bodies_between (from + lead) (from + count) now) come
-  come_others =
-      let are : AreItemsOf (bodies_between (from + lead) (from + count) now) come = record { trees = trees_good come (All-drop (IsItem name_limit) lead inner.items reads.items); same = sym come_bodies } in
-      record { are = are; others = come_plain come are }
+  come_here : MayPass t (bodies_between (from + lead) (from + count) now) come
+  come_here = come_may come (record { trees = trees_good come (All-drop (IsItem name_limit) lead inner.items reads.items); same = sym come_bodies })
 
-  gone_others : AreOthersOf (bodies_between (from + count + lead) (to + count) now) gone
-  gone_others =
-      let are : AreItemsOf (bodies_between (from + count + lead) (to + count) now) gone = record { trees = trees_good gone (good_db (to - (from + lead)) (from + lead)); same = sym gone_bodies } in
-      record { are = are; others = gone_plain gone are }
+  gone_here : MayPass t (bodies_between (from + count + lead) (to + count) now) gone
+  gone_here = gone_may gone (record { trees = trees_good gone (good_db (to - (from + lead)) (from + lead)); same = sym gone_bodies })
 
   -- ---- numbers
 
@@ -342,39 +353,46 @@ module _ (c : Change) (old now : List Item) (count lead : ℕ) (put : ArePut c o
 
   -- ---- what is said then
 
-  pub followed_tables : (learnt forgot : Tables)
-      → ((before new after : List reading.Item) → length before ≡ from + lead → AreOthersOf (bodies_between (from + lead) (from + count) now) new → from + lead + (length new + length after) < 2 ^ 64 →
+  pub followed_tables : (learnt forgot : Tables) → (IsFirm t → IsFirm learnt)
+      → ((before new after : List reading.Item) → length before ≡ from + lead → MayPass t (bodies_between (from + lead) (from + count) now) new → from + lead + (length new + length after) < 2 ^ 64 →
       AreTablesOf (before ++ after) t → AreTablesOf (before ++ (new ++ after)) learnt)
-      → ((before gone after : List reading.Item) → length before ≡ from + count → AreOthersOf (bodies_between (from + count + lead) (to + count) now) gone → from + count + (length gone + length after) < 2 ^ 64 →
+      → ((before gone after : List reading.Item) → length before ≡ from + count → MayPass learnt (bodies_between (from + count + lead) (to + count) now) gone → from + count + (length gone + length after) < 2 ^ 64 →
       AreTablesOf (before ++ (gone ++ after)) learnt → AreTablesOf (before ++ after) forgot)
       → AreTablesOf (before ++ (inner.items ++ after)) forgot
-  followed_tables learnt forgot learn forget =
+  followed_tables learnt forgot firm learn forget =
       let low = is.come in
-      let first = learn kept come (gone ++ after) long_kept come_others all_fit old_tables in
+      let first = learn kept come (gone ++ after) long_kept come_here all_fit old_tables in
       let far : length (kept ++ come) ≡ from + count = omega (arith, low, length-append kept come, long_kept, long_come) in
-      let second = forget (kept ++ come) gone after far gone_others rest_fit (subst (λ (l : List reading.Item). AreTablesOf l learnt) (sym (append_assoc kept come (gone ++ after))) first) in
+      let second = forget (kept ++ come) gone after far (still_pass t learnt _ gone firm gone_here) rest_fit (subst (λ (l : List reading.Item). AreTablesOf l learnt) (sym (append_assoc kept come (gone ++ after))) first) in
       tables_alike (kept ++ (come ++ after)) (before ++ (inner.items ++ after)) forgot same_file (subst (λ (l : List reading.Item). AreTablesOf l forgot) (append_assoc kept come after) second)
 
-  pub followed_fits : (short : (new : List reading.Item) → AreOthersOf (bodies_between (from + lead) (from + count) now) new → HaveShortTexts (texts_at t.definitions (from + lead)) new)
+  pub followed_fits : (forgot : Tables) → (IsFirm t → IsFirm forgot) → All (IsItem name_limit) (before ++ (inner.items ++ after)) → AreTablesOf (before ++ (inner.items ++ after)) forgot
+      → ((new : List reading.Item) → AreOthersOf (bodies_between (from + lead) (from + count) now) new → HaveShortTexts (texts_at t.definitions (from + lead)) new)
       → too_long_at (joined c.window db inner) ≡ None
-  followed_fits short =
+  followed_fits forgot firm good tables short =
       let there = length (joined c.window db inner).front in
-      fit_alike there there months (kept ++ (come ++ after)) (before ++ (inner.items ++ after)) same_file
-      (exchanged_fits (length db.front) there kept gone come after gone_others.others come_others.others
-      (subst (λ (m : Macros). HaveShortTexts m come) sees (short come come_others))
-      (subst (λ (l : List reading.Item). first_too_long (raw_texts_from (length db.front) months l) ≡ None) kept_parts k.opens.texts))
+      let whole = before ++ (inner.items ++ after) in
+      let plain : DefineNothing gone → DefineNothing come → too_long_at (joined c.window db inner) ≡ None
+      = λ old_plain new_plain. fit_alike there there months (kept ++ (come ++ after)) whole same_file
+      (exchanged_fits (length db.front) there kept gone come after old_plain new_plain
+      (subst (λ (m : Macros). HaveShortTexts m come) sees (short come (record { are = come_here.are; others = new_plain })))
+      (subst (λ (l : List reading.Item). first_too_long (raw_texts_from (length db.front) months l) ≡ None) kept_parts k.opens.texts)) in
+      let firmly : IsFirm t → too_long_at (joined c.window db inner) ≡ None
+      = λ f. fit_alike 0 there months whole whole refl (firm_short forgot (firm f) whole good tables) in
+      ⊎_elim (λ old_plain. ⊎_elim (plain old_plain) firmly come_here.may) firmly gone_here.may
 
-  pub followed_refused : ((new : List reading.Item) → AreOthersOf (bodies_between (from + lead) (from + count) now) new → HaveShortTexts (texts_at t.definitions (from + lead)) new → ⊥)
+  pub followed_refused : (IsFirm t → ⊥) → ((new : List reading.Item) → AreOthersOf (bodies_between (from + lead) (from + count) now) new → HaveShortTexts (texts_at t.definitions (from + lead)) new → ⊥)
       → too_long_at (joined c.window db inner) ≡ None → ⊥
-  followed_refused over fits =
+  followed_refused loose over fits =
       let there = length (joined c.window db inner).front in
-      over come come_others
+      let plain : DefineNothing come = ⊎_elim (λ p. p) (λ f. absurd (loose f)) come_here.may in
+      over come (record { are = come_here.are; others = plain })
       (subst (λ (m : Macros). HaveShortTexts m come) (sym sees)
-      (exchanged_shorts there kept come after come_others.others (fit_alike there there months (before ++ (inner.items ++ after)) (kept ++ (come ++ after)) (sym same_file) fits)))
+      (exchanged_shorts there kept come after plain (fit_alike there there months (before ++ (inner.items ++ after)) (kept ++ (come ++ after)) (sym same_file) fits)))
 
   pub followed_back : (back : Tables)
-      → ((before new after : List reading.Item) → length before ≡ from + lead → AreOthersOf (bodies_between (from + lead) (from + count) now) new → from + lead + (length new + length after) < 2 ^ 64 →
+      → ((before new after : List reading.Item) → length before ≡ from + lead → MayPass t (bodies_between (from + lead) (from + count) now) new → from + lead + (length new + length after) < 2 ^ 64 →
       AreTablesOf (before ++ after) t → AreTablesOf (before ++ after) back)
       → AreTablesOf db.items back
   followed_back back same =
-      subst (λ (l : List reading.Item). AreTablesOf l back) (sym kept_parts) (same kept come (gone ++ after) long_kept come_others all_fit old_tables)
+      subst (λ (l : List reading.Item). AreTablesOf l back) (sym kept_parts) (same kept come (gone ++ after) long_kept come_here all_fit old_tables)

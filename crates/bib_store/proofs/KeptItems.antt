@@ -1,6 +1,7 @@
 -- What is kept of a file, and what the file says.
-use Rattle.std.proofs.Common.{◌≡◌, ℕ, ◌+◌, ◌<◌, List, [], ◌++◌, length, take, get_or, slice_get, Some, option_map, refl, sym, ◌∙◌, ap, ap₂, subst, arith}
-use Rattle.std.specs.List.{flat_map, All}
+use Rattle.std.proofs.Common.{◌≡◌, ℕ, ◌+◌, ◌<◌, List, [], ◌∷◌, ◌++◌, length, take, get_or, slice_get, Some, option_map, refl, sym, ◌∙◌, ap, ap₂, subst, arith}
+use Rattle.std.specs.List.{flat_map, All, AllByRecursion}
+use Rattle.std.proofs.lemmas.List.Elements.{All-head, All-tail}
 use Rattle.std.proofs.lemmas.Option.{slice_get-map, slice_get_within, slice_get_read, get_or_from_slice_get}
 use Rattle.std.proofs.lemmas.List.{length-map, take-map}
 use Rattle.std.proofs.lemmas.List.Folds.{flat_map-map}
@@ -95,3 +96,8 @@ number_read xs ys len n m same is within read =
 
 pub number_within : (xs ys : List ℕ) (len n : ℕ) → xs ≡ ys → len ≡ length xs → n < length ys → n < len
 number_within xs ys len n same is within = omega (arith, ap (length {A = ℕ}) same, is, within)
+
+-- items that stand in a file have trees that a file may have
+pub trees_good : (xs : List reading.Item) → All (IsItem name_limit) xs → AllByRecursion (λ i. IsTree name_limit i.tree) xs
+trees_good [] all = tt
+trees_good (x ∷ xs) all = ((All-head (IsItem name_limit) x xs all).tree, trees_good xs (All-tail (IsItem name_limit) x xs all))

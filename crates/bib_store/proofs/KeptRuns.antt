@@ -1,5 +1,5 @@
 -- Tables that follow while items come into a list, or go from it.
-use Rattle.std.proofs.Common.{◌≡◌, ℕ, ◌+◌, ◌-◌, ◌≤◌, ◌<◌, ◌^◌, List, [], ◌++◌, length, map, take, drop, None, refl, sym, subst, ◌∙◌, ap, ap₂, arith, append_assoc, length-append, length-drop, take-append-drop}
+use Rattle.std.proofs.Common.{◌≡◌, inl, ℕ, ◌+◌, ◌-◌, ◌≤◌, ◌<◌, ◌^◌, List, [], ◌++◌, length, map, take, drop, None, refl, sym, subst, ◌∙◌, ap, ap₂, arith, append_assoc, length-append, length-drop, take-append-drop}
 use Rattle.std.specs.List.{All, flat_map}
 use Rattle.std.proofs.lemmas.List.{map-append, take-map, drop-map, take_at, drop_at, take-take}
 use Rattle.std.proofs.lemmas.List.Concat.{flat_map-append}
@@ -16,13 +16,14 @@ use Rattle.bib_store.specs.declared.tables.Tables.{Tables}
 use Rattle.bib_store.specs.Beside.{AreTablesOf}
 use Rattle.bib_definitions.specs.Definitions.{texts_at}
 use Rattle.bib_store.specs.ItemTexts.{first_too_long}
-use Rattle.bib_store.specs.Following.{AreItemsOf, AreOthersOf, DefineNothing, HaveShortTexts}
+use Rattle.bib_store.specs.Firm.{IsFirm}
+use Rattle.bib_store.specs.Following.{AreItemsOf, AreOthersOf, HaveShortTexts, MayPass}
 use Rattle.bib_store.specs.Runs.{IsMeasured, AreFollowed}
 use Rattle.bib_store.specs.Stored.{file_of, IsKept}
 use Rattle.bib_store.proofs.Appended.{trees, trees_of, trees_between, tables_alike, fit_alike}
-use Rattle.bib_store.proofs.FollowedFiles.{bodies-stored, trees_good, exchanged_fits}
+use Rattle.bib_store.proofs.FollowedFiles.{bodies-stored, moved_fits}
 use Rattle.bib_definitions.proofs.MacrosAfter.{macros_in_front}
-use Rattle.bib_store.proofs.KeptItems.{length-stored, file-stored, bytes-stored}
+use Rattle.bib_store.proofs.KeptItems.{length-stored, file-stored, bytes-stored, trees_good}
 use Rattle.bib_store.proofs.WindowLaws.{bytes-split}
 
 -- ---- a file
@@ -199,7 +200,7 @@ followed_alike before old new after t news f news_are news_good same =
 module _ (before stay after rest : List Item) (new : List reading.Item) (at : ℕ) (t : Tables) (bodies : List Text)
     (f : AreFollowed (before ++ (stay ++ (after ++ rest))) t) (good : All (IsItem name_limit) new) (low : length stay ≤ length new) (long : at ≡ length before + length stay)
     (same : bodies_in stay ≡ bodies_in (take (length stay) (all_stored new))) (bodies_are : bodies ≡ bodies_in (drop (length stay) (all_stored new)))
-    (plain : (all : List reading.Item) → AreItemsOf bodies all → DefineNothing all) (few : length before + (length new + (length after + length rest)) < 2 ^ 64) where
+    (may : (all : List reading.Item) → AreItemsOf bodies all → MayPass t bodies all) (few : length before + (length new + (length after + length rest)) < 2 ^ 64) where
   abbrev lead : ℕ
   lead = length stay
 
@@ -227,8 +228,8 @@ module _ (before stay after rest : List Item) (new : List reading.Item) (at : �
     same = sym (bodies_are ∙ ap bodies_in (drop-map stored lead new) ∙ bodies-stored come);
   }
 
-  come_others : AreOthersOf bodies come
-  come_others = record { are = come_are; others = plain come come_are }
+  come_may : MayPass t bodies come
+  come_may = may come come_are
 
   come_fit : at + (length come + length q.last) < 2 ^ 64
   come_fit = omega (arith, few, low, long, length-drop lead new, long_parts (after ++ rest) q.last q.last_is, length-append after rest)
@@ -243,75 +244,82 @@ module _ (before stay after rest : List Item) (new : List reading.Item) (at : �
       ∙ ap (macros_at months kept) (sym long_kept)
 
   -- they come without the trails of the lead
-  come_beside : (learnt : Tables)
-      → ((before new after : List reading.Item) → length before ≡ at → AreOthersOf bodies new → at + (length new + length after) < 2 ^ 64 → AreTablesOf (before ++ after) t → AreTablesOf (before ++ (new ++ after)) learnt)
+  come_beside : (learnt : Tables) → (IsFirm t → IsFirm learnt)
+      → ((before new after : List reading.Item) → length before ≡ at → MayPass t bodies new → at + (length new + length after) < 2 ^ 64 → AreTablesOf (before ++ after) t → AreTablesOf (before ++ (new ++ after)) learnt)
       → ((new : List reading.Item) → AreOthersOf bodies new → HaveShortTexts (texts_at t.definitions at) new)
       → AreFollowed (before ++ (stay ++ (all_stored come ++ (after ++ rest)))) learnt
-  come_beside learnt learn short = record {
-    all = kept ++ (come ++ q.last);
-    good =
-        let last_good = good_last p.first p.last f.all p.whole f.good in
-        All-append (IsItem name_limit) kept (come ++ q.last)
-        (All-append (IsItem name_limit) p.first q.first (good_first p.first p.last f.all p.whole f.good) (good_first q.first q.last p.last q.whole last_good))
-        (All-append (IsItem name_limit) come q.last (All-drop (IsItem name_limit) lead new good) (good_last q.first q.last p.last q.whole last_good));
-    same =
-        sym (map-append stored kept (come ++ q.last)
-        ∙ ap₂ (λ (x y : List Item). x ++ y)
-        (map-append stored p.first q.first ∙ ap₂ (λ (x y : List Item). x ++ y) p.first_is q.first_is)
-        (map-append stored come q.last ∙ ap (λ (l : List Item). all_stored come ++ l) q.last_is)
-        ∙ append_assoc before stay (all_stored come ++ (after ++ rest)));
-    tables = learn kept come q.last long_kept come_others come_fit old_tables;
-    texts =
-        exchanged_fits 0 0 kept [] come q.last tt come_others.others (subst (λ (m : Macros). HaveShortTexts m come) sees (short come come_others))
-        (subst (λ (l : List reading.Item). first_too_long (raw_texts_from 0 months l) ≡ None) whole f.texts);
-  }
+  come_beside learnt firm learn short =
+      let last_good = good_last p.first p.last f.all p.whole f.good in
+      let good_all : All (IsItem name_limit) (kept ++ (come ++ q.last)) =
+      All-append (IsItem name_limit) kept (come ++ q.last)
+      (All-append (IsItem name_limit) p.first q.first (good_first p.first p.last f.all p.whole f.good) (good_first q.first q.last p.last q.whole last_good))
+      (All-append (IsItem name_limit) come q.last (All-drop (IsItem name_limit) lead new good) (good_last q.first q.last p.last q.whole last_good)) in
+      let tables : AreTablesOf (kept ++ (come ++ q.last)) learnt = learn kept come q.last long_kept come_may come_fit old_tables in
+      record {
+        all = kept ++ (come ++ q.last);
+        good = good_all;
+        same =
+            sym (map-append stored kept (come ++ q.last)
+            ∙ ap₂ (λ (x y : List Item). x ++ y)
+            (map-append stored p.first q.first ∙ ap₂ (λ (x y : List Item). x ++ y) p.first_is q.first_is)
+            (map-append stored come q.last ∙ ap (λ (l : List Item). all_stored come ++ l) q.last_is)
+            ∙ append_assoc before stay (all_stored come ++ (after ++ rest)));
+        tables = tables;
+        texts = moved_fits t learnt firm kept [] come q.last (inl tt) come_may.may
+            (λ plain. subst (λ (m : Macros). HaveShortTexts m come) sees (short come (record { are = come_are; others = plain }))) good_all tables
+            (subst (λ (l : List reading.Item). first_too_long (raw_texts_from 0 months l) ≡ None) whole f.texts);
+      }
 
-  pub come_followed : (learnt : Tables)
-      → ((before new after : List reading.Item) → length before ≡ at → AreOthersOf bodies new → at + (length new + length after) < 2 ^ 64 → AreTablesOf (before ++ after) t → AreTablesOf (before ++ (new ++ after)) learnt)
+  pub come_followed : (learnt : Tables) → (IsFirm t → IsFirm learnt)
+      → ((before new after : List reading.Item) → length before ≡ at → MayPass t bodies new → at + (length new + length after) < 2 ^ 64 → AreTablesOf (before ++ after) t → AreTablesOf (before ++ (new ++ after)) learnt)
       → ((new : List reading.Item) → AreOthersOf bodies new → HaveShortTexts (texts_at t.definitions at) new)
       → AreFollowed (before ++ (all_stored new ++ (after ++ rest))) learnt
-  come_followed learnt learn short =
+  come_followed learnt firm learn short =
       let again : List Item = take lead (all_stored new) in
       let parts : again ++ all_stored come ≡ all_stored new
       = ap (λ (l : List Item). again ++ l) (sym (drop-map stored lead new)) ∙ take-append-drop lead (all_stored new) in
       subst (λ (l : List Item). AreFollowed (before ++ l) learnt)
       (sym (append_assoc again (all_stored come) (after ++ rest)) ∙ ap (λ (l : List Item). l ++ (after ++ rest)) parts)
-      (followed_alike before stay again (all_stored come ++ (after ++ rest)) learnt (take lead new) (come_beside learnt learn short)
+      (followed_alike before stay again (all_stored come ++ (after ++ rest)) learnt (take lead new) (come_beside learnt firm learn short)
       (sym (take-map stored lead new)) (All-take (IsItem name_limit) lead new good) same)
 
   -- the tables say what they said
   pub come_back : (back : Tables)
-      → ((before new after : List reading.Item) → length before ≡ at → AreOthersOf bodies new → at + (length new + length after) < 2 ^ 64 → AreTablesOf (before ++ after) t → AreTablesOf (before ++ after) back)
+      → ((before new after : List reading.Item) → length before ≡ at → MayPass t bodies new → at + (length new + length after) < 2 ^ 64 → AreTablesOf (before ++ after) t → AreTablesOf (before ++ after) back)
       → AreFollowed (before ++ (stay ++ (after ++ rest))) back
   come_back back same = record {
     all = f.all;
     good = f.good;
     same = f.same;
-    tables = subst (λ (l : List reading.Item). AreTablesOf l back) (sym whole) (same kept come q.last long_kept come_others come_fit old_tables);
+    tables = subst (λ (l : List reading.Item). AreTablesOf l back) (sym whole) (same kept come q.last long_kept come_may come_fit old_tables);
     texts = f.texts;
   }
 
 -- ---- items that go
 
 pub go_followed : (before gone rest : List Item) (at : ℕ) (t forgot : Tables) (bodies : List Text) → AreFollowed (before ++ (gone ++ rest)) t → length before ≡ at → bodies ≡ bodies_in gone
-    → ((all : List reading.Item) → AreItemsOf bodies all → DefineNothing all) → at + (length gone + length rest) < 2 ^ 64
-    → ((before gone after : List reading.Item) → length before ≡ at → AreOthersOf bodies gone → at + (length gone + length after) < 2 ^ 64 → AreTablesOf (before ++ (gone ++ after)) t → AreTablesOf (before ++ after) forgot)
+    → ((all : List reading.Item) → AreItemsOf bodies all → MayPass t bodies all) → at + (length gone + length rest) < 2 ^ 64 → (IsFirm t → IsFirm forgot)
+    → ((before gone after : List reading.Item) → length before ≡ at → MayPass t bodies gone → at + (length gone + length after) < 2 ^ 64 → AreTablesOf (before ++ (gone ++ after)) t → AreTablesOf (before ++ after) forgot)
     → AreFollowed (before ++ rest) forgot
-go_followed before gone rest at t forgot bodies f long bodies_are plain few forget =
+go_followed before gone rest at t forgot bodies f long bodies_are may few firm forget =
     let p = parts_of before (gone ++ rest) f.all f.same in
     let q = parts_of gone rest p.last (sym p.last_is) in
     let whole : f.all ≡ p.first ++ (q.first ++ q.last) = p.whole ∙ ap (λ (l : List reading.Item). p.first ++ l) q.whole in
     let last_good = good_last p.first p.last f.all p.whole f.good in
-    let are : AreItemsOf bodies q.first = record {
+    let pass : MayPass t bodies q.first = may q.first (record {
       trees = trees_good q.first (good_first q.first q.last p.last q.whole last_good);
       same = sym (bodies_are ∙ ap bodies_in (sym q.first_is) ∙ bodies-stored q.first);
-    } in
-    let others = plain q.first are in
+    }) in
+    let good : All (IsItem name_limit) (p.first ++ q.last)
+    = All-append (IsItem name_limit) p.first q.last (good_first p.first p.last f.all p.whole f.good) (good_last q.first q.last p.last q.whole last_good) in
+    let tables : AreTablesOf (p.first ++ q.last) forgot
+    = forget p.first q.first q.last (long_parts before p.first p.first_is ∙ long) pass
+    (omega (arith, few, long_parts gone q.first q.first_is, long_parts rest q.last q.last_is)) (subst (λ (l : List reading.Item). AreTablesOf l t) whole f.tables) in
     record {
       all = p.first ++ q.last;
-      good = All-append (IsItem name_limit) p.first q.last (good_first p.first p.last f.all p.whole f.good) (good_last q.first q.last p.last q.whole last_good);
+      good = good;
       same = sym (map-append stored p.first q.last ∙ ap₂ (λ (x y : List Item). x ++ y) p.first_is q.last_is);
-      tables = forget p.first q.first q.last (long_parts before p.first p.first_is ∙ long) (record { are = are; others = others })
-          (omega (arith, few, long_parts gone q.first q.first_is, long_parts rest q.last q.last_is)) (subst (λ (l : List reading.Item). AreTablesOf l t) whole f.tables);
-      texts = exchanged_fits 0 0 p.first q.first [] q.last others tt tt (subst (λ (l : List reading.Item). first_too_long (raw_texts_from 0 months l) ≡ None) whole f.texts);
+      tables = tables;
+      texts = moved_fits t forgot firm p.first q.first [] q.last pass.may (inl tt) (λ plain. tt) good tables
+          (subst (λ (l : List reading.Item). first_too_long (raw_texts_from 0 months l) ≡ None) whole f.texts);
     }

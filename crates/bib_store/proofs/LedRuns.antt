@@ -1,5 +1,5 @@
 -- Runs of pieces: the last run is inserted first and removed last.
-use Rattle.std.proofs.Common.{◌≡◌, ℕ, ◌+◌, ◌-◌, ◌≤◌, Bool, Option, List, [], ◌∷◌, ◌++◌, length, take, drop, refl, sym, subst, ◌∙◌, ap, ap₂, arith, append_assoc, length-append, length-drop, take-append-drop}
+use Rattle.std.proofs.Common.{◌≡◌, ℕ, ◌+◌, ◌-◌, ◌≤◌, Bool, List, [], ◌∷◌, ◌++◌, length, take, drop, refl, sym, subst, ◌∙◌, ap, ap₂, arith, append_assoc, length-append, length-drop, take-append-drop}
 use Rattle.std.specs.List.{between, flat_map}
 use Rattle.std.proofs.lemmas.List.{take_all, take_at, drop_at, drop-drop, append-nil, drop-append-le, length-take-le, take-take, drop-take}
 use Rattle.std.proofs.lemmas.List.Concat.{flat_map-append}
@@ -10,15 +10,15 @@ use Rattle.bib_items.specs.declared.list.Item.{Item}
 use Rattle.bib_items.specs.Items.{kept_bytes, all_stored, without_range}
 use Rattle.bib_store.specs.declared.change.Change.{Change}
 use Rattle.bib_store.specs.declared.tables.Tables.{Tables}
-use Rattle.bib_store.specs.Following.{AreItemsOf, DefineNothingBetween}
-use Rattle.bib_store.specs.declared.redefining.Former.{Former}
-use Rattle.bib_store.specs.Redefining.{with_former, HaveTheSameNames}
+use Rattle.bib_store.specs.Firm.{IsFirm}
+use Rattle.bib_store.specs.Following.{AreItemsOf, MayPassBetween}
 use Rattle.bib_store.specs.Runs.{IsRunChange, AreBroughtIn, AreFollowed, StayFollowed, FollowBroughtIn, ComesBack, LeadWithin}
 use Rattle.history_spec.specs.Shifting.{all_moved_back, FitAfter}
 use Rattle.bib_store.specs.Stored.{file_of}
 use Rattle.bib_store.specs.Windows.{IsWindow, front_before, front_within, bytes_before, bytes_within, bytes_after}
 use Rattle.bib_store.proofs.BroughtIn as brought_in
 use Rattle.bib_store.proofs.BroughtIn.{long_new, long_before, long_gone, long_now, before_put, come_put, gone_at, gone_put}
+use Rattle.bib_store.proofs.FollowedFiles.{still_pass}
 use Rattle.bib_store.proofs.KeptItems.{bytes-stored}
 use Rattle.bib_store.proofs.KeptRuns.{bodies_in}
 use Rattle.bib_store.proofs.RunPieces.{both_fit, both_applied}
@@ -85,7 +85,7 @@ longer_back old t u to n order within back rest room f =
 -- ---- a run, and those before it
 
 module _ (front : Text) (old put led_items : List Item) (t put_t led_t : Tables) (n count lead : ℕ) (ps run : List Piece) (c : Change) (r : IsRunChange run front old n c) (inner : Reading) (reads : Reads c.text inner)
-    (within : n ≤ length old) (brought : AreBroughtIn c old put count lead) (led : LeadWithin ps front c.window.from put put_t led_items led_t) where
+    (within : n ≤ length old) (brought : AreBroughtIn c t old put count lead) (led : LeadWithin ps front c.window.from put put_t led_items led_t) where
   abbrev from : ℕ
   from = c.window.from
 
@@ -135,10 +135,11 @@ module _ (front : Text) (old put led_items : List Item) (t put_t led_t : Tables)
   led_gone at end is ends = gone_at c old put count lead brought.put brought.leads inner reads led_items at end (old_after at is) ends
 
   -- they are the same
-  pub old_others : (at end : ℕ) → at ≡ length led.first + length new → end ≡ at + (to - from) → DefineNothingBetween (at + lead) end led_items
-  old_others at end is ends all are =
-      brought.gone all
-      (subst (λ (bodies : List Text). AreItemsOf bodies all) (ap bodies_in (led_gone at end is ends ∙ sym (gone_put c old put count lead brought.put brought.leads inner reads))) are)
+  pub old_may : (at end : ℕ) → at ≡ length led.first + length new → end ≡ at + (to - from) → (IsFirm t → IsFirm led_t) → MayPassBetween led_t (at + lead) end led_items
+  old_may at end is ends firm all are =
+      let pass = brought.gone all
+      (subst (λ (bodies : List Text). AreItemsOf bodies all) (ap bodies_in (led_gone at end is ends ∙ sym (gone_put c old put count lead brought.put brought.leads inner reads))) are) in
+      record { are = are; may = (still_pass t led_t _ all firm pass).may }
 
   -- what is left once they are gone
   abbrev prefix : List Item
@@ -274,14 +275,14 @@ module _ (front : Text) (old put led_items : List Item) (t put_t led_t : Tables)
 
 -- ---- a run, if one before it is refused
 
-pub run_back : (front : Text) (old put tried : List Item) (t put_t led_t taken_t back_t : Tables) (n count lead : ℕ) (run : List Piece) (c : Change) (former : Option Former) → IsRunChange run front old n c → (inner : Reading) → Reads c.text inner
-    → n ≤ length old → AreBroughtIn c old put count lead → tried ≡ put → FollowBroughtIn c lead old t put_t
+pub run_back : (front : Text) (old put tried : List Item) (t put_t led_t taken_t : Tables) (n count lead : ℕ) (run : List Piece) (c : Change) → IsRunChange run front old n c → (inner : Reading) → Reads c.text inner
+    → n ≤ length old → AreBroughtIn c t old put count lead → tried ≡ put → FollowBroughtIn c lead old t put_t
     → StayFollowed (length put - c.window.from) (take c.window.from put) put_t (take c.window.from put) led_t
     → ((before : List Item) → length before ≡ c.window.from + lead
     → StayFollowed (length tried - (c.window.from + count)) (before ++ between (c.window.from + lead) (c.window.from + count) tried) led_t before taken_t)
-    → ComesBack c lead old t put_t former → back_t ≡ with_former former taken_t → HaveTheSameNames put_t led_t → HaveTheSameNames led_t taken_t
-    → StayFollowed (length old - n) (take n old) t (take n old) back_t
-run_back front old put tried t put_t led_t taken_t back_t n count lead run c former r inner reads within brought same brought_t back taken comes given led_names taken_names rest room f =
+    → ComesBack c lead old
+    → StayFollowed (length old - n) (take n old) t (take n old) taken_t
+run_back front old put tried t put_t led_t taken_t n count lead run c r inner reads within brought same brought_t back taken comes rest room f =
     let from : ℕ = c.window.from in
     let to : ℕ = c.window.to in
     let new : List Item = all_stored inner.items in
@@ -317,5 +318,4 @@ run_back front old put tried t put_t led_t taken_t back_t n count lead run c for
     let size : length (take from old ++ again) ≡ from + lead = omega (arith, before_long, low, long, length-append (take from old) again, length-take-le lead new (omega (arith, low, long))) in
     let most : length (gone ++ after) ≤ length tried - (from + count) = omega (arith, ap (length {A = Item}) same, all, long_after, wide, high, h, within, length-append gone after) in
     let left = taken (take from old ++ again) size (gone ++ after) most (subst (λ (l : List Item). AreFollowed l led_t) parts g) in
-    subst (λ (u : Tables). AreFollowed (prefix ++ rest) u) (sym given)
-    (subst (λ (l : List Item). AreFollowed l (with_former former taken_t)) (sym whole) (comes inner reads after long_after start taken_t (taken_names ∙ led_names) left))
+    subst (λ (l : List Item). AreFollowed l taken_t) (sym whole) (comes inner reads after t taken_t start left)

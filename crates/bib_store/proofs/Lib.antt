@@ -39,6 +39,8 @@ pub mod EntryItems
 pub mod KeptItems
 pub mod PassedItems
 -- ---- tables that are made, and tables that follow items
+pub mod Settled
+pub mod FirmTables
 pub mod TableSteps
 pub mod OpenedFiles
 pub mod Followed
@@ -51,5 +53,3 @@ pub mod PlacedFiles
 pub mod KeptRuns
 pub mod BroughtIn
 pub mod LedRuns
-pub mod Redefined
-pub mod RedefinedRuns

@@ -13,7 +13,7 @@ use Rattle.bib_store.specs.declared.tables.Tables.{Tables}
 use Rattle.bib_store.specs.Meaning.{is_entry_tree}
 use Rattle.bib_store.specs.Tables.{is_preamble_tree}
 use Rattle.bib_entries.specs.EntryTable.{IsTableOf}
-use Rattle.bib_definitions.specs.ByName.{AreAllOf}
+use Rattle.bib_definitions.proofs.AlikeDefinitions.{definitions_alike}
 use Rattle.bib_definitions.specs.Definitions.{is_definition_tree, defined_by, definitions_in}
 use Rattle.bib_store.specs.Bounds.{IsBounded, AreBounded}
 use Rattle.bib_store.proofs.BoundedItems.{bounded_with, bounded_without}
@@ -147,11 +147,8 @@ module _ (before after : List Item) (x y : Item) (e f : Entry) (x_is : x.tree �
       record {
         entries = are.entries ∙ numbers_same is_entry_tree 0 before after x y kind;
         preambles = are.preambles ∙ numbers_same is_preamble_tree 0 before after x y other;
-        definitions = record {
-          numbers = are.definitions.numbers ∙ numbers_same is_definition_tree 0 before after x y third;
-          all = subst (AreAllOf t.definitions.names) (defined_told x e x_is ∙ sym (defined_told y f y_is)) are.definitions.all;
-          texts = λ k. are.definitions.texts k ∙ macros_same months before after x y after_same k;
-        };
+        definitions = definitions_alike (before ++ x ∷ after) (before ++ y ∷ after) t.definitions (numbers_same is_definition_tree 0 before after x y third) (defined_told x e x_is ∙ sym (defined_told y f y_is))
+            (λ k. macros_same months before after x y after_same k) are.definitions;
         bounds = bounded_with bounds before after y (admits (before ++ after) (bounded_without t.bounds before after x are.bounds)) one;
         named = subst (λ (ks : List Text). IsTableOf ks (map crossref_text (gathered entry_in months (before ++ y ∷ after))) t.named) same_keys
             (subst (λ (cs : List (Option Text)). IsTableOf (keys_of (gathered entry_in months (before ++ x ∷ after))) cs t.named) same_crossrefs are.named);

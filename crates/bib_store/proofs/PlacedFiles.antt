@@ -22,8 +22,8 @@ use Rattle.bib_store.specs.InPlace.{TakePlaces}
 use Rattle.bib_store.specs.ItemTexts.{first_too_long}
 use Rattle.bib_store.specs.Windows.{IsWindow, OfJoined, exchanged, joined}
 use Rattle.bib_store.proofs.Appended.{fit_alike}
-use Rattle.bib_store.proofs.FollowedFiles.{bodies-stored, trees_good}
-use Rattle.bib_store.proofs.KeptItems.{count_kept}
+use Rattle.bib_store.proofs.FollowedFiles.{bodies-stored}
+use Rattle.bib_store.proofs.KeptItems.{count_kept, trees_good}
 use Rattle.bib_store.proofs.KeptRuns.{bodies_in}
 use Rattle.bib_store.proofs.WalkedFiles.{with_len}
 

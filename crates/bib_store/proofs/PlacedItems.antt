@@ -14,7 +14,7 @@ use Rattle.bib_scan.specs.declared.view.Kind.TheVariants as kind
 use Rattle.bib_scan.proofs.OneReading.{tree_unique}
 use Rattle.bib_entries.specs.EntryTable.{IsTableOf}
 use Rattle.bib_definitions.specs.Definitions.{texts_at, is_definition_tree, defined_by, definitions_in, AreDefinitionsOf}
-use Rattle.bib_definitions.specs.ByName.{AreAllOf}
+use Rattle.bib_definitions.proofs.AlikeDefinitions.{definitions_alike}
 use Rattle.bib_definitions.proofs.MacrosAfter.{macros_in_front, gathered-append}
 use Rattle.bib_store.specs.declared.bounds.Bounds.{Bounds}
 use Rattle.bib_store.specs.declared.tables.Tables.{Tables}
@@ -158,11 +158,8 @@ module _ (n : ℕ) (old new : View) (t : Tables) (bounds : Bounds) (admits : Adm
         entries = are.entries ∙ numbers_same is_entry_tree 0 before after x y (x_is.entry ∙ sym y_is.entry);
         preambles = are.preambles ∙ numbers_same is_preamble_tree 0 before after x y one_kind;
         named = subst (λ (es : List EntryTexts). IsTableOf (keys_of es) (map crossref_text es) t.named) all are.named;
-        definitions = record {
-          numbers = are.definitions.numbers ∙ numbers_same is_definition_tree 0 before after x y (x_is.definition ∙ sym y_is.definition);
-          all = subst (AreAllOf t.definitions.names) defined are.definitions.all;
-          texts = λ k. are.definitions.texts k ∙ macros_same months before after x y after_both k;
-        };
+        definitions = definitions_alike (before ++ x ∷ after) (before ++ y ∷ after) t.definitions (numbers_same is_definition_tree 0 before after x y (x_is.definition ∙ sym y_is.definition)) defined
+            (λ k. macros_same months before after x y after_both k) are.definitions;
         bounds = bounded_with bounds before after y (admits.all (before ++ after) (bounded_without t.bounds before after x are.bounds))
             (admits.one y.tree (sym (ap (λ (v : View). length v.body) y_seen)) (λ e. y_is.settled));
       }

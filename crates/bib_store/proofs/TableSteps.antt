@@ -17,18 +17,19 @@ use Rattle.bib_entries.specs.EntryTable.{Kept, IsTableOf}
 use Rattle.bib_numbers.proofs.MovedNumbers.{part_with}
 use Rattle.bib_store.specs.declared.tables.Tables.{Tables}
 use Rattle.bib_store.specs.Meaning.{is_entry_tree}
-use Rattle.bib_definitions.specs.Definitions.{Known, texts_at, is_definition_tree, AreDefinitionsOf, Defines}
+use Rattle.bib_definitions.specs.Definitions.{Known, texts_at, is_definition_of, is_definition_tree, AreDefinitionsOf, AreSettled, Defines}
 use Rattle.bib_store.specs.Tables.{is_preamble_tree}
 use Rattle.bib_store.specs.ItemTexts.{first_too_long, placed_texts, own_text}
-use Rattle.bib_store.specs.Beside.{AreTablesOf, IsStep, IsInsertion, IsRemoval, IsTooLongAt, SayTheSame, OfView, item_with}
+use Rattle.bib_store.specs.Beside.{AreTablesOf, IsStep, IsInsertion, IsMovedFor, IsRemoval, IsTooLongAt, SayTheSame, OfView, item_with}
 use Rattle.bib_store.proofs.RowTexts.{cons_parts, first_fits, first_over}
 use Rattle.bib_numbers.specs.Numbers.{numbers}
-use Rattle.bib_store.proofs.OneItemMore.{gathered-more, number_same}
 use Rattle.bib_numbers.proofs.ItemNumbers.{numbers-parts, numbers-with, parts_at, put_numbers, moved_numbers, taken_numbers, closed_numbers}
 use Rattle.bib_definitions.proofs.MacrosAfter.{macros_in_front, gathered-append}
 use Rattle.bib_store.specs.declared.bounds.Bounds.{Bounds}
-use Rattle.bib_store.specs.Bounds.{IsSettled, IsBounded, AreBounded, Admits}
+use Rattle.bib_store.specs.Bounds.{IsSettled, IsBounded, AreAllSettled, AreBounded, Admits}
 use Rattle.bib_store.proofs.BoundedItems.{bounded_with, bounded_without, settled_definition, settled_preamble, settled_comment}
+use Rattle.bib_spec.proofs.Names.{true-eq}
+use Rattle.bib_store.proofs.Settled.{settled_texts, same_keys, same_crossrefs}
 use Rattle.bib_store.proofs.Insertions.{map-put, map-taken, map-stands, gathered-with}
 
 -- ---- kinds
@@ -118,6 +119,23 @@ named_kept old new len entries preambles kept bounds named = record {
   };
 }
 
+-- a definition among settled items leaves it too
+module _ (before after : List Item) (d : Definition) (trail : Text) (all : AreAllSettled after) (old new : Kept) (same : new ≡ old) where
+  abbrev with_it : List Item
+  with_it = before ++ item_with (DefinitionTree d) trail ∷ after
+
+  with_definition_named : IsTableOfEntries (gathered entry_in months (before ++ after)) old → IsTableOfEntries (gathered entry_in months with_it) new
+  with_definition_named t =
+      subst (λ (k : Kept). IsTableOfEntries (gathered entry_in months with_it) k) (sym same)
+      (subst (λ (ks : List Text). IsTableOf ks (map crossref_text (gathered entry_in months with_it)) old) (sym (same_keys before after d trail all))
+      (subst (λ (cs : List (Option Text)). IsTableOf (keys_of (gathered entry_in months (before ++ after))) cs old) (sym (same_crossrefs before after d trail all)) t))
+
+  without_definition_named : IsTableOfEntries (gathered entry_in months with_it) old → IsTableOfEntries (gathered entry_in months (before ++ after)) new
+  without_definition_named t =
+      subst (λ (k : Kept). IsTableOfEntries (gathered entry_in months (before ++ after)) k) (sym same)
+      (subst (λ (ks : List Text). IsTableOf ks (map crossref_text (gathered entry_in months (before ++ after))) old) (same_keys before after d trail all)
+      (subst (λ (cs : List (Option Text)). IsTableOf (keys_of (gathered entry_in months with_it)) cs old) (same_crossrefs before after d trail all) t))
+
 -- ---- an entry
 
 module _ (old new : Tables) (n : ℕ) (view : View) where
@@ -140,7 +158,7 @@ module _ (old new : Tables) (n : ℕ) (view : View) where
       = admits.one (EntryTree e) (sym (ap (λ (v : View). length v.body) seen)) (λ t. is_settled t m (item_with (EntryTree e) []) is refl seen (says (item_with (EntryTree e) []) is refl seen)) in
       let here_says : crossref_text (texts_of m e) ≡ found = (cons_parts (crossref_text (texts_of m e)) found [] [] (says (item_with (EntryTree e) []) is refl seen)).0 in
       record {
-        tables = λ before after trail count fits t.
+        tables = λ before after trail count fits still t.
             let x = item_with (EntryTree e) trail in
             let here = macros_at months before (length before) in
             let macros : m ≡ here = sees ∙ t.definitions.texts n ∙ macros_in_front months before after n (omega (arith, count)) ∙ ap (macros_at months before) (sym count) in
@@ -167,10 +185,10 @@ module _ (old new : Tables) (n : ℕ) (view : View) where
       → ((keys : List Text) (crossrefs : List (Option Text)) → slice_get keys k ≡ Some view.key → IsTableOf keys crossrefs old.named → IsTableOf (remove keys k) (remove crossrefs k) new.named)
       → Closes n old.definitions new.definitions → new.bounds ≡ old.bounds
       → OfView kind.Entry view (λ tree. IsRemoval n tree old new)
-  entry_removal entries preambles k rank named defined bounds (CommentTree h) is at seen before after trail count fits t = other_kind kind.Entry kind.Comment (sym at) (omega arith)
-  entry_removal entries preambles k rank named defined bounds (DefinitionTree d) is at seen before after trail count fits t = other_kind kind.Entry kind.Macro (sym at) (omega arith)
-  entry_removal entries preambles k rank named defined bounds (PreambleTree p) is at seen before after trail count fits t = other_kind kind.Entry kind.Preamble (sym at) (omega arith)
-  entry_removal entries preambles k rank named defined bounds (EntryTree e) is at seen before after trail count fits t =
+  entry_removal entries preambles k rank named defined bounds (CommentTree h) is at seen before after trail count fits still t = other_kind kind.Entry kind.Comment (sym at) (omega arith)
+  entry_removal entries preambles k rank named defined bounds (DefinitionTree d) is at seen before after trail count fits still t = other_kind kind.Entry kind.Macro (sym at) (omega arith)
+  entry_removal entries preambles k rank named defined bounds (PreambleTree p) is at seen before after trail count fits still t = other_kind kind.Entry kind.Preamble (sym at) (omega arith)
+  entry_removal entries preambles k rank named defined bounds (EntryTree e) is at seen before after trail count fits still t =
       let x = item_with (EntryTree e) trail in
       let here = macros_at months before (length before) in
       let said = texts_of here e in
@@ -215,44 +233,72 @@ module _ (old new : Tables) (n : ℕ) (view : View) where
         length-append a.space_before_equals rest,
       )
 
-  pub definition_step : (field : Field) (rest : List Field) → view.fields ≡ field ∷ rest
-      → OfValue field.value (λ v. (items : List Item) (item : Item) → length items ≡ n → is_definition_tree item.tree ≡ true → AreDefinitionsOf items old.definitions
-      → Defines (macros_at months items n) item.tree field.name (raw_text (own_text (texts_at old.definitions n) field.name) v) → AreDefinitionsOf (items ++ item ∷ []) new.definitions)
-      → new.entries ≡ old.entries → new.preambles ≡ old.preambles → new.named ≡ old.named
-      → OfValue field.value (λ v. length (raw_text (own_text (texts_at old.definitions n) field.name) v) ≤ raw_limit)
-      → (settled : Bool) → (settled ≡ true → (text : Text) × OfValue field.value (λ v. (m : Macros) → raw_text m v ≡ text))
-      → Admits (length view.body) settled old.bounds new.bounds
-      → OfView kind.Macro view (λ tree. IsStep n tree old new)
-  definition_step field rest first table entries preambles named short settled is_settled admits (CommentTree h) is at seen = other_kind kind.Macro kind.Comment (sym at) (omega arith)
-  definition_step field rest first table entries preambles named short settled is_settled admits (EntryTree e) is at seen = other_kind kind.Entry kind.Macro at (omega arith)
-  definition_step field rest first table entries preambles named short settled is_settled admits (PreambleTree p) is at seen = other_kind kind.Macro kind.Preamble (sym at) (omega arith)
-  definition_step field rest first table entries preambles named short settled is_settled admits (DefinitionTree d) is at seen =
-      let a = d.assignment in
-      let own = field_after (length (opening_bytes d.opening)) (opening_bytes d.opening) a in
+  -- it has the name and the value of its field
+  field_of : (field : Field) (rest : List Field) (d : Definition) → view.fields ≡ field ∷ rest → view ≡ view_of (item_with (DefinitionTree d) [])
+      → (field.name ≡ d.assignment.name) × (value_bytes d.assignment.value ≡ field.value)
+  field_of field rest d first seen =
+      let own = field_after (length (opening_bytes d.opening)) (opening_bytes d.opening) d.assignment in
       let same = (cons_parts field own rest [] (sym first ∙ ap (λ (v : View). v.fields) seen)).0 in
-      let name : field.name ≡ a.name = ap (λ (f : Field). f.name) same in
-      let value : value_bytes a.value ≡ field.value = ap (λ (f : Field). f.value) (sym same) in
+      (ap (λ (f : Field). f.name) same, ap (λ (f : Field). f.value) (sym same))
+
+  pub definition_insertion : (field : Field) (rest : List Field) → view.fields ≡ field ∷ rest
+      → OfValue field.value (λ v. (before after : List Item) (item : Item) → length before ≡ n → n + length after < 2 ^ 64 → is_definition_tree item.tree ≡ true
+      → Defines (macros_at months before n) item.tree field.name (raw_text (own_text (texts_at old.definitions n) field.name) v) → AreSettled after → AreDefinitionsOf (before ++ after) old.definitions
+      → AreDefinitionsOf (before ++ item ∷ after) new.definitions)
+      → IsMovedFor n old new
+      → OfValue field.value (λ v. length (raw_text (own_text (texts_at old.definitions n) field.name) v) ≤ raw_limit)
+      → (settled : Bool) → Admits (length view.body) settled old.bounds new.bounds
+      → (settled ≡ true → (text : Text) × OfValue field.value (λ v. (m : Macros) → raw_text m v ≡ text))
+      → OfView kind.Macro view (λ tree. IsInsertion n tree old new)
+  definition_insertion field rest first table moved short settled admits is_settled (CommentTree h) is at seen = other_kind kind.Macro kind.Comment (sym at) (omega arith)
+  definition_insertion field rest first table moved short settled admits is_settled (EntryTree e) is at seen = other_kind kind.Entry kind.Macro at (omega arith)
+  definition_insertion field rest first table moved short settled admits is_settled (PreambleTree p) is at seen = other_kind kind.Macro kind.Preamble (sym at) (omega arith)
+  definition_insertion field rest first table moved short settled admits is_settled (DefinitionTree d) is at seen =
+      let a = d.assignment in
+      let own = field_of field rest d first seen in
+      let name = own.0 in
+      let value = own.1 in
       let one : IsBounded new.bounds (DefinitionTree d)
       = admits.one (DefinitionTree d) (sym (ap (λ (v : View). length v.body) seen))
       (λ e. let says = is_settled e in settled_definition d says.0 (says.1 a.value is.assignment.value value)) in
       record {
-        tables = λ items trail count t.
+        tables = λ before after trail count fits still t.
             let i = item_with (DefinitionTree d) trail in
-            let here = macros_at months items n in
-            let macros : texts_at old.definitions n ≡ here = t.definitions.texts n in
+            let here = macros_at months before n in
+            let macros : texts_at old.definitions n ≡ here = t.definitions.texts n ∙ macros_in_front months before after n (omega (arith, count)) in
             let defined : Defines here (DefinitionTree d) field.name (raw_text (own_text (texts_at old.definitions n) field.name) a.value) =
             ap (λ (x : Text). (folded x, raw_text (own_text here x) a.value) ∷ []) (sym name)
             ∙ ap (λ (mm : Macros). (folded field.name, raw_text (own_text mm field.name) a.value) ∷ []) (sym macros) in
-            let gone : gathered entry_in months items ≡ gathered entry_in months (items ++ i ∷ []) = sym (gathered-more entry_in months items i ∙ append-nil (gathered entry_in months items)) in
             record {
-              entries = entries ∙ t.entries ∙ sym (number_same (λ (item : Item). is_entry_tree item.tree) items i refl);
-              preambles = preambles ∙ t.preambles ∙ sym (number_same (λ (item : Item). is_preamble_tree item.tree) items i refl);
-              named = subst (λ (k : Kept). IsTableOfEntries (gathered entry_in months (items ++ i ∷ [])) k) (sym named) (subst (λ (es : List EntryTexts). IsTableOfEntries es old.named) gone t.named);
-              definitions = table a.value is.assignment.value value items i count refl t.definitions defined;
-              bounds = bounded_with new.bounds items [] i (subst (AreBounded new.bounds) (sym (append-nil items)) (admits.all items t.bounds)) one;
+              entries = moved_numbers is_entry_tree before after i n count fits old.entries new.entries refl moved.entries t.entries;
+              preambles = moved_numbers is_preamble_tree before after i n count fits old.preambles new.preambles refl moved.preambles t.preambles;
+              named = with_definition_named before after d trail (still refl) old.named new.named moved.named t.named;
+              definitions = table a.value is.assignment.value value before after i count fits refl defined (settled_texts after (still refl)) t.definitions;
+              bounds = bounded_with new.bounds before after i (admits.all (before ++ after) t.bounds) one;
             };
         texts = first_fits (length (opening_bytes d.opening ++ bytes_before_value a)) (raw_text (own_text (texts_at old.definitions n) a.name) a.value) []
             (subst (λ (x : Text). length (raw_text (own_text (texts_at old.definitions n) x) a.value) ≤ raw_limit) name (short a.value is.assignment.value value));
+      }
+
+  pub definition_removal : (field : Field) (rest : List Field) → view.fields ≡ field ∷ rest
+      → ((front rest : List ℕ) → PartAt n front rest (front ++ rest) → HaveNext rest → old.entries ≡ front ++ map suc rest → new.entries ≡ front ++ rest)
+      → ((front rest : List ℕ) → PartAt n front rest (front ++ rest) → HaveNext rest → old.preambles ≡ front ++ map suc rest → new.preambles ≡ front ++ rest)
+      → ((before after : List Item) (item : Item) → length before ≡ n → n + length after < 2 ^ 64 → is_definition_of field.name item.tree ≡ true → AreSettled after
+      → AreDefinitionsOf (before ++ item ∷ after) old.definitions → AreDefinitionsOf (before ++ after) new.definitions)
+      → new.named ≡ old.named → new.bounds ≡ old.bounds
+      → OfView kind.Macro view (λ tree. IsRemoval n tree old new)
+  definition_removal field rest first entries preambles table named bounds (CommentTree h) is at seen before after trail count fits still t = other_kind kind.Macro kind.Comment (sym at) (omega arith)
+  definition_removal field rest first entries preambles table named bounds (EntryTree e) is at seen before after trail count fits still t = other_kind kind.Entry kind.Macro at (omega arith)
+  definition_removal field rest first entries preambles table named bounds (PreambleTree p) is at seen before after trail count fits still t = other_kind kind.Macro kind.Preamble (sym at) (omega arith)
+  definition_removal field rest first entries preambles table named bounds (DefinitionTree d) is at seen before after trail count fits still t =
+      let i = item_with (DefinitionTree d) trail in
+      let name = (field_of field rest d first seen).0 in
+      record {
+        entries = closed_numbers is_entry_tree before after i n count fits old.entries new.entries refl entries t.entries;
+        preambles = closed_numbers is_preamble_tree before after i n count fits old.preambles new.preambles refl preambles t.preambles;
+        named = without_definition_named before after d trail (still refl) old.named new.named named t.named;
+        definitions = table before after i count fits (true-eq (folded d.assignment.name) (folded field.name) (ap folded (sym name))) (settled_texts after (still refl)) t.definitions;
+        bounds = subst (λ (b : Bounds). AreBounded b (before ++ after)) (sym bounds) (bounded_without old.bounds before after i t.bounds);
       }
 
   pub definition_over : (field : Field) (rest : List Field) (place : ℕ) → view.fields ≡ field ∷ rest → place ≡ field.value_at
@@ -282,7 +328,7 @@ module _ (old new : Tables) (n : ℕ) (view : View) where
   preamble_insertion preambles entries named defined admits short (EntryTree e) is at seen = other_kind kind.Entry kind.Preamble at (omega arith)
   preamble_insertion preambles entries named defined admits short (DefinitionTree d) is at seen = other_kind kind.Macro kind.Preamble at (omega arith)
   preamble_insertion preambles entries named defined admits short (PreambleTree p) is at seen = record {
-    tables = λ before after trail count fits t.
+    tables = λ before after trail count fits still t.
         let x = item_with (PreambleTree p) trail in
         record {
           entries = moved_numbers is_entry_tree before after x n count fits old.entries new.entries refl entries t.entries;
@@ -299,10 +345,10 @@ module _ (old new : Tables) (n : ℕ) (view : View) where
       → ((front rest : List ℕ) → PartAt n front rest (front ++ rest) → HaveNext rest → old.entries ≡ front ++ map suc rest → new.entries ≡ front ++ rest)
       → new.named ≡ old.named → Closes n old.definitions new.definitions → new.bounds ≡ old.bounds
       → OfView kind.Preamble view (λ tree. IsRemoval n tree old new)
-  preamble_removal preambles entries named defined bounds (CommentTree h) is at seen before after trail count fits t = other_kind kind.Preamble kind.Comment (sym at) (omega arith)
-  preamble_removal preambles entries named defined bounds (EntryTree e) is at seen before after trail count fits t = other_kind kind.Entry kind.Preamble at (omega arith)
-  preamble_removal preambles entries named defined bounds (DefinitionTree d) is at seen before after trail count fits t = other_kind kind.Macro kind.Preamble at (omega arith)
-  preamble_removal preambles entries named defined bounds (PreambleTree p) is at seen before after trail count fits t =
+  preamble_removal preambles entries named defined bounds (CommentTree h) is at seen before after trail count fits still t = other_kind kind.Preamble kind.Comment (sym at) (omega arith)
+  preamble_removal preambles entries named defined bounds (EntryTree e) is at seen before after trail count fits still t = other_kind kind.Entry kind.Preamble at (omega arith)
+  preamble_removal preambles entries named defined bounds (DefinitionTree d) is at seen before after trail count fits still t = other_kind kind.Macro kind.Preamble at (omega arith)
+  preamble_removal preambles entries named defined bounds (PreambleTree p) is at seen before after trail count fits still t =
       let x = item_with (PreambleTree p) trail in
       record {
         entries = closed_numbers is_entry_tree before after x n count fits old.entries new.entries refl entries t.entries;
@@ -357,7 +403,7 @@ module _ (old new : Tables) (n : ℕ) (view : View) where
   comment_insertion entries preambles named defined admits (DefinitionTree d) is at seen = other_kind kind.Macro kind.Comment at (omega arith)
   comment_insertion entries preambles named defined admits (PreambleTree p) is at seen = other_kind kind.Preamble kind.Comment at (omega arith)
   comment_insertion entries preambles named defined admits (CommentTree h) is at seen = record {
-    tables = λ before after trail count fits t.
+    tables = λ before after trail count fits still t.
         let x = item_with (CommentTree h) trail in
         record {
           entries = moved_numbers is_entry_tree before after x n count fits old.entries new.entries refl entries t.entries;
@@ -374,10 +420,10 @@ module _ (old new : Tables) (n : ℕ) (view : View) where
       → ((front rest : List ℕ) → PartAt n front rest (front ++ rest) → HaveNext rest → old.preambles ≡ front ++ map suc rest → new.preambles ≡ front ++ rest)
       → new.named ≡ old.named → Closes n old.definitions new.definitions → new.bounds ≡ old.bounds
       → OfView kind.Comment view (λ tree. IsRemoval n tree old new)
-  comment_removal entries preambles named defined bounds (EntryTree e) is at seen before after trail count fits t = other_kind kind.Entry kind.Comment at (omega arith)
-  comment_removal entries preambles named defined bounds (DefinitionTree d) is at seen before after trail count fits t = other_kind kind.Macro kind.Comment at (omega arith)
-  comment_removal entries preambles named defined bounds (PreambleTree p) is at seen before after trail count fits t = other_kind kind.Preamble kind.Comment at (omega arith)
-  comment_removal entries preambles named defined bounds (CommentTree h) is at seen before after trail count fits t =
+  comment_removal entries preambles named defined bounds (EntryTree e) is at seen before after trail count fits still t = other_kind kind.Entry kind.Comment at (omega arith)
+  comment_removal entries preambles named defined bounds (DefinitionTree d) is at seen before after trail count fits still t = other_kind kind.Macro kind.Comment at (omega arith)
+  comment_removal entries preambles named defined bounds (PreambleTree p) is at seen before after trail count fits still t = other_kind kind.Preamble kind.Comment at (omega arith)
+  comment_removal entries preambles named defined bounds (CommentTree h) is at seen before after trail count fits still t =
       let x = item_with (CommentTree h) trail in
       record {
         entries = closed_numbers is_entry_tree before after x n count fits old.entries new.entries refl entries t.entries;
@@ -392,6 +438,6 @@ module _ (old new : Tables) (n : ℕ) (view : View) where
 
 pub step_at_end : (n : ℕ) (tree : Tree) (old new : Tables) → n < 2 ^ 64 → IsInsertion n tree old new → IsStep n tree old new
 step_at_end n tree old new fits i = record {
-  tables = λ items trail count t. i.tables items [] trail count (omega (arith, fits)) (subst (λ (l : List Item). AreTablesOf l old) (sym (append-nil items)) t);
+  tables = λ items trail count t. i.tables items [] trail count (omega (arith, fits)) (λ e. tt) (subst (λ (l : List Item). AreTablesOf l old) (sym (append-nil items)) t);
   texts = i.texts;
 }

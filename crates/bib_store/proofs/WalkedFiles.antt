@@ -17,7 +17,7 @@ use Rattle.bib_scan.specs.Layout.{start_of}
 use Rattle.bib_scan.specs.Progress.{IsItemOf, AreAllOf}
 use Rattle.bib_items.specs.declared.list.Item.{Item}
 use Rattle.bib_store.specs.declared.item_fault.ItemFault.{ItemFault}
-use Rattle.bib_store.specs.declared.item_fault.ItemFault.TheVariants.{TooLong, Memory}
+use Rattle.bib_store.specs.declared.item_fault.ItemFault.TheVariants.{TooLong, Memory, Unsettled}
 use Rattle.bib_store.specs.declared.tables.Tables.{Tables}
 use Rattle.bib_items.specs.Items.{item, item_at, stored, without_range}
 use Rattle.bib_definitions.specs.Definitions.{texts_at}
@@ -296,6 +296,7 @@ pub with_len : (items : List reading.Item) (t : Tables) (n : ℕ) → AreTablesO
     → AreTablesOf items (record { file_len = n; entries = t.entries; preambles = t.preambles; named = t.named; definitions = t.definitions; bounds = t.bounds })
 with_len items t n are = record { entries = are.entries; preambles = are.preambles; named = are.named; definitions = are.definitions; bounds = are.bounds }
 
-pub fault_cases : (f : ItemFault) → (f ≡ Memory) ⊎ ((at : ℕ) × (f ≡ TooLong at))
-fault_cases Memory = inl refl
+pub fault_cases : (f : ItemFault) → ((f ≡ Memory) ⊎ (f ≡ Unsettled)) ⊎ ((at : ℕ) × (f ≡ TooLong at))
+fault_cases Memory = inl (inl refl)
+fault_cases Unsettled = inl (inr refl)
 fault_cases (TooLong at) = inr (at, refl)

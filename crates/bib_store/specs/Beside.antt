@@ -1,5 +1,5 @@
 -- The tables that are kept beside the items of a file.
-use Rattle.std.specs.Prelude.{ℕ, ◌≡◌, ◌≢◌, ◌≤◌, ◌<◌, ◌+◌, ◌^◌, ◌++◌, List, [], ◌∷◌, length, map, slice_get, Option, Some, None, IfSome, All}
+use Rattle.std.specs.Prelude.{ℕ, suc, ◌≡◌, ◌≤◌, ◌<◌, ◌+◌, ◌^◌, ◌++◌, List, [], ◌∷◌, length, map, slice_get, Option, Some, None, IfSome, All}
 use Rattle.bib_spec.specs.Bytes.{name_limit, file_limit}
 use Rattle.bib_spec.specs.Text.{Text}
 use Rattle.bib_spec.specs.Tree.{Tree, IsTree}
@@ -16,10 +16,11 @@ use Rattle.bib_items.specs.declared.list.Item.{Item}
 use Rattle.bib_store.specs.declared.tables.Tables.{Tables}
 use Rattle.bib_store.specs.Meaning.{entry_numbers}
 use Rattle.bib_items.specs.Items.{all_stored}
+use Rattle.bib_numbers.specs.Numbers.{PartAt, HaveNext}
 use Rattle.bib_entries.specs.EntryTable.{IsTableOf}
 use Rattle.bib_definitions.specs.Definitions.{texts_at, AreDefinitionsOf}
 use Rattle.bib_store.specs.Tables.{preamble_numbers}
-use Rattle.bib_store.specs.Bounds.{AreBounded}
+use Rattle.bib_store.specs.Bounds.{AreAllSettled, AreBounded}
 use Rattle.bib_store.specs.ItemTexts.{first_too_long, placed_texts}
 
 -- the tables say of these items which are entries and preambles, which keys the entries have, what macros stand for
@@ -61,14 +62,22 @@ IsNotedAs note view = IfSome note (λ known. (i : reading.Item) → IsTree name_
 abbrev pub item_with : Tree → Text → reading.Item
 item_with tree trail = record { tree = tree; trail = trail }
 
--- item n is inserted before the items with the numbers from n on; no raw text in it is too long
+-- item n is inserted before the items with the numbers from n on, which are settled if it is a definition; no raw text in it
+-- is too long
 pub record IsInsertion (n : ℕ) (tree : Tree) (old new : Tables) : Type 0 where
-  pub tables : (before after : List reading.Item) (trail : Text) → length before ≡ n → n + length after < 2 ^ 64 → AreTablesOf (before ++ after) old → AreTablesOf (before ++ item_with tree trail ∷ after) new
+  pub tables : (before after : List reading.Item) (trail : Text) → length before ≡ n → n + length after < 2 ^ 64 → (kind_of tree ≡ kind.Macro → AreAllSettled after) → AreTablesOf (before ++ after) old → AreTablesOf (before ++ item_with tree trail ∷ after) new
   pub texts : first_too_long (placed_texts (texts_at old.definitions n) tree) ≡ None
 
--- item n is removed
+-- entries and preambles make way for an item of another kind that comes as item n; nothing else changes but definitions and
+-- bounds
+pub record IsMovedFor (n : ℕ) (old new : Tables) : Type 0 where
+  pub entries : (front rest : List ℕ) → PartAt n front rest old.entries → HaveNext rest → new.entries ≡ front ++ map suc rest
+  pub preambles : (front rest : List ℕ) → PartAt n front rest old.preambles → HaveNext rest → new.preambles ≡ front ++ map suc rest
+  pub named : new.named ≡ old.named
+
+-- item n is removed; the items after it are settled if it is a definition
 abbrev pub IsRemoval : ℕ → Tree → Tables → Tables → Type 0
-IsRemoval n tree old new = (before after : List reading.Item) (trail : Text) → length before ≡ n → n + length after < 2 ^ 64 → AreTablesOf (before ++ item_with tree trail ∷ after) old → AreTablesOf (before ++ after) new
+IsRemoval n tree old new = (before after : List reading.Item) (trail : Text) → length before ≡ n → n + length after < 2 ^ 64 → (kind_of tree ≡ kind.Macro → AreAllSettled after) → AreTablesOf (before ++ item_with tree trail ∷ after) old → AreTablesOf (before ++ after) new
 
 -- item n, after the items of `before`, is x, which is seen as the old view, or y, which is seen as the new one
 pub record AreSeen (n : ℕ) (old_view new_view : View) (before : List reading.Item) (x y : reading.Item) : Type 0 where
@@ -96,10 +105,6 @@ IsTooLongAt n tree t place = first_too_long (placed_texts (texts_at t.definition
 -- it holds of the tree that is seen
 abbrev pub OfSeen : View → (Tree → Type 0) → Type 0
 OfSeen view P = (tree : Tree) → IsTree name_limit tree → view ≡ view_of (item_with tree []) → P tree
-
--- it holds of the tree that is seen, unless that is a definition
-abbrev pub OfOther : View → (Tree → Type 0) → Type 0
-OfOther view P = (tree : Tree) → IsTree name_limit tree → kind_of tree ≢ kind.Macro → view ≡ view_of (item_with tree []) → P tree
 
 -- it holds of the tree of this kind that is seen
 abbrev pub OfView : Kind → View → (Tree → Type 0) → Type 0

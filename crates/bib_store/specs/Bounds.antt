@@ -32,6 +32,10 @@ pub record IsSettled (tree : Tree) : Type 0 where
 abbrev pub IsSettledEntry : View → Option Text → Type 0
 IsSettledEntry entry said = (m : Macros) (i : reading.Item) → IsTree name_limit i.tree → is_entry_tree i.tree ≡ true → entry ≡ view_of i → map crossref_text (entry_in m i.tree) ≡ said ∷ [] → IsSettled i.tree
 
+-- all of the items are settled
+abbrev pub AreAllSettled : List reading.Item → Type 0
+AreAllSettled items = AllByRecursion (λ i. IsSettled i.tree) items
+
 -- the body is no longer than the longest, and if the bounds say that all items are settled, this one is
 pub record IsBounded (bounds : Bounds) (tree : Tree) : Type 0 where
   pub body : length (tree_bytes tree) ≤ bounds.longest_body

@@ -1,5 +1,5 @@
--- Items that come and go and define no macro.
-use Rattle.std.specs.Prelude.{◌≡◌, ◌≢◌, List, map, None}
+-- Items that come and go.
+use Rattle.std.specs.Prelude.{◌≡◌, ◌≢◌, ◌⊎◌, List, map, None}
 use Rattle.std.specs.List.{AllByRecursion, between}
 use Rattle.std.specs.Prelude.{ℕ}
 use Rattle.bib_spec.specs.Bytes.{name_limit}
@@ -10,6 +10,8 @@ use Rattle.bib_spec.specs.Texts.{Macros}
 use Rattle.bib_scan.specs.View.{kind_of}
 use Rattle.bib_scan.specs.declared.view.Kind.TheVariants as kind
 use Rattle.bib_items.specs.declared.list.Item.{Item}
+use Rattle.bib_store.specs.declared.tables.Tables.{Tables}
+use Rattle.bib_store.specs.Firm.{IsFirm}
 use Rattle.bib_store.specs.ItemTexts.{first_too_long, placed_texts}
 
 -- the bodies of the items from one number up to another
@@ -34,6 +36,11 @@ pub record AreOthersOf (bodies : List Text) (items : List reading.Item) : Type 0
 abbrev pub HaveShortTexts : Macros → List reading.Item → Type 0
 HaveShortTexts macros items = AllByRecursion (λ i. first_too_long (placed_texts macros i.tree) ≡ None) items
 
--- none of the items from one number up to another is a definition
-abbrev pub DefineNothingBetween : ℕ → ℕ → List Item → Type 0
-DefineNothingBetween from to items = (all : List reading.Item) → AreItemsOf (bodies_between from to items) all → DefineNothing all
+-- items with these bodies, which may come and go in the tables: none of them is a definition, or the tables are firm
+pub record MayPass (t : Tables) (bodies : List Text) (items : List reading.Item) : Type 0 where
+  pub are : AreItemsOf bodies items
+  pub may : DefineNothing items ⊎ IsFirm t
+
+-- the items from one number up to another may come and go in the tables
+abbrev pub MayPassBetween : Tables → ℕ → ℕ → List Item → Type 0
+MayPassBetween t from to items = (all : List reading.Item) → AreItemsOf (bodies_between from to items) all → MayPass t (bodies_between from to items) all

@@ -1,5 +1,5 @@
 -- Items that each replace another.
-use Rattle.std.specs.Prelude.{ℕ, ◌≡◌, true, List, ◌++◌, length, Option, None, All}
+use Rattle.std.specs.Prelude.{ℕ, ◌≡◌, true, List, ◌++◌, length, None, All}
 use Rattle.bib_spec.specs.Bytes.{name_limit}
 use Rattle.bib_spec.specs.Text.{Text}
 use Rattle.bib_spec.specs.Tree.{Tree}
@@ -7,14 +7,11 @@ use Rattle.bib_spec.specs.Reading.{Item, IsItem}
 use Rattle.bib_spec.specs.Texts.{months, raw_texts_from}
 use Rattle.bib_scan.specs.View.{key_of}
 use Rattle.bib_store.specs.declared.bounds.Bounds.{Bounds}
-use Rattle.bib_store.specs.declared.in_place.Kept.{Kept}
-use Rattle.bib_store.specs.declared.redefining.Former.{Former}
 use Rattle.bib_store.specs.declared.tables.Tables.{Tables}
 use Rattle.bib_store.specs.Beside.{AreTablesOf}
 use Rattle.bib_store.specs.Following.{AreItemsOf}
 use Rattle.bib_store.specs.ItemTexts.{first_too_long}
 use Rattle.bib_store.specs.Meaning.{is_entry_tree}
-use Rattle.bib_store.specs.Redefining.{with_former}
 
 -- both are entries, with the same key
 pub record HaveOneKey (old new : Tree) : Type 0 where
@@ -39,11 +36,3 @@ with_bounds bounds t = record {
   definitions = t.definitions;
   bounds = bounds;
 }
-
--- the tables with what is kept of them
-abbrev pub with_kept : Kept → Tables → Tables
-with_kept kept t = with_bounds kept.bounds (with_former kept.former t)
-
--- if the first tables are the old ones with what was kept of them, they are also the new ones with what is kept now
-abbrev pub StayKept : Option Former → Tables → Option Former → Tables → Type 0
-StayKept former t new_former now = (first : Tables) → with_bounds first.bounds (with_former former t) ≡ first → with_bounds first.bounds (with_former new_former now) ≡ first

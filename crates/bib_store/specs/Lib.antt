@@ -10,7 +10,7 @@ pub mod Bounds
 pub mod Beside
 pub mod Stored
 pub mod Following
-pub mod Redefining
+pub mod Firm
 pub mod InPlace
 pub mod Runs
 pub mod Glancing

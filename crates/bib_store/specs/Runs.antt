@@ -1,5 +1,5 @@
 -- Pieces whose runs lie apart: what each run touches is replaced, and what is between runs is unchanged.
-use Rattle.std.specs.Prelude.{ℕ, ◌≡◌, ◌+◌, ◌-◌, ◌≤◌, false, Option, None, List, ◌++◌, length, take, drop, All}
+use Rattle.std.specs.Prelude.{ℕ, ◌≡◌, ◌+◌, ◌-◌, ◌≤◌, false, None, List, ◌++◌, length, take, drop, All}
 use Rattle.std.specs.List.{between}
 use Rattle.bib_spec.specs.Bytes.{name_limit, file_limit}
 use Rattle.bib_spec.specs.Text.{Text}
@@ -10,12 +10,10 @@ use Rattle.bib_spec.specs.Pieces.{Piece, Fit, applied}
 use Rattle.bib_items.specs.declared.list.Item.{Item}
 use Rattle.bib_items.specs.Items.{all_stored}
 use Rattle.bib_store.specs.declared.change.Change.{Change}
-use Rattle.bib_store.specs.declared.redefining.Former.{Former}
 use Rattle.bib_store.specs.declared.tables.Tables.{Tables}
 use Rattle.bib_store.specs.Beside.{AreTablesOf}
-use Rattle.bib_store.specs.Following.{DefineNothingBetween}
+use Rattle.bib_store.specs.Following.{MayPassBetween}
 use Rattle.bib_store.specs.ItemTexts.{first_too_long}
-use Rattle.bib_store.specs.Redefining.{with_former, HaveTheSameNames}
 use Rattle.history_spec.specs.Shifting.{all_moved_back, FitAfter}
 use Rattle.bib_store.specs.Stored.{file_of}
 use Rattle.bib_store.specs.Windows.{HasLead, IsChange, ArePut, bytes_before, bytes_within}
@@ -33,12 +31,12 @@ pub record IsRunChange (run : List Piece) (front : Text) (items : List Item) (n 
   pub to : c.window.to ≤ n
 
 -- The `count` items of the change are in the list before those of its window. The first `lead` items of each are the
--- lead; no other item that comes or goes is a definition.
-pub record AreBroughtIn (c : Change) (old now : List Item) (count lead : ℕ) : Type 0 where
+-- lead; the others may come and go in the tables.
+pub record AreBroughtIn (c : Change) (t : Tables) (old now : List Item) (count lead : ℕ) : Type 0 where
   pub put : ArePut c old now count
   pub leads : HasLead c.window count lead
-  pub come : DefineNothingBetween (c.window.from + lead) (c.window.from + count) now
-  pub gone : DefineNothingBetween (c.window.from + count + lead) (c.window.to + count) now
+  pub come : MayPassBetween t (c.window.from + lead) (c.window.from + count) now
+  pub gone : MayPassBetween t (c.window.from + count + lead) (c.window.to + count) now
 
 -- ---- how the tables follow
 
@@ -71,12 +69,11 @@ abbrev pub FollowBroughtIn : Change → ℕ → List Item → Tables → Tables 
 FollowBroughtIn c lead old t new_t = (inner : Reading) → Reads c.text inner
     → StayFollowed (length old - c.window.to) (take c.window.to old) t (take c.window.from old ++ (all_stored inner.items ++ between (c.window.from + lead) c.window.to old)) new_t
 
--- Once the items that were inserted for a change are gone again, except the lead, and the definitions are those that there
--- were when they were inserted, the tables follow the old items as soon as they get back what there was before.
-abbrev pub ComesBack : Change → ℕ → List Item → Tables → Tables → Option Former → Type 0
-ComesBack c lead old t new_t former = (inner : Reading) → Reads c.text inner → (rest : List Item) → length rest ≤ length old - c.window.to → AreFollowed (take c.window.to old ++ rest) t
-    → (left : Tables) → HaveTheSameNames new_t left → AreFollowed ((take c.window.from old ++ take lead (all_stored inner.items)) ++ (between (c.window.from + lead) c.window.to old ++ rest)) left
-    → AreFollowed (take c.window.to old ++ rest) (with_former former left)
+-- Once the items that were inserted for a change are gone again, except the lead, any tables that follow what is left follow
+-- the old items as well.
+abbrev pub ComesBack : Change → ℕ → List Item → Type 0
+ComesBack c lead old = (inner : Reading) → Reads c.text inner → (rest : List Item) → (before after : Tables) → AreFollowed (take c.window.to old ++ rest) before
+    → AreFollowed ((take c.window.from old ++ take lead (all_stored inner.items)) ++ (between (c.window.from + lead) c.window.to old ++ rest)) after → AreFollowed (take c.window.to old ++ rest) after
 
 -- ---- where the pieces lead
 

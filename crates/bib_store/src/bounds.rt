@@ -1,6 +1,6 @@
 //! What holds of all items whatever macros stand for.
 
-ghost use Rattle.std.specs.Prelude.{◌≡◌, true, Option};
+ghost use Rattle.std.specs.Prelude.{◌≡◌, true, false, Option};
 ghost use Rattle.bib_spec.specs.Text.{Text as Bytes};
 ghost use Rattle.bib_spec.specs.Texts.{Macros, parts_of, raw_text};
 ghost use Rattle.bib_scan.specs.PartView.{part_view};
@@ -8,7 +8,9 @@ ghost use Rattle.bib_scan.specs.ValueParts.{IsPartsOf};
 ghost use Rattle.bib_value.specs.Raw.{OfValue};
 ghost use Rattle.bib_store.specs.ItemTexts.{crossref_in, OfRows};
 ghost use Rattle.bib_store.specs.Bounds.{is_literal, AreLiteral, IsSettledEntry, Admits};
+ghost use Rattle.bib_store.specs.Firm.{AreFirm};
 
+use crate::glancing::are_short;
 use bib_scan::{Fields, ItemView, Part, Parts, Text, only_part, read_value, same_folded};
 use std::alloc::Global;
 
@@ -22,12 +24,23 @@ pub(crate) struct Bounds {
 }
 
 impl Bounds {
-    /// Widens the bounds to cover one more item, whose body has `len` bytes. Bounds that cover it already are unchanged.
-    pub(crate) fn admit(&mut self, len: usize, settled: bool)
-        ensures { Admits len settled self.old self.new }
+    /// Bounds that cover one more item, whose body has `len` bytes.
+    pub(crate) fn with(self, len: usize, settled: bool) -> Bounds
+        ensures { Admits len settled self result }
     {
-        self.settled = self.settled && settled;
-        self.longest_body = self.longest_body.max(len);
+        Bounds {
+            settled: self.settled && settled,
+            longest_body: self.longest_body.max(len),
+        }
+    }
+
+    /// Whether crossrefs and definitions say the same whatever macros stand for, and no text can be too long if no macro stands
+    /// for more than `longest` bytes.
+    pub(crate) fn are_firm(&self, longest: usize) -> bool
+        ensures firm { result ≡ true → AreFirm longest self.now }
+        ensures loose { result ≡ false → AreFirm longest self.now → ⊥ }
+    {
+        self.settled && are_short(self.longest_body, longest)
     }
 }
 

@@ -15,7 +15,7 @@ ghost use Rattle.bib_store.specs.Beside.{IsNotedAs};
 ghost use Rattle.bib_store.specs.Bounds.{IsSettledEntry};
 ghost use Rattle.bib_store.specs.ItemTexts.{said_by, crossref_in, row_texts, first_too_long, placed_texts, OfRows};
 ghost use Rattle.bib_value.specs.declared.fault.ValueFault.TheVariants.{TextTooLong};
-ghost use Rattle.bib_store.specs.declared.item_fault.ItemFault.TheVariants.{TooLong as ItemTooLong, Memory as ItemMemory};
+ghost use Rattle.bib_store.specs.declared.item_fault.ItemFault.TheVariants.{TooLong as ItemTooLong, Memory as ItemMemory, Unsettled as ItemUnsettled};
 ghost use Rattle.bib_definitions.specs.Definitions.{AreAtMost};
 
 use crate::bounds::{is_settled_entry, is_settled_value};
@@ -63,6 +63,7 @@ fn with_field<M: MacroTable>(
     ensures found { IfOk result (λ text. OfValue field.entry.value.now (λ v. text ≡ option_or found (said_by (M.macros macros.now) field.entry.name.now v))) }
     ensures short { OnOk result (OfValue field.entry.value.now (λ v. length (raw_text (M.macros macros.now) v) ≤ raw_limit)) }
     ensures too_long { IfErr result (λ fault. (n : ℕ) → fault ≡ ItemTooLong n → (n ≡ field.entry.value_at) × OfValue field.entry.value.now (λ v. raw_limit < length (raw_text (M.macros macros.now) v))) }
+    ensures other { IfErr result (λ fault. fault ≡ ItemUnsettled → ⊥) }
 {
     match with_value(alloc, found, field.name, field.value, macros) {
         Ok(text) => Ok(text),
@@ -79,6 +80,7 @@ pub(crate) fn crossref_of<M: MacroTable>(
     ensures text { IfOk result (λ text. OfRows fields.entry (λ before rows. text ≡ crossref_in (M.macros macros.now) rows)) }
     ensures short { OnOk result (OfRows fields.entry (λ before rows. first_too_long (row_texts (length before) (M.macros macros.now) rows) ≡ None)) }
     ensures too_long { IfErr result (λ fault. (n : ℕ) → fault ≡ ItemTooLong n → OfRows fields.entry (λ before rows. first_too_long (row_texts (length before) (M.macros macros.now) rows) ≡ Some n)) }
+    ensures other { IfErr result (λ fault. fault ≡ ItemUnsettled → ⊥) }
 {
     let mut fields = fields;
     let mut found = None;
@@ -97,6 +99,7 @@ fn entry_crossref<M: MacroTable>(
     ensures text { IfOk result (λ text. (i : Item) → IsTree name_limit i.tree → is_entry_tree i.tree ≡ true → entry.now ≡ view_of i → map crossref_text (entry_in (M.macros macros.now) i.tree) ≡ text ∷ []) }
     ensures short { OnOk result ((i : Item) → IsTree name_limit i.tree → is_entry_tree i.tree ≡ true → entry.now ≡ view_of i → first_too_long (placed_texts (M.macros macros.now) i.tree) ≡ None) }
     ensures too_long { IfErr result (λ fault. (n : ℕ) → fault ≡ ItemTooLong n → (i : Item) → IsTree name_limit i.tree → is_entry_tree i.tree ≡ true → entry.now ≡ view_of i → first_too_long (placed_texts (M.macros macros.now) i.tree) ≡ Some n) }
+    ensures other { IfErr result (λ fault. fault ≡ ItemUnsettled → ⊥) }
 {
     crossref_of(alloc, entry.fields(), macros)
 }
@@ -209,6 +212,7 @@ pub(crate) fn crossref_within<M: MacroTable>(
     ensures settled { IfOk result (λ said. said.is_literal ≡ true → IsSettledEntry entry.now said.text) }
     ensures short { OnOk result ((i : Item) → IsTree name_limit i.tree → is_entry_tree i.tree ≡ true → entry.now ≡ view_of i → first_too_long (placed_texts (M.macros macros.now) i.tree) ≡ None) }
     ensures too_long { IfErr result (λ fault. (n : ℕ) → fault ≡ ItemTooLong n → (i : Item) → IsTree name_limit i.tree → is_entry_tree i.tree ≡ true → entry.now ≡ view_of i → first_too_long (placed_texts (M.macros macros.now) i.tree) ≡ Some n) }
+    ensures other { IfErr result (λ fault. fault ≡ ItemUnsettled → ⊥) }
 {
     if are_short(entry.body().len(), longest) {
         return short_crossref(alloc, entry, macros, note);

@@ -5,7 +5,8 @@ ghost use Rattle.bib_spec.specs.Reading.{Reading, Reads};
 ghost use Rattle.bib_spec.specs.Texts.{too_long_at};
 ghost use Rattle.bib_scan.specs.Layout.{IsLayoutOf};
 ghost use Rattle.bib_store.specs.Beside.{AreTables, HasItems};
-ghost use Rattle.bib_store.specs.Following.{DefineNothingBetween};
+ghost use Rattle.bib_store.specs.Following.{MayPassBetween};
+ghost use Rattle.bib_store.specs.Firm.{IsFirm};
 ghost use Rattle.bib_items.specs.Items.{without_range};
 ghost use Rattle.bib_store.specs.Stored.{SayTheSameOf};
 ghost use Rattle.bib_items.specs.declared.list.Item.{Item};
@@ -14,7 +15,7 @@ ghost use Rattle.bib_items.specs.declared.fault.StoreFault.TheVariants.{Memory, 
 
 use crate::change::Change;
 use crate::following::{are_others, forget, learn};
-use crate::in_place::{put_in_place, take_back};
+use crate::in_place::put_in_place;
 use crate::tables::Tables;
 use crate::window::Window;
 use bib_items::{ItemList, StoreFault};
@@ -51,13 +52,13 @@ pub(crate) fn exchange<L: ItemList>(
 {
     let file_len = change.file_len;
     match put_in_place(alloc, tables, &*items, &change) {
-        Some(kept) => match exchange_items(items, change) {
+        Some(bounds) => match exchange_items(items, change) {
             Ok(()) => {
                 tables.file_len = file_len;
                 Ok(())
             }
             Err(fault) => {
-                take_back(tables, kept);
+                tables.bounds = bounds;
                 Err(fault)
             }
         },
@@ -138,8 +139,8 @@ fn exchange_all<L: ItemList>(
 }
 
 /// Updates the tables for a change whose `count` items are in the list, before the items of the window that they replace.
-/// If few items come and go, and none defines a macro, the tables are updated item by item. Otherwise they are built again,
-/// once the list is prepared for look-ups of all items. An item that only gets another trail neither comes nor goes. If it
+/// If few items come and go, and none is a definition or nothing depends on definitions, the tables are updated item by item.
+/// Otherwise they are built again, once the list is prepared for look-ups of all items. An item that only gets another trail neither comes nor goes. If it
 /// is refused, the tables say what they said. No item changes.
 fn renew<L: ItemList>(
     alloc: Global,
@@ -159,8 +160,16 @@ fn renew<L: ItemList>(
     ensures err { OnErr result ((old : List Item) → (inner : Reading) → Reads change.now.text inner → ArePut change.now old (L.items items.old) count → SayTheSameOf old tables.old tables.new) }
 {
     let lead = unchanged_first(&*items, change.window, count);
-    if can_follow(&*items, change.window, count, lead) {
-        return follow(alloc, &*items, tables, change, count, lead);
+    if can_follow(&*items, &*tables, change.window, count, lead) {
+        match follow(alloc, &*items, tables, change, count, lead) {
+            Ok(()) => return Ok(()),
+            // firm tables refuse items with which they would not be firm
+            Err(fault) => {
+                if !tables.is_firm() {
+                    return Err(fault);
+                }
+            }
+        }
     }
     items.prepare(usize::MAX);
     *tables = remake(alloc, front_len, &*items, change, count)?;
@@ -185,20 +194,36 @@ pub(crate) fn unchanged_first<L: ItemList>(items: &L, window: Window, count: usi
     0
 }
 
-/// Whether the tables can be updated item by item: few of all items come and go, and none of them defines a macro, except
-/// perhaps the lead.
-pub(crate) fn can_follow<L: ItemList>(items: &L, window: Window, count: usize, lead: usize) -> bool
+/// Whether the tables can be updated item by item: few of all items come and go, and none of them is a definition, except
+/// perhaps the lead, or the tables are firm.
+pub(crate) fn can_follow<L: ItemList>(
+    items: &L,
+    tables: &Tables,
+    window: Window,
+    count: usize,
+    lead: usize,
+) -> bool
     requires within { window.to + count ≤ length (L.items items.now) }
     requires lead { IsLead window count lead (L.items items.now) }
-    ensures come { IsTrue result → DefineNothingBetween (window.from + lead) (window.from + count) (L.items items.now) }
-    ensures gone { IsTrue result → DefineNothingBetween (window.from + count + lead) (window.to + count) (L.items items.now) }
+    ensures come { IsTrue result → MayPassBetween tables.now (window.from + lead) (window.from + count) (L.items items.now) }
+    ensures gone { IsTrue result → MayPassBetween tables.now (window.from + count + lead) (window.to + count) (L.items items.now) }
 {
     let all = items.count();
     let first_old = window.from + count;
     let most = count.max(window.to - window.from);
     most <= (all / FOLLOWED_SHARE).clamp(FOLLOWED_LIMIT, FOLLOWED_MOST)
-        && are_others(items, window.from + lead, first_old)
-        && are_others(items, first_old + lead, window.to + count)
+        && may_pass(items, tables, window.from + lead, first_old)
+        && may_pass(items, tables, first_old + lead, window.to + count)
+}
+
+/// Whether the items from number `from` up to `to` may come and go in the tables: the tables are firm, or none of the items
+/// is a definition.
+fn may_pass<L: ItemList>(items: &L, tables: &Tables, from: usize, to: usize) -> bool
+    requires ordered { from ≤ to }
+    requires within { to ≤ length (L.items items.now) }
+    ensures { IsTrue result → MayPassBetween tables.now from to (L.items items.now) }
+{
+    tables.is_firm() || are_others(items, from, to)
 }
 
 /// Updates the tables item by item: the change's `count` items come, and those of its window go. The first `lead` items of
@@ -213,11 +238,12 @@ fn follow<L: ItemList>(
 ) -> Result<(), StoreFault>
     requires within { change.now.window.to + count ≤ length (L.items items.now) }
     requires lead { IsLead change.now.window count lead (L.items items.now) }
-    requires come { DefineNothingBetween (change.now.window.from + lead) (change.now.window.from + count) (L.items items.now) }
-    requires gone { DefineNothingBetween (change.now.window.from + count + lead) (change.now.window.to + count) (L.items items.now) }
+    requires come { MayPassBetween tables.old (change.now.window.from + lead) (change.now.window.from + count) (L.items items.now) }
+    requires gone { MayPassBetween tables.old (change.now.window.from + count + lead) (change.now.window.to + count) (L.items items.now) }
     ensures tables { OnOk result ((old : List Item) → (front_len : ℕ) → ArePut change.now old (L.items items.now) count → OfJoined change.now front_len old tables.old (λ db. AreTables db tables.new × (too_long_at db ≡ None))) }
     ensures len { OnOk result (tables.new.file_len ≡ change.now.file_len) }
-    ensures refused { IfErr result (λ fault. fault ≡ BadSplice → (old : List Item) → (front_len : ℕ) → ArePut change.now old (L.items items.now) count → OfJoined change.now front_len old tables.old (λ db. too_long_at db ≡ None → ⊥)) }
+    ensures firm { IsFirm tables.old → IsFirm tables.new }
+    ensures refused { IfErr result (λ fault. fault ≡ BadSplice → (IsFirm tables.new → ⊥) → (old : List Item) → (front_len : ℕ) → ArePut change.now old (L.items items.now) count → OfJoined change.now front_len old tables.old (λ db. too_long_at db ≡ None → ⊥)) }
     ensures only { IfErr result (λ fault. (fault ≡ BadSplice) ⊎ (fault ≡ Memory)) }
     ensures err { OnErr result ((old : List Item) → (inner : Reading) → Reads change.now.text inner → ArePut change.now old (L.items items.now) count → SayTheSameOf old tables.old tables.new) }
 {

@@ -1,12 +1,12 @@
-//! Updating tables for items that come and go and define no macro.
+//! Updating tables for items that come and go.
 
 ghost use Rattle.std.specs.Prelude.{◌≡◌, ◌+◌, ◌≤◌, ◌<◌, ◌^◌, ◌⊎◌, ℕ, List, ◌++◌, length, IsTrue, IfErr, OnOk, OnErr};
 ghost use Rattle.bib_spec.specs.Reading.{Item};
 ghost use Rattle.bib_items.specs.declared.fault.StoreFault.TheVariants.{Memory, BadSplice};
 ghost use Rattle.bib_store.specs.Beside.{AreTablesOf};
 ghost use Rattle.bib_definitions.specs.Definitions.{texts_at};
-ghost use Rattle.bib_store.specs.Redefining.{HaveTheSameNames};
-ghost use Rattle.bib_store.specs.Following.{bodies_between, AreItemsOf, AreOthersOf, DefineNothing, HaveShortTexts};
+ghost use Rattle.bib_store.specs.Firm.{IsFirm};
+ghost use Rattle.bib_store.specs.Following.{bodies_between, AreItemsOf, AreOthersOf, DefineNothing, HaveShortTexts, MayPass};
 
 use crate::tables::Tables;
 use bib_items::{ItemList, StoreFault};
@@ -25,17 +25,23 @@ pub(crate) fn learn<L: ItemList>(
 ) -> Result<(), StoreFault>
     requires ordered { from ≤ to }
     requires within { to ≤ length (L.items items.now) }
-    ensures tables { OnOk result ((before new after : List Item) → length before ≡ at → AreOthersOf (bodies_between from to (L.items items.now)) new → at + (length new + length after) < 2 ^ 64 → AreTablesOf (before ++ after) tables.old → AreTablesOf (before ++ (new ++ after)) tables.new) }
+    ensures tables { OnOk result ((before new after : List Item) → length before ≡ at → MayPass tables.old (bodies_between from to (L.items items.now)) new → at + (length new + length after) < 2 ^ 64 → AreTablesOf (before ++ after) tables.old → AreTablesOf (before ++ (new ++ after)) tables.new) }
     ensures short { OnOk result ((new : List Item) → AreOthersOf (bodies_between from to (L.items items.now)) new → HaveShortTexts (texts_at tables.old.definitions at) new) }
     ensures len { tables.new.file_len ≡ tables.old.file_len }
-    ensures names { HaveTheSameNames tables.old tables.new }
-    ensures refused { IfErr result (λ fault. fault ≡ BadSplice → (new : List Item) → AreOthersOf (bodies_between from to (L.items items.now)) new → HaveShortTexts (texts_at tables.old.definitions at) new → ⊥) }
+    ensures firm { IsFirm tables.old → IsFirm tables.new }
+    ensures refused { IfErr result (λ fault. fault ≡ BadSplice → (IsFirm tables.new → ⊥) → (new : List Item) → AreOthersOf (bodies_between from to (L.items items.now)) new → HaveShortTexts (texts_at tables.old.definitions at) new → ⊥) }
     ensures only { IfErr result (λ fault. (fault ≡ BadSplice) ⊎ (fault ≡ Memory)) }
-    ensures err { OnErr result ((before new after : List Item) → length before ≡ at → AreOthersOf (bodies_between from to (L.items items.now)) new → at + (length new + length after) < 2 ^ 64 → AreTablesOf (before ++ after) tables.old → AreTablesOf (before ++ after) tables.new) }
+    ensures err { OnErr result ((before new after : List Item) → length before ≡ at → MayPass tables.old (bodies_between from to (L.items items.now)) new → at + (length new + length after) < 2 ^ 64 → AreTablesOf (before ++ after) tables.old → AreTablesOf (before ++ after) tables.new) }
 {
     'learn: for j in 0..to - from {
         let k = to - 1 - j;
-        if let Err(fault) = tables.insert(alloc, at, &ItemView::of(items.body(k), b""), None) {
+        if let Err(fault) = tables.insert(
+            alloc,
+            at,
+            &ItemView::of(items.body(k), b""),
+            None,
+            true,
+        ) {
             forget(tables, items, at, k + 1, to);
             return Err(fault.of_splice());
         }
@@ -44,13 +50,13 @@ pub(crate) fn learn<L: ItemList>(
 }
 
 /// Removes the items of the list from number `from` up to `to` from the tables, where they have the numbers from `at` on.
-/// None of them is a definition. It asks for no memory.
+/// They may be definitions if the tables are firm. It asks for no memory.
 pub(crate) fn forget<L: ItemList>(tables: &mut Tables, items: &L, at: usize, from: usize, to: usize)
     requires ordered { from ≤ to }
     requires within { to ≤ length (L.items items.now) }
-    ensures tables { (before gone after : List Item) → length before ≡ at → AreOthersOf (bodies_between from to (L.items items.now)) gone → at + (length gone + length after) < 2 ^ 64 → AreTablesOf (before ++ (gone ++ after)) tables.old → AreTablesOf (before ++ after) tables.new }
+    ensures tables { (before gone after : List Item) → length before ≡ at → MayPass tables.old (bodies_between from to (L.items items.now)) gone → at + (length gone + length after) < 2 ^ 64 → AreTablesOf (before ++ (gone ++ after)) tables.old → AreTablesOf (before ++ after) tables.new }
     ensures len { tables.new.file_len ≡ tables.old.file_len }
-    ensures names { HaveTheSameNames tables.old tables.new }
+    ensures firm { IsFirm tables.old → IsFirm tables.new }
 {
     'forget: for k in from..to {
         tables.remove(at, &ItemView::of(items.body(k), b""));

@@ -7,8 +7,8 @@ ghost use Rattle.bib_spec.specs.Reading.{Reading, Reads};
 ghost use Rattle.bib_scan.specs.Layout.{IsLayoutOf};
 ghost use Rattle.bib_items.specs.declared.list.Item.{Item};
 ghost use Rattle.bib_items.specs.Items.{without_range};
-ghost use Rattle.bib_store.specs.Following.{DefineNothingBetween};
-ghost use Rattle.bib_store.specs.Redefining.{with_former, HaveTheSameNames};
+ghost use Rattle.bib_store.specs.Firm.{IsFirm};
+ghost use Rattle.bib_store.specs.Following.{MayPassBetween};
 ghost use Rattle.bib_store.specs.Runs.{IsRunChange, AreBroughtIn, IsMeasured, StaysMeasured, StayFollowed, FollowBroughtIn, ComesBack, LeadWithin};
 ghost use Rattle.bib_spec.specs.Pieces.{Fit, applied};
 ghost use Rattle.bib_store.specs.Stored.{file_of, IsKept};
@@ -17,7 +17,6 @@ ghost use Rattle.bib_store.specs.Windows.{IsWindow, HasLead, IsLead, ArePut};
 use crate::change::{Change, change_near};
 use crate::exchanging::{can_follow, unchanged_first};
 use crate::following::{forget, learn};
-use crate::redefining::{Former, give_back, redefine};
 use crate::tables::Tables;
 use crate::touching::touched;
 use bib_data::Piece;
@@ -53,132 +52,45 @@ fn run_change<L: ItemList>(
 struct Brought {
     /// How many items were inserted.
     count: usize,
-    /// How many of them are the lead: in the tables, these have replaced the first items of the window.
+    /// How many of them are the lead: in the tables, these count as the first items of the window.
     lead: usize,
-    /// What the tables had before, if the lead is a definition that replaced another.
-    former: Option<Former>,
 }
 
-/// Adds to the tables the `count` items that were inserted for a change, except the first `lead`, which count as the first
-/// of the window. None of the added items is a definition. If it is refused, the tables say what they said.
-fn learn_others<L: ItemList>(
-    alloc: Global,
-    tables: &mut Tables,
-    items: &L,
-    change: &Change,
-    count: usize,
-    lead: usize,
-) -> Result<Brought, StoreFault>
-    requires within { change.now.window.to + count ≤ length (L.items items.now) }
-    requires lead { IsLead change.now.window count lead (L.items items.now) }
-    requires come { DefineNothingBetween (change.now.window.from + lead) (change.now.window.from + count) (L.items items.now) }
-    requires gone { DefineNothingBetween (change.now.window.from + count + lead) (change.now.window.to + count) (L.items items.now) }
-    ensures count { IfOk result (λ b. b.count ≡ count) }
-    ensures lead { IfOk result (λ b. HasLead change.now.window count b.lead) }
-    ensures come { IfOk result (λ b. DefineNothingBetween (change.now.window.from + b.lead) (change.now.window.from + count) (L.items items.now)) }
-    ensures gone { IfOk result (λ b. DefineNothingBetween (change.now.window.from + count + b.lead) (change.now.window.to + count) (L.items items.now)) }
-    ensures followed { IfOk result (λ b. (old : List Item) → ArePut change.now old (L.items items.now) count → FollowBroughtIn change.now b.lead old tables.old tables.new) }
-    ensures comes { IfOk result (λ b. (old : List Item) → ArePut change.now old (L.items items.now) count → ComesBack change.now b.lead old tables.old tables.new b.former) }
-    ensures len { tables.new.file_len ≡ tables.old.file_len }
-    ensures kept { IfOk result (λ b. HaveTheSameNames tables.old (with_former b.former tables.new)) }
-    ensures names { OnErr result (HaveTheSameNames tables.old tables.new) }
-    ensures back { OnErr result ((old : List Item) (inner : Reading) → Reads change.now.text inner → ArePut change.now old (L.items items.now) count → StayFollowed (length old - change.now.window.to) (take change.now.window.to old) tables.old (take change.now.window.to old) tables.new) }
-{
-    // for the proof: the count fits a usize
-    let _ = items.count();
-    let first = change.window.from + lead;
-    match learn(
-        alloc,
-        tables,
-        items,
-        first,
-        first,
-        change.window.from + count,
-    ) {
-        Ok(()) => Ok(Brought {
-            count,
-            lead,
-            former: None,
-        }),
-        Err(fault) => Err(fault),
-    }
-}
-
-/// Replaces in the tables the one item of a change's window by the one item that was inserted for the change. It is refused
-/// if one of the two is no definition, or if the tables can't follow; the tables are then unchanged.
-fn learn_definition<L: ItemList>(
-    alloc: Global,
-    tables: &mut Tables,
-    items: &L,
-    change: &Change,
-    count: usize,
-) -> Result<Brought, StoreFault>
-    requires ordered { change.now.window.from ≤ change.now.window.to }
-    requires within { change.now.window.to + count ≤ length (L.items items.now) }
-    ensures count { IfOk result (λ b. b.count ≡ count) }
-    ensures lead { IfOk result (λ b. HasLead change.now.window count b.lead) }
-    ensures come { IfOk result (λ b. DefineNothingBetween (change.now.window.from + b.lead) (change.now.window.from + count) (L.items items.now)) }
-    ensures gone { IfOk result (λ b. DefineNothingBetween (change.now.window.from + count + b.lead) (change.now.window.to + count) (L.items items.now)) }
-    ensures followed { IfOk result (λ b. (old : List Item) → ArePut change.now old (L.items items.now) count → FollowBroughtIn change.now b.lead old tables.old tables.new) }
-    ensures comes { IfOk result (λ b. (old : List Item) → ArePut change.now old (L.items items.now) count → ComesBack change.now b.lead old tables.old tables.new b.former) }
-    ensures len { tables.new.file_len ≡ tables.old.file_len }
-    ensures kept { IfOk result (λ b. HaveTheSameNames tables.old (with_former b.former tables.new)) }
-    ensures names { OnErr result (HaveTheSameNames tables.old tables.new) }
-    ensures back { OnErr result ((old : List Item) (inner : Reading) → Reads change.now.text inner → ArePut change.now old (L.items items.now) count → StayFollowed (length old - change.now.window.to) (take change.now.window.to old) tables.old (take change.now.window.to old) tables.new) }
-{
-    let n = change.window.from;
-    let touched = change.window.to - n;
-    if count != 1 {
-        return Err(StoreFault::BadSplice);
-    }
-    if touched != 1 {
-        return Err(StoreFault::BadSplice);
-    }
-    // for the proof: the count fits a usize
-    let _ = items.count();
-    let new = ItemView::of(items.body(n), b"");
-    let old = ItemView::of(items.body(n + 1), b"");
-    let former = redefine(alloc, tables, n, &old, &new)?;
-    Ok(Brought {
-        count,
-        lead: 1,
-        former: Some(former),
-    })
-}
-
-/// Updates the tables for the `count` items that were inserted for a change. It is refused if these are many, or if one of
-/// them is a definition that the tables can't follow; the tables then say what they said.
+/// Adds to the tables the `count` items that were inserted for a change, except its lead, which counts as the first of the
+/// window. It returns how many items the lead has. It is refused if the items are many, or if they may not come and go; the
+/// tables then say what they said.
 fn learn_few<L: ItemList>(
     alloc: Global,
     tables: &mut Tables,
     items: &L,
     change: &Change,
     count: usize,
-) -> Result<Brought, StoreFault>
+) -> Result<usize, StoreFault>
     requires ordered { change.now.window.from ≤ change.now.window.to }
     requires within { change.now.window.to + count ≤ length (L.items items.now) }
-    ensures count { IfOk result (λ b. b.count ≡ count) }
-    ensures lead { IfOk result (λ b. HasLead change.now.window count b.lead) }
-    ensures come { IfOk result (λ b. DefineNothingBetween (change.now.window.from + b.lead) (change.now.window.from + count) (L.items items.now)) }
-    ensures gone { IfOk result (λ b. DefineNothingBetween (change.now.window.from + count + b.lead) (change.now.window.to + count) (L.items items.now)) }
-    ensures followed { IfOk result (λ b. (old : List Item) → ArePut change.now old (L.items items.now) count → FollowBroughtIn change.now b.lead old tables.old tables.new) }
-    ensures comes { IfOk result (λ b. (old : List Item) → ArePut change.now old (L.items items.now) count → ComesBack change.now b.lead old tables.old tables.new b.former) }
+    ensures lead { IfOk result (HasLead change.now.window count) }
+    ensures come { IfOk result (λ lead. MayPassBetween tables.old (change.now.window.from + lead) (change.now.window.from + count) (L.items items.now)) }
+    ensures gone { IfOk result (λ lead. MayPassBetween tables.old (change.now.window.from + count + lead) (change.now.window.to + count) (L.items items.now)) }
+    ensures followed { IfOk result (λ lead. (old : List Item) → ArePut change.now old (L.items items.now) count → FollowBroughtIn change.now lead old tables.old tables.new) }
+    ensures comes { IfOk result (λ lead. (old : List Item) → ArePut change.now old (L.items items.now) count → ComesBack change.now lead old) }
+    ensures firm { IsFirm tables.old → IsFirm tables.new }
     ensures len { tables.new.file_len ≡ tables.old.file_len }
-    ensures kept { IfOk result (λ b. HaveTheSameNames tables.old (with_former b.former tables.new)) }
-    ensures names { OnErr result (HaveTheSameNames tables.old tables.new) }
     ensures back { OnErr result ((old : List Item) (inner : Reading) → Reads change.now.text inner → ArePut change.now old (L.items items.now) count → StayFollowed (length old - change.now.window.to) (take change.now.window.to old) tables.old (take change.now.window.to old) tables.new) }
 {
     let window = change.window;
+    // for the proof: the count fits a usize
+    let _ = items.count();
     let lead = unchanged_first(items, window, count);
-    if can_follow(items, window, count, lead) {
-        return learn_others(alloc, tables, items, change, count, lead);
+    if !can_follow(items, tables, window, count, lead) {
+        return Err(StoreFault::BadSplice);
     }
-    learn_definition(alloc, tables, items, change, count)
+    let first = window.from + lead;
+    learn(alloc, tables, items, first, first, window.from + count)?;
+    Ok(lead)
 }
 
 /// Inserts the items of a change before those of its window, in the list and in the tables. It is refused if these are
-/// many, if one has a text that is too long or is a definition that the tables can't follow, or if the file would be too
-/// long; nothing has changed then.
+/// many, if one has a text that is too long or may not come, or if the file would be too long; nothing has changed then.
 fn bring_in<L: ItemList>(
     alloc: Global,
     items: &mut L,
@@ -188,12 +100,11 @@ fn bring_in<L: ItemList>(
     requires window { IsWindow (L.items items.old) change.now.window }
     requires layout { IsLayoutOf change.now.text change.now.layout }
     requires begins { (inner : Reading) → Reads change.now.text inner → inner.front ≡ [] }
-    ensures brought { IfOk result (λ b. AreBroughtIn change.now (L.items items.old) (L.items items.new) b.count b.lead) }
+    ensures brought { IfOk result (λ b. AreBroughtIn change.now tables.old (L.items items.old) (L.items items.new) b.count b.lead) }
     ensures measured { StaysMeasured (L.items items.old) tables.old (L.items items.new) tables.new }
     ensures followed { IfOk result (λ b. FollowBroughtIn change.now b.lead (L.items items.old) tables.old tables.new) }
-    ensures comes { IfOk result (λ b. ComesBack change.now b.lead (L.items items.old) tables.old tables.new b.former) }
-    ensures kept { IfOk result (λ b. HaveTheSameNames tables.old (with_former b.former tables.new)) }
-    ensures names { OnErr result (HaveTheSameNames tables.old tables.new) }
+    ensures comes { IfOk result (λ b. ComesBack change.now b.lead (L.items items.old)) }
+    ensures firm { IsFirm tables.old → IsFirm tables.new }
     ensures back { OnErr result (StayFollowed (length (L.items items.old) - change.now.window.to) (take change.now.window.to (L.items items.old)) tables.old (take change.now.window.to (L.items items.old)) tables.new) }
     ensures err { OnErr result (L.items items.new ≡ L.items items.old) }
 {
@@ -207,9 +118,9 @@ fn bring_in<L: ItemList>(
     items.insert_all(from, text, &change.layout)?;
     let count = items.count() - old_count;
     match learn_few(alloc, tables, &*items, change, count) {
-        Ok(brought) => {
+        Ok(lead) => {
             tables.file_len = file_len;
-            Ok(brought)
+            Ok(Brought { count, lead })
         }
         Err(fault) => {
             items.remove_range(from, from + count);
@@ -219,7 +130,7 @@ fn bring_in<L: ItemList>(
 }
 
 /// Removes the items from number `from` up to `to` from the list. The first `lead` of them are not in the tables. The
-/// others are no definitions, and are removed from the tables too, where they have the numbers from `at` on. It asks for no
+/// others may come and go, and are removed from the tables too, where they have the numbers from `at` on. It asks for no
 /// memory.
 fn take_out<L: ItemList>(
     items: &mut L,
@@ -232,11 +143,11 @@ fn take_out<L: ItemList>(
     requires low { at ≤ from + lead }
     requires ordered { from + lead ≤ to }
     requires within { to ≤ length (L.items items.old) }
-    requires others { DefineNothingBetween (from + lead) to (L.items items.old) }
+    requires others { MayPassBetween tables.old (from + lead) to (L.items items.old) }
     requires measured { (front : Bytes) × IsMeasured front (L.items items.old) tables.old }
     ensures items { L.items items.new ≡ without_range from to (L.items items.old) }
     ensures measured { StaysMeasured (L.items items.old) tables.old (L.items items.new) tables.new }
-    ensures names { HaveTheSameNames tables.old tables.new }
+    ensures firm { IsFirm tables.old → IsFirm tables.new }
     ensures followed { (before : List Item) → length before ≡ at → StayFollowed (length (L.items items.old) - to) (before ++ between (from + lead) to (L.items items.old)) tables.old before tables.new }
 {
     // for the proof: the count fits a usize
@@ -264,7 +175,7 @@ fn follow_runs<L: ItemList>(
     requires within { n ≤ length (L.items items.old) }
     ensures measured { IsMeasured front.now (L.items items.new) tables.new }
     ensures led { OnOk result (LeadWithin pieces.now front.now n (L.items items.old) tables.old (L.items items.new) tables.new) }
-    ensures names { OnErr result (HaveTheSameNames tables.old tables.new) }
+    ensures firm { IsFirm tables.old → IsFirm tables.new }
     ensures back { OnErr result (StayFollowed (length (L.items items.old) - n) (take n (L.items items.old)) tables.old (take n (L.items items.old)) tables.new) }
     ensures err { OnErr result (L.items items.new ≡ L.items items.old) }
 {
@@ -304,7 +215,6 @@ fn follow_runs<L: ItemList>(
                 brought.lead,
                 from + brought.count,
             );
-            give_back(tables, brought.former);
             Err(fault)
         }
     }

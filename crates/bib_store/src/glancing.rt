@@ -1,6 +1,6 @@
 //! Quick tests that spare reading an entry's rows.
 
-ghost use Rattle.std.specs.Prelude.{◌≡◌, ◌*◌, ◌≤◌, ◌++◌, true, max};
+ghost use Rattle.std.specs.Prelude.{◌≡◌, ◌*◌, ◌<◌, ◌≤◌, ◌++◌, true, false, max};
 ghost use Rattle.bib_spec.specs.Text.{Text as Bytes, same};
 ghost use Rattle.bib_spec.specs.Texts.{raw_limit};
 ghost use Rattle.bib_spec.specs.Records.{crossref};
@@ -35,7 +35,8 @@ pub(crate) fn lacks_crossref(text: &[u8]) -> bool
 
 /// Whether values of `len` bytes say no text that is too long, if no macro stands for more than `longest` bytes.
 pub(crate) fn are_short(len: usize, longest: usize) -> bool
-    ensures { result ≡ true → len * max longest 1 ≤ raw_limit }
+    ensures short { result ≡ true → len * max longest 1 ≤ raw_limit }
+    ensures long { result ≡ false → raw_limit < len * max longest 1 }
 {
     match len.checked_mul(longest.max(1)) {
         Some(most) => most <= RAW_LIMIT as usize,

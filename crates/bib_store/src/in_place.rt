@@ -1,4 +1,4 @@
-//! Items that each replace one of their kind, in tables that are unchanged except for one definition.
+//! Items that each replace one of their kind, in tables that are unchanged except for their bounds.
 
 ghost use Rattle.std.specs.Prelude.{◌≡◌, ◌+◌, ◌∷◌, [], ℕ, true, Option, None, map, length, IsTrue, IfSome, IfOk, OnOk};
 ghost use Rattle.bib_spec.specs.Bytes.{name_limit};
@@ -11,7 +11,7 @@ ghost use Rattle.bib_definitions.specs.Definitions.{texts_at};
 ghost use Rattle.bib_store.specs.Beside.{TakesPlace};
 ghost use Rattle.bib_store.specs.Bounds.{IsSettledEntry};
 ghost use Rattle.bib_store.specs.Following.{bodies_between};
-ghost use Rattle.bib_store.specs.InPlace.{HaveOneKey, TakePlaces, StayKept, with_bounds, with_kept};
+ghost use Rattle.bib_store.specs.InPlace.{HaveOneKey, TakePlaces, with_bounds};
 ghost use Rattle.bib_store.specs.ItemTexts.{first_too_long, placed_texts};
 ghost use Rattle.bib_store.specs.Meaning.{is_entry_tree};
 ghost use Rattle.bib_store.specs.Windows.{IsWindow};
@@ -20,19 +20,11 @@ use crate::bounds::Bounds;
 use crate::change::Change;
 use crate::crossrefs::{CrossrefText, crossref_within};
 use crate::item_fault::ItemFault;
-use crate::redefining::{Former, give_back, redefine};
 use crate::tables::Tables;
 use bib_definitions::Definitions;
 use bib_items::ItemList;
 use bib_scan::{ItemView, Kind, Text};
 use std::alloc::Global;
-
-/// What the tables had before items were replaced, so that it can be given back.
-#[derive(Drop)]
-pub(crate) struct Kept {
-    former: Option<Former>,
-    bounds: Bounds,
-}
 
 /// Whether both are of this kind.
 fn are_both(kind: Kind, old: &ItemView<'_>, new: &ItemView<'_>) -> bool
@@ -107,7 +99,7 @@ fn put_entry(
     if !say_the_same(&was.text, &said.text) {
         return false;
     }
-    tables.bounds.admit(new.body().len(), said.is_literal);
+    tables.bounds = tables.bounds.with(new.body().len(), said.is_literal);
     true
 }
 
@@ -128,7 +120,7 @@ fn put_preamble(
     }
     match tables.measure_preamble(alloc, n, new) {
         Ok(()) => {
-            tables.bounds.admit(new.body().len(), true);
+            tables.bounds = tables.bounds.with(new.body().len(), true);
             true
         }
         Err(_) => false,
@@ -143,55 +135,21 @@ fn put_comment(tables: &mut Tables, old: &ItemView<'_>, new: &ItemView<'_>) -> b
     if !are_both(Kind::Comment, old, new) {
         return false;
     }
-    tables.bounds.admit(new.body().len(), true);
+    tables.bounds = tables.bounds.with(new.body().len(), true);
     true
 }
 
-/// Replaces the definition that is item `n` in the tables, unless another was replaced before, and returns whether it
-/// could. `former` then has what the tables had before.
-fn put_definition(
-    alloc: Global,
-    tables: &mut Tables,
-    n: usize,
-    old: &ItemView<'_>,
-    new: &ItemView<'_>,
-    former: &mut Option<Former>,
-) -> bool
-    ensures placed { IsTrue result → TakesPlace n old.now new.now tables.old tables.new }
-    ensures kept { StayKept former.old tables.old former.new tables.new }
-    ensures len { tables.new.file_len ≡ tables.old.file_len }
-{
-    if former.is_some() {
-        return false;
-    }
-    match redefine(alloc, tables, n, old, new) {
-        Ok(was) => {
-            *former = Some(was);
-            true
-        }
-        Err(_) => false,
-    }
-}
-
 /// Replaces item `n` in the tables, and returns whether it could.
-fn put(
-    alloc: Global,
-    tables: &mut Tables,
-    n: usize,
-    old: &ItemView<'_>,
-    new: &ItemView<'_>,
-    former: &mut Option<Former>,
-) -> bool
+fn put(alloc: Global, tables: &mut Tables, n: usize, old: &ItemView<'_>, new: &ItemView<'_>) -> bool
     ensures placed { IsTrue result → TakesPlace n old.now new.now tables.old tables.new }
-    ensures kept { StayKept former.old tables.old former.new tables.new }
-    ensures len { tables.new.file_len ≡ tables.old.file_len }
+    ensures rest { tables.new ≡ with_bounds tables.new.bounds tables.old }
 {
     if old.body() == new.body() {
         return true;
     }
     match new.kind() {
         Kind::Entry => put_entry(alloc, tables, n, old, new),
-        Kind::Macro => put_definition(alloc, tables, n, old, new, former),
+        Kind::Macro => false,
         Kind::Preamble => put_preamble(alloc, tables, n, old, new),
         Kind::Comment => put_comment(tables, old, new),
     }
@@ -199,19 +157,12 @@ fn put(
 
 /// Replaces each item of a change's window in the tables by the item of the change at the same place, and returns whether
 /// it could for all. Window and change have equally many items.
-fn put_each<L: ItemList>(
-    alloc: Global,
-    tables: &mut Tables,
-    items: &L,
-    change: &Change,
-    former: &mut Option<Former>,
-) -> bool
+fn put_each<L: ItemList>(alloc: Global, tables: &mut Tables, items: &L, change: &Change) -> bool
     requires window { IsWindow (L.items items.now) change.now.window }
     requires layout { IsLayoutOf change.now.text change.now.layout }
     requires one_for_one { change.now.window.from + length change.now.layout.items ≡ change.now.window.to }
     ensures placed { IsTrue result → (inner : Reading) → Reads change.now.text inner → TakePlaces change.now.window.from (bodies_between change.now.window.from change.now.window.to (L.items items.now)) inner.items tables.old tables.new }
-    ensures kept { StayKept former.old tables.old former.new tables.new }
-    ensures len { tables.new.file_len ≡ tables.old.file_len }
+    ensures rest { tables.new ≡ with_bounds tables.new.bounds tables.old }
 {
     // for the proof: the count fits a usize
     let _ = items.count();
@@ -219,7 +170,7 @@ fn put_each<L: ItemList>(
         let n = change.window.from + k;
         let old = ItemView::of(items.body(n), b"");
         let new = ItemView::of(change.layout.body(change.text.as_slice(), k), b"");
-        if !put(alloc, tables, n, &old, &new, former) {
+        if !put(alloc, tables, n, &old, &new) {
             return false;
         }
     }
@@ -227,42 +178,29 @@ fn put_each<L: ItemList>(
 }
 
 /// Replaces each item of a change's window by the item of the change at the same place, in the tables alone. It returns
-/// what the tables had before, or nothing if it can't: if the counts differ, if a kind, a key or what a crossref says
-/// differs, if a raw text is too long, if more than one definition changes, or if something may depend on the one that
-/// does. The tables are then unchanged. Only time depends on whether it can. It takes time in the length of these items,
-/// and if a definition changes, in that of all definitions.
+/// the bounds that the tables had before, or nothing if it can't: if the counts differ, if a kind, a key or what a crossref
+/// says differs, if a raw text is too long, or if a definition changes. The tables are then unchanged. Only time depends on
+/// whether it can. It takes time in the length of these items.
 pub(crate) fn put_in_place<L: ItemList>(
     alloc: Global,
     tables: &mut Tables,
     items: &L,
     change: &Change,
-) -> Option<Kept>
+) -> Option<Bounds>
     requires window { IsWindow (L.items items.now) change.now.window }
     requires layout { IsLayoutOf change.now.text change.now.layout }
-    ensures placed { IfSome result (λ kept. (inner : Reading) → Reads change.now.text inner → TakePlaces change.now.window.from (bodies_between change.now.window.from change.now.window.to (L.items items.now)) inner.items tables.old tables.new) }
-    ensures kept { IfSome result (λ kept. with_kept kept tables.new ≡ tables.old) }
+    ensures placed { IfSome result (λ bounds. (inner : Reading) → Reads change.now.text inner → TakePlaces change.now.window.from (bodies_between change.now.window.from change.now.window.to (L.items items.now)) inner.items tables.old tables.new) }
+    ensures back { IfSome result (λ bounds. with_bounds bounds tables.new ≡ tables.old) }
     ensures none { result ≡ None → tables.new ≡ tables.old }
     ensures len { tables.new.file_len ≡ tables.old.file_len }
 {
     if change.window.to - change.window.from != change.layout.len() {
         return None;
     }
-    let mut kept = Kept {
-        former: None,
-        bounds: tables.bounds,
-    };
-    if put_each(alloc, tables, items, change, &mut kept.former) {
-        return Some(kept);
+    let bounds = tables.bounds;
+    if put_each(alloc, tables, items, change) {
+        return Some(bounds);
     }
-    take_back(tables, kept);
+    tables.bounds = bounds;
     None
-}
-
-/// Gives the tables back what they had. It asks for no memory.
-pub(crate) fn take_back(tables: &mut Tables, kept: Kept)
-    ensures back { tables.new ≡ with_kept kept tables.old }
-    ensures len { tables.new.file_len ≡ tables.old.file_len }
-{
-    give_back(tables, kept.former);
-    tables.bounds = kept.bounds;
 }

@@ -27,7 +27,6 @@ mod measuring;
 mod ordering;
 mod preambles;
 mod record;
-mod redefining;
 mod reversing;
 mod runs;
 mod splicing;

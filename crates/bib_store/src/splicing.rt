@@ -60,12 +60,10 @@ impl<L: ItemList> Database<L> {
         self.items.prepare(usize::MAX);
     }
 
-    /// Prepares the look-up of the items that the pieces touch, and keeps a definition that replaced another. The file is
-    /// unchanged.
+    /// Prepares the look-up of the items that the pieces touch. The file is unchanged.
     fn prepare(&mut self, pieces: &[Piece])
         ensures { self.new ≡ self.old }
     {
-        self.tables.definitions.keep();
         if let Some(last) = pieces.last() {
             self.items.prepare((last.place as usize).saturating_add(last.old.as_slice().len()));
         }

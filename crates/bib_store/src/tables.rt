@@ -6,7 +6,7 @@ ghost use Rattle.bib_spec.specs.Reading.{Reading};
 ghost use Rattle.bib_spec.specs.Texts.{too_long_at};
 ghost use Rattle.bib_scan.specs.View.{kind_of};
 ghost use Rattle.bib_scan.specs.declared.view.Kind.TheVariants as kind;
-ghost use Rattle.bib_store.specs.declared.item_fault.ItemFault.TheVariants.{TooLong as ItemTooLong, Memory as ItemMemory};
+ghost use Rattle.bib_store.specs.declared.item_fault.ItemFault.TheVariants.{TooLong as ItemTooLong, Memory as ItemMemory, Unsettled as ItemUnsettled};
 ghost use Rattle.bib_spec.specs.Text.{Text as Bytes};
 ghost use Rattle.bib_numbers.specs.Numbers.{PartAt, HaveNext};
 ghost use Rattle.bib_entries.specs.EntryTable.{IsTableOf};
@@ -43,15 +43,16 @@ pub(crate) struct Tables {
 }
 
 impl Tables {
-    ghost use Rattle.std.specs.Prelude.{Some, true};
+    ghost use Rattle.std.specs.Prelude.{Some, true, false, Bool};
     ghost use Rattle.bib_spec.specs.Reading.{Item};
-    ghost use Rattle.bib_spec.specs.Texts.{months, macros_at, raw_text, raw_limit};
+    ghost use Rattle.bib_spec.specs.Texts.{Macros, months, macros_at, raw_text, raw_limit};
     ghost use Rattle.bib_value.specs.Raw.{OfValue};
     ghost use Rattle.bib_items.specs.Items.{without_range};
-    ghost use Rattle.bib_definitions.specs.Definitions.{AreDefinitionsOf, Defines, is_definition_tree, texts_at};
-    ghost use Rattle.bib_store.specs.Redefining.{HaveTheSameNames};
+    ghost use Rattle.bib_definitions.specs.Definitions.{AreDefinitionsOf, AreSettled, Defines, is_definition_tree, texts_at};
+    ghost use Rattle.bib_store.specs.Bounds.{Admits};
+    ghost use Rattle.bib_store.specs.Firm.{AreFirm, IsFirm};
     ghost use Rattle.bib_store.specs.ItemTexts.{OfTree, own_text, first_too_long, placed_texts};
-    ghost use Rattle.bib_store.specs.Beside.{AreTablesOf, AreTables, SayTheSame, HasItems, IsStep, IsInsertion, IsRemoval, IsTooLongAt, IsNotedAs, OfView, OfSeen, OfOther};
+    ghost use Rattle.bib_store.specs.Beside.{AreTablesOf, AreTables, SayTheSame, HasItems, IsStep, IsInsertion, IsRemoval, IsTooLongAt, IsNotedAs, IsMovedFor, OfView, OfSeen};
     ghost use Rattle.bib_store.specs.Meaning.{IsOpenFault};
     ghost use Rattle.bib_store.specs.Stored.{AreTablesOfFile};
     ghost use Rattle.bib_scan.specs.Layout.{IsLayoutOf};
@@ -167,74 +168,68 @@ impl Tables {
         ensures too_long { IfErr result (λ fault. (place : ℕ) → fault ≡ ItemTooLong place → OfTree body.now (λ tree. IsTooLongAt n tree self.old place)) }
     {
         match note {
-            Some(known) => self.add_seen(alloc, n, &ItemView::noted(body, b"", known), note),
-            None => self.add_seen(alloc, n, &ItemView::of(body, b""), note),
+            Some(known) => self.insert(alloc, n, &ItemView::noted(body, b"", known), note, false),
+            None => self.insert(alloc, n, &ItemView::of(body, b""), note, false),
         }
     }
 
-    /// Adds item `n` after all others. `note` is what was noted of it, if anything.
-    fn add_seen(
-        &mut self,
-        alloc: Global,
-        n: usize,
-        view: &ItemView<'_>,
-        note: Option<Note>,
-    ) -> Result<(), ItemFault>
-        requires { IsNotedAs note view.now }
-        ensures step { OnOk result (OfSeen view.now (λ tree. IsStep n tree self.old self.new)) }
-        ensures too_long { IfErr result (λ fault. (place : ℕ) → fault ≡ ItemTooLong place → OfSeen view.now (λ tree. IsTooLongAt n tree self.old place)) }
-    {
-        match view.kind() {
-            Kind::Macro => self.add_definition(alloc, n, view),
-            _ => self.add_other(alloc, n, view, note),
-        }
-    }
-
-    /// Adds item `n`, which is no definition, after all others. `note` is what was noted of it, if anything.
-    fn add_other(
-        &mut self,
-        alloc: Global,
-        n: usize,
-        view: &ItemView<'_>,
-        note: Option<Note>,
-    ) -> Result<(), ItemFault>
-        requires { IsNotedAs note view.now }
-        ensures step { OnOk result (OfOther view.now (λ tree. IsStep n tree self.old self.new)) }
-        ensures too_long { IfErr result (λ fault. (place : ℕ) → fault ≡ ItemTooLong place → OfOther view.now (λ tree. IsTooLongAt n tree self.old place)) }
-    {
-        self.insert(alloc, n, view, note)
-    }
-
-    /// Inserts item `n`, which is no definition, before the items with the numbers from `n` on. If it is an entry with a
-    /// note, only its crossref is read. It takes time in the item's length, a few steps for each page of entries, preambles
-    /// and definitions, and some for the members of one page. If it is refused, the tables say what they said.
+    /// Inserts item `n` before the items with the numbers from `n` on, which are settled if it is a definition. If it is an
+    /// entry with a note, only its crossref is read. It takes time in the item's length, a few steps for each page of
+    /// entries, preambles and definitions, and some for the members of one page. If `stay_firm` is true, firm tables refuse
+    /// an item with which they would not be firm. If it is refused, the tables say what they said.
     pub(crate) fn insert(
         &mut self,
         alloc: Global,
         n: usize,
         view: &ItemView<'_>,
         note: Option<Note>,
+        stay_firm: bool,
     ) -> Result<(), ItemFault>
         requires { IsNotedAs note view.now }
-        ensures step { OnOk result (OfOther view.now (λ tree. IsInsertion n tree self.old self.new)) }
-        ensures seen { texts_at self.new.definitions n ≡ texts_at self.old.definitions n }
-        ensures names { HaveTheSameNames self.old self.new }
+        ensures step { OnOk result (OfSeen view.now (λ tree. IsInsertion n tree self.old self.new)) }
+        ensures seen { (view.now.kind ≡ kind.Macro → ⊥) → texts_at self.new.definitions n ≡ texts_at self.old.definitions n }
+        ensures firm { stay_firm ≡ true → IsFirm self.old → IsFirm self.new }
         ensures len { self.new.file_len ≡ self.old.file_len }
-        ensures too_long { IfErr result (λ fault. (place : ℕ) → fault ≡ ItemTooLong place → OfOther view.now (λ tree. IsTooLongAt n tree self.old place)) }
+        ensures too_long { IfErr result (λ fault. (place : ℕ) → fault ≡ ItemTooLong place → OfSeen view.now (λ tree. IsTooLongAt n tree self.old place)) }
+        ensures unsettled { IfErr result (λ fault. fault ≡ ItemUnsettled → IsFirm self.old) }
         ensures err { OnErr result (SayTheSame self.old self.new) }
     {
         match view.kind() {
-            Kind::Entry => self.insert_entry(alloc, n, view, note),
-            Kind::Preamble => self.insert_preamble(alloc, n, view),
-            Kind::Comment => {
-                self.entries.make_way(n);
-                self.preambles.make_way(n);
-                self.definitions.make_way(n);
-                self.bounds.admit(view.body().len(), true);
-                Ok(())
-            }
-            Kind::Macro => Ok(()),
+            Kind::Entry => self.insert_entry(alloc, n, view, note, stay_firm),
+            Kind::Macro => self.insert_definition(alloc, n, view, stay_firm),
+            Kind::Preamble => self.insert_preamble(alloc, n, view, stay_firm),
+            Kind::Comment => self.insert_comment(n, view, stay_firm),
         }
+    }
+
+    /// Whether nothing depends on macros but the texts of fields and preambles, and none of these can be too long, whichever of
+    /// the texts that were ever defined macros stand for.
+    pub(crate) fn is_firm(&self) -> bool
+        ensures firm { result ≡ true → IsFirm self.now }
+        ensures loose { result ≡ false → IsFirm self.now → ⊥ }
+    {
+        self.bounds.are_firm(self.definitions.longest())
+    }
+
+    /// Bounds that cover one more item, whose body has `len` bytes, where no macro stands for more than `longest` bytes. If
+    /// `stay_firm` is true, firm tables refuse bounds that are not firm.
+    fn widened(
+        &self,
+        len: usize,
+        settled: bool,
+        longest: usize,
+        stay_firm: bool,
+    ) -> Result<Bounds, ItemFault>
+        ensures admits { IfOk result (Admits len settled self.now.bounds) }
+        ensures firm { IfOk result (λ bounds. stay_firm ≡ true → IsFirm self.now → AreFirm longest bounds) }
+        ensures unsettled { OnErr result (IsFirm self.now) }
+        ensures only { IfErr result (λ fault. fault ≡ ItemUnsettled) }
+    {
+        let bounds = self.bounds.with(len, settled);
+        if bounds.are_firm(longest) || !stay_firm || !self.is_firm() {
+            return Ok(bounds);
+        }
+        Err(ItemFault::Unsettled)
     }
 
     /// Inserts the entry that is item `n`.
@@ -244,13 +239,15 @@ impl Tables {
         n: usize,
         view: &ItemView<'_>,
         note: Option<Note>,
+        stay_firm: bool,
     ) -> Result<(), ItemFault>
         requires { IsNotedAs note view.now }
         ensures step { OnOk result (OfView kind.Entry view.now (λ tree. IsInsertion n tree self.old self.new)) }
         ensures seen { texts_at self.new.definitions n ≡ texts_at self.old.definitions n }
-        ensures names { HaveTheSameNames self.old self.new }
+        ensures firm { stay_firm ≡ true → IsFirm self.old → IsFirm self.new }
         ensures len { self.new.file_len ≡ self.old.file_len }
         ensures too_long { IfErr result (λ fault. (place : ℕ) → fault ≡ ItemTooLong place → OfView kind.Entry view.now (λ tree. IsTooLongAt n tree self.old place)) }
+        ensures unsettled { IfErr result (λ fault. fault ≡ ItemUnsettled → IsFirm self.old) }
         ensures err { OnErr result (SayTheSame self.old self.new) }
     {
         let longest = self.definitions.longest();
@@ -261,17 +258,42 @@ impl Tables {
             longest,
             note,
         )?;
+        let bounds = self.widened(view.body().len(), is_literal, longest, stay_firm)?;
         insert_named(&mut self.entries, &mut self.named, n, view.key(), text)?;
         self.preambles.make_way(n);
         self.definitions.make_way(n);
-        self.bounds.admit(view.body().len(), is_literal);
+        self.bounds = bounds;
         Ok(())
     }
 
-    /// Removes item `n`, which is no definition. It asks for no memory.
+    /// Inserts the comment that is item `n`.
+    fn insert_comment(
+        &mut self,
+        n: usize,
+        view: &ItemView<'_>,
+        stay_firm: bool,
+    ) -> Result<(), ItemFault>
+        ensures step { OnOk result (OfView kind.Comment view.now (λ tree. IsInsertion n tree self.old self.new)) }
+        ensures seen { texts_at self.new.definitions n ≡ texts_at self.old.definitions n }
+        ensures firm { stay_firm ≡ true → IsFirm self.old → IsFirm self.new }
+        ensures len { self.new.file_len ≡ self.old.file_len }
+        ensures too_long { IfErr result (λ fault. (place : ℕ) → fault ≡ ItemTooLong place → ⊥) }
+        ensures unsettled { OnErr result (IsFirm self.old) }
+        ensures err { OnErr result (self.new ≡ self.old) }
+    {
+        let longest = self.definitions.longest();
+        let bounds = self.widened(view.body().len(), true, longest, stay_firm)?;
+        self.entries.make_way(n);
+        self.preambles.make_way(n);
+        self.definitions.make_way(n);
+        self.bounds = bounds;
+        Ok(())
+    }
+
+    /// Removes item `n`. If it is a definition, the items after it are settled. It asks for no memory.
     pub(crate) fn remove(&mut self, n: usize, view: &ItemView<'_>)
-        ensures step { OfOther view.now (λ tree. IsRemoval n tree self.old self.new) }
-        ensures names { HaveTheSameNames self.old self.new }
+        ensures step { OfSeen view.now (λ tree. IsRemoval n tree self.old self.new) }
+        ensures firm { IsFirm self.old → IsFirm self.new }
         ensures len { self.new.file_len ≡ self.old.file_len }
     {
         match view.kind() {
@@ -281,6 +303,7 @@ impl Tables {
                 self.preambles.close(n);
                 self.definitions.close(n);
             }
+            Kind::Macro => self.remove_definition(n, view),
             Kind::Preamble => {
                 self.entries.close(n);
                 self.preambles.remove(n);
@@ -291,51 +314,82 @@ impl Tables {
                 self.preambles.close(n);
                 self.definitions.close(n);
             }
-            Kind::Macro => {}
         }
     }
 
-    /// Adds the definition that is item `n`.
-    fn add_definition(
+    /// Removes the definition that is item `n`.
+    fn remove_definition(&mut self, n: usize, view: &ItemView<'_>)
+        ensures step { OfView kind.Macro view.now (λ tree. IsRemoval n tree self.old self.new) }
+        ensures firm { IsFirm self.old → IsFirm self.new }
+        ensures len { self.new.file_len ≡ self.old.file_len }
+    {
+        if let Some(field) = view.fields().next() {
+            self.entries.close(n);
+            self.preambles.close(n);
+            self.definitions.remove(n, field.name);
+        }
+    }
+
+    /// Inserts the definition that is item `n`.
+    fn insert_definition(
         &mut self,
         alloc: Global,
         n: usize,
         view: &ItemView<'_>,
+        stay_firm: bool,
     ) -> Result<(), ItemFault>
-        ensures step { OnOk result (OfView kind.Macro view.now (λ tree. IsStep n tree self.old self.new)) }
+        ensures step { OnOk result (OfView kind.Macro view.now (λ tree. IsInsertion n tree self.old self.new)) }
+        ensures firm { stay_firm ≡ true → IsFirm self.old → IsFirm self.new }
+        ensures len { self.new.file_len ≡ self.old.file_len }
         ensures too_long { IfErr result (λ fault. (place : ℕ) → fault ≡ ItemTooLong place → OfView kind.Macro view.now (λ tree. IsTooLongAt n tree self.old place)) }
+        ensures unsettled { IfErr result (λ fault. fault ≡ ItemUnsettled → IsFirm self.old) }
+        ensures err { OnErr result (self.new ≡ self.old) }
     {
         match view.fields().next() {
             Some(field) => {
-                let settled = is_settled_value(alloc, field.value);
-                self.define(alloc, n, field)?;
-                self.bounds.admit(view.body().len(), settled);
+                self.define(alloc, n, field, view.body().len(), stay_firm)?;
                 Ok(())
             }
             None => Ok(()),
         }
     }
 
-    /// Lets the name of the definition that is item `n` stand for its text.
-    fn define(&mut self, alloc: Global, n: usize, field: FieldView<'_>) -> Result<(), ItemFault>
-        ensures table { OnOk result (OfValue field.entry.value.now (λ v. (items : List Item) (item : Item) → length items ≡ n → is_definition_tree item.tree ≡ true → AreDefinitionsOf items self.old.definitions
-            → Defines (macros_at months items n) item.tree field.entry.name.now (raw_text (own_text (texts_at self.old.definitions n) field.entry.name.now) v) → AreDefinitionsOf (items ++ item ∷ []) self.new.definitions)) }
-        ensures rest { OnOk result ((self.new.entries ≡ self.old.entries) × (self.new.preambles ≡ self.old.preambles) × (self.new.named ≡ self.old.named) × (self.new.bounds ≡ self.old.bounds)) }
+    /// Inserts the definition that is item `n`, has this field, and a body of `len` bytes.
+    fn define(
+        &mut self,
+        alloc: Global,
+        n: usize,
+        field: FieldView<'_>,
+        len: usize,
+        stay_firm: bool,
+    ) -> Result<(), ItemFault>
+        ensures table { OnOk result (OfValue field.entry.value.now (λ v. (before after : List Item) (item : Item) → length before ≡ n → n + length after < 2 ^ 64 → is_definition_tree item.tree ≡ true
+            → Defines (macros_at months before n) item.tree field.entry.name.now (raw_text (own_text (texts_at self.old.definitions n) field.entry.name.now) v) → AreSettled after → AreDefinitionsOf (before ++ after) self.old.definitions → AreDefinitionsOf (before ++ item ∷ after) self.new.definitions)) }
+        ensures ways { OnOk result (IsMovedFor n self.old self.new) }
+        ensures bounds { OnOk result ((settled : Bool) × (Admits len settled self.old.bounds self.new.bounds × (settled ≡ true → (text : Bytes) × OfValue field.entry.value.now (λ v. (m : Macros) → raw_text m v ≡ text)))) }
+        ensures firm { stay_firm ≡ true → IsFirm self.old → IsFirm self.new }
+        ensures len { self.new.file_len ≡ self.old.file_len }
         ensures short { OnOk result (OfValue field.entry.value.now (λ v. length (raw_text (own_text (texts_at self.old.definitions n) field.entry.name.now) v) ≤ raw_limit)) }
         ensures too_long { IfErr result (λ fault. (place : ℕ) → fault ≡ ItemTooLong place
             → (place ≡ field.entry.value_at) × OfValue field.entry.value.now (λ v. raw_limit < length (raw_text (own_text (texts_at self.old.definitions n) field.entry.name.now) v))) }
+        ensures unsettled { IfErr result (λ fault. fault ≡ ItemUnsettled → IsFirm self.old) }
+        ensures err { OnErr result (self.new ≡ self.old) }
     {
         let text = self.definition_text(alloc, n, field)?;
-        // No item has a longer name.
-        if field.name.len() > NAME_LIMIT {
+        let settled = is_settled_value(alloc, field.value);
+        let longest = self.definitions.longest().max(text.as_slice().len());
+        let bounds = self.widened(len, settled, longest, stay_firm)?;
+        if !self.definitions.insert(n, field.name, text)? {
             return Err(ItemFault::Memory);
         }
-        self.definitions.define(n, field.name, text)?;
+        self.entries.make_way(n);
+        self.preambles.make_way(n);
+        self.bounds = bounds;
         Ok(())
     }
 
     /// What the name of the definition that is item `n` stands for after it.
-    pub(crate) fn definition_text(
+    fn definition_text(
         &self,
         alloc: Global,
         n: usize,
@@ -345,6 +399,7 @@ impl Tables {
         ensures short { OnOk result (OfValue field.entry.value.now (λ v. length (raw_text (own_text (texts_at self.now.definitions n) field.entry.name.now) v) ≤ raw_limit)) }
         ensures too_long { IfErr result (λ fault. (place : ℕ) → fault ≡ ItemTooLong place
             → (place ≡ field.entry.value_at) × OfValue field.entry.value.now (λ v. raw_limit < length (raw_text (own_text (texts_at self.now.definitions n) field.entry.name.now) v))) }
+        ensures other { IfErr result (λ fault. fault ≡ ItemUnsettled → ⊥) }
     {
         match value_text(
             alloc,
@@ -363,19 +418,23 @@ impl Tables {
         alloc: Global,
         n: usize,
         view: &ItemView<'_>,
+        stay_firm: bool,
     ) -> Result<(), ItemFault>
         ensures step { OnOk result (OfView kind.Preamble view.now (λ tree. IsInsertion n tree self.old self.new)) }
         ensures seen { texts_at self.new.definitions n ≡ texts_at self.old.definitions n }
-        ensures names { HaveTheSameNames self.old self.new }
+        ensures firm { stay_firm ≡ true → IsFirm self.old → IsFirm self.new }
         ensures len { self.new.file_len ≡ self.old.file_len }
         ensures too_long { IfErr result (λ fault. (place : ℕ) → fault ≡ ItemTooLong place → OfView kind.Preamble view.now (λ tree. IsTooLongAt n tree self.old place)) }
-        ensures err { OnErr result (SayTheSame self.old self.new) }
+        ensures unsettled { IfErr result (λ fault. fault ≡ ItemUnsettled → IsFirm self.old) }
+        ensures err { OnErr result (self.new ≡ self.old) }
     {
         self.measure_preamble(alloc, n, view)?;
+        let longest = self.definitions.longest();
+        let bounds = self.widened(view.body().len(), true, longest, stay_firm)?;
         self.preambles.insert(n)?;
         self.entries.make_way(n);
         self.definitions.make_way(n);
-        self.bounds.admit(view.body().len(), true);
+        self.bounds = bounds;
         Ok(())
     }
 
@@ -388,6 +447,7 @@ impl Tables {
     ) -> Result<(), ItemFault>
         ensures short { OnOk result (OfView kind.Preamble view.now (λ tree. first_too_long (placed_texts (texts_at self.now.definitions n) tree) ≡ None)) }
         ensures too_long { IfErr result (λ fault. (place : ℕ) → fault ≡ ItemTooLong place → OfView kind.Preamble view.now (λ tree. IsTooLongAt n tree self.now place)) }
+        ensures other { IfErr result (λ fault. fault ≡ ItemUnsettled → ⊥) }
     {
         match view.fields().next() {
             Some(field) => self.measure_field(alloc, n, field),
@@ -397,6 +457,7 @@ impl Tables {
 
     /// Refuses the field of item `n` if its raw text is too long.
     fn measure_field(&self, alloc: Global, n: usize, field: FieldView<'_>) -> Result<(), ItemFault>
+        ensures other { IfErr result (λ fault. fault ≡ ItemUnsettled → ⊥) }
         ensures short { OnOk result (OfValue field.entry.value.now (λ v. length (raw_text (texts_at self.now.definitions n) v) ≤ raw_limit)) }
         ensures too_long { IfErr result (λ fault. (place : ℕ) → fault ≡ ItemTooLong place
             → (place ≡ field.entry.value_at) × OfValue field.entry.value.now (λ v. raw_limit < length (raw_text (texts_at self.now.definitions n) v))) }

@@ -1,4 +1,4 @@
-use Rattle.std.proofs.Common.{rules, ◌≡◌, ◌+◌, ◌-◌, List, length, take, refl, sym, subst, ◌∙◌, ap, ap₂}
+use Rattle.std.proofs.Common.{rules, ◌≡◌, ◌+◌, ◌-◌, length, take, refl, sym, ◌∙◌, ap, ap₂}
 use Rattle.bib_spec.specs.Pieces.{applied}
 use Rattle.history_spec.specs.Shifting.{all_moved_back}
 use Rattle.history_spec.specs.Composing.{composed_at, group_old, group_new}

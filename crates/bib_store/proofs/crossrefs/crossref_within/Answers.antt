@@ -10,4 +10,4 @@ returns-then-are_short-clause-short g c =
     let k = max c.args.longest 1 in
     ok_always c.short_crossref.result
     (entry_is_short (g.M.MacroTable.macros c.args.macros.now) k (λ name text is. let low = c.requires.longest name text is in omega (arith, low)) (omega arith) c.args.entry.now
-    (subst (λ (t : Text). length t * k ≤ raw_limit) c.body.ensures (c.are_short.ensures c.if-are_short.true)))
+    (subst (λ (t : Text). length t * k ≤ raw_limit) c.body.ensures (c.are_short.ensures.short c.if-are_short.true)))

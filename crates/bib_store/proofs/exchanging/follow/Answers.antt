@@ -7,18 +7,19 @@ use Rattle.bib_store.proofs.exchanging.follow.Goals as goal
 pub returns-in-Ok-clause-tables : goal.returns-in-Ok-clause-tables
 returns-in-Ok-clause-tables g c = λ old front_len put front db inner k reads has.
     let now = g.L.ItemList.items c.args.items.now in
-    let few : length now < 2 ^ 64 = omega (arith, c.count.ensures, c.count.type_inv) in (
-      with_len (joined c.args.change.now.window db inner).items c.forget.new.tables c.args.change.now.file_len
-          (followed_tables c.args.change.now old now c.args.count c.args.lead put front db inner c.args.tables.now k reads few c.requires.lead c.requires.come c.requires.gone c.learn.new.tables c.forget.new.tables
-          c.in-Ok.ensures.tables c.forget.ensures.tables),
-      followed_fits c.args.change.now old now c.args.count c.args.lead put front db inner c.args.tables.now k reads few c.requires.lead c.requires.come c.requires.gone c.in-Ok.ensures.short,
+    let few : length now < 2 ^ 64 = omega (arith, c.count.ensures, c.count.type_inv) in
+    let tables = followed_tables c.args.change.now old now c.args.count c.args.lead put front db inner c.args.tables.now k reads few c.requires.lead c.requires.come c.requires.gone c.learn.new.tables c.forget.new.tables
+    c.learn.ensures.firm c.in-Ok.ensures.tables c.forget.ensures.tables in (
+      with_len (joined c.args.change.now.window db inner).items c.forget.new.tables c.args.change.now.file_len tables,
+      followed_fits c.args.change.now old now c.args.count c.args.lead put front db inner c.args.tables.now k reads few c.requires.lead c.requires.come c.requires.gone
+          c.forget.new.tables (λ firm. c.forget.ensures.firm (c.learn.ensures.firm firm)) has.items tables c.in-Ok.ensures.short,
     )
 
 pub returns-in-Err-clause-refused : goal.returns-in-Err-clause-refused
-returns-in-Err-clause-refused g c = λ bad old front_len put front db inner k reads has.
+returns-in-Err-clause-refused g c = λ bad loose old front_len put front db inner k reads has.
     let now = g.L.ItemList.items c.args.items.now in
     let few : length now < 2 ^ 64 = omega (arith, c.count.ensures, c.count.type_inv) in
-    followed_refused c.args.change.now old now c.args.count c.args.lead put front db inner c.args.tables.now k reads few c.requires.lead c.requires.come c.requires.gone (c.in-Err.ensures.refused bad)
+    followed_refused c.args.change.now old now c.args.count c.args.lead put front db inner c.args.tables.now k reads few c.requires.lead c.requires.come c.requires.gone (λ firm. loose (c.learn.ensures.firm firm)) (c.in-Err.ensures.refused bad loose)
 
 pub returns-in-Err-clause-err : goal.returns-in-Err-clause-err
 returns-in-Err-clause-err g c = λ old inner reads put.
@@ -29,3 +30,6 @@ returns-in-Err-clause-err g c = λ old inner reads put.
       tables = λ db front k.
           followed_back c.args.change.now old now c.args.count c.args.lead put front db inner c.args.tables.now k reads few c.requires.lead c.requires.come c.requires.gone c.learn.new.tables c.in-Err.ensures.err;
     }
+
+pub returns-in-Ok-clause-firm : goal.returns-in-Ok-clause-firm
+returns-in-Ok-clause-firm g c firm = c.forget.ensures.firm (c.learn.ensures.firm firm)

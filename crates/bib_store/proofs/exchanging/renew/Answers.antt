@@ -1,18 +1,17 @@
 use Rattle.std.proofs.Common.{List, ◌+◌, sym, subst}
-use Rattle.std.proofs.lemmas.Result.{err_from_is_err_and, on_ok_weaker}
+use Rattle.std.proofs.lemmas.Result.{err_from_is_err_and}
 use Rattle.bib_items.specs.declared.list.Item.{Item}
 use Rattle.bib_items.specs.Items.{without_range}
 use Rattle.bib_store.specs.Beside.{HasItems}
 use Rattle.bib_store.specs.Windows.{joined}
-use Rattle.bib_spec.proofs.Results.{err_from}
 use Rattle.bib_store.proofs.Exchanges.{put_without}
 use Rattle.bib_store.proofs.exchanging.renew.Goals as goal
 
-pub returns-then-can_follow-clause-tables : goal.returns-then-can_follow-clause-tables
-returns-then-can_follow-clause-tables g c = on_ok_weaker c.follow.result (λ tables old put. tables old c.args.front_len put) c.follow.ensures.tables
+pub returns-in-Ok-clause-tables : goal.returns-in-Ok-clause-tables
+returns-in-Ok-clause-tables g c = λ old put. c.in-Ok.ensures.tables old c.args.front_len put
 
-pub returns-then-can_follow-clause-refused : goal.returns-then-can_follow-clause-refused
-returns-then-can_follow-clause-refused g c = err_from c.follow.result _ _ (λ fault refused bad old put. refused bad old c.args.front_len put) c.follow.ensures.refused
+pub returns-then-not-is_firm-clause-refused : goal.returns-then-not-is_firm-clause-refused
+returns-then-not-is_firm-clause-refused g c = λ bad old put. c.in-Err.ensures.refused bad (c.is_firm.ensures.loose c.if-not-is_firm.true) old c.args.front_len put
 
 pub returns-in_err-tables-clause-refused : goal.returns-in_err-tables-clause-refused
 returns-in_err-tables-clause-refused g c =

@@ -9,11 +9,14 @@ forget-preserved g c =
       subst (λ (n : ℕ). TakenSoFar n c.args.at c.args.from c.args.to (g.L.ItemList.items c.args.items.now) c.args.tables.now c.remove.new.self) next
           (forget_more (c.forget.k - c.args.from) c.args.at c.args.from c.args.to (g.L.ItemList.items c.args.items.now) c.args.tables.now c.forget.tables c.remove.new.self c.body.result.now c.of.result
           (body_between (g.L.ItemList.items c.args.items.now) c.args.from c.args.to c.forget.k c.body.result.now low c.forget-test.true c.requires.within c.body.ensures)
-          c.of.ensures.item c.forget.invariant.0 c.remove.ensures.step),
-      (c.remove.ensures.len ∙ c.forget.invariant.1.0, c.remove.ensures.names ∙ c.forget.invariant.1.1),
+          c.of.ensures.item c.forget.invariant.0 c.remove.ensures.step c.remove.ensures.firm),
+      c.remove.ensures.len ∙ c.forget.invariant.1,
     )
 
 pub returns-clause-tables : goal.returns-clause-tables
 returns-clause-tables g c =
     forget_all (c.forget.k - c.args.from) c.args.at c.args.from c.args.to (g.L.ItemList.items c.args.items.now) c.args.tables.now c.forget.tables c.requires.ordered c.requires.within
     (omega (arith, c.forget-test.false)) c.forget.invariant.0
+
+pub returns-clause-firm : goal.returns-clause-firm
+returns-clause-firm g c = c.forget.invariant.0.firm

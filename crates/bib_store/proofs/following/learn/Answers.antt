@@ -1,4 +1,4 @@
-use Rattle.std.proofs.Common.{◌≡◌, ◌≤◌, ◌<◌, ◌+◌, ◌-◌, ◌∙◌, ℕ, List, Some, length, slice_get, refl, suc, sym, ap, subst, arith}
+use Rattle.std.proofs.Common.{⊎_elim, ◌≡◌, ◌≤◌, ◌<◌, ◌+◌, ◌-◌, ◌∙◌, ℕ, List, Some, length, slice_get, refl, suc, sym, ap, subst, arith}
 use Rattle.bib_spec.specs.Text.{Text}
 use Rattle.bib_items.specs.declared.list.Item.{Item}
 use Rattle.bib_items.specs.Items.{item_at}
@@ -24,7 +24,7 @@ learn-init g c =
     let items = g.L.ItemList.items c.args.items.now in (
       subst (λ (m : ℕ). PutSoFar m c.args.at c.args.from c.args.to items c.args.tables.now c.args.tables.now) all
           (learn_none c.args.at c.args.from c.args.to items c.args.tables.now c.requires.ordered c.requires.within),
-      (refl, refl),
+      refl,
     )
 
 pub learn-preserved : goal.learn-preserved
@@ -34,18 +34,20 @@ learn-preserved g c =
       learn_more left c.args.at c.args.from c.args.to items c.args.tables.now c.learn.tables c.insert.new.self c.body.result.now c.of.result
           (next_body items c.args.from c.args.to c.learn.j c.body.result.now left c.learn-test.true c.requires.within c.body.ensures refl) c.of.ensures.item
           (subst (λ (m : ℕ). PutSoFar m c.args.at c.args.from c.args.to items c.args.tables.now c.learn.tables) (left_at c.args.from c.args.to c.learn.j c.learn-test.true) c.learn.invariant.0)
-          c.in_default.ensures.step c.insert.ensures.seen,
-      (c.insert.ensures.len ∙ c.learn.invariant.1.0, c.insert.ensures.names ∙ c.learn.invariant.1.1),
+          c.in_default.ensures.step (c.insert.ensures.firm refl) c.insert.ensures.seen,
+      c.insert.ensures.len ∙ c.learn.invariant.1,
     )
 
 pub returns-in-Err-clause-refused : goal.returns-in-Err-clause-refused
-returns-in-Err-clause-refused g c bad =
+returns-in-Err-clause-refused g c bad loose =
     let items = g.L.ItemList.items c.args.items.now in
     let left : ℕ = c.args.to - c.args.from - (c.learn.j + 1) in
-    let long = c.of_splice.ensures.too_long bad in
-    learn_over left c.args.at c.args.from c.args.to items c.args.tables.now c.learn.tables c.insert.new.self c.body.result.now c.of.result
+    ⊎_elim
+    (λ long. learn_over left c.args.at c.args.from c.args.to items c.args.tables.now c.learn.tables c.insert.new.self c.body.result.now c.of.result
     (next_body items c.args.from c.args.to c.learn.j c.body.result.now left c.learn-test.true c.requires.within c.body.ensures refl) c.of.ensures.item
-    long.0 c.learn.invariant.0.1 (c.in-Err.ensures.too_long long.0 long.1)
+    long.0 (subst (λ (m : ℕ). PutSoFar m c.args.at c.args.from c.args.to items c.args.tables.now c.learn.tables) (left_at c.args.from c.args.to c.learn.j c.learn-test.true) c.learn.invariant.0) (c.in-Err.ensures.too_long long.0 long.1))
+    (λ is. absurd (loose (c.forget.ensures.firm (c.insert.ensures.firm refl (c.in-Err.ensures.unsettled is)))))
+    (c.of_splice.ensures.too_long bad)
 
 pub returns-in-Err-clause-err : goal.returns-in-Err-clause-err
 returns-in-Err-clause-err g c =
@@ -55,4 +57,16 @@ returns-in-Err-clause-err g c =
     learn_back left (c.args.to - 1 - c.learn.j + 1) c.args.at c.args.from c.args.to items c.args.tables.now c.learn.tables c.insert.new.self c.forget.new.tables
     (omega (arith, many)) (omega (arith, many)) c.requires.within
     (subst (λ (m : ℕ). PutSoFar m c.args.at c.args.from c.args.to items c.args.tables.now c.learn.tables) (left_at c.args.from c.args.to c.learn.j many) c.learn.invariant.0)
-    c.in-Err.ensures.err c.forget.ensures.tables
+    c.in-Err.ensures.err (c.insert.ensures.firm refl) c.forget.ensures.tables
+
+pub returns-in-Err-clause-firm : goal.returns-in-Err-clause-firm
+returns-in-Err-clause-firm g c firm = c.forget.ensures.firm (c.insert.ensures.firm refl (c.learn.invariant.0.firm firm))
+
+pub returns-clause-firm : goal.returns-clause-firm
+returns-clause-firm g c = c.learn.invariant.0.firm
+
+pub returns-clause-tables : goal.returns-clause-tables
+returns-clause-tables g c = λ before new after count pass fits t.
+    let items = g.L.ItemList.items c.args.items.now in
+    let none : c.args.to - c.args.from - c.learn.j ≡ 0 = omega (arith, c.learn-test.false) in
+    (subst (λ (m : ℕ). PutSoFar m c.args.at c.args.from c.args.to items c.args.tables.now c.learn.tables) none c.learn.invariant.0).tables before new after count pass fits t

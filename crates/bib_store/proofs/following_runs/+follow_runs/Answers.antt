@@ -5,7 +5,8 @@ use Rattle.bib_items.specs.Items.{all_stored, without_range}
 use Rattle.bib_items.proofs.Filled.{without-put}
 use Rattle.bib_spec.proofs.Results.{err_always}
 use Rattle.bib_store.proofs.BroughtIn.{long_new, long_now}
-use Rattle.bib_store.proofs.LedRuns.{none_lead, longer_back, long_led, old_place, old_others, run_led, run_back}
+use Rattle.bib_store.proofs.FollowedFiles.{still_between}
+use Rattle.bib_store.proofs.LedRuns.{none_lead, longer_back, long_led, old_place, old_may, run_led, run_back}
 use Rattle.bib_store.proofs.following_runs.+follow_runs.Goals as goal
 
 pub returns-then-is_empty-clause-led : goal.returns-then-is_empty-clause-led
@@ -62,10 +63,10 @@ take_out-requires-clause-others g t c =
     let place = old_place c.args.front.now (g.L.ItemList.items c.args.items.now) (g.L.ItemList.items c.bring_in.new.items) (g.L.ItemList.items c.follow_runs.new.items)
     c.args.tables.now c.bring_in.new.tables c.follow_runs.new.tables c.args.n c.in_ok-brought.brought.count c.in_ok-brought.brought.lead c.split_at.result.0.now c.split_at.result.1.now c.in_ok-change.change r r.change.layout.0 r.change.layout.1
     c.requires.within c.in_ok-brought.ensures.brought c.in-Ok.ensures.led in
-    old_others c.args.front.now (g.L.ItemList.items c.args.items.now) (g.L.ItemList.items c.bring_in.new.items) (g.L.ItemList.items c.follow_runs.new.items)
+    old_may c.args.front.now (g.L.ItemList.items c.args.items.now) (g.L.ItemList.items c.bring_in.new.items) (g.L.ItemList.items c.follow_runs.new.items)
     c.args.tables.now c.bring_in.new.tables c.follow_runs.new.tables c.args.n c.in_ok-brought.brought.count c.in_ok-brought.brought.lead c.split_at.result.0.now c.split_at.result.1.now c.in_ok-change.change r r.change.layout.0 r.change.layout.1
     c.requires.within c.in_ok-brought.ensures.brought c.in-Ok.ensures.led
-    _ _ (omega (arith, place, c.count-old_count.ensures, c.count-in-Ok.ensures)) refl
+    _ _ (omega (arith, place, c.count-old_count.ensures, c.count-in-Ok.ensures)) refl (λ firm. c.follow_runs.ensures.firm (c.bring_in.ensures.firm firm))
 
 pub returns-in-Ok-clause-led : goal.returns-in-Ok-clause-led
 returns-in-Ok-clause-led g t c =
@@ -100,9 +101,8 @@ pub returns-clause-back : goal.returns-clause-back
 returns-clause-back g t c =
     let r = c.in_ok-change.ensures in
     run_back c.args.front.now (g.L.ItemList.items c.args.items.now) (g.L.ItemList.items c.bring_in.new.items) (g.L.ItemList.items c.follow_runs.new.items)
-    c.args.tables.now c.bring_in.new.tables c.follow_runs.new.tables c.take_out-in-Err.new.tables c.give_back.new.tables c.args.n c.in_ok-brought.brought.count c.in_ok-brought.brought.lead c.split_at.result.1.now c.in_ok-change.change
-    c.in_ok-brought.brought.former r r.change.layout.0 r.change.layout.1
-    c.requires.within c.in_ok-brought.ensures.brought c.in-Err.ensures.err c.in_ok-brought.ensures.followed c.in-Err.ensures.back c.take_out-in-Err.ensures.followed c.in_ok-brought.ensures.comes c.give_back.ensures.back c.in-Err.ensures.names c.take_out-in-Err.ensures.names
+    c.args.tables.now c.bring_in.new.tables c.follow_runs.new.tables c.take_out-in-Err.new.tables c.args.n c.in_ok-brought.brought.count c.in_ok-brought.brought.lead c.split_at.result.1.now c.in_ok-change.change r r.change.layout.0 r.change.layout.1
+    c.requires.within c.in_ok-brought.ensures.brought c.in-Err.ensures.err c.in_ok-brought.ensures.followed c.in-Err.ensures.back c.take_out-in-Err.ensures.followed c.in_ok-brought.ensures.comes
 
 pub returns-clause-err : goal.returns-clause-err
 returns-clause-err g t c =
@@ -115,3 +115,12 @@ returns-clause-err g t c =
     c.take_out-in-Err.ensures.items
     ∙ ap (without_range from (from + c.in_ok-brought.brought.count)) (c.in-Err.ensures.err ∙ b.put.put inner r.change.layout.1)
     ∙ without-put old (all_stored inner.items) from c.in_ok-brought.brought.count low (sym (long_new c.in_ok-change.change (g.L.ItemList.items c.args.items.now) (g.L.ItemList.items c.bring_in.new.items) c.in_ok-brought.brought.count c.in_ok-brought.brought.lead b.put b.leads r.change.layout.0 r.change.layout.1))
+
+pub take_out-requires-in-Err-clause-others : goal.take_out-requires-in-Err-clause-others
+take_out-requires-in-Err-clause-others g t c =
+    let from : ℕ = c.in_ok-change.change.window.from in
+    still_between c.args.tables.now c.follow_runs.new.tables (from + c.in_ok-brought.brought.lead) (from + c.in_ok-brought.brought.count) (g.L.ItemList.items c.bring_in.new.items) (g.L.ItemList.items c.follow_runs.new.items)
+    (λ firm. c.follow_runs.ensures.firm (c.bring_in.ensures.firm firm)) c.in-Err.ensures.err c.in_ok-brought.ensures.brought.come
+
+pub returns-clause-measured : goal.returns-clause-measured
+returns-clause-measured g t c = c.take_out-in-Err.ensures.measured c.args.front.now c.follow_runs.ensures.measured

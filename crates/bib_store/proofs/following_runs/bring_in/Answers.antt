@@ -1,6 +1,5 @@
-use Rattle.std.proofs.Common.{◌∙◌, ℕ, List, length, refl, sym, ap, subst, arith}
+use Rattle.std.proofs.Common.{◌∙◌, ℕ, List, length, refl, sym, ap, arith}
 use Rattle.bib_items.specs.declared.list.Item.{Item}
-use Rattle.bib_store.specs.Runs.{AreBroughtIn}
 use Rattle.bib_store.specs.Stored.{file_of}
 use Rattle.bib_store.proofs.Exchanges.{put_of, are_put, taken-new}
 use Rattle.bib_store.proofs.KeptRuns.{followed_same, come_measured}
@@ -9,7 +8,7 @@ use Rattle.bib_store.proofs.following_runs.bring_in.Goals as goal
 
 pub returns-in-Ok-clause-brought : goal.returns-in-Ok-clause-brought
 returns-in-Ok-clause-brought g c =
-    subst (λ (k : ℕ). AreBroughtIn c.args.change.now (g.L.ItemList.items c.args.items.now) (g.L.ItemList.items c.insert_all.new.self) k c.in-Ok.brought.lead) (sym c.in-Ok.ensures.count) (record {
+    (record {
       put = are_put c.args.change.now (g.L.ItemList.items c.args.items.now) _ _ _ _ c.requires.window c.as_slice-text.ensures c.in_ok-insert_all.ensures.ok c.count-old_count.ensures c.count.ensures;
       leads = c.in-Ok.ensures.lead;
       come = c.in-Ok.ensures.come;

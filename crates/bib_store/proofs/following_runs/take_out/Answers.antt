@@ -37,5 +37,5 @@ returns-clause-followed g c = λ before long rest room f.
     let wide : length gone ≡ to - from = length-take-le (to - from) (drop from old) (omega (arith, c.requires.ordered, c.requires.within, length-drop from old)) in
     followed_same (before ++ rest) (before ++ rest) c.forget.new.tables _
     (go_followed before gone rest c.args.at c.args.tables.now c.forget.new.tables (bodies_between from to old) (subst (λ (l : List Item). AreFollowed l c.args.tables.now) (append_assoc before gone rest) f) long refl c.requires.others
-    (omega (arith, few, wide, room, c.requires.low, c.requires.ordered, c.requires.within)) c.forget.ensures.tables)
+    (omega (arith, few, wide, room, c.requires.low, c.requires.ordered, c.requires.within)) c.forget.ensures.firm c.forget.ensures.tables)
     refl (λ items. with_len items c.forget.new.tables (c.forget.new.tables.file_len - (c.start.result - c.start-2.result)))

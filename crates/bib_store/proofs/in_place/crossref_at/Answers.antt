@@ -6,7 +6,7 @@ use Rattle.bib_store.specs.ItemTexts.{first_too_long, placed_texts}
 use Rattle.bib_store.proofs.in_place.crossref_at.Goals as goal
 
 pub crossref_within-requires-clause-longest : goal.crossref_within-requires-clause-longest
-crossref_within-requires-clause-longest c = subst (AreAtMost c.longest.result) (sym c.at.ensures) (c.longest.ensures c.args.n)
+crossref_within-requires-clause-longest c = subst (AreAtMost c.longest.result) (sym c.at.ensures) (c.longest.ensures.most c.args.n)
 
 pub returns-in-Ok-clause-text : goal.returns-in-Ok-clause-text
 returns-in-Ok-clause-text c = λ i tree entry seen.

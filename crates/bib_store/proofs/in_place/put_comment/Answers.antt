@@ -6,5 +6,5 @@ use Rattle.bib_store.proofs.in_place.put_comment.Goals as goal
 
 pub returns-clause-placed : goal.returns-clause-placed
 returns-clause-placed c = λ _ n.
-    comment_in_place n c.args.old.now c.args.new.now c.args.tables.now c.admit.new.self (c.if-not-are_both.ensures.old refl) (c.if-not-are_both.ensures.new refl)
-    (subst (λ (b : Text). Admits (length b) true c.args.tables.now.bounds c.admit.new.self) c.body.ensures c.admit.ensures)
+    comment_in_place n c.args.old.now c.args.new.now c.args.tables.now c.with-tables.result (c.if-not-are_both.ensures.old refl) (c.if-not-are_both.ensures.new refl)
+    (subst (λ (b : Text). Admits (length b) true c.args.tables.now.bounds c.with-tables.result) c.body.ensures c.with-tables.ensures)

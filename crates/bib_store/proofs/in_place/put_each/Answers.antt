@@ -3,6 +3,7 @@ use Rattle.bib_spec.specs.Text.{Text}
 use Rattle.bib_spec.specs.Bytes.{name_limit}
 use Rattle.bib_spec.specs.Reading.{Reads, IsItem}
 use Rattle.bib_store.specs.Following.{bodies_between}
+use Rattle.bib_store.specs.InPlace.{with_bounds}
 use Rattle.bib_store.proofs.Followed.{body_between, length-between}
 use Rattle.bib_store.proofs.PlacedFiles.{counted_in}
 use Rattle.bib_store.proofs.KeptItems.{item_in}
@@ -13,7 +14,7 @@ pub each-init : goal.each-init
 each-init g c =
     let window = c.args.change.now.window in (
       (λ inner reads. placed_none window.from (bodies_between window.from window.to (g.L.ItemList.items c.args.items.now)) inner.items c.args.tables.now),
-      ((λ first back. back), refl),
+      refl,
     )
 
 pub each-preserved : goal.each-preserved
@@ -40,7 +41,7 @@ each-preserved g c =
           (placed_more k window.from bodies c.body.result.now inner.items y.0 c.of-old.result c.of-new.result c.args.tables.now c.each.tables c.put.new.tables old_at y.1 c.of-old.ensures.item
           (c.of-new.ensures.item y.0.tree good.tree (sym (c.body-in-each.ensures inner y.0 read y.1))) reads.items
           (c.if-not-put.ensures.placed refl) (c.each.invariant.0 inner reads))),
-      ((λ first back. c.if-not-put.ensures.kept first (c.each.invariant.1.0 first back)), c.if-not-put.ensures.len ∙ c.each.invariant.1.1),
+      c.if-not-put.ensures.rest ∙ ap (with_bounds c.put.new.tables.bounds) c.each.invariant.1,
     )
 
 pub returns-clause-placed : goal.returns-clause-placed
@@ -54,5 +55,5 @@ returns-clause-placed g c = λ _ inner reads.
     (omega (arith, ends, one_for_one, counted, length-between items window.from window.to c.requires.window.ordered c.requires.window.within))
     (omega (arith, ends, counted, counted_in c.args.change.now c.requires.layout inner reads)) (c.each.invariant.0 inner reads)
 
-pub returns-then-not-put-clause-kept : goal.returns-then-not-put-clause-kept
-returns-then-not-put-clause-kept g c = λ first back. c.put.ensures.kept first (c.each.invariant.1.0 first back)
+pub returns-then-not-put-clause-rest : goal.returns-then-not-put-clause-rest
+returns-then-not-put-clause-rest g c = c.put.ensures.rest ∙ ap (with_bounds c.put.new.tables.bounds) c.each.invariant.1

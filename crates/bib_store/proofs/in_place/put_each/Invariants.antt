@@ -1,11 +1,11 @@
 use Rattle.std.proofs.Common.{◌≡◌}
 use Rattle.bib_spec.specs.Reading.{Reading, Reads}
 use Rattle.bib_store.specs.Following.{bodies_between}
-use Rattle.bib_store.specs.InPlace.{StayKept}
+use Rattle.bib_store.specs.InPlace.{with_bounds}
 use Rattle.bib_store.proofs.PlacedItems.{PlacedSoFar}
 use Rattle.bib_store.proofs.in_place.put_each.Given as goal
 
 abbrev pub invariant-each : goal.invariant-each
 invariant-each g l =
     ((inner : Reading) → Reads l.change.text inner → PlacedSoFar l.k l.change.window.from (bodies_between l.change.window.from l.change.window.to (g.L.ItemList.items l.items)) inner.items l.initial.tables l.tables)
-    × (StayKept l.initial.former l.initial.tables l.former l.tables × (l.tables.file_len ≡ l.initial.tables.file_len))
+    × (l.tables ≡ with_bounds l.tables.bounds l.initial.tables)

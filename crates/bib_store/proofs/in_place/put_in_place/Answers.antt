@@ -1,8 +1,9 @@
-use Rattle.std.proofs.Common.{◌∙◌, refl}
+use Rattle.std.proofs.Common.{ap}
+use Rattle.bib_store.specs.InPlace.{with_bounds}
 use Rattle.bib_store.proofs.in_place.put_in_place.Goals as goal
 
-pub returns-then-put_each-clause-kept : goal.returns-then-put_each-clause-kept
-returns-then-put_each-clause-kept g c = c.put_each.ensures.kept c.args.tables.now refl
+pub returns-then-put_each-clause-back : goal.returns-then-put_each-clause-back
+returns-then-put_each-clause-back g c = ap (with_bounds c.args.tables.now.bounds) c.put_each.ensures.rest
 
 pub returns-clause-none : goal.returns-clause-none
-returns-clause-none g c = λ _. c.take_back.ensures.back ∙ c.put_each.ensures.kept c.args.tables.now refl
+returns-clause-none g c = λ _. ap (with_bounds c.args.tables.now.bounds) c.put_each.ensures.rest

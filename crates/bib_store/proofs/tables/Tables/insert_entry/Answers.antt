@@ -37,7 +37,7 @@ returns-clause-step c =
       preambles = c.make_way.new.self;
       named = c.insert_named.new.named;
       definitions = c.make_way-2.new.self;
-      bounds = c.admit.new.self;
+      bounds = c.in_ok-bounds.bounds;
     } in
     entry_insertion c.args.self.now new c.args.n c.args.view.now (macros_seen c.at.result) c.in_ok-text.field-0.text c.at.ensures
     c.in_ok-insert_named.ensures.entries c.make_way.ensures.moved
@@ -46,7 +46,7 @@ returns-clause-step c =
     c.make_way-2.ensures.come
     c.in_ok-text.ensures.text
     c.in_ok-text.ensures.short
-    c.in_ok-text.field-0.is_literal c.in_ok-text.ensures.settled (subst (λ (b : Text). Admits (length b) c.in_ok-text.field-0.is_literal c.args.self.now.bounds c.admit.new.self) c.body.ensures c.admit.ensures)
+    c.in_ok-text.field-0.is_literal c.in_ok-text.ensures.settled (subst (λ (b : Text). Admits (length b) c.in_ok-text.field-0.is_literal c.args.self.now.bounds c.in_ok-bounds.bounds) c.body.ensures c.in_ok-bounds.ensures.admits)
 
 pub crossref_within-requires-clause-longest : goal.crossref_within-requires-clause-longest
-crossref_within-requires-clause-longest c = subst (AreAtMost c.longest-longest.result) (sym c.at.ensures) (c.longest-longest.ensures c.args.n)
+crossref_within-requires-clause-longest c = subst (AreAtMost c.longest-longest.result) (sym c.at.ensures) (c.longest-longest.ensures.most c.args.n)

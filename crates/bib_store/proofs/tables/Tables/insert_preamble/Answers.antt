@@ -14,6 +14,6 @@ returns-clause-step c =
       preambles = c.insert.new.self;
       named = old.named;
       definitions = c.make_way-2.new.self;
-      bounds = c.admit.new.self;
+      bounds = c.in_ok-bounds.bounds;
     } in
-    preamble_insertion old new c.args.n c.args.view.now c.in_ok-insert.ensures.ok c.make_way.ensures.moved refl c.make_way-2.ensures.come (subst (λ (b : Text). Admits (length b) true old.bounds c.admit.new.self) c.body.ensures c.admit.ensures) c.in_ok-measure_preamble.ensures.short
+    preamble_insertion old new c.args.n c.args.view.now c.in_ok-insert.ensures.ok c.make_way.ensures.moved refl c.make_way-2.ensures.come (subst (λ (b : Text). Admits (length b) true old.bounds c.in_ok-bounds.bounds) c.body.ensures c.in_ok-bounds.ensures.admits) c.in_ok-measure_preamble.ensures.short
