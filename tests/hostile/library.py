@@ -33,7 +33,7 @@ ROWS = {
     "readers": 9,
     "parts": 7,
     "values": 5,
-    "indexes": 9,
+    "indexes": 10,
     "flat_lists": 3,
     "paged_lists": 3,
     "flat_stores": 13,
