@@ -18,7 +18,7 @@ const RUNS_LIMIT: usize = 64;
 
 /// The number of the first piece of each run. The pieces of a run touch neighbouring items; between two runs there is an
 /// item that no piece touches. It is refused if runs are not to be read apart: there is only one, there are more than 64, or
-/// one of them touches the front. Only time depends on where runs begin.
+/// one of them changes the front. Only time depends on where runs begin.
 pub(crate) fn run_starts<L: ItemList>(
     alloc: Global,
     front: &[u8],
@@ -36,10 +36,11 @@ pub(crate) fn run_starts<L: ItemList>(
     let mut starts = Vec::new(alloc);
     let mut end = 0;
     'pass: for k in 0..pieces.len() {
-        let window = touched(front, items, file_len, &pieces[k..k + 1]);
-        if window.with_front || starts.len() > RUNS_LIMIT {
+        let piece = &pieces[k];
+        if (piece.place as usize) < front.len() || starts.len() > RUNS_LIMIT {
             return Err(StoreFault::BadSplice);
         }
+        let window = touched(front, items, file_len, &pieces[k..k + 1]);
         if starts.is_empty() || end < window.from {
             starts.push(k)?;
         }
