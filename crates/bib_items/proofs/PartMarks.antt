@@ -121,7 +121,7 @@ item-marked marks body trail view fields is same has tree ok bytes =
 abbrev pub LacksMark : List ℕ → Sought → Type 0
 LacksMark marks s = (mark : ℕ) → sought_mark s ≡ Some mark → Contains marks mark → ⊥
 
-none-passes : {X : Type 0} (P : X → Type 0) (test : X → Bool) → ((x : X) → P x → test x ≡ false) → (xs : List X) → AllByRecursion P xs → list_any test xs ≡ false
+pub none-passes : {X : Type 0} (P : X → Type 0) (test : X → Bool) → ((x : X) → P x → test x ≡ false) → (xs : List X) → AllByRecursion P xs → list_any test xs ≡ false
 none-passes P test fails [] all = refl
 none-passes P test fails (x ∷ xs) all = ap (λ b. b || list_any test xs) (fails x all.0) ∙ none-passes P test fails xs all.1
 

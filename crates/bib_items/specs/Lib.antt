@@ -6,3 +6,4 @@ pub mod Pages
 pub mod Starts
 pub mod Seeking
 pub mod PartMarks
+pub mod Glancing

@@ -6,12 +6,14 @@
 mod fault;
 mod filling;
 mod flat;
+mod glancing;
 mod list;
 mod marking;
 mod page;
 mod paged;
 mod places;
 mod seams;
+mod searching;
 mod seeking;
 mod shared_text;
 mod span;
