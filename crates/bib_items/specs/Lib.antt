@@ -7,3 +7,4 @@ pub mod Starts
 pub mod Seeking
 pub mod PartMarks
 pub mod Glancing
+pub mod OwnParts

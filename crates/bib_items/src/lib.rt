@@ -7,6 +7,7 @@ mod fault;
 mod filling;
 mod flat;
 mod glancing;
+mod later;
 mod list;
 mod marking;
 mod page;
