@@ -8,3 +8,4 @@ pub mod Seeking
 pub mod PartMarks
 pub mod Glancing
 pub mod OwnParts
+pub mod Slots

@@ -17,6 +17,7 @@ mod seams;
 mod searching;
 mod seeking;
 mod shared_text;
+mod slots;
 mod span;
 mod starts;
 

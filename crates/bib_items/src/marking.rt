@@ -1,6 +1,7 @@
 //! Marks of the parts of items, so that a search passes over pages in which it would find nothing.
 
 ghost use Rattle.std.specs.Prelude.{◌≡◌, ℕ, false, [], List, OnOk, IfOk, Contains, take};
+ghost use Rattle.std.specs.List.Sorted.{IsNonDecreasing};
 ghost use Rattle.bib_spec.specs.Bytes.{name_limit};
 ghost use Rattle.bib_spec.specs.Text.{Text as Bytes};
 ghost use Rattle.bib_spec.specs.Reading.{IsValueWithin};
@@ -9,8 +10,9 @@ ghost use Rattle.bib_scan.specs.ValueParts.{IsPartsOf};
 ghost use Rattle.bib_items.specs.PartMarks.{mark_len, mixed, mixed_all, name_mark, text_mark, part_mark, sought_mark, KeepsMarks, HasPartMark, HasValueMarks, HasFieldMarks, HasItemMarks, IsCovered};
 
 use crate::seeking::Sought;
+use crate::slots::{free_slots, is_seen, see};
 use bib_scan::{Fields, ItemView, Part, Parts, only_part, read_value};
-use std::alloc::{AllocFailed, Global};
+use std::alloc::{AllocError, AllocFailed, Global};
 use std::marker::Model;
 
 /// How many bytes of a text its mark is made of, and how many a look at an item's bytes seeks, at most.
@@ -110,38 +112,49 @@ impl<T: Drop> From<AllocFailed<T>> for Unmarked {
     }
 }
 
+/// Whether the mark is among these, which are in ascending order.
+fn is_among(marks: &[u32], mark: u32) -> bool
+    requires { IsNonDecreasing marks.now }
+    ensures { result ≡ false → Contains marks.now mark → ⊥ }
+{
+    marks.binary_search(&mark).is_ok()
+}
+
 /// Marks of parts, in ascending order.
 #[derive(Drop)]
 pub(crate) struct Marks {
     marks: Vec<u32>,
+    // which slots are those of marks, so that most marks that are not among them are known in a few steps
+    seen: Vec<bool>,
 }
 
 impl Model for Marks {
     ghost use Rattle.std.specs.Prelude.{ℕ, List};
-    ghost use Rattle.std.specs.List.Sorted.{IsNonDecreasing};
+    ghost use Rattle.bib_items.specs.Slots.{AreMarks};
 
     ghost Value = { List ℕ };
 
     ghost view = { λ m. m.marks.items };
 
-    ghost invariant = { λ m. IsNonDecreasing m.marks.items };
+    ghost invariant = { λ m. AreMarks m.marks.items m.seen.items };
 }
 
 impl Marks {
-    /// No marks. It asks for no memory.
-    pub(crate) fn new(alloc: Global) -> Self
-        ensures { result ≡ [] }
+    /// No marks.
+    pub(crate) fn new(alloc: Global) -> Result<Self, AllocError>
+        ensures { IfOk result (λ marks. marks ≡ []) }
     {
-        Marks {
+        Ok(Marks {
             marks: Vec::new(alloc),
-        }
+            seen: free_slots(alloc)?,
+        })
     }
 
     /// Whether this mark is among them.
     pub(crate) fn has(&self, mark: u32) -> bool
         ensures { result ≡ false → Contains self.now mark → ⊥ }
     {
-        self.marks.binary_search(&mark).is_ok()
+        is_seen(&self.seen, mark) && is_among(&self.marks, mark)
     }
 
     /// Adds a mark, unless it is among them or there would be too many.
@@ -153,6 +166,7 @@ impl Marks {
             if self.marks.len() >= MOST_MARKS {
                 return Err(Unmarked::TooMany);
             }
+            see(&mut self.seen, mark);
             self.marks.insert(at, mark)?;
         }
         Ok(())
