@@ -10,7 +10,7 @@ use Rattle.std.specs.List.{AllByRecursion, flat_map, list_any}
 use Rattle.std.specs.Prelude.{◌==◌}
 use Rattle.std.specs.Str.{bytes_eq}
 use Rattle.memchr.specs.Find.{IsFirstByte, is_byte2}
-use Rattle.bib_spec.specs.Bytes.{name_limit, comma, equals_sign, hash, open_brace, close_brace, quote}
+use Rattle.bib_spec.specs.Bytes.{comma, equals_sign, hash, open_brace, close_brace, quote}
 use Rattle.bib_spec.specs.Text.{Text, folded, same}
 use Rattle.bib_spec.specs.Tree.{Part, Braced, Quoted, Digits, Macro, Link, Value, Row, Tree, CommentTree, DefinitionTree, PreambleTree, EntryTree, part_bytes, link_bytes, value_bytes, row_bytes, opening_bytes, last_comma_bytes, close_byte, tree_bytes}
 use Rattle.bib_spec.specs.Texts.{parts_of, values_of}
