@@ -1,6 +1,6 @@
 //! Keeps a list of items. It knows how their bytes are stored, and marks the parts that they have; it does not know what
 //! they mean. It promises that an edit takes time in the bytes of one page and a few steps for each page, however long the
-//! list is.
+//! list is, and that a search for parts passes over no item that has one.
 #![tactic(auto)]
 
 mod fault;
