@@ -23,7 +23,7 @@ front_stands front now more new grown stands =
 -- ---- item by item
 
 -- one item more from a number on
-between-more : (items : List Item) (from n : ℕ) → from ≤ n → n < length items → between from (n + 1) items ≡ between from n items ++ item_at items n ∷ []
+pub between-more : (items : List Item) (from n : ℕ) → from ≤ n → n < length items → between from (n + 1) items ≡ between from n items ++ item_at items n ∷ []
 between-more items from n h k =
     let far : n + 1 - from ≡ n - from + 1 = omega arith in
     let here : from + (n - from) ≡ n = omega arith in

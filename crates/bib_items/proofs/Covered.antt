@@ -1,12 +1,13 @@
 -- Items whose marks are known.
-use Rattle.std.proofs.Common.{◌≡◌, ℕ, suc, ◌+◌, ◌≤◌, ◌<◌, List, [], ◌∷◌, ◌++◌, Option, Some, None, length, take, drop, set, insert, remove, sym, subst}
+use Rattle.std.proofs.Common.{◌≡◌, ℕ, suc, ◌+◌, ◌≤◌, ◌<◌, ◌^◌, List, [], ◌∷◌, ◌++◌, Option, Some, None, length, take, drop, set, insert, remove, sym, subst}
 use Rattle.std.proofs.lemmas.List.{take_all}
 use Rattle.std.proofs.lemmas.List.Elements.{All-nil, All-cons, All-take, All-drop, All-append, All-set, All-weaker, All-more, All-from_get_or}
 use Rattle.bib_spec.specs.Text.{Text}
 use Rattle.bib_items.specs.declared.list.Item.{Item}
 use Rattle.bib_items.specs.declared.span.Span.{Span}
 use Rattle.bib_items.specs.Items.{item, item_at}
-use Rattle.bib_items.specs.Spans.{items_in, LieInEither, AreLaid, Extends}
+use Rattle.bib_items.specs.OwnParts.{OwnParts, only_bytes}
+use Rattle.bib_items.specs.Spans.{total, items_in, LieInEither, AreLaid, Extends}
 use Rattle.bib_items.specs.PartMarks.{KeepsMarks, HasItemMarks, IsCovered, AreCovered}
 use Rattle.bib_items.proofs.ItemsIn.{items_further, all_further}
 use Rattle.bib_items.proofs.PartMarks.{item-kept}
@@ -49,6 +50,11 @@ laid-further shared own more spans len old new extends keeps laid = record {
   fits = laid.fits;
   marked = covered-further old new shared own more spans laid.lie extends keeps laid.marked;
 }
+
+-- the page of these items, with these own bytes and without marks
+pub laid-only : (shared own : Text) (spans : List Span) (len : ℕ) (parts : OwnParts) → parts ≡ only_bytes own → LieInEither shared own spans → len ≡ total spans → len < 2 ^ 64 → AreLaid shared parts.own spans len parts.marks
+laid-only shared own spans len parts is lie sum fits =
+    subst (λ (p : OwnParts). AreLaid shared p.own spans len p.marks) (sym is) (record { lie = lie; len_is = sum; fits = fits; marked = covered-none (items_in (shared ++ own) spans) })
 
 -- ---- item by item
 

@@ -9,3 +9,4 @@ pub mod Passed
 pub mod PageStarts
 pub mod Gathered
 pub mod WholePages
+pub mod Glances

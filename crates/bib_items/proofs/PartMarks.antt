@@ -1,5 +1,5 @@
 -- Marks that are added, part by part.
-use Rattle.std.proofs.Common.{◌≡◌, ℕ, zero, suc, ◌+◌, ◌≤◌, Bool, false, ◌||◌, List, [], ◌∷◌, ◌++◌, Option, Some, slice_get, length, map, take, insert, refl, sym, ◌∙◌, ap, subst, All, ⊎_elim, arith}
+use Rattle.std.proofs.Common.{◌≡◌, ℕ, zero, suc, ◌+◌, ◌≤◌, Bool, false, ◌||◌, List, [], ◌∷◌, ◌++◌, Option, Some, slice_get, length, map, take, drop, insert, refl, sym, ◌∙◌, ap, subst, All, ⊎_elim, arith}
 use Rattle.std.specs.Prelude.{Contains, Err}
 use Rattle.std.specs.List.Sorted.{IsNonDecreasing, IsBinarySearchResult}
 use Rattle.std.specs.Ordering.{nat_cmp}
@@ -7,7 +7,7 @@ use Rattle.std.proofs.lemmas.Grind.{get_or_default_zero}
 use Rattle.std.specs.List.{AllByRecursion, list_any}
 use Rattle.std.proofs.lemmas.Bool.{cases_Bool}
 use Rattle.std.proofs.lemmas.List.{take_all}
-use Rattle.std.proofs.lemmas.List.Elements.{All-head, All-tail, Contains-append_right}
+use Rattle.std.proofs.lemmas.List.Elements.{All-head, All-tail, All-cons, All-take, All-drop, All-append, All-weaker, Contains-append_right}
 use Rattle.std.proofs.lemmas.List.Sorted.{IsPermutation-insert, IsNonDecreasingBy-insert, Contains-permutation, searched}
 use Rattle.std.proofs.lemmas.Option.{same_Some}
 use Rattle.bib_spec.specs.Bytes.{name_limit}
@@ -20,6 +20,7 @@ use Rattle.bib_scan.specs.View.{View, Field, view_of, fields_of, fields_after}
 use Rattle.bib_items.specs.declared.seeking.Sought.{Sought}
 use Rattle.bib_items.specs.declared.seeking.Sought.TheVariants as sought
 use Rattle.bib_items.specs.Seeking.{test_of, LacksPart}
+use Rattle.bib_items.specs.Slots.{IsSeen, AreMarks}
 use Rattle.bib_items.specs.PartMarks.{mixed_all, name_mark, text_mark, sought_mark, KeepsMarks, HasPartMark, HasMarksOf, HasValueMarks, HasFieldMarks, HasItemMarks, IsCovered}
 
 -- ---- more marks
@@ -32,12 +33,23 @@ keeps-insert marks at mark other is =
     Contains-permutation (mark ∷ marks) (insert marks at mark) other (IsPermutation-insert marks at mark) (Contains-append_right (mark ∷ []) marks other is)
 
 -- marks stay in order after a new one is inserted where a search did not find it
-pub sorted-insert : (marks : List ℕ) (at mark : ℕ) → IsBinarySearchResult (λ other. nat_cmp other mark) marks (Err at) → IsNonDecreasing marks → IsNonDecreasing (insert marks at mark)
+sorted-insert : (marks : List ℕ) (at mark : ℕ) → IsBinarySearchResult (λ other. nat_cmp other mark) marks (Err at) → IsNonDecreasing marks → IsNonDecreasing (insert marks at mark)
 sorted-insert marks at mark found sorted =
     let place = searched marks mark (Err at) found (λ i j low high. sorted i j 0 low high) in
     IsNonDecreasingBy-insert (λ x. x) marks at mark sorted place.0
     (λ k d low. let here = place.1 k low in let same = get_or_default_zero marks k d (omega (arith, place.0, low)) in omega (arith, here, same))
     (λ k d low high. let here = place.2 k low high in let same = get_or_default_zero marks k d high in omega (arith, here, same))
+
+-- the marks with one more, whose slot is taken
+pub marks-insert : (marks : List ℕ) (seen : List Bool) (at mark : ℕ) → IsBinarySearchResult (λ other. nat_cmp other mark) marks (Err at) → IsSeen seen mark → AreMarks marks seen → AreMarks (insert marks at mark) seen
+marks-insert marks seen at mark found has is = record {
+  order = sorted-insert marks at mark found is.order;
+  each = All-append (IsSeen seen) (take at marks) (mark ∷ drop at marks) (All-take (IsSeen seen) at marks is.each) (All-cons (IsSeen seen) mark (drop at marks) has (All-drop (IsSeen seen) at marks is.each));
+}
+
+-- the marks, with more slots taken
+pub marks-seen : (marks : List ℕ) (old new : List Bool) → ((other : ℕ) → IsSeen old other → IsSeen new other) → AreMarks marks old → AreMarks marks new
+marks-seen marks old new keeps is = record { order = is.order; each = All-weaker (IsSeen old) (IsSeen new) keeps marks is.each }
 
 -- what holds of each holds of each if it leads to that
 all-lead : {X : Type 0} (P Q : X → Type 0) → ((x : X) → P x → Q x) → (xs : List X) → AllByRecursion P xs → AllByRecursion Q xs
@@ -121,7 +133,7 @@ item-marked marks body trail view fields is same has tree ok bytes =
 abbrev pub LacksMark : List ℕ → Sought → Type 0
 LacksMark marks s = (mark : ℕ) → sought_mark s ≡ Some mark → Contains marks mark → ⊥
 
-none-passes : {X : Type 0} (P : X → Type 0) (test : X → Bool) → ((x : X) → P x → test x ≡ false) → (xs : List X) → AllByRecursion P xs → list_any test xs ≡ false
+pub none-passes : {X : Type 0} (P : X → Type 0) (test : X → Bool) → ((x : X) → P x → test x ≡ false) → (xs : List X) → AllByRecursion P xs → list_any test xs ≡ false
 none-passes P test fails [] all = refl
 none-passes P test fails (x ∷ xs) all = ap (λ b. b || list_any test xs) (fails x all.0) ∙ none-passes P test fails xs all.1
 

@@ -6,3 +6,6 @@ pub mod Pages
 pub mod Starts
 pub mod Seeking
 pub mod PartMarks
+pub mod Glancing
+pub mod OwnParts
+pub mod Slots

@@ -24,7 +24,7 @@ mixed_all mark (b ∷ t) = mixed_all (mixed mark b) t
 abbrev pub name_mark : Text → ℕ
 name_mark name = mixed_all 1 (folded name)
 
--- how many bytes of a text its mark is made of, at most
+-- how many bytes of a text its mark is made of, and how many a look at an item's bytes seeks, at most
 abbrev pub mark_len : ℕ
 mark_len = 32
 

@@ -1,20 +1,21 @@
 //! Marks of the parts of items, so that a search passes over pages in which it would find nothing.
 
-ghost use Rattle.std.specs.Prelude.{◌≡◌, ℕ, false, [], List, OnOk, IfOk, Contains};
+ghost use Rattle.std.specs.Prelude.{◌≡◌, ℕ, false, [], List, OnOk, IfOk, Contains, take};
+ghost use Rattle.std.specs.List.Sorted.{IsNonDecreasing};
 ghost use Rattle.bib_spec.specs.Bytes.{name_limit};
 ghost use Rattle.bib_spec.specs.Text.{Text as Bytes};
 ghost use Rattle.bib_spec.specs.Reading.{IsValueWithin};
 ghost use Rattle.bib_scan.specs.PartView.{part_view};
 ghost use Rattle.bib_scan.specs.ValueParts.{IsPartsOf};
-ghost use Rattle.bib_items.specs.Seeking.{LacksPart};
-ghost use Rattle.bib_items.specs.PartMarks.{mixed, mixed_all, name_mark, text_mark, part_mark, sought_mark, KeepsMarks, HasPartMark, HasValueMarks, HasFieldMarks, HasItemMarks, IsCovered};
+ghost use Rattle.bib_items.specs.PartMarks.{mark_len, mixed, mixed_all, name_mark, text_mark, part_mark, sought_mark, KeepsMarks, HasPartMark, HasValueMarks, HasFieldMarks, HasItemMarks, IsCovered};
 
 use crate::seeking::Sought;
+use crate::slots::{free_slots, is_seen, see};
 use bib_scan::{Fields, ItemView, Part, Parts, only_part, read_value};
-use std::alloc::{AllocFailed, Global};
+use std::alloc::{AllocError, AllocFailed, Global};
 use std::marker::Model;
 
-/// How many bytes of a text its mark is made of, at most.
+/// How many bytes of a text its mark is made of, and how many a look at an item's bytes seeks, at most.
 const MARK_LEN: usize = 32;
 
 /// A mark after one more byte.
@@ -47,15 +48,22 @@ fn mixed_all(mark: u32, text: &[u8]) -> u32
     mark
 }
 
+/// The first bytes of a text.
+pub(crate) fn head(text: &[u8]) -> &[u8]
+    ensures { result.now ≡ take mark_len text.now }
+{
+    if text.len() <= MARK_LEN {
+        return text;
+    }
+    text.split_at(MARK_LEN).0
+}
+
 /// The mark of a text in braces or in quotes. It reads only the first bytes of a long text. Texts that begin alike have the
 /// same mark, which only costs time.
 fn text_mark(text: &[u8]) -> u32
     ensures { result ≡ text_mark text.now }
 {
-    if text.len() <= MARK_LEN {
-        return mixed_all(2, text);
-    }
-    mixed_all(2, text.split_at(MARK_LEN).0)
+    mixed_all(2, head(text))
 }
 
 /// The mark of a part. Digits have none, since no search meets them.
@@ -70,7 +78,7 @@ fn part_mark(part: Part<'_>) -> Option<u32>
 }
 
 /// The mark of the parts that are sought.
-fn sought_mark(sought: Sought<'_>) -> Option<u32>
+pub(crate) fn sought_mark(sought: Sought<'_>) -> Option<u32>
     ensures { result ≡ sought_mark sought.entry }
 {
     match sought {
@@ -104,38 +112,49 @@ impl<T: Drop> From<AllocFailed<T>> for Unmarked {
     }
 }
 
+/// Whether the mark is among these, which are in ascending order.
+fn is_among(marks: &[u32], mark: u32) -> bool
+    requires { IsNonDecreasing marks.now }
+    ensures { result ≡ false → Contains marks.now mark → ⊥ }
+{
+    marks.binary_search(&mark).is_ok()
+}
+
 /// Marks of parts, in ascending order.
 #[derive(Drop)]
 pub(crate) struct Marks {
     marks: Vec<u32>,
+    // which slots are those of marks, so that most marks that are not among them are known in a few steps
+    seen: Vec<bool>,
 }
 
 impl Model for Marks {
     ghost use Rattle.std.specs.Prelude.{ℕ, List};
-    ghost use Rattle.std.specs.List.Sorted.{IsNonDecreasing};
+    ghost use Rattle.bib_items.specs.Slots.{AreMarks};
 
     ghost Value = { List ℕ };
 
     ghost view = { λ m. m.marks.items };
 
-    ghost invariant = { λ m. IsNonDecreasing m.marks.items };
+    ghost invariant = { λ m. AreMarks m.marks.items m.seen.items };
 }
 
 impl Marks {
-    /// No marks. It asks for no memory.
-    pub(crate) fn new(alloc: Global) -> Self
-        ensures { result ≡ [] }
+    /// No marks.
+    pub(crate) fn new(alloc: Global) -> Result<Self, AllocError>
+        ensures { IfOk result (λ marks. marks ≡ []) }
     {
-        Marks {
+        Ok(Marks {
             marks: Vec::new(alloc),
-        }
+            seen: free_slots(alloc)?,
+        })
     }
 
     /// Whether this mark is among them.
-    fn has(&self, mark: u32) -> bool
+    pub(crate) fn has(&self, mark: u32) -> bool
         ensures { result ≡ false → Contains self.now mark → ⊥ }
     {
-        self.marks.binary_search(&mark).is_ok()
+        is_seen(&self.seen, mark) && is_among(&self.marks, mark)
     }
 
     /// Adds a mark, unless it is among them or there would be too many.
@@ -147,6 +166,7 @@ impl Marks {
             if self.marks.len() >= MOST_MARKS {
                 return Err(Unmarked::TooMany);
             }
+            see(&mut self.seen, mark);
             self.marks.insert(at, mark)?;
         }
         Ok(())
@@ -208,16 +228,6 @@ impl Marks {
         ensures added { OnOk result (HasItemMarks self.new body.now) }
     {
         self.add_fields(alloc, ItemView::of(body, b"").fields())
-    }
-
-    /// Whether an item whose marks are among these may have a part that is sought.
-    pub(crate) fn may_have(&self, sought: Sought<'_>) -> bool
-        ensures { result ≡ false → (body : Bytes) → HasItemMarks self.now body → LacksPart sought.entry body }
-    {
-        match sought_mark(sought) {
-            Some(mark) => self.has(mark),
-            None => false,
-        }
     }
 }
 

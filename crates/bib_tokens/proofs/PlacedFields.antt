@@ -1,6 +1,7 @@
 -- The parts of an item's fields with their places.
-use Rattle.std.proofs.Common.{◌≡◌, ℕ, suc, ◌+◌, ◌<◌, ◌^◌, nat_lt, Bool, true, false, ◌||◌, List, [], ◌∷◌, ◌++◌, length, map, ⊎_elim, refl, sym, ◌∙◌, ap, ap₂, subst, arith, append_assoc, append-nil, length-append, All}
+use Rattle.std.proofs.Common.{◌≡◌, ℕ, suc, ◌+◌, ◌<◌, ◌^◌, nat_lt, Bool, true, ◌||◌, List, [], ◌∷◌, ◌++◌, length, map, ⊎_elim, refl, sym, ◌∙◌, ap, ap₂, subst, arith, append_assoc, append-nil, length-append, All}
 use Rattle.std.specs.List.{flat_map, list_any}
+use Rattle.std.proofs.Math.Bool.{or-false}
 use Rattle.std.proofs.lemmas.Bool.{cases_Bool, ltb-false}
 use Rattle.std.proofs.lemmas.List.Elements.{All-head, All-tail}
 use Rattle.bib_spec.specs.Bytes.{name_limit, comma, equals_sign}
@@ -89,14 +90,10 @@ module _ (test : Part → Bool) where
       list_any-append (λ q. test q.1) (value_placed (at + length (row_start row)) row.assignment.value) (rows_placed (at + length (row_bytes row)) rows)
       ∙ ap₂ ◌||◌ (value_any (at + length (row_start row)) row.assignment.value) (rows_any (at + length (row_bytes row)) rows)
 
-  or_none : (b : Bool) → b ≡ (b || false)
-  or_none true = refl
-  or_none false = refl
-
   tree_any : (at : ℕ) (tree : Tree) → any_tokens (tree_placed at tree) ≡ any_part test tree
   tree_any at (CommentTree h) = refl
-  tree_any at (DefinitionTree d) = value_any (at + length (opening_bytes d.opening ++ bytes_before_value d.assignment)) d.assignment.value ∙ or_none (list_any test (parts_of d.assignment.value))
-  tree_any at (PreambleTree p) = value_any (at + length (opening_bytes p.opening)) p.value ∙ or_none (list_any test (parts_of p.value))
+  tree_any at (DefinitionTree d) = value_any (at + length (opening_bytes d.opening ++ bytes_before_value d.assignment)) d.assignment.value ∙ sym (or-false (list_any test (parts_of d.assignment.value)))
+  tree_any at (PreambleTree p) = value_any (at + length (opening_bytes p.opening)) p.value ∙ sym (or-false (list_any test (parts_of p.value)))
   tree_any at (EntryTree e) = rows_any (at + length (opening_bytes e.opening ++ (e.key ++ e.space_after_key))) e.rows
 
   positive : (n : ℕ) → nat_lt 0 (suc n) ≡ true

@@ -158,8 +158,9 @@ fn place_of<L: ItemList>(db: &Database<L>, n: usize, near: usize, at: usize) -> 
 }
 
 /// Adds the sought parts of item `n` and of those after it to the tokens, in their order, and says whether a part of one
-/// is watched for. It looks at each field at most once, and passes over pages of items that have no such part, if the
-/// database was told to note parts. If memory is refused, some of the tokens may have been added.
+/// is watched for. It takes apart only items whose bytes have what is sought or watched for, each once. It passes over pages
+/// of items that have no such part, if the database was told to note parts. If memory is refused, some of the tokens may have
+/// been added.
 pub fn push_from<'a, L: ItemList>(
     alloc: Global,
     tokens: &mut Vec<Token<'a>>,

@@ -1,10 +1,11 @@
-use Rattle.std.proofs.Common.{◌≡◌, ◌∙◌, ◌+◌, ◌<◌, ◌-◌, ◌++◌, List, length, take, drop, refl, subst, subst₂, sym, ap, arith}
+use Rattle.std.proofs.Common.{◌≡◌, [], ◌∙◌, ◌+◌, ◌<◌, ◌-◌, ◌++◌, List, length, take, drop, refl, subst, subst₂, sym, ap, arith}
 use Rattle.bib_spec.specs.Text.{Text}
 use Rattle.bib_spec.specs.Reading.{Reads}
 use Rattle.bib_items.specs.declared.span.Span.{Span}
 use Rattle.bib_items.specs.Items.{all_stored}
+use Rattle.bib_items.specs.OwnParts.{OwnParts}
 use Rattle.bib_items.specs.Spans.{items_in, LieInEither}
-use Rattle.bib_items.proofs.Covered.{covered-none}
+use Rattle.bib_items.proofs.Covered.{laid-only}
 use Rattle.bib_items.proofs.Gathered.{AreSpansOf, spans_none, spans_more}
 use Rattle.bib_items.proofs.page.Page.of.Goals as goal
 
@@ -22,15 +23,11 @@ fill-preserved c =
     c.in_ok-of.ensures.start c.in_ok-of.ensures.body c.in_ok-of.ensures.trail refl)
 
 pub invariant_of-result : goal.invariant_of-result
-invariant_of-result c = record {
-  lie = subst₂ (λ (shared own : Text). LieInEither shared own c.fill.spans.items) (sym c.in_ok-share.ensures) (sym c.new.ensures.items) c.fill.invariant.lie;
-  len_is = omega (arith, c.fill.invariant.sum);
-  fits = omega (arith, c.fill.auto.place-fits);
-  marked = covered-none _;
-}
+invariant_of-result c =
+    laid-only _ [] c.fill.spans.items _ c.nothing.result c.nothing.ensures (subst (λ (t : Text). LieInEither t [] c.fill.spans.items) (sym c.in_ok-share.ensures) c.fill.invariant.lie) (omega (arith, c.fill.invariant.sum)) (omega (arith, c.fill.auto.place-fits))
 
 pub returns : goal.returns
 returns c = λ db reads.
     let ends : c.fill.n ≡ c.args.to = omega (arith, c.fill-test.false, c.fill.auto.n-end) in
-    subst₂ (λ (shared own : Text). items_in (shared ++ own) c.fill.spans.items ≡ all_stored (take (c.args.to - c.args.from) (drop c.args.from db.items))) (sym c.in_ok-share.ensures) (sym c.new.ensures.items)
+    subst₂ (λ (shared own : Text). items_in (shared ++ own) c.fill.spans.items ≡ all_stored (take (c.args.to - c.args.from) (drop c.args.from db.items))) (sym c.in_ok-share.ensures) (sym (ap (λ (p : OwnParts). p.own) c.nothing.ensures))
     (c.fill.invariant.items db reads ∙ ap (λ n. all_stored (take (n - c.args.from) (drop c.args.from db.items))) ends)

@@ -2,7 +2,7 @@ use Rattle.std.proofs.Common.{◌≡◌, ◌++◌, ◌+◌, ◌∙◌, length, a
 use Rattle.bib_spec.specs.Text.{Text}
 use Rattle.bib_items.specs.Spans.{item_in}
 use Rattle.bib_items.proofs.ItemsIn.{appended_is}
-use Rattle.bib_items.proofs.page.append.Goals as goal
+use Rattle.bib_items.proofs.later.append.Goals as goal
 
 pub returns-clause-item : goal.returns-clause-item
 returns-clause-item c = λ shared long.

@@ -1,0 +1,7 @@
+use Rattle.std.proofs.Common.{sym}
+use Rattle.std.proofs.lemmas.List.{take_all}
+use Rattle.bib_items.specs.PartMarks.{mark_len}
+use Rattle.bib_items.proofs.marking.head.Goals as goal
+
+pub returns-then-text-le-MARK_LEN : goal.returns-then-text-le-MARK_LEN
+returns-then-text-le-MARK_LEN c = sym (take_all mark_len c.args.text.now c.if-text-le-MARK_LEN.true)

@@ -1,0 +1,47 @@
+//! Quick looks for a word in an item's bytes, which spare taking the item apart.
+
+ghost use Rattle.std.specs.Prelude.{◌≡◌, ◌++◌, ◌<◌, length, true};
+ghost use Rattle.bib_spec.specs.Text.{Text as Bytes, same};
+ghost use Rattle.bib_items.specs.Glancing.{LacksWord};
+
+use bib_scan::same_folded;
+use memchr::arch::all::packedpair::Pair;
+use memchr::memchr2;
+
+/// The number of the word's byte that is rarest in most texts. Only time depends on it.
+pub(crate) fn rarest(word: &[u8]) -> usize
+    ensures { 0 < length word.now → result < length word.now }
+{
+    match Pair::new(word) {
+        Some(pair) => pair.index1() as usize,
+        None => 0,
+    }
+}
+
+/// Whether the text begins with the word, in any case.
+fn begins_with(text: &[u8], word: &[u8]) -> bool
+    ensures { (name rest : Bytes) → text.now ≡ name ++ rest → same name word.now ≡ true → result ≡ true }
+{
+    text.len() >= word.len() && same_folded(text.split_at(word.len()).0, word)
+}
+
+/// Whether the word is nowhere in the text, in any case. It looks for the word's byte number `rare` first.
+pub(crate) fn lacks_word(text: &[u8], word: &[u8], rare: usize) -> bool
+    requires { rare < length word.now }
+    ensures { result ≡ true → LacksWord text.now word.now }
+{
+    if text.len() < rare {
+        return true;
+    }
+    let low = word[rare].to_ascii_lowercase();
+    let high = low.to_ascii_uppercase();
+    let mut at = rare;
+    'search: while let Some(found) = memchr2(low, high, text.split_at(at).1) {
+        let place = at + found;
+        if begins_with(text.split_at(place - rare).1, word) {
+            return false;
+        }
+        at = place + 1;
+    }
+    true
+}
