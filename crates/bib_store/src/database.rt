@@ -148,14 +148,15 @@ impl<L: ItemList> Database<L> {
         self.tables.file_len
     }
 
-    /// How many bytes were read when the file was opened or last changed. After opening, it is the file's length. After a
-    /// splice, it is the sum of the lengths of the new texts that the splice read, or the new file's length if the splice
-    /// read the whole file. What a splice read in vain before does not count, and a refused splice leaves the number
-    /// unchanged. (dialect)
+    /// How many bytes had to be read when the file was opened or last changed. After opening, it is the file's length. After a
+    /// splice, it is the sum of the lengths of the windows: a piece touches what has the byte before it, and each byte that it
+    /// replaces, and a window is the new text of neighbouring items that are touched. If a window can't be read by itself, it
+    /// is the new file's length. A refused splice leaves the number unchanged. What was read may be less: a first item that is
+    /// touched only by its end is not read if the rest can be read without it. (dialect)
     pub fn last_scan(&self) -> usize
         ensures { result ≤ length self.now }
     {
-        // the texts that were read don't overlap in the file, so that the number is never above the file's length
+        // windows don't overlap in the file, so that the number is never above the file's length
         self.scanned.min(self.tables.file_len)
     }
 

@@ -161,7 +161,6 @@ fn take_out<L: ItemList>(
 /// Replaces what pieces touch among the first `n` items, run by run, from the last to the first. `starts` has the number of
 /// the piece with which each run begins. The new items of a run are inserted before its old items, which are removed only
 /// after the earlier runs are done. If an earlier run is refused, the new items are removed again, and nothing has changed.
-/// It returns how many bytes were read.
 fn follow_runs<L: ItemList>(
     alloc: Global,
     front: &[u8],
@@ -170,7 +169,7 @@ fn follow_runs<L: ItemList>(
     n: usize,
     starts: &[usize],
     pieces: &[Piece],
-) -> Result<usize, StoreFault>
+) -> Result<(), StoreFault>
     requires measured { IsMeasured front.now (L.items items.old) tables.old }
     requires within { n ≤ length (L.items items.old) }
     ensures measured { IsMeasured front.now (L.items items.new) tables.new }
@@ -181,7 +180,7 @@ fn follow_runs<L: ItemList>(
 {
     let Some((start, starts)) = starts.split_last() else {
         if pieces.is_empty() {
-            return Ok(0);
+            return Ok(());
         }
         return Err(StoreFault::BadSplice);
     };
@@ -194,7 +193,7 @@ fn follow_runs<L: ItemList>(
     // for the proof: the count fits a usize
     let _ = items.count();
     match follow_runs(alloc, front, items, tables, from, starts, earlier) {
-        Ok(read) => {
+        Ok(()) => {
             let first_old = items.count() - (old_count - from);
             take_out(
                 items,
@@ -204,7 +203,7 @@ fn follow_runs<L: ItemList>(
                 brought.lead,
                 first_old + touched,
             );
-            Ok(read.saturating_add(change.text.as_slice().len()))
+            Ok(())
         }
         Err(fault) => {
             take_out(
@@ -220,8 +219,8 @@ fn follow_runs<L: ItemList>(
     }
 }
 
-/// Replaces what pieces touch, run by run. `starts` has the number of the piece with which each run begins. It returns how
-/// many bytes were read. If it is refused, nothing has changed.
+/// Replaces what pieces touch, run by run. `starts` has the number of the piece with which each run begins. If it is refused,
+/// nothing has changed.
 pub(crate) fn replace_runs<L: ItemList>(
     alloc: Global,
     front: &[u8],
@@ -229,7 +228,7 @@ pub(crate) fn replace_runs<L: ItemList>(
     tables: &mut Tables,
     starts: &[usize],
     pieces: &[Piece],
-) -> Result<usize, StoreFault>
+) -> Result<(), StoreFault>
     requires kept { IsKept front.now (L.items items.old) tables.old }
     ensures kept { IsKept front.now (L.items items.new) tables.new }
     ensures fit { OnOk result (Fit pieces.now (file_of front.now (L.items items.old))) }
@@ -238,7 +237,7 @@ pub(crate) fn replace_runs<L: ItemList>(
 {
     let count = items.count();
     match follow_runs(alloc, front, items, tables, count, starts, pieces) {
-        Ok(read) => Ok(read),
+        Ok(()) => Ok(()),
         Err(fault) => Err(fault),
     }
 }

@@ -29,6 +29,7 @@ mod preambles;
 mod record;
 mod reversing;
 mod runs;
+mod scanning;
 mod splicing;
 mod tables;
 mod touching;

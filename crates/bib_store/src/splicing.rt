@@ -5,6 +5,7 @@ use crate::database::Database;
 use crate::exchanging::exchange;
 use crate::following_runs::replace_runs;
 use crate::runs::run_starts;
+use crate::scanning::Scan;
 use crate::touching::touched;
 use bib_data::Piece;
 use bib_items::{ItemList, StoreFault};
@@ -45,6 +46,27 @@ impl<L: ItemList> Database<L> {
         ensures err { OnErr result (self.new ≡ self.old) }
     {
         self.prepare(pieces);
+        let scan = Scan::of(
+            self.alloc,
+            self.front.as_slice(),
+            &self.items,
+            self.tables.file_len,
+            pieces,
+        )?;
+        self.splice_at_once(pieces)?;
+        self.scanned = scan.bytes(self.front.as_slice(), &self.items, self.tables.file_len);
+        Ok(())
+    }
+
+    /// Replaces pieces, run by run if it can, or else in one window.
+    fn splice_at_once(&mut self, pieces: &[Piece]) -> Result<(), StoreFault>
+        ensures fit { OnOk result (Fit pieces.now self.old) }
+        ensures spliced { OnOk result (self.new ≡ applied pieces.now self.old) }
+        ensures file { OnOk result (IsOpenable self.new) }
+        ensures refused { IfErr result (λ fault. fault ≡ BadSplice → Fit pieces.now self.old → IsOpenable (applied pieces.now self.old) → ⊥) }
+        ensures only { IfErr result (λ fault. (fault ≡ BadSplice) ⊎ (fault ≡ Memory)) }
+        ensures err { OnErr result (self.new ≡ self.old) }
+    {
         match self.splice_runs(pieces) {
             Ok(()) => Ok(()),
             Err(StoreFault::Memory) => Err(StoreFault::Memory),
@@ -85,7 +107,7 @@ impl<L: ItemList> Database<L> {
             pieces,
         )?;
         self.notes = Seq::from_vec(Vec::new(self.alloc));
-        let read = replace_runs(
+        replace_runs(
             self.alloc,
             self.front.as_slice(),
             &mut self.items,
@@ -93,7 +115,6 @@ impl<L: ItemList> Database<L> {
             &starts,
             pieces,
         )?;
-        self.scanned = read;
         Ok(())
     }
 
@@ -122,7 +143,6 @@ impl<L: ItemList> Database<L> {
         )?;
         let front = new_front(self.alloc, &change)?;
         let front_len = front_len(self.front.as_slice(), &front);
-        let read = change.text.as_slice().len();
         self.notes = Seq::from_vec(Vec::new(self.alloc));
         exchange(
             self.alloc,
@@ -132,7 +152,6 @@ impl<L: ItemList> Database<L> {
             change,
         )?;
         put_front(&mut self.front, front);
-        self.scanned = read;
         Ok(())
     }
 }
