@@ -6,7 +6,7 @@ use Rattle.bib_spec.specs.Text.{Text}
 use Rattle.bib_items.specs.declared.list.Item.{Item}
 use Rattle.bib_items.specs.declared.span.Span.{Span}
 use Rattle.bib_items.specs.Items.{item, item_at}
-use Rattle.bib_items.specs.OwnParts.{OwnParts, only_bytes}
+use Rattle.bib_items.specs.PageOwn.{PageOwn, only_bytes}
 use Rattle.bib_items.specs.Spans.{total, items_in, LieInEither, AreLaid, Extends}
 use Rattle.bib_items.specs.PartMarks.{KeepsMarks, HasItemMarks, IsCovered, AreCovered}
 use Rattle.bib_items.proofs.ItemsIn.{items_further, all_further}
@@ -52,9 +52,9 @@ laid-further shared own more spans len old new extends keeps laid = record {
 }
 
 -- the page of these items, with these own bytes and without marks
-pub laid-only : (shared own : Text) (spans : List Span) (len : ℕ) (parts : OwnParts) → parts ≡ only_bytes own → LieInEither shared own spans → len ≡ total spans → len < 2 ^ 64 → AreLaid shared parts.own spans len parts.marks
-laid-only shared own spans len parts is lie sum fits =
-    subst (λ (p : OwnParts). AreLaid shared p.own spans len p.marks) (sym is) (record { lie = lie; len_is = sum; fits = fits; marked = covered-none (items_in (shared ++ own) spans) })
+pub laid-only : (shared own : Text) (spans : List Span) (len : ℕ) (kept : PageOwn) → kept ≡ only_bytes own → LieInEither shared own spans → len ≡ total spans → len < 2 ^ 64 → AreLaid shared kept.own spans len kept.marks
+laid-only shared own spans len kept is lie sum fits =
+    subst (λ (p : PageOwn). AreLaid shared p.own spans len p.marks) (sym is) (record { lie = lie; len_is = sum; fits = fits; marked = covered-none (items_in (shared ++ own) spans) })
 
 -- ---- item by item
 

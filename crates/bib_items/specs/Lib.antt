@@ -7,5 +7,5 @@ pub mod Starts
 pub mod Seeking
 pub mod PartMarks
 pub mod Glancing
-pub mod OwnParts
+pub mod PageOwn
 pub mod Slots

@@ -1,4 +1,5 @@
-//! What a page gets once items come to it or parts are sought. Most pages have nothing of it, so it is in a box.
+//! What a page has once items came to it or parts were sought: bytes of its own, and marks. Most pages have neither, so that
+//! both are in one box.
 
 ghost use Rattle.std.specs.Prelude.{◌≡◌, ◌≢◌, ◌++◌, ◌⊎◌, length, false, [], Some, None, IfOk, OnOk};
 ghost use Rattle.bib_spec.specs.Text.{Text as Bytes};
@@ -6,7 +7,7 @@ ghost use Rattle.bib_items.specs.Items.{item};
 ghost use Rattle.bib_items.specs.Spans.{item_in, LiesInEither, Extends};
 ghost use Rattle.bib_items.specs.Seeking.{LacksPart};
 ghost use Rattle.bib_items.specs.PartMarks.{IsCovered};
-ghost use Rattle.bib_items.specs.OwnParts.{no_parts, only_bytes};
+ghost use Rattle.bib_items.specs.PageOwn.{nothing_own, only_bytes};
 
 use crate::marking::{Marks, cover};
 use crate::searching::Search;
@@ -28,7 +29,7 @@ struct Kept {
 #[derive(Drop)]
 enum Held {
     Nothing,
-    Parts(Box<Kept>),
+    Boxed(Box<Kept>),
 }
 
 /// What a page has besides the text that it shares and the places of its items: its own bytes, which are those of the items
@@ -39,11 +40,11 @@ pub(crate) struct Later {
 }
 
 impl Model for Later {
-    ghost use Rattle.bib_items.specs.OwnParts.{OwnParts, parts_of};
+    ghost use Rattle.bib_items.specs.PageOwn.{PageOwn, own_of};
 
-    ghost Value = { OwnParts };
+    ghost Value = { PageOwn };
 
-    ghost view = { λ l. parts_of l.held };
+    ghost view = { λ l. own_of l.held };
 }
 
 /// Appends a body and a trail to the page's own bytes, and returns their span. The shared text has `shared_len` bytes.
@@ -68,8 +69,8 @@ pub(crate) fn append(
 
 /// A box with these bytes, and without marks.
 fn boxed(alloc: Global, own: Vec<u8>) -> Result<Box<Kept>, AllocError>
-    ensures own { IfOk result (λ parts. parts.value.own.items ≡ own.items) }
-    ensures marks { IfOk result (λ parts. parts.value.marks ≡ None) }
+    ensures own { IfOk result (λ kept. kept.value.own.items ≡ own.items) }
+    ensures marks { IfOk result (λ kept. kept.value.marks ≡ None) }
 {
     let kept = Kept {
         own,
@@ -82,7 +83,7 @@ fn boxed(alloc: Global, own: Vec<u8>) -> Result<Box<Kept>, AllocError>
 impl Later {
     /// Neither bytes nor marks. It asks for no memory.
     pub(crate) fn nothing() -> Self
-        ensures { result ≡ no_parts }
+        ensures { result ≡ nothing_own }
     {
         Later {
             held: Held::Nothing,
@@ -97,7 +98,7 @@ impl Later {
             return Ok(Later::nothing());
         }
         Ok(Later {
-            held: Held::Parts(boxed(alloc, own)?),
+            held: Held::Boxed(boxed(alloc, own)?),
         })
     }
 
@@ -107,7 +108,7 @@ impl Later {
     {
         match &self.held {
             Held::Nothing => &[],
-            Held::Parts(parts) => parts.own.as_slice(),
+            Held::Boxed(kept) => kept.own.as_slice(),
         }
     }
 
@@ -118,7 +119,7 @@ impl Later {
     {
         match &mut self.held {
             Held::Nothing => {}
-            Held::Parts(parts) => parts.own = own,
+            Held::Boxed(kept) => kept.own = own,
         }
     }
 
@@ -127,7 +128,7 @@ impl Later {
         ensures { self.new ≡ self.old }
     {
         if let Held::Nothing = self.held {
-            self.held = Held::Parts(boxed(alloc, Vec::new(alloc))?);
+            self.held = Held::Boxed(boxed(alloc, Vec::new(alloc))?);
         }
         Ok(())
     }
@@ -150,9 +151,9 @@ impl Later {
         self.begin(alloc)?;
         match &mut self.held {
             Held::Nothing => Err(AllocError),
-            Held::Parts(parts) => {
-                cover(alloc, &mut parts.marks, body);
-                append(shared_len, &mut parts.own, body, trail)
+            Held::Boxed(kept) => {
+                cover(alloc, &mut kept.marks, body);
+                append(shared_len, &mut kept.own, body, trail)
             }
         }
     }
@@ -161,7 +162,7 @@ impl Later {
     pub(crate) fn is_noted(&self) -> bool {
         match &self.held {
             Held::Nothing => false,
-            Held::Parts(parts) => parts.is_crowded || parts.marks.is_some(),
+            Held::Boxed(kept) => kept.is_crowded || kept.marks.is_some(),
         }
     }
 
@@ -175,7 +176,7 @@ impl Later {
         }
         match &mut self.held {
             Held::Nothing => {}
-            Held::Parts(parts) => parts.marks = Some(marks),
+            Held::Boxed(kept) => kept.marks = Some(marks),
         }
     }
 
@@ -188,7 +189,7 @@ impl Later {
         }
         match &mut self.held {
             Held::Nothing => {}
-            Held::Parts(parts) => parts.is_crowded = true,
+            Held::Boxed(kept) => kept.is_crowded = true,
         }
     }
 
@@ -198,7 +199,7 @@ impl Later {
     {
         match &self.held {
             Held::Nothing => true,
-            Held::Parts(parts) => match &parts.marks {
+            Held::Boxed(kept) => match &kept.marks {
                 Some(marks) => sought.is_among(marks),
                 None => true,
             },

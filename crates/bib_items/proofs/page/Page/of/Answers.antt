@@ -3,7 +3,7 @@ use Rattle.bib_spec.specs.Text.{Text}
 use Rattle.bib_spec.specs.Reading.{Reads}
 use Rattle.bib_items.specs.declared.span.Span.{Span}
 use Rattle.bib_items.specs.Items.{all_stored}
-use Rattle.bib_items.specs.OwnParts.{OwnParts}
+use Rattle.bib_items.specs.PageOwn.{PageOwn}
 use Rattle.bib_items.specs.Spans.{items_in, LieInEither}
 use Rattle.bib_items.proofs.Covered.{laid-only}
 use Rattle.bib_items.proofs.Gathered.{AreSpansOf, spans_none, spans_more}
@@ -29,5 +29,5 @@ invariant_of-result c =
 pub returns : goal.returns
 returns c = λ db reads.
     let ends : c.fill.n ≡ c.args.to = omega (arith, c.fill-test.false, c.fill.auto.n-end) in
-    subst₂ (λ (shared own : Text). items_in (shared ++ own) c.fill.spans.items ≡ all_stored (take (c.args.to - c.args.from) (drop c.args.from db.items))) (sym c.in_ok-share.ensures) (sym (ap (λ (p : OwnParts). p.own) c.nothing.ensures))
+    subst₂ (λ (shared own : Text). items_in (shared ++ own) c.fill.spans.items ≡ all_stored (take (c.args.to - c.args.from) (drop c.args.from db.items))) (sym c.in_ok-share.ensures) (sym (ap (λ (p : PageOwn). p.own) c.nothing.ensures))
     (c.fill.invariant.items db reads ∙ ap (λ n. all_stored (take (n - c.args.from) (drop c.args.from db.items))) ends)
