@@ -25,8 +25,9 @@ fn begins_with(text: &[u8], word: &[u8]) -> bool
     text.len() >= word.len() && same_folded(text.split_at(word.len()).0, word)
 }
 
-/// Whether the word is nowhere in the text, in any case. It looks for the word's byte number `rare` first.
-pub(crate) fn lacks_word(text: &[u8], word: &[u8], rare: usize) -> bool
+/// Whether the word is nowhere in the text, in any case. It looks for the word's byte number `rare` first, and takes no
+/// memory. The time is in the length of the text, times that of the word if all bytes are alike.
+pub fn lacks_word(text: &[u8], word: &[u8], rare: usize) -> bool
     requires { rare < length word.now }
     ensures { result ≡ true → LacksWord text.now word.now }
 {

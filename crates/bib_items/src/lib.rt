@@ -23,6 +23,7 @@ mod starts;
 
 pub use fault::StoreFault;
 pub use flat::Flat;
+pub use glancing::lacks_word;
 pub use list::{Item, ItemList};
 pub use paged::Paged;
 pub use seeking::Sought;

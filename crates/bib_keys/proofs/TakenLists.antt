@@ -5,7 +5,7 @@ use Rattle.std.specs.Borrow.{Bor}
 use Rattle.std.specs.Option.{option_copied}
 use Rattle.std.proofs.Math.ListN.{drop_of_length-le}
 use Rattle.std.specs.Char.{to_ascii_lowercase}
-use Rattle.std.proofs.Math.Bool.{or_comm, or-true}
+use Rattle.std.proofs.Math.Bool.{or_comm, or-false, or-true}
 use Rattle.std.proofs.lemmas.Bool.{cases_Bool, cond-true, cond-false}
 use Rattle.std.proofs.lemmas.Option.{same_Some}
 use Rattle.std.proofs.lemmas.List.{length-map, map-append}
@@ -136,12 +136,8 @@ but-option_less (Some key) rest keys t s but add = but-one_less key rest keys t 
 
 pub but-none : (keys : List Text) (t : TakenKeys) → AreTakenBut [] keys t → AreTaken keys t
 but-none keys t but = same-taken but.done keys t but.are
-    (λ name. sym (or_false (is_taken but.done name)) ∙ but.among name)
+    (λ name. sym (or-false (is_taken but.done name)) ∙ but.among name)
     (sym (add-zero (length but.done)) ∙ but.long)
-  where
-    or_false : (b : Bool) → (b || false) ≡ b
-    or_false true = refl
-    or_false false = refl
 
 pub but-past : (keys all : List Text) (i : ℕ) (t : TakenKeys) → length keys ≤ i → AreTakenBut (drop i keys) all t → AreTaken all t
 but-past keys all i t le but = but-none all t (subst (λ (rest : List Text). AreTakenBut rest all t) (drop_of_length-le keys le) but)

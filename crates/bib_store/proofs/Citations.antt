@@ -1,5 +1,6 @@
 -- The loops by which a cited list is made.
 use Rattle.std.proofs.Common.{◌≡◌, ℕ, zero, suc, ◌+◌, ◌<◌, ◌≤◌, ◌==◌, Bool, true, false, cond, not, ◌&&◌, ◌||◌, nat_le, List, [], ◌∷◌, ◌++◌, length, take, drop, get_or, set, Option, Some, None, is_none, All, refl, sym, ◌∙◌, ap, arith, map, filter, filter_map, count_by, append_assoc, ⊎_elim, replicate, ne_eqb}
+use Rattle.std.proofs.Math.Bool.{or-true, or-false}
 use Rattle.std.specs.List.{range_with_len, enumerate_from, cons_option, AllByRecursion}
 use Rattle.std.specs.Option.{option_map_or}
 use Rattle.std.proofs.lemmas.Bool.{eqb-true, eq-eqb, cases_eq}
@@ -114,18 +115,10 @@ listing_new numbers listed marks i x h lt is within unmarked = record {
         ap (λ b. cond (not b) (x ∷ filter (left_out listed) (filter (other_than x) rest)) (filter (left_out listed) (filter (other_than x) rest))) absent
         ∙ ap (λ l. x ∷ l) (filter_twice (left_out listed) (other_than x) (left_out (listed ++ x ∷ [])) (left_out_after listed x) rest)
 
-    or_true : (b : Bool) → true ≡ (b || true)
-    or_true true = refl
-    or_true false = refl
-
-    or_false : (b : Bool) → b ≡ (b || false)
-    or_false true = refl
-    or_false false = refl
-
     at : (n : ℕ) → n < length marks → get_or (set marks x true) n false ≡ (is_among listed n || ((x == n) || false))
     at n below = ⊎_elim
-        (λ same. ap (λ k. get_or (set marks x true) k false) (sym same) ∙ get_or-set_same marks x true false within ∙ or_true (is_among listed n) ∙ ap (λ b. is_among listed n || (b || false)) (sym (eq-eqb x n same)))
-        (λ differs. get_or-set_other marks x n true false (λ e. differs (sym e)) ∙ h.marked n below ∙ or_false (is_among listed n) ∙ ap (λ b. is_among listed n || (b || false)) (sym (ne_eqb x n differs)))
+        (λ same. ap (λ k. get_or (set marks x true) k false) (sym same) ∙ get_or-set_same marks x true false within ∙ sym (or-true (is_among listed n)) ∙ ap (λ b. is_among listed n || (b || false)) (sym (eq-eqb x n same)))
+        (λ differs. get_or-set_other marks x n true false (λ e. differs (sym e)) ∙ h.marked n below ∙ sym (or-false (is_among listed n)) ∙ ap (λ b. is_among listed n || (b || false)) (sym (ne_eqb x n differs)))
         (cases_eq x n)
 
 keep_all : (xs : List ℕ) → filter (left_out []) xs ≡ xs

@@ -18,7 +18,7 @@ use Rattle.bib_scan.specs.Note.{is_crossref, crossref_field}
 use Rattle.bib_value.specs.Raw.{OfValue}
 use Rattle.bib_store.specs.Meaning.{is_entry_tree}
 use Rattle.bib_store.specs.ItemTexts.{crossref_in, OfRows}
-use Rattle.bib_store.specs.Glancing.{LacksWord}
+use Rattle.bib_items.specs.Glancing.{LacksWord}
 use Rattle.bib_store.proofs.EntryItems.{entry_tree}
 use Rattle.bib_store.proofs.RowTexts.{cons_parts, crossref_more, nil_cons}
 

@@ -22,7 +22,6 @@ pub mod ReadableFields
 pub mod RowTexts
 pub mod SaidTexts
 pub mod ShortValues
-pub mod Glances
 pub mod FirstCrossrefs
 pub mod SettledCrossrefs
 pub mod ShortEntries

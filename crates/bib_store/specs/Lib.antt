@@ -13,4 +13,3 @@ pub mod Following
 pub mod Firm
 pub mod InPlace
 pub mod Runs
-pub mod Glancing

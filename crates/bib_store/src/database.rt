@@ -230,8 +230,8 @@ impl<L: ItemList> Database<L> {
     }
 
     /// The number of an item, or the count of items, such that a search from item `n` on can pass over all items before it:
-    /// none of them has a part that one of the two seeks. The item itself may have such a part or not. It takes some steps
-    /// for each page of items that it passes.
+    /// none of them has a part that one of the two seeks. The item itself may have such a part or not. It takes a few steps
+    /// for each page of items that it passes by their marks, and else time in the length of the items that it passes.
     pub fn next_with(&self, n: usize, sought: Sought<'_>, other: Sought<'_>) -> usize
         requires { IsItemPlace self.now n }
         ensures order { n ≤ result }
