@@ -5,7 +5,7 @@ use Rattle.std.specs.List.{prefix_len, slice_range, list_any, range_with_len}
 use Rattle.std.proofs.Math.Bool.{and-false, or-true}
 use Rattle.std.proofs.lemmas.List.{get_or-drop, drop-take, take-append-drop, take-take, length-take-le}
 use Rattle.std.proofs.lemmas.List.Sums.{sum_by-append, count_by-le-length}
-use Rattle.std.proofs.lemmas.Bool.{eqb-true, ne_eqb, eq-eqb, lt-ltb, le-ltb}
+use Rattle.std.proofs.lemmas.Bool.{eqb-true, ne_eqb, eq-eqb, lt-ltb, le-ltb, not-true}
 use Rattle.bib_spec.specs.Text.{Text, opened_before, closed_before}
 use Rattle.bib_names.specs.Marks.{is_brace, goes_on}
 use Rattle.bib_names.specs.Places.{is_level, places_from}
@@ -223,10 +223,6 @@ deep_run p at (suc n) k lt = go k (p at) refl lt (λ j h. deep_run p (at + 1) n 
     go k false e h later = absurd (omega arith)
     go zero true e h later = ap p (add-zero at) ∙ e
     go (suc k) true e h later = let n : at + suc k ≡ at + 1 + k = omega arith in ap p n ∙ later k (omega arith)
-
-not-true : (b : Bool) → not b ≡ true → b ≡ false
-not-true true h = absurd (cc)
-not-true false h = refl
 
 -- no place between a special character's ends has depth 0
 special_deep : (text : Text) (place end : ℕ) → IsSpecial text place end → (p : ℕ) → place + 1 ≤ p → p < end → is_level text p ≡ false

@@ -1,6 +1,6 @@
 -- The commas of a name.
 use Rattle.std.proofs.Common.{◌≡◌, ℕ, ◌+◌, ◌-◌, ◌≤◌, ◌<◌, true, false, eqb, List, [], ◌∷◌, length, take, drop, get_or, refl, sym, ap, ◌∙◌, arith}
-use Rattle.std.proofs.lemmas.Bool.{eqb-true, eq-eqb}
+use Rattle.std.proofs.lemmas.Bool.{eqb-true, eq-eqb, and_parts}
 use Rattle.std.specs.Prelude.{Option, Some, None, is_some, IfSome}
 use Rattle.std.specs.List.{slice_range}
 use Rattle.bib_spec.specs.Text.{Text, opened_before, closed_before}
@@ -9,7 +9,6 @@ use Rattle.bib_names.specs.Words.{words_of}
 use Rattle.bib_names.specs.declared.name.Name.{Name}
 use Rattle.bib_names.specs.FirstComma.{commas_from, IsFirstComma}
 use Rattle.bib_names.specs.Name.{is_comma, commas, without_comma, with_commas, parts_of_bare, parts_of_pieces}
-use Rattle.bib_names.proofs.BoolLemmas.{both}
 use Rattle.bib_names.proofs.BraceLemmas.{one_if, opened_more, closed_more}
 use Rattle.bib_names.proofs.PlaceLemmas.{places_here, places_past, places_none}
 
@@ -30,7 +29,7 @@ pub record NoCommaYet (text : Text) (start place : ℕ) : Type 0 where
 
 pub comma_found : (text : Text) (start place : ℕ) → start ≤ place → place < length text → NoCommaYet text start place → is_comma text place ≡ true → IsFirstComma text start place
 comma_found text start place after lt far passes =
-    let parts = both (is_level text place) (eqb (get_or text place 0) 44) passes in
+    let parts = and_parts (is_level text place) (eqb (get_or text place 0) 44) passes in
     record {
       after = after;
       within = lt;

@@ -3,14 +3,13 @@ use Rattle.std.proofs.Common.{◌≡◌, ℕ, ◌+◌, ◌-◌, ◌≤◌, ◌<�
 use Rattle.std.specs.Prelude.{codes}
 use Rattle.std.specs.List.{slice_range, list_all}
 use Rattle.std.specs.Char.{to_ascii_lowercase}
-use Rattle.std.proofs.lemmas.Bool.{eqb-true, ne_eqb, ltb-true, ltb-false}
+use Rattle.std.proofs.lemmas.Bool.{eqb-true, ne_eqb, ltb-true, ltb-false, and_parts}
 use Rattle.std.proofs.Math.Dec.{ltb}
 use Rattle.std.proofs.lemmas.List.{get_or-drop, get_or_past, take_all, length-drop}
 use Rattle.bib_spec.specs.Text.{Text, is_space, same}
 use Rattle.bib_text.specs.Trimming.{trimmed}
 use Rattle.bib_names.specs.Places.{is_level, places_from, between, Stretch}
 use Rattle.bib_names.specs.NameList.{is_and, is_cut, cuts, names_of}
-use Rattle.bib_names.proofs.BoolLemmas.{both}
 use Rattle.bib_names.proofs.PlaceLemmas.{places_here, places_past, places_none}
 
 abbrev pub names_between : Text → ℕ → List ℕ → List Text
@@ -37,16 +36,16 @@ letter_apart b c high h =
 -- none of the bytes of `and` is white space
 and_apart : (text : Text) → same (take 3 text) (codes "and") ≡ true → (is_space (get_or text 0 0) ≡ false) × (is_space (get_or text 1 0) ≡ false) × (is_space (get_or text 2 0) ≡ false)
 and_apart [] h = absurd (cc)
-and_apart (a ∷ []) h = let p = (both (eqb (to_ascii_lowercase a) 97) _ h).1 in absurd (cc)
-and_apart (a ∷ b ∷ []) h = let p = (both (eqb (to_ascii_lowercase b) 110) _ (both (eqb (to_ascii_lowercase a) 97) _ h).1).1 in absurd (cc)
+and_apart (a ∷ []) h = let p = (and_parts (eqb (to_ascii_lowercase a) 97) _ h).1 in absurd (cc)
+and_apart (a ∷ b ∷ []) h = let p = (and_parts (eqb (to_ascii_lowercase b) 110) _ (and_parts (eqb (to_ascii_lowercase a) 97) _ h).1).1 in absurd (cc)
 and_apart (a ∷ b ∷ c ∷ rest) h =
-    let p = both (eqb (to_ascii_lowercase a) 97) _ h in
-    let q = both (eqb (to_ascii_lowercase b) 110) _ p.1 in
-    let r = both (eqb (to_ascii_lowercase c) 100) _ q.1 in
+    let p = and_parts (eqb (to_ascii_lowercase a) 97) _ h in
+    let q = and_parts (eqb (to_ascii_lowercase b) 110) _ p.1 in
+    let r = and_parts (eqb (to_ascii_lowercase c) 100) _ q.1 in
     (letter_apart a 97 (lit< tt) p.0, letter_apart b 110 (lit< tt) q.0, letter_apart c 100 (lit< tt) r.0)
 
 -- a byte that is white space is in the text
-space_within : (text : Text) (place : ℕ) → is_space (get_or text place 0) ≡ true → place < length text
+pub space_within : (text : Text) (place : ℕ) → is_space (get_or text place 0) ≡ true → place < length text
 unfolding is_space
 space_within text place h =
     elim (ltb place (length text)) as (λ b. ltb place (length text) ≡ b → place < length text) [
@@ -58,9 +57,9 @@ space_within text place h =
 pub names_cut : (text : Text) (names : List Text) (start place : ℕ) → place < length text → AreNamesSoFar text names start place → is_cut text place ≡ true
     → (start ≤ place) × AreNamesSoFar text (names ++ trimmed (slice_range text start place) ∷ []) (place + 3) (place + 1)
 names_cut text names start place lt far passes =
-    let ends = both _ _ (both (is_level text place) (is_and text place) passes).1 in
+    let ends = and_parts _ _ (and_parts (is_level text place) (is_and text place) passes).1 in
     let after = ends.1 in
-    let apart = and_apart (drop place text) (both _ _ ends.0).1 in
+    let apart = and_apart (drop place text) (and_parts _ _ ends.0).1 in
     let next : is_space (get_or text (place + 1) 0) ≡ false = rw get_or-drop at apart.1 in
     let third : is_space (get_or text (place + 2) 0) ≡ false = rw get_or-drop at apart.2 in
     let not_next : start ≢ place + 1 = λ e. let s = far.space (omega arith) in let t = ap (λ n. is_space (get_or text n 0)) e in cc in
