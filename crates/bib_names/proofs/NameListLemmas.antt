@@ -93,6 +93,3 @@ names_end text names start place le far =
 -- the names of a list that is not blank
 pub names_of-words : (text : Text) → list_all is_space text ≡ false → names_between text 0 (cuts text) ≡ names_of text
 names_of-words text words = ap (λ b. cond b [] (names_between text 0 (cuts text))) (sym words)
-
-pub names_of-blank : (text : Text) → list_all is_space text ≡ true → [] ≡ names_of text
-names_of-blank text blank = ap (λ b. cond b [] (names_between text 0 (cuts text))) (sym blank)

@@ -39,10 +39,6 @@ group_found text place last low high none level = record {
   level = level;
 }
 
-pub group_missing : (text : Text) (place last : ℕ) → place < length text → length text ≤ last → NoneLevel text place last → is_level text (next_level text place) ≡ false
-group_missing text place last low high none =
-    ap (is_level text) (next_level_end text place low (λ p l h. none p l (omega arith))) ∙ none (length text) low high
-
 -- after an opening brace the depth is 1, and so it is after a backslash there
 opening_deep : (text : Text) (place end : ℕ) → place < end → end ≤ length text → is_level text place ≡ true → is_opening text place ≡ true → is_level text end ≡ true → place + 2 < end
 opening_deep text place end low high level opening closed =
@@ -92,9 +88,6 @@ pub find_past : (test : ℕ → Bool) (at n : ℕ) → at < n → test at ≡ fa
 find_past test at n lt fails =
     let one : n - at ≡ suc (n - (at + 1)) = omega arith in
     ap (λ m. find test (range_with_len at m)) one ∙ ap (λ b. cond b (Some at) (find test (range_with_len (at + 1) (n - (at + 1))))) fails
-
-pub find_none : (test : ℕ → Bool) (at n : ℕ) → n ≤ at → find test (range_with_len at (n - at)) ≡ None
-find_none test at n le = let none : n - at ≡ 0 = omega arith in ap (λ m. find test (range_with_len at m)) none
 
 pub none_more : (text : Text) (place last : ℕ) → NoneLevel text place last → is_level text (last + 1) ≡ false → NoneLevel text place (last + 1)
 none_more text place last none fails p low high =
