@@ -8,20 +8,6 @@ use Rattle.bib_spec.specs.Text.{Text}
 use Rattle.bib_names.specs.Words.{NameWord}
 use Rattle.ris_format.specs.People.{word_end, words_end, to_last_end, part_text, family}
 
-pub drop-min : (text : Text) (n : ℕ) → drop (min n (length text)) text ≡ drop n text
-drop-min text n =
-    ⊎_elim
-    (λ (lt : n < length text). let e : min n (length text) ≡ n = omega arith in ap (λ k. drop k text) e)
-    (λ (le : length text ≤ n). let e : min n (length text) ≡ length text = omega arith in ap (λ k. drop k text) e ∙ drop_all (length text) text (omega arith) ∙ sym (drop_all n text le))
-    (cases_lt n (length text))
-
-pub take-min : (text : Text) (n : ℕ) → take (min n (length text)) text ≡ take n text
-take-min text n =
-    ⊎_elim
-    (λ (lt : n < length text). let e : min n (length text) ≡ n = omega arith in ap (λ k. take k text) e)
-    (λ (le : length text ≤ n). let e : min n (length text) ≡ length text = omega arith in ap (λ k. take k text) e ∙ take_all (length text) text (omega arith) ∙ sym (take_all n text le))
-    (cases_lt n (length text))
-
 -- an end after the text's own is no other
 pub range-min : (text : Text) (start end most : ℕ) → length text ≤ most → slice_range text start (min end most) ≡ slice_range text start end
 range-min text start end most le =

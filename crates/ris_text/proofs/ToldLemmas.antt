@@ -94,44 +94,6 @@ outside_first : (end : ℕ) (rest after : List Line) (line : Line) (class : Clas
 outside_first end rest after line class first is =
     ap (λ (ls : List Line). (told end ls).outside) first ∙ ap (λ (t : Told). t.outside) (told-class end line after class is)
 
--- a record
-pub outside_record : (end skipped n : ℕ) (whole : Outcome) (most : ℕ) (rest after left : List Line) (line : Line) (r : RisRecord)
-    → IsOutside end skipped whole most rest → rest ≡ line ∷ after → line.class ≡ Begin
-    → record_told end line after ≡ with_record r (with_skipped n (told end left).outside)
-    → whole ≡ with_record r (with_front [] (skipped + n) (told end left).outside)
-outside_record end skipped n whole most rest after left line r so_far first begins says =
-    sym so_far.told
-    ∙ ap (with_front [] skipped) (outside_first end rest after line Begin first begins ∙ says)
-    ∙ record_front skipped n r (told end left).outside
-
--- a line that is skipped
-pub IsOutside-skipped : (end skipped skipped' : ℕ) (whole : Outcome) (most : ℕ) (rest after : List Line) (line : Line) → IsOutside end skipped whole most rest
-    → rest ≡ line ∷ after → line.class ≡ Untagged → skipped' ≡ skipped + 1 → IsOutside end skipped' whole most after
-IsOutside-skipped end skipped skipped' whole most rest after line so_far first untagged more = record {
-  told = ap (λ k. with_front [] k (told end after).outside) more ∙ front_skipped skipped (told end after).outside
-      ∙ ap (with_front [] skipped) (sym (outside_first end rest after line Untagged first untagged)) ∙ so_far.told;
-  count = omega (arith, so_far.count, ap length first);
-}
-
--- a blank line
-pub IsOutside-blank : (end skipped : ℕ) (whole : Outcome) (most : ℕ) (rest after : List Line) (line : Line) → IsOutside end skipped whole most rest
-    → rest ≡ line ∷ after → line.class ≡ Blank → IsOutside end skipped whole most after
-IsOutside-blank end skipped whole most rest after line so_far first blank = record {
-  told = ap (with_front [] skipped) (sym (outside_first end rest after line Blank first blank)) ∙ so_far.told;
-  count = omega (arith, so_far.count, ap length first);
-}
-
--- what goes wrong
-pub outside_wrong : (end skipped : ℕ) (whole : Outcome) (most : ℕ) (rest : List Line) (fault : RisFault) → IsOutside end skipped whole most rest
-    → (told end rest).outside ≡ Err fault → whole ≡ Err fault
-outside_wrong end skipped whole most rest fault so_far wrong = sym so_far.told ∙ ap (with_front [] skipped) wrong
-
--- the end
-pub outside_end : (end skipped : ℕ) (whole : Outcome) (most : ℕ) (rest : List Line) → IsOutside end skipped whole most rest → rest ≡ [] → whole ≡ Ok (ris_file [] skipped)
-outside_end end skipped whole most rest so_far none =
-    let count : skipped + 0 ≡ skipped = omega arith in
-    sym so_far.told ∙ ap (λ (ls : List Line). with_front [] skipped (told end ls).outside) none ∙ ap (λ k. Ok (ris_file [] k)) count
-
 -- ---- a record
 
 empty_since : (t : Text) → length t ≡ 0 → is_empty t ≡ true
