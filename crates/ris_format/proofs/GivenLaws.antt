@@ -20,6 +20,7 @@ use Rattle.ris_format.specs.Fitting.{has_own_text, is_spaced, GivenRecordsFit}
 use Rattle.bib_value.proofs.NeatTexts.{field_text-neat}
 use Rattle.ris_format.proofs.Neat.{neat-whole}
 use Rattle.ris_format.proofs.FitLaws.{spaced_records_fit}
+use Rattle.bib_scan.proofs.TreeAgainLaws.{key_no_space}
 
 -- ---- field texts
 
@@ -72,14 +73,10 @@ own-inherited entries own (n ∷ ns) h =
 
 -- ---- keys
 
-plain-byte : (d : Delimiter) (b : ℕ) → goes_on_key d b ≡ true → is_space b ≡ false
-plain-byte Brace b h = (or_parts (is_space b) (eqb b comma) (or_parts (is_space b || eqb b comma) (eqb b close_brace) (not-true (is_space b || eqb b comma || eqb b close_brace) h)).0).0
-plain-byte Paren b h = (or_parts (is_space b) (eqb b comma) (not-true (is_space b || eqb b comma) h)).0
-
 plain-key : (d : Delimiter) (key : Text) → AllPass (goes_on_key d) key → list_any is_space key ≡ false
 plain-key d [] all = refl
 plain-key d (b ∷ key) all =
-    or_from (is_space b) (list_any is_space key) (plain-byte d b (All-head (λ x. goes_on_key d x ≡ true) b key all)) (plain-key d key (All-tail (λ x. goes_on_key d x ≡ true) b key all))
+    or_from (is_space b) (list_any is_space key) (key_no_space d b (All-head (λ x. goes_on_key d x ≡ true) b key all)) (plain-key d key (All-tail (λ x. goes_on_key d x ≡ true) b key all))
 
 abbrev is_bare : EntryTexts → Bool
 is_bare entry = not (list_any is_space entry.key)

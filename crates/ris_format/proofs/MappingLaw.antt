@@ -8,6 +8,7 @@ use Rattle.bib_spec.specs.Text.{Text, is_space, is_new_key, is_new_key_byte}
 use Rattle.bib_spec.specs.Texts.{field_text}
 use Rattle.bib_spec.specs.Records.{Record, RecordField}
 use Rattle.bib_spec.proofs.Names.{eq-true}
+use Rattle.bib_spec.proofs.NewKeyBytes.{new_key_byte-plain}
 use Rattle.ris_text.specs.declared.records.RisLine.{RisLine}
 use Rattle.ris_format.specs.declared.kinds.Kind.{Kind}
 use Rattle.ris_format.specs.declared.kinds.Kind.TheVariants.{Article, Book, Incollection, Inproceedings, Phdthesis, Techreport, Unpublished, Misc}
@@ -80,17 +81,11 @@ booktitle-neat : (art : Bool) (fields : Fields) → ArePlain fields → are_neat
 booktitle-neat true fields are = refl
 booktitle-neat false fields are = text-neat fields (codes "booktitle") are
 
-key_byte-plain : (b : ℕ) → is_new_key_byte b ≡ true → is_space b ≡ false
-unfolding is_new_key_byte
-key_byte-plain b h =
-    let above : 32 < b = ltb-true 32 b (and_parts (nat_lt 32 b) _ h).0 in
-    false_from_ne_true (is_space b) (λ s. both_ways (eqb b b) (space-no_brace b b above s) (eq-eqb b b refl))
-
 key-bytes : (key : Text) → list_all is_new_key_byte key ≡ true → neat false key ≡ true
 key-bytes [] all = refl
 key-bytes (b ∷ key) all =
     let p = and_parts (is_new_key_byte b) (list_all is_new_key_byte key) all in
-    neat-word false b key (key_byte-plain b p.0) ∙ key-bytes key p.1
+    neat-word false b key (new_key_byte-plain b p.0) ∙ key-bytes key p.1
 
 key-neat : (key : Text) → is_new_key key ≡ true → neat true key ≡ true
 unfolding is_new_key
@@ -98,7 +93,7 @@ key-neat [] is = absurd (cc)
 key-neat (b ∷ key) is =
     let all = (and_parts _ (list_all is_new_key_byte (b ∷ key)) is).1 in
     let p = and_parts (is_new_key_byte b) (list_all is_new_key_byte key) all in
-    neat-word true b key (key_byte-plain b p.0) ∙ key-bytes key p.1
+    neat-word true b key (new_key_byte-plain b p.0) ∙ key-bytes key p.1
 
 -- ---- all fields
 
