@@ -1,14 +1,14 @@
 -- The records of a database have field texts, and keys without white space.
-use Rattle.std.proofs.Common.{◌≡◌, ℕ, zero, suc, Bool, true, false, not, ◌||◌, eqb, List, [], ◌∷◌, ◌++◌, refl, sym, ap, ◌∙◌, ⊎_elim, map, All, slice_get}
+use Rattle.std.proofs.Common.{◌≡◌, ℕ, zero, suc, Bool, true, false, not, List, [], ◌∷◌, ◌++◌, refl, sym, ap, ◌∙◌, ⊎_elim, map, All, slice_get}
 use Rattle.std.specs.Prelude.{filter, Option, Some, None, option_map}
 use Rattle.std.specs.List.{list_any, list_all, AllPass}
 use Rattle.std.specs.Option.{option_map_or}
-use Rattle.std.proofs.lemmas.Bool.{cases_Bool, cond-true, cond-false, and_parts, and_from, or_from, or_parts, not-true, not_from_false}
+use Rattle.std.proofs.lemmas.Bool.{cases_Bool, cond-true, cond-false, and_parts, and_from, or_from, not_from_false}
 use Rattle.std.proofs.lemmas.Option.{same_Some, none-some}
 use Rattle.std.proofs.lemmas.List.Elements.{All-head, All-tail}
-use Rattle.bib_spec.specs.Bytes.{name_limit, comma, close_brace}
+use Rattle.bib_spec.specs.Bytes.{name_limit}
 use Rattle.bib_spec.specs.Text.{Text, is_space}
-use Rattle.bib_spec.specs.Tree.{Delimiter, Brace, Paren, goes_on_key, Tree, CommentTree, DefinitionTree, PreambleTree, EntryTree, IsTree}
+use Rattle.bib_spec.specs.Tree.{Delimiter, goes_on_key, Tree, CommentTree, DefinitionTree, PreambleTree, EntryTree, IsTree}
 use Rattle.bib_spec.specs.Reading.{Item, Reading, Reads, IsItem}
 use Rattle.bib_spec.specs.Texts.{Macros, months, macros_after, gathered, field_text}
 use Rattle.bib_spec.specs.Records.{Field, EntryTexts, texts_of, entry_in, entries_of, effective, has_name, crossref, RecordField, Record, record_field, own_fields, missing, fields_at, with_inherited, ancestors, record_of, expanded}

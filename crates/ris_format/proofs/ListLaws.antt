@@ -4,7 +4,7 @@ use Rattle.std.specs.Prelude.{codes, count_by}
 use Rattle.std.specs.List.{slice_range, list_all, prefix_len, AllByRecursion}
 use Rattle.std.specs.Char.{to_ascii_lowercase}
 use Rattle.std.proofs.lemmas.Bool.{cases_Bool, cond-true, cond-false, eqb-true, eq-eqb, ne_eqb, and_parts, and_from, both_ways, cases_lt, ltb-true, lt-ltb, false_from_ne_true}
-use Rattle.std.proofs.lemmas.List.{take-append-drop, take-append-le, take_all, drop-append-le, get_or_past, length-drop, length-take-le}
+use Rattle.std.proofs.lemmas.List.{take-append-drop, take-append-le, take_all, drop-append-le, length-drop, length-take-le}
 use Rattle.std.proofs.Math.Seq.{drop-append-add}
 use Rattle.bib_spec.specs.Text.{Text, is_space, after_run, same, opened_before, closed_before, IsBalanced}
 use Rattle.bib_text.specs.Trimming.{trimmed}

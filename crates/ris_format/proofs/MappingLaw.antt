@@ -1,10 +1,10 @@
 -- A record of the profile is the same again after both mappings, and nothing of it is dropped.
-use Rattle.std.proofs.Common.{◌≡◌, Bool, true, false, cond, not, ◌&&◌, ◌||◌, eqb, List, [], ◌∷◌, ◌++◌, refl, sym, ap, ◌∙◌, ⊎_elim, map, append-nil}
-use Rattle.std.specs.Prelude.{ℕ, ◌<◌, nat_lt, filter, find, codes, unwrap_or, if◌then◌else◌}
+use Rattle.std.proofs.Common.{◌≡◌, Bool, true, false, cond, not, ◌&&◌, ◌||◌, List, [], ◌∷◌, ◌++◌, refl, sym, ap, ◌∙◌, ⊎_elim, map, append-nil}
+use Rattle.std.specs.Prelude.{filter, find, codes, unwrap_or, if◌then◌else◌}
 use Rattle.std.specs.List.{flat_map, list_any, list_all}
 use Rattle.std.specs.Str.{bytes_eq}
-use Rattle.std.proofs.lemmas.Bool.{cases_Bool, cond-true, cond-false, and_from, and_parts, and_right, not-true, both_ways, false_from_ne_true, eq-eqb, ltb-true}
-use Rattle.bib_spec.specs.Text.{Text, is_space, is_new_key, is_new_key_byte}
+use Rattle.std.proofs.lemmas.Bool.{cases_Bool, cond-true, cond-false, and_from, and_parts, and_right, not-true}
+use Rattle.bib_spec.specs.Text.{Text, is_new_key, is_new_key_byte}
 use Rattle.bib_spec.specs.Texts.{field_text}
 use Rattle.bib_spec.specs.Records.{Record, RecordField}
 use Rattle.bib_spec.proofs.Names.{eq-true}
@@ -23,7 +23,6 @@ use Rattle.ris_format.specs.Mapping.{Fields, field, text_of, booktitle_text, lat
 use Rattle.ris_format.specs.Profile.{are_in_order, has_form, is_plain_field, ProfileIsKept}
 use Rattle.bib_value.proofs.NeatTexts.{neat-word}
 use Rattle.ris_format.proofs.Neat.{neat-field_text}
-use Rattle.ris_format.proofs.Levels.{space-no_brace}
 use Rattle.ris_format.proofs.Values.{first, are_neat, single-neat, first-single}
 use Rattle.ris_format.proofs.DateLaws.{DateIsKept, date_kept, month-written}
 use Rattle.ris_format.proofs.PageLaws.{PagesAreKept, pages_kept}

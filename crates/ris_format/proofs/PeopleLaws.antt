@@ -1,12 +1,11 @@
 -- Names of the profile are read back.
-use Rattle.std.proofs.Common.{◌≡◌, ℕ, zero, suc, ◌+◌, ◌-◌, ◌≤◌, ◌<◌, Bool, true, false, cond, not, ◌&&◌, ◌||◌, eqb, ltb, List, [], ◌∷◌, ◌++◌, length, take, refl, sym, ap, ◌∙◌, arith, ⊎_elim, append_assoc, append-nil, map}
+use Rattle.std.proofs.Common.{◌≡◌, ℕ, zero, suc, ◌≤◌, Bool, true, false, cond, not, ◌&&◌, ◌||◌, ltb, List, [], ◌∷◌, ◌++◌, length, take, refl, sym, ap, ◌∙◌, arith, append_assoc, append-nil, map}
 use Rattle.std.specs.Prelude.{Option, Some, None, is_none}
 use Rattle.std.specs.List.{flat_map, list_any, list_all, onto_first, AllByRecursion}
 use Rattle.std.specs.Option.{option_map_or}
 use Rattle.std.specs.Str.{bytes_eq}
-use Rattle.std.proofs.lemmas.Bool.{cond-true, cond-false, and_parts, and_from, or_from, le-ltb, cases_lt}
-use Rattle.std.proofs.lemmas.List.{take-append-le, take_all}
-use Rattle.std.proofs.Math.Seq.{take-append-add}
+use Rattle.std.proofs.lemmas.Bool.{cond-true, cond-false, and_parts, and_from, or_from, le-ltb}
+use Rattle.std.proofs.lemmas.List.{take_all}
 use Rattle.bib_spec.specs.Text.{Text, is_space, opened_before, closed_before, IsBalanced}
 use Rattle.bib_spec.proofs.Names.{eq-true}
 use Rattle.bib_spec.proofs.Balance.{balanced-append}
@@ -24,7 +23,7 @@ use Rattle.bib_value.proofs.NeatTexts.{neat-word, neat-gap, space_is}
 use Rattle.ris_format.proofs.Neat.{neat-append, neat-slice}
 use Rattle.ris_format.proofs.Trims.{trimmed-neat, after_run-yes}
 use Rattle.ris_format.proofs.Values.{are_neat}
-use Rattle.ris_format.proofs.Levels.{opens, closes, count-append}
+use Rattle.ris_format.proofs.Levels.{opens, closes}
 use Rattle.ris_format.proofs.PartLaws.{IsPart, name-parts}
 use Rattle.ris_format.specs.Pieces.{pieces_from}
 use Rattle.ris_format.proofs.NameScans.{pieces-are, pieces-alone, pieces-comma, commas-count, free, free-is, free-one, free-comma, is_nil, comma-plain}

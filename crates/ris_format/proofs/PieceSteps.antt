@@ -1,9 +1,8 @@
 -- The pieces between commas that are found after some places are passed.
-use Rattle.std.proofs.Common.{◌≡◌, ℕ, ◌+◌, ◌-◌, ◌≤◌, ◌<◌, Bool, true, false, cond, ◌&&◌, eqb, List, [], ◌∷◌, ◌++◌, length, take, drop, get_or, refl, sym, ap, ◌∙◌, arith, append_assoc, append-nil, map, add-one}
+use Rattle.std.proofs.Common.{◌≡◌, ℕ, ◌+◌, ◌-◌, ◌≤◌, ◌<◌, Bool, true, false, cond, ◌&&◌, eqb, List, [], ◌∷◌, ◌++◌, length, take, drop, get_or, refl, sym, ap, ◌∙◌, arith, append_assoc, append-nil, map}
 use Rattle.std.specs.List.{slice_range, slice_split, onto_first}
 use Rattle.std.proofs.lemmas.Bool.{cond-true, cond-false, and_parts, eqb-true}
 use Rattle.std.proofs.lemmas.List.{take_all, drop_all, take_more, get_or-drop, length-drop, drop_more}
-use Rattle.std.proofs.Math.Seq.{drop-cons}
 use Rattle.bib_spec.specs.Text.{Text}
 use Rattle.bib_text.specs.Trimming.{trimmed}
 use Rattle.ris_format.specs.Pieces.{one, pieces_from, with_front}

@@ -77,22 +77,11 @@ pub record IsOutside (end skipped : ℕ) (whole : Outcome) (most : ℕ) (rest : 
   pub told : with_front [] skipped (told end rest).outside ≡ whole
   pub count : skipped + length rest ≤ most
 
-record_front : (skipped n : ℕ) (r : RisRecord) (outcome : Outcome) → with_front [] skipped (with_record r (with_skipped n outcome)) ≡ with_record r (with_front [] (skipped + n) outcome)
-record_front skipped n r (Ok file) =
-    let count : skipped + (n + file.skipped) ≡ skipped + n + file.skipped = omega arith in
-    ap (λ k. Ok (ris_file (r ∷ file.records) k)) count
-record_front skipped n r (Err fault) = refl
-
 front_skipped : (skipped : ℕ) (outcome : Outcome) → with_front [] (skipped + 1) outcome ≡ with_front [] skipped (with_skipped 1 outcome)
 front_skipped skipped (Ok file) =
     let count : skipped + 1 + file.skipped ≡ skipped + (1 + file.skipped) = omega arith in
     ap (λ k. Ok (ris_file file.records k)) count
 front_skipped skipped (Err fault) = refl
-
--- what comes first of the lines that are left
-outside_first : (end : ℕ) (rest after : List Line) (line : Line) (class : Class) → rest ≡ line ∷ after → line.class ≡ class → (told end rest).outside ≡ (told_by line after class (told end after)).outside
-outside_first end rest after line class first is =
-    ap (λ (ls : List Line). (told end ls).outside) first ∙ ap (λ (t : Told). t.outside) (told-class end line after class is)
 
 -- ---- a record
 
