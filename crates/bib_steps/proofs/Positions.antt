@@ -1,5 +1,5 @@
 -- Pieces by their positions, and what an edit lies near.
-use Rattle.std.proofs.Common.{zero, suc, ◌≡◌, ◌≢◌, ℕ, ◌+◌, ◌-◌, ◌<◌, ◌≤◌, get_or, List, [], ◌∷◌, ◌++◌, length, map, take, drop, Some, None, refl, sym, subst, ◌∙◌, ap, ap₂, arith, take-append-drop, length-append}
+use Rattle.std.proofs.Common.{zero, suc, ◌≡◌, ℕ, ◌+◌, ◌-◌, ◌<◌, ◌≤◌, get_or, List, [], ◌∷◌, ◌++◌, length, map, take, drop, Some, None, refl, sym, subst, ◌∙◌, ap, ap₂, arith, take-append-drop, length-append}
 use Rattle.std.proofs.lemmas.List.{drop-drop, drop_all, length-take-le, take_at, take-take, take-append-le, get_or-take, map-append}
 use Rattle.std.proofs.lemmas.Option.{get_or_from_slice_get}
 use Rattle.std.specs.List.{slice_get}
@@ -10,7 +10,7 @@ use Rattle.history_spec.specs.Composing.{IsComposable, IsComposableAt, composed,
 use Rattle.history_spec.proofs.Ordered.{ascend_earlier}
 use Rattle.history_spec.proofs.Covered.{standing_rest}
 use Rattle.history_spec.proofs.Around.{ascend_past, fit_part, reversed_append, composed-in_turn}
-use Rattle.history_spec.proofs.Near.{length-ends, new_end_last, old_end_at, begins_after, ends_inside, ends_front, ends_rest, old_end_by, composed_near, composable_near}
+use Rattle.history_spec.proofs.Near.{length-ends, new_end_last, old_end_at, begins_after, ends_inside, ends_rest, old_end_by, composed_near, composable_near}
 use Rattle.bib_steps.specs.Amending.{end_at, BeginAfter, IsNear}
 
 -- ---- ends by position
@@ -21,11 +21,6 @@ as_many_ends ps ends e = ap length e.each ∙ length-ends 0 0 ps
 pub end_at_new : (ps : List Piece) (ends : List ℕ) (n : ℕ) → ends ≡ ends_of ps → n ≤ length ps → end_at ends n ≡ new_end 0 0 (take n ps)
 end_at_new ps ends zero e h = refl
 end_at_new ps ends (suc n) e h = ap (λ es. get_or es n 0) e ∙ sym (new_end_last 0 0 ps n (omega (arith, h)))
-
--- the place before a position that is not the first
-pub end_at_some : (ends : List ℕ) (n : ℕ) → n ≢ 0 → end_at ends n ≡ get_or ends (n - 1) 0
-end_at_some ends zero h = absurd (h refl)
-end_at_some ends (suc n) h = let same : n ≡ suc n - 1 = omega arith in ap (λ k. get_or ends k 0) same
 
 front_ends : (ps part : List Piece) (n : ℕ) → (0 < n → BeginsAfter (new_end 0 0 (take n ps)) part) → EndBefore (take n ps) part
 front_ends ps part zero b = tt
@@ -120,12 +115,6 @@ later_part ps part others c = (
     short_middle = c.1.short_middle;
   },
 )
-
-pub step_short : (ps part : List Piece) → IsComposable ps part → EndBy file_limit ps
-step_short ps part c = ends_inside file_limit c.0 ps c.1.short c.1.first_fit.standing
-
-pub front_short : (ps : List Piece) (n : ℕ) → EndBy file_limit ps → EndBy file_limit (take n ps)
-front_short ps n e = ends_front file_limit (take n ps) (drop n ps) (subst (EndBy file_limit) (sym (take-append-drop n ps)) e)
 
 pub part_short : (ps part : List Piece) → IsComposable ps part → EndBy file_limit part
 part_short ps part c = ends_inside file_limit (applied ps c.0) part c.1.short_middle c.1.second_fit.standing
