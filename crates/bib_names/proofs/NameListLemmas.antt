@@ -22,9 +22,6 @@ pub record AreNamesSoFar (text : Text) (names : List Text) (start place : ℕ) :
   pub space : 0 < start → is_space (get_or text start 0) ≡ true
   pub told : names ++ names_between text start (places_from (is_cut text) place (length text - place)) ≡ names_between text 0 (cuts text)
 
-pub no_names : (text : Text) → AreNamesSoFar text [] 0 0
-no_names text = let whole : length text - 0 ≡ length text = omega arith in record { near = omega arith; within = omega arith; space = λ lt. absurd (omega arith); told = ap (λ n. names_between text 0 (places_from (is_cut text) 0 n)) whole }
-
 -- a byte that folds to a letter is no white space
 letter_apart : (b c : ℕ) → 90 < c → eqb (to_ascii_lowercase b) c ≡ true → is_space b ≡ false
 unfolding is_space

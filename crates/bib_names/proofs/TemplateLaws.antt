@@ -331,9 +331,6 @@ read_left bytes front groups rest far none some t is e =
     go [] same = some same
     go (g ∷ gs) same = let h = ap (after_byte 123) same in absurd (cc)
 
-pub read_all : (bytes front : Text) (groups : List Group) → IsReadSoFar bytes front groups [] → IsTemplate (record { front = front; groups = groups }) × (bytes ≡ spelling (record { front = front; groups = groups }))
-read_all bytes front groups far = (record { front = far.plain; groups = far.sound }, far.spelled ∙ ap (λ t. front ++ t) (append-nil (flat_map group_bytes groups)))
-
 -- a group takes at least a byte
 pub length-after : (rest inside : Text) (g : Group) (after : Text) → rest ≡ 123 ∷ inside → group_at inside ≡ Some (g, after) → length after < length rest
 length-after rest inside g after is found =

@@ -89,10 +89,6 @@ short_between ps part n count at mid a m p s =
     (subst (λ (k : ℕ). EndBy file_limit (reversed_from first k part)) (sym m)
     (subst (λ (qs : List Piece). EndBy file_limit (reversed_from first second qs)) (sym p) all))
 
-pub rest_is : (ps rest : List Piece) (n at mid : ℕ) → at ≡ old_end 0 (take n ps) → mid ≡ new_end 0 0 (take n ps) → rest ≡ drop n ps
-    → ends_from at mid rest ≡ ends_from (old_end 0 (take n ps)) (new_end 0 0 (take n ps)) (drop n ps)
-rest_is ps rest n at mid a m r = ap₂ (λ k j. ends_from k j rest) a m ∙ ap (ends_from (old_end 0 (take n ps)) (new_end 0 0 (take n ps))) r
-
 -- the ends of the pieces from one position up to another can be moved as the first of them moves, and are right then
 pub record MoveThere (ps : List Piece) (ends : List ℕ) (from until old new : ℕ) : Type 0 where
   pub moves : CanMove old new (take (until - from) (drop from ends))

@@ -33,9 +33,6 @@ front_ends_before ps ends part n e h b = front_ends ps part n (λ s. subst (λ (
 pub after_at : (ps : List Piece) (ends : List ℕ) (k place : ℕ) (q : Piece) → AreEnds ps ends → k < length ps → q ≡ get_or ps k q → place + length q.new < get_or ends k 0 → BeginAfter ps k place
 after_at ps ends k place q e h is b = begins_after ps k place q h is (omega (arith, b, ap (λ es. get_or es k 0) e.each))
 
-pub none_after : (ps : List Piece) (place : ℕ) → BeginAfter ps (length ps) place
-none_after ps place = subst (λ (qs : List Piece). BeginsAfter place (reversed_from (old_end 0 (take (length ps) ps)) (new_end 0 0 (take (length ps) ps)) qs)) (sym (drop_all (length ps) ps (omega arith))) tt
-
 -- ---- the list in three
 
 pub in_three : (ps : List Piece) (from to : ℕ) → from ≤ to → take from ps ++ (take (to - from) (drop from ps) ++ drop to ps) ≡ ps
@@ -184,22 +181,10 @@ take-ends ps n h =
     let long : length (take n ps) ≡ n = length-take-le n ps h in
     ap₂ (λ k qs. take k (ends_of qs)) (sym long) (sym (take-append-drop n ps)) ∙ ends_in_front (take n ps) (drop n ps)
 
-pub ends_in_two : (ps : List Piece) (n : ℕ) → n ≤ length ps
-    → take n (ends_of ps) ++ map end_of (reversed_from (old_end 0 (take n ps)) (new_end 0 0 (take n ps)) (drop n ps)) ≡ ends_of ps
-ends_in_two ps n h =
-    let later : List Piece = reversed_from (old_end 0 (take n ps)) (new_end 0 0 (take n ps)) (drop n ps) in
-    ap (λ es. es ++ map end_of later) (take-ends ps n h)
-    ∙ sym (map-append end_of (reversed (take n ps)) later)
-    ∙ ap (map end_of) (sym (reversed_append 0 0 (take n ps) (drop n ps)))
-    ∙ ap ends_of (take-append-drop n ps)
-
 pub later_ends_short : (ps : List Piece) (n : ℕ) → EndBy file_limit (reversed ps) → EndBy file_limit (reversed_from (old_end 0 (take n ps)) (new_end 0 0 (take n ps)) (drop n ps))
 later_ends_short ps n e =
     ends_rest file_limit (reversed (take n ps)) (reversed_from (old_end 0 (take n ps)) (new_end 0 0 (take n ps)) (drop n ps))
     (subst (EndBy file_limit) (ap reversed (sym (take-append-drop n ps)) ∙ reversed_append 0 0 (take n ps) (drop n ps)) e)
-
-pub later_short : (ps : List Piece) (n : ℕ) → EndBy file_limit ps → EndBy file_limit (drop n ps)
-later_short ps n e = ends_rest file_limit (take n ps) (drop n ps) (subst (EndBy file_limit) (sym (take-append-drop n ps)) e)
 
 pub end_at_take : (ends : List ℕ) (n : ℕ) → end_at (take n ends) n ≡ end_at ends n
 end_at_take ends zero = refl

@@ -77,12 +77,6 @@ pub record IsOutside (end skipped : ℕ) (whole : Outcome) (most : ℕ) (rest : 
   pub told : with_front [] skipped (told end rest).outside ≡ whole
   pub count : skipped + length rest ≤ most
 
-front_skipped : (skipped : ℕ) (outcome : Outcome) → with_front [] (skipped + 1) outcome ≡ with_front [] skipped (with_skipped 1 outcome)
-front_skipped skipped (Ok file) =
-    let count : skipped + 1 + file.skipped ≡ skipped + (1 + file.skipped) = omega arith in
-    ap (λ k. Ok (ris_file file.records k)) count
-front_skipped skipped (Err fault) = refl
-
 -- ---- a record
 
 empty_since : (t : Text) → length t ≡ 0 → is_empty t ≡ true
