@@ -22,6 +22,7 @@ ghost use Rattle.bib_answers.specs.Seen.{HaveSeen};
 use crate::answers::MEMORY;
 use crate::finding_lines::FindingLines;
 use crate::kinds::is_same_kind;
+use crate::numbered::NumberedItem;
 use crate::reporting::{defined_in, is_own, is_repeated};
 use crate::seen_names::SeenNames;
 use bib_scan::{
@@ -31,25 +32,24 @@ use bib_store::{Database, Paged};
 use bib_value::MacroTable;
 use std::alloc::{AllocError, Global};
 
-/// Adds the findings in item `n`, whose view is `item`, and which comes after `entries` entries. It takes time in the item's
-/// length. `names` lends its memory for the names of the fields.
+/// Adds the findings in this item. It takes time in the item's length. `names` lends its memory for the names of the fields.
 pub fn add_item_findings<'a>(
     alloc: Global,
     lines: &mut FindingLines<'_>,
     db: &Database<Paged>,
-    n: usize,
-    item: &ItemView<'a>,
-    entries: usize,
+    it: NumberedItem<'_, 'a>,
     names: &mut SeenNames<'a>,
 ) -> Result<(), AllocError>
-    requires item { IsItemNumber db.now n }
-    requires seen { OfReading db.now (λ r. Views r n item.now) }
-    requires entries { OfReading db.now (λ r. entries ≡ entries_before r n) }
-    ensures { OnOk result (OfReading db.now (λ r. lines.new ≡ with_findings (at_item lines.old (start_of r n)) (findings_on r n))) }
+    requires item { IsItemNumber db.now it.n }
+    requires seen { OfReading db.now (λ r. Views r it.n it.view.now) }
+    requires entries { OfReading db.now (λ r. it.entries ≡ entries_before r it.n) }
+    ensures { OnOk result (OfReading db.now (λ r. lines.new ≡ with_findings (at_item lines.old (start_of r it.entry.n)) (findings_on r it.entry.n))) }
 {
     db.opens();
-    lines.begin_item(db.item_place(n));
-    let macros = db.macros_at(n);
+    let item = it.view;
+    let entries = it.entries;
+    lines.begin_item(db.item_place(it.n));
+    let macros = db.macros_at(it.n);
     if !is_same_kind(item.kind(), Kind::Entry) {
         return add_field_findings(alloc, lines, item, &macros, Crossref::none(), names);
     }
