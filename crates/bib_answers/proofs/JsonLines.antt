@@ -73,10 +73,3 @@ module _ (depth : ℕ) (entries : List EntryTexts) (list : List ℕ) (i d : ℕ)
           ap (find is_unsaid) split
           ∙ find-append is_unsaid (told_of depth entries (take i list) ++ told ∷ []) (told_of depth entries (drop (i + 1) list))
           ∙ ap (λ (o : Option Told). option_or o (find is_unsaid (told_of depth entries (drop (i + 1) list)))) here
-
-pub told_all : (depth : ℕ) (entries : List EntryTexts) (list : List ℕ) (i : ℕ) (lines : Text) → take i list ≡ list → IsToldTo depth entries list i lines
-    → answer_of lines [] 0 ≡ told_answer (told_of depth entries list)
-told_all depth entries list i lines all to =
-    let said : find is_unsaid (told_of depth entries list) ≡ None = ap (λ (l : List ℕ). find is_unsaid (told_of depth entries l)) (sym all) ∙ to.said in
-    ap (λ (t : Text). answer_of t [] 0) (to.lines_are ∙ ap (λ (l : List ℕ). flat_map json_line (told_of depth entries l)) all)
-    ∙ sym (ap (λ (o : Option Told). option_map_or (λ one. answer_of [] (not_utf8_line one.0.key) 1) o (answer_of (flat_map json_line (told_of depth entries list)) [] 0)) said)

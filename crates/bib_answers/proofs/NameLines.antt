@@ -85,9 +85,3 @@ pub name_stops : (t : Pattern) (names : List Text) (n : ℕ) (name out : Text) (
     → name_lines t names ≡ before_lines out (name_lines t (drop n names)) → name_line t name ≡ Err f → name_lines t names ≡ Err f
 name_stops t names n name out f within is far e =
     far ∙ ap (before_lines out) (lines_from t names n name within is ∙ ap (λ l. joined_lines l (name_lines t (drop (n + 1) names))) e)
-
--- all lines
-pub names_end : (t : Pattern) (names : List Text) (n : ℕ) (out : Text) → length names ≤ n
-    → name_lines t names ≡ before_lines out (name_lines t (drop n names)) → name_lines t names ≡ Ok out
-names_end t names n out end far =
-    far ∙ ap (λ (ns : List Text). before_lines out (name_lines t ns)) (drop_all n names end) ∙ ap (λ (text : Text). Ok text) (append-nil out)

@@ -130,11 +130,3 @@ numbers_fit file known end is le within small =
 -- after the end of the file all places have one position
 position_past : (file : Text) (a b : ℕ) → length file ≤ a → length file ≤ b → position_of file a ≡ position_of file b
 position_past file a b long longer = ap (fold position_after (position 1 1)) (take_all a file long ∙ sym (take_all b file longer))
-
--- a sum that stops at the greatest number of the machine has the position of the sum
-pub position_capped : (file : Text) (start at more place : ℕ) → length file < 2 ^ 63 → place ≡ min (min (start + at) (2 ^ 64 - 1) + more) (2 ^ 64 - 1)
-    → position_of file place ≡ position_of file (start + (at + more))
-position_capped file start at more place small is = ⊎_elim
-    (λ lt. ap (λ n. position_of file n) (let e : place ≡ start + (at + more) = omega (arith, is, lt) in e))
-    (λ ge. position_past file place (start + (at + more)) (omega (arith, is, ge, small)) (omega (arith, ge, small)))
-    (cases_lt (start + (at + more)) (2 ^ 64 - 1))

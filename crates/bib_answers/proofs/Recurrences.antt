@@ -90,13 +90,6 @@ pub counts_more : (n : ℕ) (counts : List ℕ) (name : Text) (names : List Text
 counts_more n counts name names are =
     subst (λ k. AreCounts (with_one_more counts name) k (name ∷ names)) are.count (counts_with counts name names (subst (λ k. AreCounts counts k names) (sym are.count) are))
 
-pub counting_start : (all : List Text) (n : ℕ) → AreCounting all n (replicate n 0) all
-counting_start all n = record {
-  names = [];
-  counted = record { count = length-replicate n 0; most = λ m within. subst (λ k. k ≤ 2) (sym (get_or-replicate n m 0 0 within)) (let e : 0 ≤ 2 = omega arith in e); some = λ m _ none. absurd (omega (arith, none)); more = λ m _ none. absurd (omega (arith, none)) };
-  joined = refl;
-}
-
 pub counting_more : (all : List Text) (n : ℕ) (counts : List ℕ) (name : Text) (rest : List Text) → AreCounting all n counts (name ∷ rest) → AreCounting all n (with_one_more counts name) rest
 counting_more all n counts name rest are = record {
   names = name ∷ are.names;

@@ -26,34 +26,6 @@ middle_first true false c = refl
 middle_first false true c = refl
 middle_first false false c = refl
 
--- among the few
-pub few_more : (filter : Option NameFilter) (few : List (Bor (List ℕ))) (others : List (Text × Unit {0})) (names : List Text) (one : Bor (List ℕ)) → AreSeen filter few others names → AreSeen filter (few ++ one ∷ []) others (one.now ∷ names)
-few_more filter few others names one seen name may =
-    ap (λ b. b || is_other others name) (list_any-append (λ (f : Bor (List ℕ)). same name f.now) few (one ∷ []))
-    ∙ last_first (list_any (λ (f : Bor (List ℕ)). same name f.now) few) (same name one.now) (is_other others name)
-    ∙ ap (λ b. same name one.now || b) (seen name may)
-
 with_one : {V : Type 0} (b : Bool) (v : V) (o : Option V) → is_some (cond b (Some v) o) ≡ (b || is_some o)
 with_one true v o = refl
 with_one false v o = refl
-
--- among the others
-pub others_more : (filter : Option NameFilter) (few : List (Bor (List ℕ))) (old new : List (Text × Unit {0})) (names : List Text) (one : Text) (unit : Unit {0}) → IsWith old one unit new → AreSeen filter few old names → AreSeen filter few new (one ∷ names)
-others_more filter few old new names one unit with seen name may =
-    ap (λ b. list_any (λ (f : Bor (List ℕ)). same name f.now) few || b) (ap is_some (with (folded name)) ∙ with_one (same name one) unit (value_at old (folded name)))
-    ∙ middle_first (list_any (λ (f : Bor (List ℕ)). same name f.now) few) (same name one) (is_some (value_at old (folded name)))
-    ∙ ap (λ b. same name one || b) (seen name may)
-
--- a name that does not recur is the same as no name that may
-pub none_more : (filter : Option NameFilter) (few : List (Bor (List ℕ))) (others : List (Text × Unit {0})) (names : List Text) (one : Text) → may_recur filter one ≡ false → AreSeen filter few others names → AreSeen filter few others (one ∷ names)
-none_more filter few others names one lone seen name may =
-    seen name may ∙ ap (λ b. b || list_any (same name) names) (sym (⊎_elim
-    (λ t. absurd (both_ways (may_recur filter one) lone (sym (recur_same filter name one t) ∙ may)))
-    (λ f. f)
-    (cases_Bool (same name one))))
-
--- a name may recur and was seen exactly if it was seen
-pub seen_is : (may few other any : Bool) → (may ≡ true → (few || other) ≡ any) → (any ≡ true → may ≡ true) → (may && (few || other)) ≡ any
-seen_is true few other any seen told = seen refl
-seen_is false few other true seen told = absurd (both_ways false refl (told refl))
-seen_is false few other false seen told = refl

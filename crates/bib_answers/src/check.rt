@@ -10,6 +10,7 @@ ghost use Rattle.bib_answers.specs.LookedThrough.{IsFoundBefore};
 
 use crate::answers::{Answer, done};
 use crate::kinds::is_same_kind;
+use crate::numbered::NumberedItem;
 use crate::opening::answer_file;
 use crate::reporting::add_item_reports;
 use crate::seen_names::SeenNames;
@@ -97,7 +98,12 @@ fn look_at<'a>(
 {
     let item = db.item(n);
     let entries = found.entries;
-    add_item_reports(alloc, &mut found.reports, db, n, &item, entries, names)?;
+    let it = NumberedItem {
+        n,
+        view: &item,
+        entries,
+    };
+    add_item_reports(alloc, &mut found.reports, db, it, names)?;
     let kind = item.kind();
     found.entries = counted(entries, is_same_kind(kind, Kind::Entry));
     found.definitions = counted(found.definitions, is_same_kind(kind, Kind::Macro));

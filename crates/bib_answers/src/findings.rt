@@ -22,6 +22,7 @@ ghost use Rattle.bib_answers.specs.Seen.{HaveSeen};
 use crate::answers::MEMORY;
 use crate::finding_lines::FindingLines;
 use crate::kinds::is_same_kind;
+use crate::numbered::NumberedItem;
 use crate::reporting::{defined_in, is_own, is_repeated};
 use crate::seen_names::SeenNames;
 use bib_scan::{
@@ -31,31 +32,38 @@ use bib_store::{Database, Paged};
 use bib_value::MacroTable;
 use std::alloc::{AllocError, Global};
 
-/// Adds the findings in item `n`, whose view is `item`, and which comes after `entries` entries. It takes time in the item's
-/// length. `names` lends its memory for the names of the fields.
+/// Adds the findings in this item. It takes time in the item's length. `names` lends its memory for the names of the fields.
 pub fn add_item_findings<'a>(
     alloc: Global,
     lines: &mut FindingLines<'_>,
     db: &Database<Paged>,
-    n: usize,
-    item: &ItemView<'a>,
-    entries: usize,
+    it: NumberedItem<'_, 'a>,
     names: &mut SeenNames<'a>,
 ) -> Result<(), AllocError>
-    requires item { IsItemNumber db.now n }
-    requires seen { OfReading db.now (λ r. Views r n item.now) }
-    requires entries { OfReading db.now (λ r. entries ≡ entries_before r n) }
-    ensures { OnOk result (OfReading db.now (λ r. lines.new ≡ with_findings (at_item lines.old (start_of r n)) (findings_on r n))) }
+    requires item { IsItemNumber db.now it.n }
+    requires seen { OfReading db.now (λ r. Views r it.n it.view.now) }
+    requires entries { OfReading db.now (λ r. it.entries ≡ entries_before r it.n) }
+    ensures { OnOk result (OfReading db.now (λ r. lines.new ≡ with_findings (at_item lines.old (start_of r it.entry.n)) (findings_on r it.entry.n))) }
 {
     db.opens();
-    lines.begin_item(db.item_place(n));
-    let macros = db.macros_at(n);
+    let item = it.view;
+    let entries = it.entries;
+    lines.begin_item(db.item_place(it.n));
+    let macros = db.macros_at(it.n);
     if !is_same_kind(item.kind(), Kind::Entry) {
-        return add_field_findings(alloc, lines, item, &macros, Crossref::none(), names);
+        let it = WithCrossref {
+            view: item,
+            crossref: Crossref::none(),
+        };
+        return add_field_findings(alloc, lines, &macros, it, names);
     }
     let repeated = is_repeated(db, entries, item.key());
     add_key_findings(lines, item.key_at(), repeated, item.key())?;
-    add_field_findings(alloc, lines, item, &macros, crossref_of(db, entries), names)
+    let it = WithCrossref {
+        view: item,
+        crossref: crossref_of(db, entries),
+    };
+    add_field_findings(alloc, lines, &macros, it, names)
 }
 
 // ---- keys
@@ -221,21 +229,29 @@ fn add_nested(
 
 // ---- fields
 
+/// What is seen of an item, and its crossref if it is an entry.
+#[derive(Clone, Copy)]
+pub struct WithCrossref<'v, 'a, 'c> {
+    view: &'v ItemView<'a>,
+    crossref: Crossref<'c>,
+}
+
 /// Adds what is found in an item's fields: for each field, that an earlier one has its name, what is wrong with the crossref,
 /// and the macros that are used wrongly.
 fn add_field_findings<'a, M: MacroTable>(
     alloc: Global,
     lines: &mut FindingLines<'_>,
-    item: &ItemView<'a>,
     macros: &M,
-    crossref: Crossref<'_>,
+    it: WithCrossref<'_, 'a, '_>,
     earlier: &mut SeenNames<'a>,
 ) -> Result<(), AllocError>
-    requires { AreSound item.now.fields }
-    ensures { OnOk result ((values : List Assigned) → AreFieldsOf values item.now.fields
-        → lines.new ≡ with_findings lines.old (field_findings (defined_in item.now.kind) (M.macros macros.now)
-        (crossref_findings crossref.entry.n (option_copied crossref.entry.text) crossref.entry.target crossref.entry.grandparent) [] item.now.fields values)) }
+    requires { AreSound it.view.now.fields }
+    ensures { OnOk result ((values : List Assigned) → AreFieldsOf values it.entry.view.now.fields
+        → lines.new ≡ with_findings lines.old (field_findings (defined_in it.entry.view.now.kind) (M.macros macros.now)
+        (crossref_findings it.entry.crossref.n (option_copied it.entry.crossref.text) it.entry.crossref.target it.entry.crossref.grandparent) [] it.entry.view.now.fields values)) }
 {
+    let item = it.view;
+    let crossref = it.crossref;
     earlier.clear();
     let mut fields = item.fields();
     'fields: while let Some(field) = fields.next() {

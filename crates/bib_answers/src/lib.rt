@@ -20,6 +20,7 @@ mod messages;
 mod name_filter;
 mod names;
 mod newkeys;
+mod numbered;
 mod opening;
 mod positions;
 mod reporting;

@@ -13,6 +13,7 @@ use crate::check::counted;
 use crate::finding_lines::{FindingLines, error_line};
 use crate::findings::add_item_findings;
 use crate::kinds::is_same_kind;
+use crate::numbered::NumberedItem;
 use crate::positions::{first_known, known_at};
 use crate::seen_names::SeenNames;
 use bib_scan::{Kind, ReadFault, Text};
@@ -114,7 +115,12 @@ fn look_at<'a>(
     db.opens();
     let item = db.item(n);
     let entries = found.entries;
-    add_item_findings(alloc, &mut found.lines, db, n, &item, entries, names)?;
+    let it = NumberedItem {
+        n,
+        view: &item,
+        entries,
+    };
+    add_item_findings(alloc, &mut found.lines, db, it, names)?;
     found.entries = counted(entries, is_same_kind(item.kind(), Kind::Entry));
     Ok(())
 }

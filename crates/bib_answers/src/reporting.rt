@@ -19,30 +19,30 @@ ghost use Rattle.bib_answers.specs.Seen.{HaveSeen};
 use crate::answers::MEMORY;
 use crate::kinds::is_same_kind;
 use crate::lines::add_all;
+use crate::numbered::NumberedItem;
 use crate::seen_names::SeenNames;
 use bib_scan::{ItemView, Kind, Part, Parts, only_part, read_value, same_folded};
 use bib_store::{Database, Paged};
 use bib_value::MacroTable;
 use std::alloc::{AllocError, Global};
 
-/// Adds the reports on item `n`, whose view is `item`, and which comes after `entries` entries. It takes time in the item's
-/// length. `names` lends its memory for the names of the fields.
+/// Adds the reports on this item. It takes time in the item's length. `names` lends its memory for the names of the fields.
 pub fn add_item_reports<'a>(
     alloc: Global,
     out: &mut Vec<u8>,
     db: &Database<Paged>,
-    n: usize,
-    item: &ItemView<'a>,
-    entries: usize,
+    it: NumberedItem<'_, 'a>,
     names: &mut SeenNames<'a>,
 ) -> Result<(), AllocError>
-    requires item { IsItemNumber db.now n }
-    requires seen { OfReading db.now (λ r. Views r n item.now) }
-    requires entries { OfReading db.now (λ r. entries ≡ entries_before r n) }
-    ensures { OnOk result (OfReading db.now (λ r. out.new.items ≡ out.old.items ++ reports_on r n)) }
+    requires item { IsItemNumber db.now it.n }
+    requires seen { OfReading db.now (λ r. Views r it.n it.view.now) }
+    requires entries { OfReading db.now (λ r. it.entries ≡ entries_before r it.n) }
+    ensures { OnOk result (OfReading db.now (λ r. out.new.items ≡ out.old.items ++ reports_on r it.entry.n)) }
 {
     db.opens();
-    let macros = db.macros_at(n);
+    let item = it.view;
+    let entries = it.entries;
+    let macros = db.macros_at(it.n);
     if !is_same_kind(item.kind(), Kind::Entry) {
         add_field_reports(alloc, out, item, &macros, names)?;
         return Ok(());

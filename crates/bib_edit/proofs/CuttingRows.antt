@@ -6,7 +6,7 @@ use Rattle.bib_edit.proofs.Words.{is_field, item_named, cut_piece, joins_key, va
 use Rattle.edit_spec.specs.Edits.{DropField}
 use Rattle.bib_edit.proofs.FirstItems.{found-again}
 use Rattle.bib_edit.proofs.PieceLists.{pieces-entry, pieces-kept_rows}
-use Rattle.bib_edit.proofs.SettingPieces.{item_at, before-next, length-to_value, pieces-entry_as}
+use Rattle.bib_edit.proofs.SettingPieces.{item_at, before-next, length-to_value, pieces-entry_as, row_regroup}
 
 abbrev rows_bytes : List Row → Text
 rows_bytes rows = flat_map row_bytes rows
@@ -112,9 +112,6 @@ module _ (name : Text) where
 body_regroup : (o k a g b l c : Text) → (o ++ k) ++ (((a ++ (g ++ b)) ++ l) ++ c) ≡ ((o ++ k) ++ a) ++ (g ++ (b ++ (l ++ c)))
 body_regroup o k a g b l c = simp append_assoc
 
-key_regroup : (a b l c : Text) → ((a ++ b) ++ l) ++ c ≡ a ++ (b ++ (l ++ c))
-key_regroup a b l c = simp append_assoc
-
 nonempty_eq : (xs : Text) → 0 < length xs → bytes_eq xs [] ≡ false
 nonempty_eq [] h = absurd (omega (arith, h))
 nonempty_eq (x ∷ xs) h = refl
@@ -179,7 +176,7 @@ module _ (name : Text) (e : Entry) (trail : Text) (field : Field) (found : Some 
   pub joins-row : ends_in_key (entry_without_field name e) ≡ joins_key (view_of (item_at (EntryTree e) trail)) field
   joins-row =
       ap (λ t. bytes_eq ((t ++ last_comma_bytes e.last_comma) ++ close) (close_paren ∷ [])) cut_here.new
-      ∙ ap (λ t. bytes_eq t (close_paren ∷ [])) (key_regroup cut_here.kept cut_here.after (last_comma_bytes e.last_comma) close)
+      ∙ ap (λ t. bytes_eq t (close_paren ∷ [])) (row_regroup cut_here.kept cut_here.after (last_comma_bytes e.last_comma) close)
       ∙ joined key_text cut_here.kept rest rest-long
       ∙ ap₂ (λ n t. (n == length key_text) && bytes_eq t (close_paren ∷ [])) (sym cut_here.start) (sym after-row)
       ∙ ap (λ n. (field.start == n) && bytes_eq (drop (field_end field) (entry_bytes e)) (close_paren ∷ [])) (length-append (opening_bytes e.opening) e.key)

@@ -63,10 +63,6 @@ module _ (file key name : Text) where
   abbrev asked : Edit
   asked = DropField key name
 
-  pub refused-name : is_name name ≡ false → IsRefusal file asked BadName
-  refused-name bad db reads = of-drop_field key name (λ e. IsFirstRefusal made_base db e edits.BadName)
-      (is_first edits.BadName (ap (λ b. (b && true) && true) bad) (clear_name db key name))
-
   -- what is known once the name is one
   module _ (valid : is_name name ≡ true) where
     pub refused-key : OfReading file (λ db. None ≡ entry_named (entries_of db) key) → IsRefusal file asked NotFound

@@ -1,5 +1,5 @@
 -- The pieces of entries that get new keys, entry by entry.
-use Rattle.bib_edit.proofs.Words.{◌≡◌, ℕ, zero, suc, ◌+◌, ◌-◌, ◌≤◌, ◌<◌, Bool, true, List, [], ◌∷◌, ◌++◌, Option, Some, None, length, filter, take, slice_get, option_and_then, ⊎_elim, refl, sym, ◌∙◌, ap, ap₂, subst, arith, append_assoc, append-nil, length-append, zero-add, add-zero, flat_map}
+use Rattle.bib_edit.proofs.Words.{◌≡◌, ℕ, zero, suc, ◌+◌, ◌-◌, ◌≤◌, ◌<◌, Bool, true, List, [], ◌∷◌, ◌++◌, Option, Some, None, length, filter, take, slice_get, option_and_then, ⊎_elim, refl, sym, ◌∙◌, ap, ap₂, subst, arith, append_assoc, append-nil, length-append, zero-add, add-zero, flat_map, take_at}
 use Rattle.bib_edit.proofs.Words.{range_with_len, option_map_or, cases_Bool, cond-true, cond-false, cases_lt, length-map, none-some, same_Some, slice_get_within, Text, tree_bytes, file_limit, Item, Reading, Reads, item_bytes, entries_of, entry_named, target, crossref_text, Piece, pieces_from}
 use Rattle.bib_edit.proofs.Words.{option_cases, View, view_of, start_of, refers, referrers, numbers_from, numbered_first, numbered_later, is_entry_tree, entry_items, entry_numbers, length-entry_items, length-entry_numbers, entry_at, entry_stands, key_of, new_target, key_piece, crossref_piece}
 use Rattle.bib_edit.proofs.Words.{IsEntrySeen, rekeying, entry_pieces, pieces_at, pieces_after, RefersAt, ArePassed, AreQuiet, HavePieces, NewKeys, item-ends}
@@ -7,6 +7,7 @@ use Rattle.std.proofs.lemmas.Grind.{flat_map-append}
 use Rattle.bib_store.specs.Tables.{crossrefs_of}
 use Rattle.bib_edit.proofs.KeyPieces.{keyed_chunks, pieces-other, pieces-more, entry-is}
 use Rattle.bib_edit.proofs.Referrers.{one-later, numbers-ascend, none-after, target-referrer}
+use Rattle.bib_edit.proofs.FirstItems.{stands-after}
 
 -- ---- the number of an entry
 
@@ -40,14 +41,6 @@ few-numbers passes b (x ∷ xs) = ⊎_elim
     (λ t. let rest = few-numbers passes (b + 1) xs in let is = ap (length {A = ℕ}) (numbered_first passes b x xs t) in omega (arith, rest, is))
     (λ t. let rest = few-numbers passes (b + 1) xs in let is = ap (length {A = ℕ}) (numbered_later passes b x xs t) in omega (arith, rest, is))
     (cases_Bool (passes x))
-
-stands-after : {X : Type 0} (before : List X) (x : X) (xs : List X) → slice_get (before ++ x ∷ xs) (length before) ≡ Some x
-stands-after [] x xs = refl
-stands-after (y ∷ before) x xs = stands-after before x xs
-
-taken-before : {X : Type 0} (before : List X) (xs : List X) → take (length before) (before ++ xs) ≡ before
-taken-before [] xs = refl
-taken-before {X} (y ∷ before) xs = ap (λ (l : List X). y ∷ l) (taken-before before xs)
 
 -- ---- those that refer to a key
 
@@ -145,7 +138,7 @@ module _ (new : NewKeys) (db : Reading) where
       let its : pieces_at new db k ≡ entry_pieces new db k start item
       = ap (λ (o : Option ℕ). option_map_or (λ i. option_map_or (entry_pieces new db k (start_of db i)) (slice_get db.items i) []) o []) numbered
       ∙ ap (λ (o : Option Item). option_map_or (entry_pieces new db k (start_of db (length before))) o []) (ap (λ (l : List Item). slice_get l (length before)) is ∙ stands-after before item items)
-      ∙ ap (λ (l : List Item). entry_pieces new db k (length db.front + length (flat_map item_bytes l)) item) (ap (take (length before)) is ∙ taken-before before (item ∷ items)) in
+      ∙ ap (λ (l : List Item). entry_pieces new db k (length db.front + length (flat_map item_bytes l)) item) (ap (take (length before)) is ∙ take_at before (item ∷ items) (length before) refl) in
       ap (λ (x : Item). pieces_from start (keyed_chunks (key_of new) (entries_of db) k (x ∷ items))) e.1
       ∙ pieces-more (key_of new) (entries_of db) start k e.0 item.trail items
       ∙ ap (λ (x : Item). entry_pieces new db k start x ++ pieces_from (start + (length (tree_bytes x.tree) + length x.trail)) (keyed_chunks (key_of new) (entries_of db) (k + 1) items)) (sym e.1)

@@ -1,5 +1,5 @@
 -- The first item that passes a test, with the items before and after it.
-use Rattle.bib_edit.proofs.Words.{◌≡◌, ℕ, suc, ◌+◌, Bool, true, false, List, [], ◌∷◌, ◌++◌, Some, option_map, slice_get, length, take, find, ⊎_elim, refl, sym, ◌∙◌, ap, ap₂, flat_map, AllByRecursion, cases_Bool, cond-true, cond-false, none-some, same_Some, Tree, Item, Reading, item_bytes, Chunk}
+use Rattle.bib_edit.proofs.Words.{◌≡◌, ℕ, suc, ◌+◌, Bool, true, false, List, [], ◌∷◌, ◌++◌, Some, option_map, slice_get, length, take, find, ⊎_elim, refl, sym, ◌∙◌, ap, ap₂, flat_map, AllByRecursion, cases_Bool, cond-true, cond-false, none-some, same_Some, Tree, Item, Reading, item_bytes, Chunk, take_at}
 use Rattle.bib_edit.proofs.Words.{from_first, with_first_tree, kept_item, kept_items, chunks_from_first, suc_some, start_of, first_item}
 
 module _ (test : Tree → Bool) where
@@ -61,20 +61,16 @@ module _ (test : Tree → Bool) where
     pub items-first : (items : List Item) (n : ℕ) (first : IsFirstItem items n) → from_first test change items ≡ first.before ++ change (first.item ∷ first.after)
     items-first items n first = ap (from_first test change) first.is ∙ items_after first.before first.item first.after first.passes first.none
 
-item_after : (before : List Item) (item : Item) (after : List Item) → slice_get (before ++ item ∷ after) (length before) ≡ Some item
-item_after [] item after = refl
-item_after (x ∷ before) item after = item_after before item after
-
-before_at : (before : List Item) (item : Item) (after : List Item) → take (length before) (before ++ item ∷ after) ≡ before
-before_at [] item after = refl
-before_at (x ∷ before) item after = ap (λ l. x ∷ l) (before_at before item after)
+pub stands-after : {X : Type 0} (before : List X) (x : X) (xs : List X) → slice_get (before ++ x ∷ xs) (length before) ≡ Some x
+stands-after [] x xs = refl
+stands-after (y ∷ before) x xs = stands-after before x xs
 
 module _ (test : Tree → Bool) (items : List Item) (n : ℕ) (first : IsFirstItem test items n) where
   pub item-first : slice_get items n ≡ Some first.item
-  item-first = ap₂ slice_get first.is (sym first.number) ∙ item_after first.before first.item first.after
+  item-first = ap₂ slice_get first.is (sym first.number) ∙ stands-after first.before first.item first.after
 
   pub before-first : take n items ≡ first.before
-  before-first = ap₂ take (sym first.number) first.is ∙ before_at first.before first.item first.after
+  before-first = ap₂ take (sym first.number) first.is ∙ take_at first.before (first.item ∷ first.after) (length first.before) refl
 
 -- an item stands after the front and those before it
 pub start-first : (test : Tree → Bool) (db : Reading) (n : ℕ) (first : IsFirstItem test db.items n) → start_of db n ≡ length db.front + length (flat_map item_bytes first.before)

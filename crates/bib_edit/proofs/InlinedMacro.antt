@@ -19,9 +19,6 @@ module _ (name : Text) (db : Reading) where
   passes_keys : Passes made_base db (InlineMacro name) 1
   passes_keys = more BadKey (λ h. true≢false h) no_reason
 
-  pub inline-unnamed : is_name name ≡ false → IsFirstRefusal made_base db (InlineMacro name) BadName
-  inline-unnamed bad = is_first BadName (sym (and_name (is_name name)) ∙ bad) passes_keys
-
   module _ (named : is_name name ≡ true) where
     passes_given : Passes made_base db (InlineMacro name) 4
     passes_given = more BadPosition (λ h. h) (more BadValue (λ h. h (All-nil (IsValue name_limit))) (more BadName (λ h. true≢false (sym named ∙ and_name (is_name name) ∙ h)) passes_keys))

@@ -4,9 +4,6 @@ use Rattle.bib_edit.proofs.Words.{leaving, tree_with, items_with, defines, from_
 use Rattle.bib_edit.proofs.JoinedTexts.{joins-clean, clean-joins}
 
 module _ (name held : Text) where
-  abbrev kind_kept : Item → Bool × Text
-  kind_kept item = (is_comment item.tree, item.trail)
-
   tree_kept : (tree : Tree) → is_comment (tree_with leaving (use_inlined name held) tree) ≡ is_comment tree
   tree_kept (CommentTree h) = refl
   tree_kept (DefinitionTree d) = refl

@@ -133,9 +133,6 @@ module _ (start : ℕ) (view : View) (seen : IsEntrySeen start view) where
       (subst (EndWithin file_limit) (pieces-entry start key named e seen.trail)
       (pieces-within start (its_chunks start key named e seen.trail) file_limit (omega (arith, old, within))))
 
-  pub key-within : start + view.key_at ≤ file_limit
-  key-within = let w = (within-entry (Some []) None).0 in omega (arith, w)
-
   pub value-within : (field : Field) → Some field ≡ find (is_field crossref) view.fields → start + field.value_at ≤ file_limit
   value-within field found =
       let w = (subst (λ (o : Option Field). EndWithin file_limit (value_piece start [] o)) (sym found) (within-entry None (Some []))).0 in omega (arith, w)

@@ -1,5 +1,5 @@
 -- Where an edit changes one entry, the only raw texts that are new are those of its new values.
-use Rattle.bib_edit.proofs.Words.{◌≡◌, ℕ, zero, suc, ◌+◌, Bool, true, false, ◌||◌, nat_lt, List, [], ◌∷◌, ◌++◌, Some, None, is_some, option_map, slice_get, length, map, find, ⊎_elim, refl, sym, ◌∙◌, ap, subst, or-false, list_any, zip, cases_Bool, cond-true, cond-false, or_parts, none-some}
+use Rattle.bib_edit.proofs.Words.{◌≡◌, ℕ, zero, suc, ◌+◌, Bool, true, false, ◌||◌, nat_lt, List, [], ◌∷◌, ◌++◌, Some, None, is_some, option_map, slice_get, length, map, find, ⊎_elim, refl, sym, ◌∙◌, ap, subst, or-false, list_any, zip, cases_Bool, cond-true, cond-false, or_parts, none-some, or_assoc}
 use Rattle.bib_edit.proofs.Words.{same_Some, Text, same, Value, Row, Entry, Tree, CommentTree, DefinitionTree, PreambleTree, EntryTree, row_bytes, Item, Reading, item_bytes, Macros, months, raw_text, raw_limit, macros_after, macros_at, raw_texts_in, raw_texts_from, value_places, row_places}
 use Rattle.bib_edit.proofs.Words.{too_long_at, is_entry, from_first, with_first_tree, of_entry, with_entry, row_before, row_to, with_field, without_field, entry_with_field, entry_without_field, suc_some, first_item}
 
@@ -25,10 +25,6 @@ found-cons p ps = ⊎_elim
     (λ t. ap (λ o. is_some (option_map (λ p. p.0) o)) (cond-false (is_long p.1) (Some p) (find is_long_at ps) t) ∙ sym (ap (λ b. b || found_long ps) t))
     (cases_Bool (is_long p.1))
 
-or_assoc : (a b c : Bool) → (a || (b || c)) ≡ ((a || b) || c)
-or_assoc true b c = refl
-or_assoc false b c = refl
-
 -- texts with as many places
 zipped : (f : ℕ → ℕ) (places : List ℕ) (texts : List Text) (rest : List (ℕ × Text)) → length places ≡ length texts → found_long (zip (map f places) texts ++ rest) ≡ (list_any is_long texts || found_long rest)
 zipped f [] [] rest e = refl
@@ -37,7 +33,7 @@ zipped f (p ∷ places) [] rest e = cc
 zipped f (p ∷ places) (t ∷ texts) rest e =
     found-cons (f p, t) (zip (map f places) texts ++ rest)
     ∙ ap (λ b. is_long t || b) (zipped f places texts rest (cc))
-    ∙ or_assoc (is_long t) (list_any is_long texts) (found_long rest)
+    ∙ sym (or_assoc (is_long t) (list_any is_long texts) (found_long rest))
 
 rows_places : (at : ℕ) (m : Macros) (rows : List Row) → length (row_places at rows) ≡ length (map (raw_text m) (map (λ row. row.assignment.value) rows))
 rows_places at m [] = refl

@@ -1,6 +1,7 @@
 -- Whether a name is in use, told in parts.
 use Rattle.bib_edit.proofs.Words.{◌≡◌, ℕ, Bool, true, false, not, ◌&&◌, ◌||◌, is_some, List, [], ◌∷◌, take, drop, refl, sym, ◌∙◌, ap, ap₂, take-append-drop, list_any, or_assoc, or_comm, Text, folded, same, months, Item, defines, uses, any_part, is_in_use, have_part, is_given, is_used}
 use Rattle.bib_edit.proofs.Words.{is_taken_before, is_taken_from, list_any-append}
+use Rattle.std.proofs.lemmas.Bool.{or_left, or_right}
 
 or_swap : (a b c d : Bool) → ((a || b) || (c || d)) ≡ ((a || c) || (b || d))
 or_swap true b c d = refl
@@ -44,18 +45,11 @@ module _ (n : ℕ) (from to : Text) (items : List Item) where
       ap (λ b. not (same to from) && b) (in-use-before to items n)
       ∙ both_or (not (same to from)) (is_given to items || is_used to (take n items)) (is_used to (drop n items))
 
-  or_first : (a b : Bool) → a ≡ true → (a || b) ≡ true
-  or_first a b t = ap (λ c. c || b) t
-
-  or_second : (a b : Bool) → b ≡ true → (a || b) ≡ true
-  or_second true b t = refl
-  or_second false b t = t
-
   pub taken-before : is_taken_before n from to items ≡ true → (not (same to from) && is_in_use to items) ≡ true
-  taken-before t = parts ∙ or_first (is_taken_before n from to items) (is_taken_from n from to items) t
+  taken-before t = parts ∙ or_left (is_taken_before n from to items) (is_taken_from n from to items) t
 
   pub taken-from : is_taken_from n from to items ≡ true → (not (same to from) && is_in_use to items) ≡ true
-  taken-from t = parts ∙ or_second (is_taken_before n from to items) (is_taken_from n from to items) t
+  taken-from t = parts ∙ or_right (is_taken_before n from to items) (is_taken_from n from to items) t
 
   pub taken-never : is_taken_before n from to items ≡ false → is_taken_from n from to items ≡ false → (not (same to from) && is_in_use to items) ≡ false
   taken-never b f = parts ∙ ap₂ ◌||◌ b f

@@ -8,11 +8,6 @@ use Rattle.bib_edit.proofs.SeenNames.{take-read}
 
 -- ---- lines
 
-pub lines-more : (fields : List (Text × Text)) (i : ℕ) (field : Text × Text) → i < length fields → field ≡ get_or fields i field →
-    lines_of (take (i + 1) fields) ≡ lines_of (take i fields) ++ field_line field
-lines-more fields i field lt e =
-    ap lines_of (take-read fields i field lt e) ∙ flat_map-append field_line (take i fields) (field ∷ []) ∙ ap (λ t. lines_of (take i fields) ++ t) (append-nil (field_line field))
-
 -- ---- names
 
 module _ (fields : List (Text × Text)) (i : ℕ) (field : Text × Text) (lt : i < length fields) (at : field ≡ get_or fields i field) where
@@ -22,19 +17,11 @@ module _ (fields : List (Text × Text)) (i : ℕ) (field : Text × Text) (lt : i
   pub names-split : names_of fields ≡ names_of (take (i + 1) fields) ++ names_of (drop (i + 1) fields)
   names-split = ap names_of (sym (take-append-drop (i + 1) fields)) ∙ map-append (λ field. field.0) (take (i + 1) fields) (drop (i + 1) fields)
 
-pub all-more : (p : Text → Bool) (fields : List (Text × Text)) (i : ℕ) (field : Text × Text) → i < length fields → field ≡ get_or fields i field →
-    list_all p (names_of (take i fields)) ≡ true → p field.0 ≡ true → list_all p (names_of (take (i + 1) fields)) ≡ true
-all-more p fields i field lt at before this =
-    ap (list_all p) (names-more fields i field lt at) ∙ list_all-append p (names_of (take i fields)) (field.0 ∷ []) ∙ ap₂ (λ a b. a && (b && true)) before this
-
 pub all-fails : (p : Text → Bool) (fields : List (Text × Text)) (i : ℕ) (field : Text × Text) → i < length fields → field ≡ get_or fields i field →
     p field.0 ≡ false → list_all p (names_of fields) ≡ false
 all-fails p fields i field lt at this =
     ap (list_all p) (names-split fields i field lt at) ∙ list_all-append p (names_of (take (i + 1) fields)) (names_of (drop (i + 1) fields))
     ∙ ap (λ b. b && list_all p (names_of (drop (i + 1) fields))) (ap (list_all p) (names-more fields i field lt at) ∙ list_all-append p (names_of (take i fields)) (field.0 ∷ []) ∙ ap (λ b. list_all p (names_of (take i fields)) && (b && true)) this ∙ and-false (list_all p (names_of (take i fields))))
-
-pub all-done : (p : Text → Bool) (fields : List (Text × Text)) (i : ℕ) → length fields ≤ i → list_all p (names_of (take i fields)) ≡ true → list_all p (names_of fields) ≡ true
-all-done p fields i le h = ap (λ l. list_all p (names_of l)) (sym (take_all i fields le)) ∙ h
 
 -- a name of the list is one
 pub name-at : (fields : List (Text × Text)) (i : ℕ) (field : Text × Text) → i < length fields → field ≡ get_or fields i field → list_all is_name (names_of fields) ≡ true → is_name field.0 ≡ true

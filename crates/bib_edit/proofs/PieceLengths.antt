@@ -41,18 +41,3 @@ asked-short file asked ps are is =
     let e = asked_for asked in
     let within = goes-within e.0 file is.0 is.1.reads ps (are is.0 is.1.reads e.0 e.1) in
     let short = is.1.short in omega (arith, within, short)
-
--- ---- one piece after another
-
-module _ (ps : List Piece) (i : ℕ) (p : Piece) (lt : i < length ps) (is : p ≡ get_or ps i p) where
-  pub olds-next : olds_len (drop i ps) ≡ length p.old + olds_len (drop (i + 1) ps)
-  olds-next = ap olds_len (next-read ps i p lt is)
-
-  pub news-next : news_len (drop i ps) ≡ length p.new + news_len (drop (i + 1) ps)
-  news-next = ap news_len (next-read ps i p lt is)
-
-pub olds-past : (ps : List Piece) (i : ℕ) → length ps ≤ i → olds_len (drop i ps) ≡ 0
-olds-past ps i le = ap olds_len (drop_of_length-le ps le)
-
-pub news-past : (ps : List Piece) (i : ℕ) → length ps ≤ i → news_len (drop i ps) ≡ 0
-news-past ps i le = ap news_len (drop_of_length-le ps le)

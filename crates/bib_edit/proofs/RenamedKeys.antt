@@ -75,9 +75,6 @@ module _ (file from to : Text) where
   abbrev asked : Edit
   asked = RenameKey from to
 
-  pub refused-key : is_new_key to ≡ false → IsRefusal file asked BadKey
-  refused-key bad db reads = of-rename_key from to _ (is_first edits.BadKey (ap (λ b. b && true) bad) no_reason)
-
   module _ (is : is_new_key to ≡ true) where
     pub refused-holders : (fault : EditFault) → IsHolderFault file from fault → IsRefusal file asked fault
     refused-holders fault (none_holds none) = λ db reads. of-rename_key from to _ (is_first edits.NotFound (none db reads) (clear_found db from to is))

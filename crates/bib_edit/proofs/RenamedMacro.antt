@@ -21,9 +21,6 @@ module _ (from to : Text) (db : Reading) where
   passes_keys : Passes made_base db (RenameMacro from to) 1
   passes_keys = more BadKey (λ h. true≢false h) no_reason
 
-  pub rename-unnamed : (is_name from && is_name to) ≡ false → IsFirstRefusal made_base db (RenameMacro from to) BadName
-  rename-unnamed bad = is_first BadName (sym (and_names (is_name from) (is_name to)) ∙ bad) passes_keys
-
   module _ (named : (is_name from && is_name to) ≡ true) where
     passes_given : Passes made_base db (RenameMacro from to) 4
     passes_given =

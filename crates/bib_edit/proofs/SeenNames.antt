@@ -35,9 +35,6 @@ module _ {X : Type 0} (name_of : X → Text) where
     pub none : has_same (names_to xs i) ≡ false
     pub table : (t : Text) → is_some (value_at seen t) ≡ list_any (λ name. bytes_eq t (folded name)) (names_to xs i)
 
-  pub seen-none : (xs : List X) (seen : List (Text × Bool)) → ((t : Text) → value_at seen t ≡ None) → SeenTo xs 0 seen
-  seen-none xs seen empty = record { none = refl; table = λ t. ap is_some (empty t) }
-
   module _ (xs : List X) (i : ℕ) (seen : List (Text × Bool)) (x : X) (to : SeenTo xs i seen) (lt : i < length xs) (at : x ≡ get_or xs i x) where
     abbrev name : Text
     name = name_of x
@@ -73,6 +70,3 @@ module _ {X : Type 0} (name_of : X → Text) where
             (λ e. ap is_some (cond-true (bytes_eq t (folded name)) (Some value) (value_at seen t) e) ∙ sym (after ∙ ap (λ b. list_any test earlier || (b || false)) e ∙ or-true (list_any test earlier)))
             (λ e. ap is_some (cond-false (bytes_eq t (folded name)) (Some value) (value_at seen t) e) ∙ to.table t ∙ sym (after ∙ ap (λ b. list_any test earlier || (b || false)) e ∙ or-false (list_any test earlier)))
             (cases_Bool (bytes_eq t (folded name)))
-
-  pub seen-all : (xs : List X) (i : ℕ) (seen : List (Text × Bool)) → SeenTo xs i seen → length xs ≤ i → has_same (map name_of xs) ≡ false
-  seen-all xs i seen to le = ap (λ l. has_same (map name_of l)) (sym (take_all i xs le)) ∙ to.none

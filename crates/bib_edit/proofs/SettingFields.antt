@@ -51,10 +51,6 @@ module _ (file key name value : Text) where
   abbrev asked : Edit
   asked = SetField key name value
 
-  pub refused-name : is_name name ≡ false → IsRefusal file asked BadName
-  refused-name bad db reads = of-set_field key name value (λ e. IsFirstRefusal made_base db e edits.BadName)
-      (λ v s. is_first edits.BadName (ap (λ b. (b && true) && true) bad) (clear_name db key name v))
-
   -- what is known once the name is one
   module _ (named : is_name name ≡ true) where
     pub refused-value : (IsValueWithin name_limit value → ⊥) → IsRefusal file asked BadValue

@@ -8,7 +8,7 @@ use Rattle.bib_edit.proofs.NamedEntries.{named-entry}
 use Rattle.bib_edit.proofs.FirstItems.{IsFirstItem, found_first, chunks-first, item-first, start-first}
 use Rattle.bib_edit.proofs.PieceLists.{pieces-after_items, pieces-before_items, pieces-entry, pieces-kept_rows, within-one_piece}
 
-row_regroup : (b s v e : Text) → ((b ++ s) ++ v) ++ e ≡ b ++ (s ++ (v ++ e))
+pub row_regroup : (b s v e : Text) → ((b ++ s) ++ v) ++ e ≡ b ++ (s ++ (v ++ e))
 row_regroup b s v e = simp append_assoc
 
 -- the text before the next row, where the white space after a value is told apart

@@ -91,25 +91,31 @@ fn new_target<'a, L: ItemList>(db: &Database<L>, new: &'a NewKeys, n: usize) -> 
     }
 }
 
-/// Adds the pieces of entry `n`, whose item has this view and begins at this place.
+/// An entry: its number, the place where its item begins, and what is seen of the item.
+#[derive(Clone, Copy)]
+struct PlacedEntry<'v, 'a> {
+    n: usize,
+    start: usize,
+    view: &'v ItemView<'a>,
+}
+
+/// Adds the pieces of this entry.
 fn push_entry_at<L: ItemList>(
     alloc: Global,
     db: &Database<L>,
     new: &NewKeys,
-    n: usize,
-    start: usize,
-    view: &ItemView<'_>,
+    entry: PlacedEntry<'_, '_>,
     pieces: &mut Vec<Piece>,
 ) -> Result<(), EditFault>
-    requires number { IsEntryNumber db.now n }
-    requires place { OfReading db.now (λ r. IsEntryPlace r n start) }
-    requires view { OfReading db.now (λ r. (i : Item) → slice_get (entry_items r.items) n ≡ Some i → view.now ≡ view_of i) }
-    ensures pieces { OnOk result (OfReading db.now (λ r. pieces.new.items ≡ pieces.old.items ++ pieces_at new.now r n)) }
+    requires number { IsEntryNumber db.now entry.n }
+    requires place { OfReading db.now (λ r. IsEntryPlace r entry.n entry.start) }
+    requires view { OfReading db.now (λ r. (i : Item) → slice_get (entry_items r.items) entry.n ≡ Some i → entry.view.now ≡ view_of i) }
+    ensures pieces { OnOk result (OfReading db.now (λ r. pieces.new.items ≡ pieces.old.items ++ pieces_at new.now r entry.entry.n)) }
     ensures only { IfErr result (λ fault. fault ≡ Memory) }
 {
     db.opens();
-    push_key(alloc, pieces, start, view, new.of(n))?;
-    push_crossref(alloc, pieces, start, view, new_target(db, new, n))
+    push_key(alloc, pieces, entry.start, entry.view, new.of(entry.n))?;
+    push_crossref(alloc, pieces, entry.start, entry.view, new_target(db, new, entry.n))
 }
 
 /// Adds the pieces of entry `n`.
@@ -126,7 +132,13 @@ fn push_entry<L: ItemList>(
 {
     db.opens();
     let start = db.item_place(db.entry_item(n));
-    push_entry_at(alloc, db, new, n, start, &db.entry(n), pieces)
+    let view = db.entry(n);
+    let entry = PlacedEntry {
+        n,
+        start,
+        view: &view,
+    };
+    push_entry_at(alloc, db, new, entry, pieces)
 }
 
 /// The place of item `to`, given that of item `from`. It takes a look at each item between them.
@@ -167,7 +179,12 @@ pub(crate) fn rekeying<L: ItemList>(
         let next = db.entry_item(n);
         let start = place_from(db, item, place, next);
         let view = db.item(next);
-        push_entry_at(alloc, db, new, n, start, &view, &mut pieces)?;
+        let entry = PlacedEntry {
+            n,
+            start,
+            view: &view,
+        };
+        push_entry_at(alloc, db, new, entry, &mut pieces)?;
         item = next + 1;
         place = start + (view.body().len() + view.trail().len());
     }
@@ -186,25 +203,30 @@ fn referrer_before<L: ItemList>(db: &Database<L>, key: &[u8], k: usize, end: usi
     }
 }
 
-/// Adds the pieces of the entries before entry `end` that refer to the key, without the first `from` of them. It
-/// returns how many entries before entry `end` refer to the key.
+/// The entries before entry `end` that refer to the key, without the first `from` of them.
+#[derive(Clone, Copy)]
+struct Referrers<'k> {
+    key: &'k [u8],
+    from: usize,
+    end: usize,
+}
+
+/// Adds the pieces of these entries. It returns how many entries before entry `end` refer to the key.
 fn push_referrers<L: ItemList>(
     alloc: Global,
     db: &Database<L>,
     new: &NewKeys,
-    key: &[u8],
-    from: usize,
-    end: usize,
+    some: Referrers<'_>,
     pieces: &mut Vec<Piece>,
 ) -> Result<usize, EditFault>
-    requires short { length key.now ≤ name_limit }
-    requires end { OfReading db.now (λ r. end ≤ length (entries_of r)) }
-    ensures pieces { IfOk result (λ k. OfReading db.now (λ r. (a : ℕ) → a ≤ end → AreQuiet new.now r key.now a end → HavePieces new.now r key.now from a pieces.old.items → HavePieces new.now r key.now k end pieces.new.items)) }
+    requires short { length some.key.now ≤ name_limit }
+    requires end { OfReading db.now (λ r. some.end ≤ length (entries_of r)) }
+    ensures pieces { IfOk result (λ k. OfReading db.now (λ r. (a : ℕ) → a ≤ some.entry.end → AreQuiet new.now r some.entry.key.now a some.entry.end → HavePieces new.now r some.entry.key.now some.entry.from a pieces.old.items → HavePieces new.now r some.entry.key.now k some.entry.end pieces.new.items)) }
     ensures only { IfErr result (λ fault. fault ≡ Memory) }
 {
     let count = db.entry_count();
-    'referrers: for k in from..count {
-        let Some(n) = referrer_before(db, key, k, end) else {
+    'referrers: for k in some.from..count {
+        let Some(n) = referrer_before(db, some.key, k, some.end) else {
             return Ok(k);
         };
         push_entry(alloc, db, new, n, pieces)?;
@@ -229,10 +251,19 @@ pub(crate) fn renaming<L: ItemList>(
 {
     db.opens();
     let mut pieces = Vec::new(alloc);
-    let before = push_referrers(alloc, db, new, key, 0, n, &mut pieces)?;
+    let first = Referrers {
+        key,
+        from: 0,
+        end: n,
+    };
+    let before = push_referrers(alloc, db, new, first, &mut pieces)?;
     push_entry(alloc, db, new, n, &mut pieces)?;
-    let after = skip_self(db, key, before, n);
-    push_referrers(alloc, db, new, key, after, db.entry_count(), &mut pieces)?;
+    let later = Referrers {
+        key,
+        from: skip_self(db, key, before, n),
+        end: db.entry_count(),
+    };
+    push_referrers(alloc, db, new, later, &mut pieces)?;
     Ok(Seq::from_vec(pieces))
 }
 

@@ -17,29 +17,9 @@ use Rattle.bib_journal.specs.Kept.{kept, IsKept}
 use Rattle.bib_journal.specs.OpenSteps.{idle}
 use Rattle.bib_journal.specs.Loading.{FitFile, Loads, SaysOf, IsMismatch}
 
-pub its_mismatch : (file text : Text) (c : Contents) → IsOpenable file → IsJournalOf c text → (FitFile c file → ⊥) → IsMismatch file text
-its_mismatch file text c opens journal misfit = record { opens = opens; contents = c; journal = journal; misfit = misfit }
-
--- a journal that is not read loads nothing
-pub unread_refuses : (fault : JournalFault) (file text : Text) → IsOpenable file → Refuses fault text → RefusesLoad (unread fault) file text
-unread_refuses (journal_fault.BadJournal place) file text opens refuses = (opens, refuses)
-unread_refuses journal_fault.Memory file text opens refuses = opens.1.short
-
 -- the steps of the contents, undone ones last first
 pub contents_kept : (c : Contents) (file : Text) (stack : List Step) → stack ≡ reverse c.future → kept c.past file (reverse stack) ≡ kept c.past file c.future
 contents_kept c file stack turned = ap (kept c.past file) (ap reverse turned ∙ reverse-reverse c.future)
-
--- contents that fit a file are what a session can keep
-pub contents_are_kept : (c : Contents) (file : Text) (stack : List Step) (len : ℕ) (ends : List ℕ) → AreSteps c.past c.future → FitFile c file → stack ≡ reverse c.future
-    → len ≡ min (sum_by step_text_len c.past) (2 ^ 64 - 1) → IsKept (idle (kept c.past file (reverse stack))) len ends
-contents_are_kept c file stack len ends steps fit turned counted =
-    let sound : IsSound (kept c.past file c.future) = record { present = fit.opens; belong = fit.belong; steps = steps } in
-    record {
-      sound = subst IsSound (sym (contents_kept c file stack turned)) sound;
-      current = tt;
-      counted = omega (arith, counted, steps.short);
-      placed = tt;
-    }
 
 -- a session with what the journal says
 pub says_loads : (file text : Text) (c : Contents) → SaysOf file text c → Loads file text (kept c.past file c.future)

@@ -154,11 +154,6 @@ added_room NoStep pieces old other room full = room full
 added_room (NewStep label) pieces old other room full = room full
 added_room LastStep pieces old other room full = other refl
 
-pub added_full : (current : OpenStep) (pieces : List Piece) (old : KeptSteps) → (current ≡ LastStep → ⊥) → IsFull old (new_step current pieces) → LacksRoom current pieces old
-added_full NoStep pieces old other full = full
-added_full (NewStep label) pieces old other full = full
-added_full LastStep pieces old other full = absurd (other refl)
-
 -- the pieces of an edit that nothing refuses, made so, make the edit
 pub made_edit : (edit : Edit) (pieces : List Piece) (old new : SessionState) → IsSound old.steps → IsOpenIn old.steps old.current → IsAllowedEdit old.steps.present edit
     → ArePiecesOf old.steps.present edit pieces → (LacksRoom old.current pieces old.steps → ⊥) → MakesSteps old.current pieces old.steps new.steps → new.current ≡ after_edit old.current
@@ -181,10 +176,6 @@ pub where_accepted : {T E P Q R S : Type 0} (r : Result T E) → (P → Q → R 
 where_accepted (Ok x) f p q s = f p q s
 where_accepted (Err e) f p q s = tt
 
--- where there is no room for the pieces of the edit, it can't be kept
-pub overfull : (old : SessionState) (edit : Edit) (pieces : List Piece) → ArePiecesOf old.steps.present edit pieces → LacksRoom old.current pieces old.steps → IsOverfull edit old
-overfull old edit pieces planned full = λ db reads e asks. subst (λ (ps : List Piece). LacksRoom old.current ps old.steps) (planned db reads e asks) full
-
 -- ---- the last step
 
 -- a list that ends with one member ends with no other
@@ -204,33 +195,12 @@ joined_room past front future s b pieces room split is short fits long =
     let over : IsOverlong front (with_edit s pieces) = subst (λ (fs : List Step). IsOverlong fs (with_edit s pieces)) same.0 (subst (λ (x : Step). IsOverlong long.0 (with_edit x pieces)) same.1 long.3) in
     omega (arith, over, is, short, fits)
 
-pub joined_full : (past front future : List Step) (s : Step) (b : Text) (pieces : List Piece) (room : ℕ) → past ≡ front ++ s ∷ [] → room ≡ 67174399 - sum_by step_text_len front
-    → sum_by step_text_len front ≤ 67174399 → room < step_text_len (with_edit s pieces) → LacksRoom LastStep pieces (kept past b future)
-joined_full past front future s b pieces room split is short over = (front, s, split, omega (arith, is, short, over))
-
--- the running count, with the last step and without it
-pub counted_front : (past front : List Step) (s : Step) (past_len text_len : ℕ) → past_len ≡ sum_by step_text_len past → text_len ≡ min (step_text_len s) (2 ^ 64 - 1)
-    → past ≡ front ++ s ∷ [] → sum_by step_text_len past ≤ 67174399 → (past_len - text_len ≡ sum_by step_text_len front) × (sum_by step_text_len front ≤ 67174399)
-counted_front past front s past_len text_len counted one split short =
-    let total : sum_by step_text_len past ≡ sum_by step_text_len front + step_text_len s = ap (sum_by step_text_len) split ∙ sum_by_push step_text_len front s in
-    (omega arith, omega arith)
-
-pub counted_joined : (past front : List Step) (s : Step) (rest len : ℕ) → rest ≡ sum_by step_text_len front → len ≡ step_text_len s → past ≡ front ++ s ∷ []
-    → rest + len ≡ sum_by step_text_len past
-counted_joined past front s rest len counted one pushed =
-    let total : sum_by step_text_len past ≡ sum_by step_text_len front + step_text_len s = ap (sum_by step_text_len) pushed ∙ sum_by_push step_text_len front s in
-    omega arith
-
 -- ---- the test of the limits
 
 pub has_room : (k : KeptSteps) (step : Step) (past_len text_len len : ℕ) → past_len ≡ sum_by step_text_len k.past → text_len ≡ min (step_text_len step) (2 ^ 64 - 1)
     → len ≡ min (past_len + text_len) (2 ^ 64 - 1) → length k.past < 65535 → len ≤ 67174399 → IsFull k step → ⊥
 has_room k step past_len text_len len counted one both few short (inl many) = omega arith
 has_room k step past_len text_len len counted one both few short (inr long) = omega arith
-
-pub is_full : (k : KeptSteps) (step : Step) (past_len text_len len : ℕ) → past_len ≡ sum_by step_text_len k.past → text_len ≡ min (step_text_len step) (2 ^ 64 - 1)
-    → len ≡ min (past_len + text_len) (2 ^ 64 - 1) → 67174399 < len → IsFull k step
-is_full k step past_len text_len len counted one both long = inr (omega arith)
 
 -- the running count after a change
 pub counted_on : (past past' : List Step) (step : Step) (past_len text_len len : ℕ) → past_len ≡ sum_by step_text_len past → text_len ≡ min (step_text_len step) (2 ^ 64 - 1)

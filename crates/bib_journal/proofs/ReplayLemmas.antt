@@ -66,28 +66,6 @@ none_gone_on steps first f = record { there = λ w. w; here = λ w. w; last = re
 next_step : (steps : List Step) (i : ℕ) (s : Step) → i < length steps → s ≡ get_or steps i s → drop i steps ≡ s ∷ drop (i + 1) steps
 next_step steps i s h e = drop_more steps i s h ∙ ap (λ (x : Step). x ∷ drop (i + 1) steps) (sym e)
 
-pub one_gone_on : (steps : List Step) (i : ℕ) (s : Step) (first now new : Text) → AreGoneOn steps i first now → i < length steps → s ≡ get_or steps i s
-    → IsAllowed s.pieces now → new ≡ applied s.pieces now → AreGoneOn steps (i + 1) first new
-one_gone_on steps i s first now new w h e a made =
-    let next : drop i steps ≡ s ∷ drop (i + 1) steps = next_step steps i s h e in
-    record {
-      there = λ o. subst (λ (f : Text). LeadOn (drop (i + 1) steps) f) (sym made) ((subst (λ (ss : List Step). LeadOn ss now) next (w.there o)).1);
-      here = λ o. w.here (subst (λ (ss : List Step). LeadOn ss now) (sym next) (leads_from s.pieces now w.is_file a, subst (λ (f : Text). LeadOn (drop (i + 1) steps) f) made o));
-      last = ap (last_of (drop (i + 1) steps)) made ∙ ap (λ (ss : List Step). last_of ss now) (sym next) ∙ w.last;
-      is_file = subst IsOpenable (sym made) a.made;
-    }
-
-pub stuck_on : (steps : List Step) (i : ℕ) (s : Step) (first now : Text) → AreGoneOn steps i first now → i < length steps → s ≡ get_or steps i s
-    → (IsAllowed s.pieces now → ⊥) → LeadOn steps first → ⊥
-stuck_on steps i s first now w h e refused o =
-    let l : Leads s.pieces now (applied s.pieces now) = (subst (λ (ss : List Step). LeadOn ss now) (next_step steps i s h e) (w.there o)).0 in
-    refused (record { fit = l.fit; made = l.new_is_file })
-
-pub all_gone_on : (steps : List Step) (i : ℕ) (first now : Text) → AreGoneOn steps i first now → length steps ≤ i → LeadOn steps first × (now ≡ last_of steps first)
-all_gone_on steps i first now w h =
-    let none : drop i steps ≡ [] = drop_all i steps h in
-    (w.here (subst (λ (ss : List Step). LeadOn ss now) (sym none) tt), ap (λ (ss : List Step). last_of ss now) (sym none) ∙ w.last)
-
 -- ---- there and back
 
 -- what leads to a file leads on from the first

@@ -192,7 +192,7 @@ fn grow_whole<L: ItemList>(
     let new = allowed_len(others.saturating_add(text_len))?;
     ends.reserve(joined.as_slice().len())?;
     go_on(db, pieces)?;
-    renew_ends(ends, joined.as_slice(), 0);
+    renew_ends(ends, joined.as_slice());
     step.pieces = joined;
     Ok(new)
 }

@@ -17,7 +17,7 @@ pub struct Performed {
 }
 
 /// Does one request.
-fn obey<L: ItemList>(session: &mut Session<L>, request: &Request) -> Result<(), SessionFault>
+fn perform_one<L: ItemList>(session: &mut Session<L>, request: &Request) -> Result<(), SessionFault>
     requires { AsksWithDepth request.now }
     ensures done { OnOk result (Does request.now session.old session.new) }
     ensures refused { IfErr result (λ fault. Refuses fault request.now session.old) }
@@ -37,8 +37,8 @@ pub fn repeat<L: ItemList>(session: &mut Session<L>, request: &Request, times: u
     requires { AsksWithDepth request.now }
     ensures { Performs (replicate times request.now) result.done result.fault session.old session.new }
 {
-    'obey: for round in 0..times {
-        if let Err(fault) = obey(session, request) {
+    'each: for round in 0..times {
+        if let Err(fault) = perform_one(session, request) {
             return Performed {
                 done: round,
                 fault: Some(fault),
@@ -56,8 +56,8 @@ pub fn perform<L: ItemList>(session: &mut Session<L>, requests: &[Request]) -> P
     requires { All AsksWithDepth requests.now }
     ensures { Performs requests.now result.done result.fault session.old session.new }
 {
-    'obey: for n in 0..requests.len() {
-        if let Err(fault) = obey(session, &requests[n]) {
+    'each: for n in 0..requests.len() {
+        if let Err(fault) = perform_one(session, &requests[n]) {
             return Performed {
                 done: n,
                 fault: Some(fault),

@@ -30,7 +30,7 @@ pub(crate) fn journal_of(
 }
 
 /// Moves `n` steps from the top of one stack to another.
-fn turn_over(from: &mut Vec<Step>, to: &mut Vec<Step>, n: usize) -> Result<(), AllocError>
+fn move_top(from: &mut Vec<Step>, to: &mut Vec<Step>, n: usize) -> Result<(), AllocError>
     requires { n ≤ length from.old.items }
     ensures from { OnOk result (from.new.items ≡ take (length from.old.items - n) from.old.items) }
     ensures to { OnOk result (to.new.items ≡ to.old.items ++ reverse (drop (length from.old.items - n) from.old.items)) }
@@ -60,7 +60,7 @@ pub(crate) fn saved_back(
     let mut past = said.past.into_vec();
     let mut undone = said.future.into_vec();
     undone.reverse();
-    turn_over(&mut past, &mut undone, n)?;
+    move_top(&mut past, &mut undone, n)?;
     let journal = journal_of(alloc, file.as_slice(), past.as_slice(), undone.as_slice())?;
     Ok(Saved { file, journal })
 }

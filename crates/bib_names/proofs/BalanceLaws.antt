@@ -4,10 +4,9 @@ use Rattle.std.specs.Prelude.{nat_le, IsTrue, count_by}
 use Rattle.std.specs.List.{range_with_len, list_all}
 use Rattle.std.proofs.lemmas.List.{take_all}
 use Rattle.std.proofs.Math.Dec.{leb, ltb}
-use Rattle.std.proofs.lemmas.Bool.{cases_Bool, eqb-true, eq-eqb, leb-true, le-leb, ltb-true, ltb-false}
+use Rattle.std.proofs.lemmas.Bool.{cases_Bool, eqb-true, eq-eqb, leb-true, le-leb, ltb-true, ltb-false, and_parts}
 use Rattle.bib_spec.specs.Text.{Text, opened_before, closed_before, IsBalanced}
 use Rattle.bib_names.specs.Label.{balances}
-use Rattle.bib_names.proofs.BoolLemmas.{both}
 
 all_range : (p : ℕ → Bool) (at n : ℕ) → ((k : ℕ) → p k ≡ true) → list_all p (range_with_len at n) ≡ true
 all_range p at zero all = refl
@@ -15,8 +14,8 @@ all_range p at (suc n) all = rw (all at) (all_range p (at + 1) n all)
 
 range_all : (p : ℕ → Bool) (at n : ℕ) → list_all p (range_with_len at n) ≡ true → (k : ℕ) → k < n → p (at + k) ≡ true
 range_all p at zero all k lt = absurd (omega arith)
-range_all p at (suc n) all zero lt = let e : at + 0 ≡ at = omega arith in ap p e ∙ (both (p at) _ all).0
-range_all p at (suc n) all (suc k) lt = let e : at + suc k ≡ at + 1 + k = omega arith in ap p e ∙ range_all p (at + 1) n (both (p at) _ all).1 k (omega arith)
+range_all p at (suc n) all zero lt = let e : at + 0 ≡ at = omega arith in ap p e ∙ (and_parts (p at) _ all).0
+range_all p at (suc n) all (suc k) lt = let e : at + suc k ≡ at + 1 + k = omega arith in ap p e ∙ range_all p (at + 1) n (and_parts (p at) _ all).1 k (omega arith)
 
 -- no more braces close than open before the place
 abbrev covers : Text → ℕ → Bool
@@ -37,7 +36,7 @@ below text all level n =
 
 pub IsBalanced-from_test : (text : Text) → balances text ≡ true → IsBalanced text
 IsBalanced-from_test text e =
-    let parts = both (eqb (closed_before text (length text)) (opened_before text (length text))) (list_all (covers text) (range_with_len 0 (length text))) e in
+    let parts = and_parts (eqb (closed_before text (length text)) (opened_before text (length text))) (list_all (covers text) (range_with_len 0 (length text))) e in
     let level = eqb-true (closed_before text (length text)) (opened_before text (length text)) parts.0 in
     record { never_negative = below text parts.1 level; all_closed = level }
 

@@ -56,9 +56,6 @@ pub record AreBracesFrom (text : Text) (start seen a z : ℕ) : Type 0 where
   pub opened_small : a ≤ seen
   pub closed_small : z ≤ seen
 
-pub no_braces_from : (text : Text) (start : ℕ) → AreBracesFrom text start start 0 0
-no_braces_from text start = record { after = omega arith; opened = omega arith; closed = omega arith; opened_small = omega arith; closed_small = omega arith }
-
 pub more_braces_from : (text : Text) (start i a z byte a' z' : ℕ) → i < length text → AreBracesFrom text start i a z → byte ≡ get_or text i 0 → a' ≡ a + one_if 123 byte → z' ≡ z + one_if 125 byte → AreBracesFrom text start (i + 1) a' z'
 more_braces_from text start i a z byte a' z' lt are byte_is a_is z_is =
     let opened = opened_more text i lt in

@@ -1,5 +1,5 @@
 -- The place that decides a word's case.
-use Rattle.std.proofs.Common.{◌≡◌, ℕ, ◌+◌, ◌-◌, ◌<◌, true, false, cond, length, get_or, sym, ap, ◌∙◌, arith}
+use Rattle.std.proofs.Common.{◌≡◌, ℕ, ◌+◌, ◌-◌, ◌<◌, true, false, cond, length, get_or, sym, ap, ◌∙◌}
 use Rattle.std.specs.Prelude.{◌||◌}
 use Rattle.std.specs.List.{range_with_len, slice_range, find}
 use Rattle.std.specs.Option.{option_map_or}
@@ -36,6 +36,3 @@ pub decides_on : (word : Text) (place : ℕ) → place < length word → NoneDec
 decides_on word place lt far special letter =
     let fails : decides word place ≡ false = ap (λ b. b || begins_special word place) letter ∙ special in
     far ∙ find_past (decides word) place (length word) lt fails
-
-pub none_decides : (word : Text) → NoneDecides word 0
-none_decides word = let whole : length word ≡ length word - 0 = omega arith in ap (λ n. find (decides word) (range_with_len 0 n)) whole

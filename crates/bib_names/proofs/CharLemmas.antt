@@ -5,14 +5,14 @@ use Rattle.std.specs.List.{prefix_len, slice_range, list_any, range_with_len}
 use Rattle.std.proofs.Math.Bool.{and-false, or-true}
 use Rattle.std.proofs.lemmas.List.{get_or-drop, drop-take, take-append-drop, take-take, length-take-le}
 use Rattle.std.proofs.lemmas.List.Sums.{sum_by-append, count_by-le-length}
-use Rattle.std.proofs.lemmas.Bool.{eqb-true, ne_eqb, eq-eqb, lt-ltb, le-ltb}
+use Rattle.std.proofs.lemmas.Bool.{eqb-true, ne_eqb, eq-eqb, lt-ltb, le-ltb, not-true}
 use Rattle.bib_spec.specs.Text.{Text, opened_before, closed_before}
 use Rattle.bib_names.specs.Marks.{is_brace, goes_on}
 use Rattle.bib_names.specs.Places.{is_level, places_from}
-use Rattle.bib_names.specs.Special.{is_opening, begins_special, next_level, is_within_special, is_plain, going_on, is_joined, begins_char, char_end, text_chars}
-use Rattle.bib_names.specs.Scanning.{AreBraces, IsSpecial, IsChar, IsBareBrace, IsFresh, IsCharPlace, chars_at, chars_from}
+use Rattle.bib_names.specs.Special.{is_opening, begins_special, next_level, is_within_special, is_plain, going_on, is_joined, begins_char, char_end}
+use Rattle.bib_names.specs.Scanning.{AreBraces, IsSpecial, IsChar, IsBareBrace, IsFresh, chars_at, chars_from}
 use Rattle.bib_names.proofs.BraceLemmas.{opened_more, closed_more}
-use Rattle.bib_names.proofs.PlaceLemmas.{places_here, places_past, places_none, places_skip_to}
+use Rattle.bib_names.proofs.PlaceLemmas.{places_here, places_past, places_skip_to}
 
 -- ---- places before this one
 
@@ -224,10 +224,6 @@ deep_run p at (suc n) k lt = go k (p at) refl lt (λ j h. deep_run p (at + 1) n 
     go zero true e h later = ap p (add-zero at) ∙ e
     go (suc k) true e h later = let n : at + suc k ≡ at + 1 + k = omega arith in ap p n ∙ later k (omega arith)
 
-not-true : (b : Bool) → not b ≡ true → b ≡ false
-not-true true h = absurd (cc)
-not-true false h = refl
-
 -- no place between a special character's ends has depth 0
 special_deep : (text : Text) (place end : ℕ) → IsSpecial text place end → (p : ℕ) → place + 1 ≤ p → p < end → is_level text p ≡ false
 special_deep text place end special p low high =
@@ -288,16 +284,6 @@ char_passed text place end fresh char = elim char.kind [
 
 -- ---- the text characters from a place on
 
-pub chars_whole : (text : Text) → chars_from text 0 ≡ text_chars text
-chars_whole text = let whole : length text - 0 ≡ length text = omega arith in ap (λ n. chars_at text (places_from (begins_char text) 0 n)) whole
-
-pub chars_start : (text : Text) → IsCharPlace text 0 0 0
-chars_start text = record {
-  within = omega arith;
-  braces = record { opening = refl; closing = refl; few_opening = omega arith; few_closing = omega arith };
-  fresh = record { outside = λ front lt. absurd (omega arith); alone = refl };
-}
-
 pub chars_next : (text : Text) (place end : ℕ) → place < length text → IsFresh text place → IsChar text place end → chars_from text place ≡ slice_range text place end ∷ chars_from text end
 chars_next text place end lt fresh char =
     let passed = char_passed text place end fresh char in
@@ -308,9 +294,6 @@ chars_next text place end lt fresh char =
 
 pub chars_past : (text : Text) (place : ℕ) → place < length text → IsFresh text place → IsBareBrace text place → chars_from text place ≡ chars_from text (place + 1)
 chars_past text place lt fresh brace = ap (chars_at text) (places_past (begins_char text) place (length text) lt (brace_past text place fresh brace).0)
-
-pub chars_end : (text : Text) (place : ℕ) → length text ≤ place → chars_from text place ≡ []
-chars_end text place le = ap (chars_at text) (places_none (begins_char text) place (length text) le)
 
 -- ---- the braces of the bytes passed
 

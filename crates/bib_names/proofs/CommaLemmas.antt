@@ -1,17 +1,14 @@
 -- The commas of a name.
-use Rattle.std.proofs.Common.{◌≡◌, ℕ, ◌+◌, ◌-◌, ◌≤◌, ◌<◌, true, false, eqb, List, [], ◌∷◌, length, take, drop, get_or, refl, sym, ap, ◌∙◌, arith}
-use Rattle.std.proofs.lemmas.Bool.{eqb-true, eq-eqb}
+use Rattle.std.proofs.Common.{◌≡◌, ℕ, ◌+◌, ◌-◌, ◌≤◌, ◌<◌, true, false, eqb, List, [], ◌∷◌, length, get_or, refl, sym, ap, ◌∙◌, arith}
+use Rattle.std.proofs.lemmas.Bool.{eqb-true, eq-eqb, and_parts}
 use Rattle.std.specs.Prelude.{Option, Some, None, is_some, IfSome}
-use Rattle.std.specs.List.{slice_range}
 use Rattle.bib_spec.specs.Text.{Text, opened_before, closed_before}
-use Rattle.bib_names.specs.Places.{is_level, places_from, between, stretch}
-use Rattle.bib_names.specs.Words.{words_of}
+use Rattle.bib_names.specs.Places.{is_level, places_from, between}
 use Rattle.bib_names.specs.declared.name.Name.{Name}
 use Rattle.bib_names.specs.FirstComma.{commas_from, IsFirstComma}
-use Rattle.bib_names.specs.Name.{is_comma, commas, without_comma, with_commas, parts_of_bare, parts_of_pieces}
-use Rattle.bib_names.proofs.BoolLemmas.{both}
+use Rattle.bib_names.specs.Name.{is_comma, commas, parts_of_bare, parts_of_pieces}
 use Rattle.bib_names.proofs.BraceLemmas.{one_if, opened_more, closed_more}
-use Rattle.bib_names.proofs.PlaceLemmas.{places_here, places_past, places_none}
+use Rattle.bib_names.proofs.PlaceLemmas.{places_here, places_past}
 
 pub commas_whole : (text : Text) → commas text ≡ commas_from text 0
 commas_whole text = let whole : length text ≡ length text - 0 = omega arith in ap (places_from (is_comma text) 0) whole
@@ -30,7 +27,7 @@ pub record NoCommaYet (text : Text) (start place : ℕ) : Type 0 where
 
 pub comma_found : (text : Text) (start place : ℕ) → start ≤ place → place < length text → NoCommaYet text start place → is_comma text place ≡ true → IsFirstComma text start place
 comma_found text start place after lt far passes =
-    let parts = both (is_level text place) (eqb (get_or text place 0) 44) passes in
+    let parts = and_parts (is_level text place) (eqb (get_or text place 0) 44) passes in
     record {
       after = after;
       within = lt;
@@ -41,29 +38,11 @@ comma_found text start place after lt far passes =
 pub comma_on : (text : Text) (start place : ℕ) → place < length text → NoCommaYet text start place → is_comma text place ≡ false → NoCommaYet text start (place + 1)
 comma_on text start place lt far fails = record { same = sym (places_past (is_comma text) place (length text) lt fails) ∙ far.same }
 
-pub comma_none : (text : Text) (start place : ℕ) → length text ≤ place → NoCommaYet text start place → commas_from text start ≡ []
-comma_none text start place le far = sym far.same ∙ places_none (is_comma text) place (length text) le
-
 -- ---- the pieces between commas
-
--- no comma
-pub parts_of_none : (bare : Text) → commas_from bare 0 ≡ [] → parts_of_bare bare ≡ Some (without_comma (words_of (stretch 0 bare)))
-parts_of_none bare none = ap (λ ps. parts_of_pieces (between 1 bare 0 ps)) (commas_whole bare ∙ none)
-
--- one comma
-pub parts_of_one : (bare : Text) (one : ℕ) → IsFirstComma bare 0 one → commas_from bare (one + 1) ≡ []
-    → parts_of_bare bare ≡ Some (with_commas (words_of (stretch 0 (take (one - 0) bare))) [] (words_of (stretch (one + 1) (drop (one + 1) bare))))
-parts_of_one bare one first none =
-    ap (λ ps. parts_of_pieces (between 1 bare 0 ps)) (commas_whole bare ∙ first.first ∙ ap (λ ps. one ∷ ps) none)
 
 -- two commas
 pub commas_two : (bare : Text) (one two : ℕ) → IsFirstComma bare 0 one → IsFirstComma bare (one + 1) two → commas bare ≡ one ∷ two ∷ commas_from bare (two + 1)
 commas_two bare one two first second = commas_whole bare ∙ first.first ∙ ap (λ ps. one ∷ ps) second.first
-
-pub parts_of_two : (bare : Text) (one two : ℕ) → IsFirstComma bare 0 one → IsFirstComma bare (one + 1) two → commas_from bare (two + 1) ≡ []
-    → parts_of_bare bare ≡ Some (with_commas (words_of (stretch 0 (take (one - 0) bare))) (words_of (stretch (one + 1) (slice_range bare (one + 1) two))) (words_of (stretch (two + 1) (drop (two + 1) bare))))
-parts_of_two bare one two first second none =
-    ap (λ ps. parts_of_pieces (between 1 bare 0 ps)) (commas_two bare one two first second ∙ ap (λ ps. one ∷ two ∷ ps) none)
 
 -- with more commas there are no parts
 too_many : (bare : Text) (ps : List ℕ) → 2 < length ps → parts_of_pieces (between 1 bare 0 ps) ≡ None

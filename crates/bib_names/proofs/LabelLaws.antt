@@ -1,11 +1,11 @@
 -- The letters of numbers, and labels one after another.
-use Rattle.std.proofs.Common.{◌≡◌, ℕ, zero, suc, ◌+◌, ◌-◌, ◌*◌, ◌/◌, ◌%◌, ◌≤◌, ◌<◌, Bool, true, false, cond, List, [], ◌∷◌, ◌++◌, length, take, get_or, map, refl, sym, ap, ◌∙◌, arith, append_assoc, lit<}
+use Rattle.std.proofs.Common.{◌≡◌, ℕ, zero, suc, ◌+◌, ◌-◌, ◌*◌, ◌/◌, ◌%◌, ◌<◌, Bool, true, false, cond, List, [], ◌∷◌, ◌++◌, length, take, get_or, map, refl, sym, ap, ◌∙◌, arith, append_assoc, lit<}
 use Rattle.std.proofs.Math.Nat.{div-add-mod, mod-lt}
 use Rattle.std.proofs.lemmas.Bool.{ne_eqb}
 use Rattle.std.specs.Str.{bytes_eq}
 use Rattle.std.specs.List.{range_with_len}
-use Rattle.std.proofs.lemmas.List.{length-take-le, get_or_default}
-use Rattle.std.proofs.lemmas.List.Sums.{count_by_more_yes, count_by_more_no, count_by-le-length}
+use Rattle.std.proofs.lemmas.List.{get_or_default}
+use Rattle.std.proofs.lemmas.List.Sums.{count_by_more_yes, count_by_more_no}
 use Rattle.std.proofs.lemmas.List.FromFn.{map-range_with_len_more}
 use Rattle.bib_spec.specs.Text.{Text}
 use Rattle.bib_spec.specs.MadeKeys.{next_letters, letters}
@@ -45,9 +45,6 @@ count_of_more base bases n next lt is = go (bytes_eq base next) refl
     go : (b : Bool) → bytes_eq base next ≡ b → count_of base (take (n + 1) bases) ≡ count_of base (take n bases) + cond b 1 0
     go true e = count_by_more_yes (bytes_eq base) bases n next lt (ap (bytes_eq base) (sym is) ∙ e)
     go false e = omega (arith, count_by_more_no (bytes_eq base) bases n next lt (ap (bytes_eq base) (sym is) ∙ e))
-
-pub few_of : (base : Text) (bases : List Text) (n : ℕ) → n ≤ length bases → count_of base (take n bases) ≤ n
-few_of base bases n le = omega (arith, count_by-le-length (bytes_eq base) (take n bases), length-take-le n bases le)
 
 -- one more label
 pub labels_more : (bases labels : List Text) (n : ℕ) (base label : Text) (count earlier : ℕ) → n < length bases → base ≡ get_or bases n base → count ≡ count_of base bases → earlier ≡ count_of base (take n bases) → label ≡ label_of base count earlier

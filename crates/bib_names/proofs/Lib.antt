@@ -1,5 +1,4 @@
 -- ---- tests, places and braces
-pub mod BoolLemmas
 pub mod LoopSteps
 pub mod PlaceLemmas
 pub mod BraceLemmas

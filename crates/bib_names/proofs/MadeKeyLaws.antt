@@ -4,12 +4,11 @@ use Rattle.std.specs.Prelude.{◌&&◌, filter, codes}
 use Rattle.std.specs.List.{list_all}
 use Rattle.std.specs.Char.{is_ascii_alphanumeric}
 use Rattle.std.proofs.Math.Dec.{leb}
-use Rattle.std.proofs.lemmas.Bool.{leb-true, le-leb, lt-ltb, ne_eqb, leb-false, lt-leb}
+use Rattle.std.proofs.lemmas.Bool.{leb-true, le-leb, lt-ltb, ne_eqb, leb-false, lt-leb, and_parts}
 use Rattle.std.proofs.lemmas.List.{length-take}
 use Rattle.bib_spec.specs.Text.{Text, is_new_key_byte, is_new_key}
 use Rattle.bib_spec.specs.MadeKeys.{base_limit, IsKeyBase}
 use Rattle.bib_names.specs.Label.{or_anon, key_letters, key_base, label_base}
-use Rattle.bib_names.proofs.BoolLemmas.{both}
 
 -- a letter or digit is greater than the space
 alphanumeric-high : (b : ℕ) → is_ascii_alphanumeric b ≡ true → 32 < b
@@ -39,7 +38,7 @@ key_bytes (b ∷ text) = go (is_ascii_alphanumeric b) refl (key_bytes text)
 all_take : (p : ℕ → Bool) (n : ℕ) (text : Text) → list_all p text ≡ true → list_all p (take n text) ≡ true
 all_take p zero text all = refl
 all_take p (suc n) [] all = refl
-all_take p (suc n) (b ∷ text) all = let parts = both (p b) (list_all p text) all in ap (λ x. x && list_all p (take n text)) parts.0 ∙ all_take p n text parts.1
+all_take p (suc n) (b ∷ text) all = let parts = and_parts (p b) (list_all p text) all in ap (λ x. x && list_all p (take n text)) parts.0 ∙ all_take p n text parts.1
 
 -- letters, or `anon`
 kept : (b : ℕ) (text : Text) → or_anon (b ∷ text) ≡ b ∷ text

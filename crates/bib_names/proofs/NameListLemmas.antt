@@ -3,14 +3,13 @@ use Rattle.std.proofs.Common.{◌≡◌, ℕ, ◌+◌, ◌-◌, ◌≤◌, ◌<�
 use Rattle.std.specs.Prelude.{codes}
 use Rattle.std.specs.List.{slice_range, list_all}
 use Rattle.std.specs.Char.{to_ascii_lowercase}
-use Rattle.std.proofs.lemmas.Bool.{eqb-true, ne_eqb, ltb-true, ltb-false}
+use Rattle.std.proofs.lemmas.Bool.{eqb-true, ne_eqb, ltb-true, ltb-false, and_parts}
 use Rattle.std.proofs.Math.Dec.{ltb}
 use Rattle.std.proofs.lemmas.List.{get_or-drop, get_or_past, take_all, length-drop}
 use Rattle.bib_spec.specs.Text.{Text, is_space, same}
 use Rattle.bib_text.specs.Trimming.{trimmed}
 use Rattle.bib_names.specs.Places.{is_level, places_from, between, Stretch}
 use Rattle.bib_names.specs.NameList.{is_and, is_cut, cuts, names_of}
-use Rattle.bib_names.proofs.BoolLemmas.{both}
 use Rattle.bib_names.proofs.PlaceLemmas.{places_here, places_past, places_none}
 
 abbrev pub names_between : Text → ℕ → List ℕ → List Text
@@ -23,9 +22,6 @@ pub record AreNamesSoFar (text : Text) (names : List Text) (start place : ℕ) :
   pub space : 0 < start → is_space (get_or text start 0) ≡ true
   pub told : names ++ names_between text start (places_from (is_cut text) place (length text - place)) ≡ names_between text 0 (cuts text)
 
-pub no_names : (text : Text) → AreNamesSoFar text [] 0 0
-no_names text = let whole : length text - 0 ≡ length text = omega arith in record { near = omega arith; within = omega arith; space = λ lt. absurd (omega arith); told = ap (λ n. names_between text 0 (places_from (is_cut text) 0 n)) whole }
-
 -- a byte that folds to a letter is no white space
 letter_apart : (b c : ℕ) → 90 < c → eqb (to_ascii_lowercase b) c ≡ true → is_space b ≡ false
 unfolding is_space
@@ -37,16 +33,16 @@ letter_apart b c high h =
 -- none of the bytes of `and` is white space
 and_apart : (text : Text) → same (take 3 text) (codes "and") ≡ true → (is_space (get_or text 0 0) ≡ false) × (is_space (get_or text 1 0) ≡ false) × (is_space (get_or text 2 0) ≡ false)
 and_apart [] h = absurd (cc)
-and_apart (a ∷ []) h = let p = (both (eqb (to_ascii_lowercase a) 97) _ h).1 in absurd (cc)
-and_apart (a ∷ b ∷ []) h = let p = (both (eqb (to_ascii_lowercase b) 110) _ (both (eqb (to_ascii_lowercase a) 97) _ h).1).1 in absurd (cc)
+and_apart (a ∷ []) h = let p = (and_parts (eqb (to_ascii_lowercase a) 97) _ h).1 in absurd (cc)
+and_apart (a ∷ b ∷ []) h = let p = (and_parts (eqb (to_ascii_lowercase b) 110) _ (and_parts (eqb (to_ascii_lowercase a) 97) _ h).1).1 in absurd (cc)
 and_apart (a ∷ b ∷ c ∷ rest) h =
-    let p = both (eqb (to_ascii_lowercase a) 97) _ h in
-    let q = both (eqb (to_ascii_lowercase b) 110) _ p.1 in
-    let r = both (eqb (to_ascii_lowercase c) 100) _ q.1 in
+    let p = and_parts (eqb (to_ascii_lowercase a) 97) _ h in
+    let q = and_parts (eqb (to_ascii_lowercase b) 110) _ p.1 in
+    let r = and_parts (eqb (to_ascii_lowercase c) 100) _ q.1 in
     (letter_apart a 97 (lit< tt) p.0, letter_apart b 110 (lit< tt) q.0, letter_apart c 100 (lit< tt) r.0)
 
 -- a byte that is white space is in the text
-space_within : (text : Text) (place : ℕ) → is_space (get_or text place 0) ≡ true → place < length text
+pub space_within : (text : Text) (place : ℕ) → is_space (get_or text place 0) ≡ true → place < length text
 unfolding is_space
 space_within text place h =
     elim (ltb place (length text)) as (λ b. ltb place (length text) ≡ b → place < length text) [
@@ -58,9 +54,9 @@ space_within text place h =
 pub names_cut : (text : Text) (names : List Text) (start place : ℕ) → place < length text → AreNamesSoFar text names start place → is_cut text place ≡ true
     → (start ≤ place) × AreNamesSoFar text (names ++ trimmed (slice_range text start place) ∷ []) (place + 3) (place + 1)
 names_cut text names start place lt far passes =
-    let ends = both _ _ (both (is_level text place) (is_and text place) passes).1 in
+    let ends = and_parts _ _ (and_parts (is_level text place) (is_and text place) passes).1 in
     let after = ends.1 in
-    let apart = and_apart (drop place text) (both _ _ ends.0).1 in
+    let apart = and_apart (drop place text) (and_parts _ _ ends.0).1 in
     let next : is_space (get_or text (place + 1) 0) ≡ false = rw get_or-drop at apart.1 in
     let third : is_space (get_or text (place + 2) 0) ≡ false = rw get_or-drop at apart.2 in
     let not_next : start ≢ place + 1 = λ e. let s = far.space (omega arith) in let t = ap (λ n. is_space (get_or text n 0)) e in cc in
@@ -94,6 +90,3 @@ names_end text names start place le far =
 -- the names of a list that is not blank
 pub names_of-words : (text : Text) → list_all is_space text ≡ false → names_between text 0 (cuts text) ≡ names_of text
 names_of-words text words = ap (λ b. cond b [] (names_between text 0 (cuts text))) (sym words)
-
-pub names_of-blank : (text : Text) → list_all is_space text ≡ true → [] ≡ names_of text
-names_of-blank text blank = ap (λ b. cond b [] (names_between text 0 (cuts text))) (sym blank)

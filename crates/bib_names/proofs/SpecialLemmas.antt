@@ -4,14 +4,13 @@ use Rattle.std.specs.Prelude.{◌&&◌, not}
 use Rattle.std.specs.List.{range_with_len, find}
 use Rattle.std.specs.Prelude.{Option, Some, None, IfSome, IfNone}
 use Rattle.std.proofs.Math.Dec.{ltb}
-use Rattle.std.proofs.lemmas.Bool.{eqb-true, ltb-true, ltb-false}
+use Rattle.std.proofs.lemmas.Bool.{eqb-true, ltb-true, ltb-false, and_parts}
 use Rattle.std.proofs.lemmas.Option.{IfSome_then}
 use Rattle.std.proofs.Math.Bool.{and-false}
 use Rattle.bib_spec.specs.Text.{Text, opened_before, closed_before}
 use Rattle.bib_names.specs.Places.{is_level}
 use Rattle.bib_names.specs.Special.{is_opening, begins_special, next_level}
 use Rattle.bib_names.specs.Scanning.{IsGroupEnd, IsSpecial}
-use Rattle.bib_names.proofs.BoolLemmas.{both}
 use Rattle.bib_names.proofs.BraceLemmas.{one_if, opened_more, closed_more}
 use Rattle.bib_names.proofs.PlaceLemmas.{run_to, run_to_end}
 
@@ -40,14 +39,10 @@ group_found text place last low high none level = record {
   level = level;
 }
 
-pub group_missing : (text : Text) (place last : ℕ) → place < length text → length text ≤ last → NoneLevel text place last → is_level text (next_level text place) ≡ false
-group_missing text place last low high none =
-    ap (is_level text) (next_level_end text place low (λ p l h. none p l (omega arith))) ∙ none (length text) low high
-
 -- after an opening brace the depth is 1, and so it is after a backslash there
 opening_deep : (text : Text) (place end : ℕ) → place < end → end ≤ length text → is_level text place ≡ true → is_opening text place ≡ true → is_level text end ≡ true → place + 2 < end
 opening_deep text place end low high level opening closed =
-    let bytes = both (eqb (get_or text place 0) 123) (eqb (get_or text (place + 1) 0) 92) opening in
+    let bytes = and_parts (eqb (get_or text place 0) 123) (eqb (get_or text (place + 1) 0) 92) opening in
     let here = eqb-true (opened_before text place) (closed_before text place) level in
     let there = eqb-true (opened_before text end) (closed_before text end) closed in
     let brace = eqb-true (get_or text place 0) 123 bytes.0 in
@@ -77,7 +72,7 @@ special_none text place fails = ap (λ b. b && is_level text (next_level text pl
 -- where a special character may begin, it does and ends with its group, or does not if that has no end
 pub special_at : (text : Text) (place : ℕ) (end : Option ℕ) → (is_level text place && is_opening text place) ≡ true → IfSome end (IsGroupEnd text place) → IfSome end (IsSpecial text place)
 special_at text place end opens ends =
-    let two = both (is_level text place) (is_opening text place) opens in IfSome_then end ends (λ e is. special_found text place e two.0 two.1 is)
+    let two = and_parts (is_level text place) (is_opening text place) opens in IfSome_then end ends (λ e is. special_found text place e two.0 two.1 is)
 
 pub special_endless : (text : Text) (place : ℕ) (end : Option ℕ) → IfNone end (is_level text (next_level text place) ≡ false) → IfNone end (begins_special text place ≡ false)
 special_endless text place None fails = special_open text place fails
@@ -93,9 +88,6 @@ pub find_past : (test : ℕ → Bool) (at n : ℕ) → at < n → test at ≡ fa
 find_past test at n lt fails =
     let one : n - at ≡ suc (n - (at + 1)) = omega arith in
     ap (λ m. find test (range_with_len at m)) one ∙ ap (λ b. cond b (Some at) (find test (range_with_len (at + 1) (n - (at + 1))))) fails
-
-pub find_none : (test : ℕ → Bool) (at n : ℕ) → n ≤ at → find test (range_with_len at (n - at)) ≡ None
-find_none test at n le = let none : n - at ≡ 0 = omega arith in ap (λ m. find test (range_with_len at m)) none
 
 pub none_more : (text : Text) (place last : ℕ) → NoneLevel text place last → is_level text (last + 1) ≡ false → NoneLevel text place (last + 1)
 none_more text place last none fails p low high =

@@ -4,9 +4,10 @@ use Rattle.std.specs.Prelude.{◌&&◌, not, option_map, option_and_then}
 use Rattle.std.specs.List.{prefix_len, take_while, flat_map, list_all, AllByRecursion}
 use Rattle.std.specs.Char.{is_ascii_alphabetic}
 use Rattle.std.proofs.lemmas.List.{take-append-drop, length-append}
-use Rattle.std.proofs.lemmas.Bool.{eqb-true, ne_eqb}
+use Rattle.std.proofs.lemmas.Bool.{eqb-true, ne_eqb, and_parts, not-true}
 use Rattle.std.proofs.lemmas.Grind.{flat_map-append}
 use Rattle.std.proofs.Math.Seq.{take-append_seam, drop-append_seam}
+use Rattle.std.proofs.lemmas.Option.{none-some, same_Some}
 use Rattle.bib_spec.specs.Text.{Text, does_not_begin_with, after_run}
 use Rattle.bib_names.specs.Template.{Pattern, is_no_brace, is_ornament, letter_of, letters_of, between_bytes, group_inside, group_bytes, spelling, is_between, IsGroup, IsTemplate, OneTemplate}
 use Rattle.bib_names.specs.TemplateReading.{after_byte, part_named, form_at, letters_at, between_inside, between_at, group_closed, group_after_between, group_after_letters, group_after, group_at}
@@ -15,19 +16,15 @@ use Rattle.bib_names.specs.declared.template.Part.TheVariants.{First, Von, Last,
 use Rattle.bib_names.specs.declared.template.Form.{Form}
 use Rattle.bib_names.specs.declared.template.Form.TheVariants.{Initials, Words}
 use Rattle.bib_names.specs.declared.template.Group.{Group}
-use Rattle.bib_names.proofs.BoolLemmas.{both}
+use Rattle.bib_scan.proofs.RunLaws.{run_stops}
 
 -- ---- longest runs of bytes
 
 run_len : (p : ℕ → Bool) (xs ys : Text) → list_all p xs ≡ true → does_not_begin_with p ys ≡ true → prefix_len p (xs ++ ys) ≡ length xs
 run_len p [] [] all stops = refl
 run_len p [] (y ∷ ys) all stops = rw (not-true (p y) stops) refl
-  where
-    not-true : (b : Bool) → not b ≡ true → b ≡ false
-    not-true true h = absurd (cc)
-    not-true false h = refl
 run_len p (x ∷ xs) ys all stops =
-    let parts = both (p x) (list_all p xs) all in
+    let parts = and_parts (p x) (list_all p xs) all in
     let rest = run_len p xs ys parts.1 stops in
     rw parts.0 (omega (arith, rest))
 
@@ -47,14 +44,6 @@ run_passes p (x ∷ xs) = go (p x) refl (run_passes p xs)
     go : (b : Bool) → p x ≡ b → list_all p (take_while p xs) ≡ true → list_all p (take (cond b (1 + prefix_len p xs) 0) (x ∷ xs)) ≡ true
     go false e later = refl
     go true e later = let n : 1 + prefix_len p xs ≡ suc (prefix_len p xs) = omega arith in ap (λ m. list_all p (take m (x ∷ xs))) n ∙ ap (λ b. b && list_all p (take_while p xs)) e ∙ later
-
-run_stops : (p : ℕ → Bool) (t : Text) → does_not_begin_with p (after_run p t) ≡ true
-run_stops p [] = refl
-run_stops p (x ∷ xs) = go (p x) refl (run_stops p xs)
-  where
-    go : (b : Bool) → p x ≡ b → does_not_begin_with p (after_run p xs) ≡ true → does_not_begin_with p (drop (cond b (1 + prefix_len p xs) 0) (x ∷ xs)) ≡ true
-    go false e later = ap not e
-    go true e later = let n : 1 + prefix_len p xs ≡ suc (prefix_len p xs) = omega arith in ap (λ m. does_not_begin_with p (drop m (x ∷ xs))) n ∙ later
 
 -- ---- what was found
 
@@ -172,11 +161,7 @@ group_at-found inside g rest e =
 -- ---- a group that is there
 
 ornament_no_letter : (b : ℕ) → is_ornament b ≡ true → is_ascii_alphabetic b ≡ false
-ornament_no_letter b passes = go (is_ascii_alphabetic b) (both (is_no_brace b) (not (is_ascii_alphabetic b)) passes).1
-  where
-    go : (x : Bool) → not x ≡ true → x ≡ false
-    go true h = absurd (cc)
-    go false h = refl
+ornament_no_letter b passes = not-true (is_ascii_alphabetic b) (and_parts (is_no_brace b) (not (is_ascii_alphabetic b)) passes).1
 
 ornament_no_open : (b : ℕ) → is_ornament b ≡ true → eqb b 123 ≡ false
 ornament_no_open b passes = ne_eqb b 123 (λ e. let computed : is_ornament 123 ≡ true = ap is_ornament (sym e) ∙ passes in absurd (cc))
@@ -206,7 +191,7 @@ letters_stop part Words t = ap not (letter_no_ornament part)
 -- no letter follows the letters of a group
 ornament_after : (post t : Text) → list_all is_ornament post ≡ true → does_not_begin_with is_ascii_alphabetic (post ++ 125 ∷ t) ≡ true
 ornament_after [] t all = refl
-ornament_after (x ∷ xs) t all = ap not (ornament_no_letter x (both (is_ornament x) (list_all is_ornament xs) all).0)
+ornament_after (x ∷ xs) t all = ap not (ornament_no_letter x (and_parts (is_ornament x) (list_all is_ornament xs) all).0)
 
 no_letter_after : (between : Option Text) (post t : Text) → list_all is_ornament post ≡ true → does_not_begin_with is_ascii_alphabetic (between_bytes between ++ (post ++ 125 ∷ t)) ≡ true
 no_letter_after None post t all = ornament_after post t all
@@ -234,7 +219,7 @@ letters_at-there part Words t none =
 between_at-none : (post t : Text) → list_all is_ornament post ≡ true → between_at (post ++ 125 ∷ t) ≡ Some (None, post ++ 125 ∷ t)
 between_at-none [] t all = refl
 between_at-none (x ∷ xs) t all =
-    ap (λ b. cond b (between_inside (xs ++ 125 ∷ t)) (Some (None, x ∷ xs ++ 125 ∷ t))) (ornament_no_open x (both (is_ornament x) (list_all is_ornament xs) all).0)
+    ap (λ b. cond b (between_inside (xs ++ 125 ∷ t)) (Some (None, x ∷ xs ++ 125 ∷ t))) (ornament_no_open x (and_parts (is_ornament x) (list_all is_ornament xs) all).0)
 
 between_at-there : (between : Option Text) (post t : Text) → is_between between ≡ true → list_all is_ornament post ≡ true → between_at (between_bytes between ++ (post ++ 125 ∷ t)) ≡ Some (between, post ++ 125 ∷ t)
 between_at-there None post t plain all = between_at-none post t all
@@ -323,25 +308,19 @@ read_more bytes front groups inside g after far is =
       only = λ t ist e.
           let told = far.only t ist e in
           let first = first_found inside told.0 told.2 told.3 in
-          let pair : (first.0, flat_map group_bytes first.1) ≡ (g, after) = some_same (first.0, flat_map group_bytes first.1) (g, after) (sym first.4 ∙ is) in
+          let pair : (first.0, flat_map group_bytes first.1) ≡ (g, after) = same_Some (first.0, flat_map group_bytes first.1) (g, after) (sym first.4 ∙ is) in
           let same : first.0 ≡ g = ap (λ (p : Group × Text). p.0) pair in
           let rest : flat_map group_bytes first.1 ≡ after = ap (λ (p : Group × Text). p.1) pair in
           let groups_are : groups ++ told.0 ≡ (groups ++ g ∷ []) ++ first.1 = ap (λ gs. groups ++ gs) (first.2 ∙ ap (λ h. h ∷ first.1) same) ∙ sym (append_assoc groups (g ∷ []) first.1) in
           (first.1, told.1 ∙ ap (λ gs. record { front = front; groups = gs }) groups_are, first.3, sym rest);
     }
-  where
-    some_same : (p q : Group × Text) → Some p ≡ Some q → p ≡ q
-    some_same p q e = cc
 
 -- a brace opens where a group must be, and there is no group
 pub read_stuck : (bytes front : Text) (groups : List Group) (inside : Text) → IsReadSoFar bytes front groups (123 ∷ inside) → group_at inside ≡ None → (t : Pattern) → IsTemplate t → bytes ≡ spelling t → ⊥
 read_stuck bytes front groups inside far none t is e =
     let told = far.only t is e in
     let first = first_found inside told.0 told.2 told.3 in
-    some_none (first.0, flat_map group_bytes first.1) (sym first.4 ∙ none)
-  where
-    some_none : (p : Group × Text) → Some p ≡ None → ⊥
-    some_none p e = absurd (cc)
+    none-some (first.0, flat_map group_bytes first.1) (sym none ∙ first.4)
 
 -- bytes are left that begin no group
 pub read_left : (bytes front : Text) (groups : List Group) (rest : Text) → IsReadSoFar bytes front groups rest → after_byte 123 rest ≡ None → (rest ≡ [] → ⊥) → (t : Pattern) → IsTemplate t → bytes ≡ spelling t → ⊥
@@ -351,9 +330,6 @@ read_left bytes front groups rest far none some t is e =
     go : (more : List Group) → rest ≡ flat_map group_bytes more → ⊥
     go [] same = some same
     go (g ∷ gs) same = let h = ap (after_byte 123) same in absurd (cc)
-
-pub read_all : (bytes front : Text) (groups : List Group) → IsReadSoFar bytes front groups [] → IsTemplate (record { front = front; groups = groups }) × (bytes ≡ spelling (record { front = front; groups = groups }))
-read_all bytes front groups far = (record { front = far.plain; groups = far.sound }, far.spelled ∙ ap (λ t. front ++ t) (append-nil (flat_map group_bytes groups)))
 
 -- a group takes at least a byte
 pub length-after : (rest inside : Text) (g : Group) (after : Text) → rest ≡ 123 ∷ inside → group_at inside ≡ Some (g, after) → length after < length rest
@@ -375,12 +351,9 @@ one_groups (g ∷ gs) (h ∷ hs) all also e =
     let same : group_inside g ++ flat_map group_bytes gs ≡ group_inside h ++ flat_map group_bytes hs = ap (drop 1) e in
     let here = group_at-there g (flat_map group_bytes gs) all.0 (groups_stop gs) in
     let there = group_at-there h (flat_map group_bytes hs) also.0 (groups_stop hs) in
-    let pair = pairs_same (g, flat_map group_bytes gs) (h, flat_map group_bytes hs) (sym here ∙ ap group_at same ∙ there) in
+    let pair = same_Some (g, flat_map group_bytes gs) (h, flat_map group_bytes hs) (sym here ∙ ap group_at same ∙ there) in
     let rest = one_groups gs hs all.1 also.1 (ap (λ (p : Group × Text). p.1) pair) in
     ap (λ k. k ∷ gs) (ap (λ (p : Group × Text). p.0) pair) ∙ ap (λ ks. h ∷ ks) rest
-  where
-    pairs_same : (p q : Group × Text) → Some p ≡ Some q → p ≡ q
-    pairs_same p q e = cc
 
 pub one_template : OneTemplate
 one_template s t is also e =

@@ -1,5 +1,5 @@
 -- The words of a piece that are found after some of its places are passed.
-use Rattle.std.proofs.Common.{◌≡◌, ℕ, suc, ◌+◌, ◌-◌, ◌≤◌, ◌<◌, true, false, cond, eqb, List, [], ◌∷◌, ◌++◌, length, get_or, refl, sym, ap, ◌∙◌, arith, map, append_assoc, add-one, append-nil, below_more}
+use Rattle.std.proofs.Common.{◌≡◌, ℕ, suc, ◌+◌, ◌-◌, ◌≤◌, ◌<◌, true, false, cond, eqb, List, [], ◌∷◌, ◌++◌, length, get_or, sym, ap, ◌∙◌, arith, map, append_assoc, add-one, append-nil, below_more}
 use Rattle.std.proofs.lemmas.Bool.{ne_eqb}
 use Rattle.std.proofs.Math.Bool.{and-false}
 use Rattle.std.specs.Prelude.{◌&&◌, ◌||◌, not}
@@ -16,15 +16,6 @@ pub record AreWordsSoFar (at : ℕ) (text : Text) (words : List NameWord) (start
   pub inside : (p : ℕ) → start ≤ p → p < place → is_gap text p ≡ false
   pub sep : before ≡ sep_before text start
   pub told : words ++ map (word_at (stretch at text)) (places_from (begins_word text) start (length text - start)) ≡ words_of (stretch at text)
-
-pub no_words : (at : ℕ) (text : Text) → AreWordsSoFar at text [] 0 32 0
-no_words at text = let whole : length text - 0 ≡ length text = omega arith in record {
-  within = omega arith;
-  front = refl;
-  inside = λ p low high. absurd (omega arith);
-  sep = refl;
-  told = ap (λ n. map (word_at (stretch at text)) (places_from (begins_word text) 0 n)) whole;
-}
 
 -- no gap: the word goes on
 pub words_on : (at : ℕ) (text : Text) (words : List NameWord) (start sep place : ℕ) → AreWordsSoFar at text words start sep place → is_gap text place ≡ false → AreWordsSoFar at text words start sep (place + 1)

@@ -63,20 +63,6 @@ composed_edited at mid k p q h e l =
     ∙ ap (λ n. record { place = n; old = group_old (record { place = m; covered = covered; backs = r ∷ []; ons = [] }); new = group_new (record { place = m; covered = covered; backs = []; ons = q ∷ [] }) } ∷ []) place
     ∙ ap₂ (λ (t u : Text). record { place = p.place; old = t; new = u } ∷ []) (old_is m p.old p.new (drop (length p.new - k) q.old)) (new_is m k q p.new e l)
 
--- the one piece of a list of one
-pub only_piece : (ps : List Piece) (p : Piece) → length ps ≡ 1 → p ≡ get_or ps 0 p → ps ≡ p ∷ []
-only_piece [] p n e = absurd (none n) where
-  none : length {A = Piece} [] ≡ 1 → ⊥
-  none n = omega (arith, n)
-only_piece (q ∷ []) p n e = ap (λ r. r ∷ []) (sym e)
-only_piece (q ∷ r ∷ ps) p n e = absurd (more n) where
-  more : suc (suc (length ps)) ≡ 1 → ⊥
-  more n = omega (arith, n)
-
-pub next_short : (at mid : ℕ) (first second : List Piece) (p : Piece) → IsComposableAt at mid first second → first ≡ p ∷ [] → next_end at mid p ≤ file_limit
-next_short at mid first second p c e =
-    (ends_inside file_limit c.0 (reversed_from at mid (p ∷ [])) c.1.short_middle (subst (λ (ps : List Piece). AllByRecursion (Stands c.0) (reversed_from at mid ps)) e c.1.turned_fit.standing)).0
-
 pub composed_inside : (at mid k : ℕ) (first second : List Piece) (p q : Piece) → IsComposableAt at mid first second → first ≡ p ∷ [] → second ≡ q ∷ [] → q.place ≡ mid + (p.place - at) + k → k ≤ length p.new
     → edited k q p ∷ [] ≡ composed_at at mid first second
 composed_inside at mid k first second p q c e f n l =

@@ -65,20 +65,6 @@ first_can_lead at mid more_at more_mid p ps s =
     let here : moved old new old ≡ new = omega arith in
     ((omega arith, omega (arith, here, s.0)), can_move (end_of p) old new old new ps (omega arith) (sym here) s.1)
 
-pub can_move_at : (old new : ℕ) (places : List ℕ) (i : ℕ) → CanMove old new places → i < length places → (old ≤ get_or places i 0) × (moved old new (get_or places i 0) ≤ file_limit)
-can_move_at old new [] i c h = absurd (none i h) where
-  none : (i : ℕ) → i < 0 → ⊥
-  none i h = omega (arith, h)
-can_move_at old new (p ∷ places) zero c h = c.0
-can_move_at old new (p ∷ places) (suc i) c h = can_move_at old new places i c.1 (omega (arith, h))
-
--- moving by nothing changes nothing
-pub moved_nowhere : (old new : ℕ) (places : List ℕ) → old ≡ new → CanMove old new places → places ≡ map (moved old new) places
-moved_nowhere old new [] e c = refl
-moved_nowhere old new (p ∷ places) e c =
-    let here : p ≡ moved old new p = omega (arith, e, c.0.0) in
-    ap₂ (λ (n : ℕ) (ns : List ℕ). n ∷ ns) here (moved_nowhere old new places e c.1)
-
 -- ---- as the code has them
 
 pub mid_is : (ps : List Piece) (ends : List ℕ) (n mid : ℕ) → n ≤ length ps → take n ends ≡ take n (ends_of ps) → mid ≡ end_at ends n → mid ≡ new_end 0 0 (take n ps)
@@ -102,15 +88,6 @@ short_between ps part n count at mid a m p s =
     subst (λ (k : ℕ). EndBy file_limit (reversed_from k mid part)) (sym a)
     (subst (λ (k : ℕ). EndBy file_limit (reversed_from first k part)) (sym m)
     (subst (λ (qs : List Piece). EndBy file_limit (reversed_from first second qs)) (sym p) all))
-
-pub rest_is : (ps rest : List Piece) (n at mid : ℕ) → at ≡ old_end 0 (take n ps) → mid ≡ new_end 0 0 (take n ps) → rest ≡ drop n ps
-    → ends_from at mid rest ≡ ends_from (old_end 0 (take n ps)) (new_end 0 0 (take n ps)) (drop n ps)
-rest_is ps rest n at mid a m r = ap₂ (λ k j. ends_from k j rest) a m ∙ ap (ends_from (old_end 0 (take n ps)) (new_end 0 0 (take n ps))) r
-
-pub rest_short : (ps rest : List Piece) (n at mid : ℕ) → at ≡ old_end 0 (take n ps) → mid ≡ new_end 0 0 (take n ps) → rest ≡ drop n ps → EndBy file_limit (reversed ps)
-    → EndBy file_limit (reversed_from at mid rest)
-rest_short ps rest n at mid a m r s =
-    short_between ps rest n (length ps) at mid a m (r ∙ sym (take_all (length ps) (drop n ps) (omega (arith, length-drop n ps)))) s
 
 -- the ends of the pieces from one position up to another can be moved as the first of them moves, and are right then
 pub record MoveThere (ps : List Piece) (ends : List ℕ) (from until old new : ℕ) : Type 0 where

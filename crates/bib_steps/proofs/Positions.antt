@@ -1,5 +1,5 @@
 -- Pieces by their positions, and what an edit lies near.
-use Rattle.std.proofs.Common.{zero, suc, ◌≡◌, ◌≢◌, ℕ, ◌+◌, ◌-◌, ◌<◌, ◌≤◌, get_or, List, [], ◌∷◌, ◌++◌, length, map, take, drop, Some, None, refl, sym, subst, ◌∙◌, ap, ap₂, arith, take-append-drop, length-append}
+use Rattle.std.proofs.Common.{zero, suc, ◌≡◌, ℕ, ◌+◌, ◌-◌, ◌<◌, ◌≤◌, get_or, List, [], ◌∷◌, ◌++◌, length, map, take, drop, Some, None, refl, sym, subst, ◌∙◌, ap, ap₂, arith, take-append-drop, length-append}
 use Rattle.std.proofs.lemmas.List.{drop-drop, drop_all, length-take-le, take_at, take-take, take-append-le, get_or-take, map-append}
 use Rattle.std.proofs.lemmas.Option.{get_or_from_slice_get}
 use Rattle.std.specs.List.{slice_get}
@@ -10,7 +10,7 @@ use Rattle.history_spec.specs.Composing.{IsComposable, IsComposableAt, composed,
 use Rattle.history_spec.proofs.Ordered.{ascend_earlier}
 use Rattle.history_spec.proofs.Covered.{standing_rest}
 use Rattle.history_spec.proofs.Around.{ascend_past, fit_part, reversed_append, composed-in_turn}
-use Rattle.history_spec.proofs.Near.{length-ends, new_end_last, old_end_at, begins_after, ends_inside, ends_front, ends_rest, old_end_by, composed_near, composable_near}
+use Rattle.history_spec.proofs.Near.{length-ends, new_end_last, old_end_at, begins_after, ends_inside, ends_rest, old_end_by, composed_near, composable_near}
 use Rattle.bib_steps.specs.Amending.{end_at, BeginAfter, IsNear}
 
 -- ---- ends by position
@@ -22,11 +22,6 @@ pub end_at_new : (ps : List Piece) (ends : List ℕ) (n : ℕ) → ends ≡ ends
 end_at_new ps ends zero e h = refl
 end_at_new ps ends (suc n) e h = ap (λ es. get_or es n 0) e ∙ sym (new_end_last 0 0 ps n (omega (arith, h)))
 
--- the place before a position that is not the first
-pub end_at_some : (ends : List ℕ) (n : ℕ) → n ≢ 0 → end_at ends n ≡ get_or ends (n - 1) 0
-end_at_some ends zero h = absurd (h refl)
-end_at_some ends (suc n) h = let same : n ≡ suc n - 1 = omega arith in ap (λ k. get_or ends k 0) same
-
 front_ends : (ps part : List Piece) (n : ℕ) → (0 < n → BeginsAfter (new_end 0 0 (take n ps)) part) → EndBefore (take n ps) part
 front_ends ps part zero b = tt
 front_ends [] part (suc n) b = tt
@@ -37,9 +32,6 @@ front_ends_before ps ends part n e h b = front_ends ps part n (λ s. subst (λ (
 
 pub after_at : (ps : List Piece) (ends : List ℕ) (k place : ℕ) (q : Piece) → AreEnds ps ends → k < length ps → q ≡ get_or ps k q → place + length q.new < get_or ends k 0 → BeginAfter ps k place
 after_at ps ends k place q e h is b = begins_after ps k place q h is (omega (arith, b, ap (λ es. get_or es k 0) e.each))
-
-pub none_after : (ps : List Piece) (place : ℕ) → BeginAfter ps (length ps) place
-none_after ps place = subst (λ (qs : List Piece). BeginsAfter place (reversed_from (old_end 0 (take (length ps) ps)) (new_end 0 0 (take (length ps) ps)) qs)) (sym (drop_all (length ps) ps (omega arith))) tt
 
 -- ---- the list in three
 
@@ -121,12 +113,6 @@ later_part ps part others c = (
   },
 )
 
-pub step_short : (ps part : List Piece) → IsComposable ps part → EndBy file_limit ps
-step_short ps part c = ends_inside file_limit c.0 ps c.1.short c.1.first_fit.standing
-
-pub front_short : (ps : List Piece) (n : ℕ) → EndBy file_limit ps → EndBy file_limit (take n ps)
-front_short ps n e = ends_front file_limit (take n ps) (drop n ps) (subst (EndBy file_limit) (sym (take-append-drop n ps)) e)
-
 pub part_short : (ps part : List Piece) → IsComposable ps part → EndBy file_limit part
 part_short ps part c = ends_inside file_limit (applied ps c.0) part c.1.short_middle c.1.second_fit.standing
 
@@ -195,22 +181,10 @@ take-ends ps n h =
     let long : length (take n ps) ≡ n = length-take-le n ps h in
     ap₂ (λ k qs. take k (ends_of qs)) (sym long) (sym (take-append-drop n ps)) ∙ ends_in_front (take n ps) (drop n ps)
 
-pub ends_in_two : (ps : List Piece) (n : ℕ) → n ≤ length ps
-    → take n (ends_of ps) ++ map end_of (reversed_from (old_end 0 (take n ps)) (new_end 0 0 (take n ps)) (drop n ps)) ≡ ends_of ps
-ends_in_two ps n h =
-    let later : List Piece = reversed_from (old_end 0 (take n ps)) (new_end 0 0 (take n ps)) (drop n ps) in
-    ap (λ es. es ++ map end_of later) (take-ends ps n h)
-    ∙ sym (map-append end_of (reversed (take n ps)) later)
-    ∙ ap (map end_of) (sym (reversed_append 0 0 (take n ps) (drop n ps)))
-    ∙ ap ends_of (take-append-drop n ps)
-
 pub later_ends_short : (ps : List Piece) (n : ℕ) → EndBy file_limit (reversed ps) → EndBy file_limit (reversed_from (old_end 0 (take n ps)) (new_end 0 0 (take n ps)) (drop n ps))
 later_ends_short ps n e =
     ends_rest file_limit (reversed (take n ps)) (reversed_from (old_end 0 (take n ps)) (new_end 0 0 (take n ps)) (drop n ps))
     (subst (EndBy file_limit) (ap reversed (sym (take-append-drop n ps)) ∙ reversed_append 0 0 (take n ps) (drop n ps)) e)
-
-pub later_short : (ps : List Piece) (n : ℕ) → EndBy file_limit ps → EndBy file_limit (drop n ps)
-later_short ps n e = ends_rest file_limit (take n ps) (drop n ps) (subst (EndBy file_limit) (sym (take-append-drop n ps)) e)
 
 pub end_at_take : (ends : List ℕ) (n : ℕ) → end_at (take n ends) n ≡ end_at ends n
 end_at_take ends zero = refl

@@ -40,20 +40,15 @@ fn add_ends(ends: &mut Vec<u64>, pieces: &[Piece], end: u64, new_end: u64)
     }
 }
 
-/// Makes the ends those of these pieces, which they are already up to a position. There is room, so it asks for no memory.
-pub fn renew_ends(ends: &mut Vec<u64>, pieces: &[Piece], from: usize)
-    requires within { from ≤ length pieces.now }
-    requires front { take from ends.old.items ≡ take from (ends_of pieces.now) }
+/// Makes the ends those of these pieces, whatever they were. There is room, so it asks for no memory.
+pub fn renew_ends(ends: &mut Vec<u64>, pieces: &[Piece])
     requires room { length pieces.now ≤ vec_capacity ends.old }
     requires short { EndBy file_limit pieces.now }
     requires short_ends { EndBy file_limit (reversed pieces.now) }
     ensures { ends.new.items ≡ ends_of pieces.now }
 {
-    ends.truncate(from);
-    let (front, rest) = pieces.split_at(from);
-    let end = end_of(front);
-    let new_end = end_before(ends, from);
-    add_ends(ends, rest, end, new_end);
+    ends.clear();
+    add_ends(ends, pieces, 0, 0);
 }
 
 /// Puts the ends of `count` pieces, from a position on, in place of the ends from there up to another position. There is room,

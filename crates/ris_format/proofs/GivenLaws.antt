@@ -1,14 +1,14 @@
 -- The records of a database have field texts, and keys without white space.
-use Rattle.std.proofs.Common.{◌≡◌, ℕ, zero, suc, Bool, true, false, not, ◌||◌, eqb, List, [], ◌∷◌, ◌++◌, refl, sym, ap, ◌∙◌, ⊎_elim, map, All, slice_get}
+use Rattle.std.proofs.Common.{◌≡◌, ℕ, zero, suc, Bool, true, false, not, List, [], ◌∷◌, ◌++◌, refl, sym, ap, ◌∙◌, ⊎_elim, map, All, slice_get}
 use Rattle.std.specs.Prelude.{filter, Option, Some, None, option_map}
 use Rattle.std.specs.List.{list_any, list_all, AllPass}
 use Rattle.std.specs.Option.{option_map_or}
-use Rattle.std.proofs.lemmas.Bool.{cases_Bool, cond-true, cond-false, and_parts, and_from, or_from, or_parts, not-true, not_from_false}
+use Rattle.std.proofs.lemmas.Bool.{cases_Bool, cond-true, cond-false, and_parts, and_from, or_from, not_from_false}
 use Rattle.std.proofs.lemmas.Option.{same_Some, none-some}
 use Rattle.std.proofs.lemmas.List.Elements.{All-head, All-tail}
-use Rattle.bib_spec.specs.Bytes.{name_limit, comma, close_brace}
+use Rattle.bib_spec.specs.Bytes.{name_limit}
 use Rattle.bib_spec.specs.Text.{Text, is_space}
-use Rattle.bib_spec.specs.Tree.{Delimiter, Brace, Paren, goes_on_key, Tree, CommentTree, DefinitionTree, PreambleTree, EntryTree, IsTree}
+use Rattle.bib_spec.specs.Tree.{Delimiter, goes_on_key, Tree, CommentTree, DefinitionTree, PreambleTree, EntryTree, IsTree}
 use Rattle.bib_spec.specs.Reading.{Item, Reading, Reads, IsItem}
 use Rattle.bib_spec.specs.Texts.{Macros, months, macros_after, gathered, field_text}
 use Rattle.bib_spec.specs.Records.{Field, EntryTexts, texts_of, entry_in, entries_of, effective, has_name, crossref, RecordField, Record, record_field, own_fields, missing, fields_at, with_inherited, ancestors, record_of, expanded}
@@ -20,6 +20,7 @@ use Rattle.ris_format.specs.Fitting.{has_own_text, is_spaced, GivenRecordsFit}
 use Rattle.bib_value.proofs.NeatTexts.{field_text-neat}
 use Rattle.ris_format.proofs.Neat.{neat-whole}
 use Rattle.ris_format.proofs.FitLaws.{spaced_records_fit}
+use Rattle.bib_scan.proofs.TreeAgainLaws.{key_no_space}
 
 -- ---- field texts
 
@@ -72,14 +73,10 @@ own-inherited entries own (n ∷ ns) h =
 
 -- ---- keys
 
-plain-byte : (d : Delimiter) (b : ℕ) → goes_on_key d b ≡ true → is_space b ≡ false
-plain-byte Brace b h = (or_parts (is_space b) (eqb b comma) (or_parts (is_space b || eqb b comma) (eqb b close_brace) (not-true (is_space b || eqb b comma || eqb b close_brace) h)).0).0
-plain-byte Paren b h = (or_parts (is_space b) (eqb b comma) (not-true (is_space b || eqb b comma) h)).0
-
 plain-key : (d : Delimiter) (key : Text) → AllPass (goes_on_key d) key → list_any is_space key ≡ false
 plain-key d [] all = refl
 plain-key d (b ∷ key) all =
-    or_from (is_space b) (list_any is_space key) (plain-byte d b (All-head (λ x. goes_on_key d x ≡ true) b key all)) (plain-key d key (All-tail (λ x. goes_on_key d x ≡ true) b key all))
+    or_from (is_space b) (list_any is_space key) (key_no_space d b (All-head (λ x. goes_on_key d x ≡ true) b key all)) (plain-key d key (All-tail (λ x. goes_on_key d x ≡ true) b key all))
 
 abbrev is_bare : EntryTexts → Bool
 is_bare entry = not (list_any is_space entry.key)

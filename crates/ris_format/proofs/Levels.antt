@@ -1,8 +1,8 @@
 -- Depth of places in parts of a text.
-use Rattle.std.proofs.Common.{◌≡◌, ℕ, zero, suc, ◌+◌, ◌-◌, ◌≤◌, ◌<◌, Bool, true, false, cond, not, ◌&&◌, ◌||◌, eqb, List, [], ◌∷◌, ◌++◌, length, take, drop, get_or, refl, sym, ap, ◌∙◌, arith, ⊎_elim, subst, leb, inl, inr, ◌⊎◌, below_more}
+use Rattle.std.proofs.Common.{◌≡◌, ℕ, zero, suc, ◌+◌, ◌-◌, ◌≤◌, ◌<◌, Bool, true, false, cond, ◌&&◌, ◌||◌, eqb, List, [], ◌∷◌, ◌++◌, length, take, drop, get_or, refl, sym, ap, ◌∙◌, arith, ⊎_elim, subst, leb, inl, inr, ◌⊎◌, below_more}
 use Rattle.std.specs.Prelude.{count_by}
 use Rattle.std.specs.List.{slice_range, list_any, AllByRecursion}
-use Rattle.std.proofs.lemmas.Bool.{cases_Bool, cond-true, cond-false, eqb-true, eq-eqb, ne_eqb, and_parts, or_parts, both_ways, leb-true, leb-false}
+use Rattle.std.proofs.lemmas.Bool.{cases_Bool, cond-true, cond-false, eqb-true, eq-eqb, ne_eqb, and_parts, or_parts, both_ways, leb-true, leb-false, not-false}
 use Rattle.std.proofs.lemmas.List.{take-append-drop, take-append-le, take_all, get_or-append-add, get_or_append_left, length-drop, length-take-le}
 use Rattle.std.proofs.lemmas.List.Sums.{sum_by-append, sum_by-cons}
 use Rattle.std.proofs.Math.Seq.{take-append-add}
@@ -94,15 +94,11 @@ count-before_run test q (b ∷ t) unlike =
     (λ none. ap (count_by q) (before_run-none test (b ∷ t) none) ∙ sym (nothing (b ∷ t) none))
     (cases_Bool (list_any (fails test) (b ∷ t)))
   where
-    passes : (c : Bool) → not c ≡ false → c ≡ true
-    passes true e = refl
-    passes false e = sym e
-
     nothing : (t : Text) → list_any (fails test) t ≡ false → count_by q t ≡ 0
     nothing [] none = refl
     nothing (b ∷ t) none =
         let p = or_parts (fails test b) (list_any (fails test) t) none in
-        count-cons q b t ∙ omega (arith, ap {B = ℕ} (λ c. cond c 1 0) (unlike b (passes (test b) p.0)), nothing t p.1)
+        count-cons q b t ∙ omega (arith, ap {B = ℕ} (λ c. cond c 1 0) (unlike b (not-false (test b) p.0)), nothing t p.1)
 
 pub count-after_run : (test q : ℕ → Bool) (t : Text) → ((b : ℕ) → test b ≡ true → q b ≡ false) → count_by q (after_run test t) ≡ count_by q t
 count-after_run test q [] unlike = refl

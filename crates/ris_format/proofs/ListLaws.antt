@@ -4,12 +4,13 @@ use Rattle.std.specs.Prelude.{codes, count_by}
 use Rattle.std.specs.List.{slice_range, list_all, prefix_len, AllByRecursion}
 use Rattle.std.specs.Char.{to_ascii_lowercase}
 use Rattle.std.proofs.lemmas.Bool.{cases_Bool, cond-true, cond-false, eqb-true, eq-eqb, ne_eqb, and_parts, and_from, both_ways, cases_lt, ltb-true, lt-ltb, false_from_ne_true}
-use Rattle.std.proofs.lemmas.List.{take-append-drop, take-append-le, take_all, drop-append-le, get_or_past, length-drop, length-take-le}
+use Rattle.std.proofs.lemmas.List.{take-append-drop, take-append-le, take_all, drop-append-le, length-drop, length-take-le}
 use Rattle.std.proofs.Math.Seq.{drop-append-add}
 use Rattle.bib_spec.specs.Text.{Text, is_space, after_run, same, opened_before, closed_before, IsBalanced}
 use Rattle.bib_text.specs.Trimming.{trimmed}
 use Rattle.bib_names.specs.Places.{is_level, places_from, between, Stretch, stretch}
 use Rattle.bib_names.specs.NameList.{is_and, is_cut, cuts, names_of}
+use Rattle.bib_names.proofs.NameListLemmas.{space_within}
 use Rattle.bib_value.specs.Spacing.{neat}
 use Rattle.ris_format.specs.Lines.{has_bytes}
 use Rattle.ris_format.proofs.Trims.{cut_out, neat-cut}
@@ -19,14 +20,6 @@ use Rattle.ris_format.proofs.PartLaws.{none-in}
 -- how often the text has a byte
 abbrev count_of : ℕ → Text → ℕ
 count_of k text = count_by (λ b. eqb b k) text
-
-space_within : (text : Text) (k : ℕ) → is_space (get_or text k 0) ≡ true → k < length text
-unfolding is_space
-space_within text k h =
-    ⊎_elim
-    (λ (lt : k < length text). lt)
-    (λ (le : length text ≤ k). let past = ap is_space (get_or_past text k 0 le) in absurd (cc))
-    (cases_lt k (length text))
 
 -- a cut in a part is one in the text
 cut-within : (text part : Text) (w : IsWithin text part) (k : ℕ) → is_cut part k ≡ true → (k < length part) × (is_cut text (length w.front + k) ≡ true)

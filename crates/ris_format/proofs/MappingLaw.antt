@@ -1,13 +1,14 @@
 -- A record of the profile is the same again after both mappings, and nothing of it is dropped.
-use Rattle.std.proofs.Common.{◌≡◌, Bool, true, false, cond, not, ◌&&◌, ◌||◌, eqb, List, [], ◌∷◌, ◌++◌, refl, sym, ap, ◌∙◌, ⊎_elim, map, append-nil}
-use Rattle.std.specs.Prelude.{ℕ, ◌<◌, nat_lt, filter, find, codes, unwrap_or, if◌then◌else◌}
+use Rattle.std.proofs.Common.{◌≡◌, Bool, true, false, cond, not, ◌&&◌, ◌||◌, List, [], ◌∷◌, ◌++◌, refl, sym, ap, ◌∙◌, ⊎_elim, map, append-nil}
+use Rattle.std.specs.Prelude.{filter, find, codes, unwrap_or, if◌then◌else◌}
 use Rattle.std.specs.List.{flat_map, list_any, list_all}
 use Rattle.std.specs.Str.{bytes_eq}
-use Rattle.std.proofs.lemmas.Bool.{cases_Bool, cond-true, cond-false, and_from, and_parts, and_right, not-true, both_ways, false_from_ne_true, eq-eqb, ltb-true}
-use Rattle.bib_spec.specs.Text.{Text, is_space, is_new_key, is_new_key_byte}
+use Rattle.std.proofs.lemmas.Bool.{cases_Bool, cond-true, cond-false, and_from, and_parts, and_right, not-true}
+use Rattle.bib_spec.specs.Text.{Text, is_new_key, is_new_key_byte}
 use Rattle.bib_spec.specs.Texts.{field_text}
 use Rattle.bib_spec.specs.Records.{Record, RecordField}
 use Rattle.bib_spec.proofs.Names.{eq-true}
+use Rattle.bib_spec.proofs.NewKeyBytes.{new_key_byte-plain}
 use Rattle.ris_text.specs.declared.records.RisLine.{RisLine}
 use Rattle.ris_format.specs.declared.kinds.Kind.{Kind}
 use Rattle.ris_format.specs.declared.kinds.Kind.TheVariants.{Article, Book, Incollection, Inproceedings, Phdthesis, Techreport, Unpublished, Misc}
@@ -22,7 +23,6 @@ use Rattle.ris_format.specs.Mapping.{Fields, field, text_of, booktitle_text, lat
 use Rattle.ris_format.specs.Profile.{are_in_order, has_form, is_plain_field, ProfileIsKept}
 use Rattle.bib_value.proofs.NeatTexts.{neat-word}
 use Rattle.ris_format.proofs.Neat.{neat-field_text}
-use Rattle.ris_format.proofs.Levels.{space-no_brace}
 use Rattle.ris_format.proofs.Values.{first, are_neat, single-neat, first-single}
 use Rattle.ris_format.proofs.DateLaws.{DateIsKept, date_kept, month-written}
 use Rattle.ris_format.proofs.PageLaws.{PagesAreKept, pages_kept}
@@ -80,17 +80,11 @@ booktitle-neat : (art : Bool) (fields : Fields) → ArePlain fields → are_neat
 booktitle-neat true fields are = refl
 booktitle-neat false fields are = text-neat fields (codes "booktitle") are
 
-key_byte-plain : (b : ℕ) → is_new_key_byte b ≡ true → is_space b ≡ false
-unfolding is_new_key_byte
-key_byte-plain b h =
-    let above : 32 < b = ltb-true 32 b (and_parts (nat_lt 32 b) _ h).0 in
-    false_from_ne_true (is_space b) (λ s. both_ways (eqb b b) (space-no_brace b b above s) (eq-eqb b b refl))
-
 key-bytes : (key : Text) → list_all is_new_key_byte key ≡ true → neat false key ≡ true
 key-bytes [] all = refl
 key-bytes (b ∷ key) all =
     let p = and_parts (is_new_key_byte b) (list_all is_new_key_byte key) all in
-    neat-word false b key (key_byte-plain b p.0) ∙ key-bytes key p.1
+    neat-word false b key (new_key_byte-plain b p.0) ∙ key-bytes key p.1
 
 key-neat : (key : Text) → is_new_key key ≡ true → neat true key ≡ true
 unfolding is_new_key
@@ -98,7 +92,7 @@ key-neat [] is = absurd (cc)
 key-neat (b ∷ key) is =
     let all = (and_parts _ (list_all is_new_key_byte (b ∷ key)) is).1 in
     let p = and_parts (is_new_key_byte b) (list_all is_new_key_byte key) all in
-    neat-word true b key (key_byte-plain b p.0) ∙ key-bytes key p.1
+    neat-word true b key (new_key_byte-plain b p.0) ∙ key-bytes key p.1
 
 -- ---- all fields
 

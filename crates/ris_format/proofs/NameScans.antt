@@ -1,11 +1,12 @@
 -- The commas and the cuts of a name, from left to right.
-use Rattle.std.proofs.Common.{◌≡◌, ℕ, ◌+◌, ◌-◌, ◌≤◌, Bool, true, false, cond, not, ◌&&◌, eqb, ltb, List, [], ◌∷◌, ◌++◌, length, take, drop, get_or, refl, sym, ap, ◌∙◌, arith, ⊎_elim, append_assoc, append-nil, map, length-append, ◌==◌}
+use Rattle.std.proofs.Common.{◌≡◌, ℕ, ◌+◌, ◌-◌, ◌≤◌, Bool, true, false, cond, not, ◌&&◌, eqb, ltb, List, [], ◌∷◌, ◌++◌, length, take, drop, get_or, refl, sym, ap, ◌∙◌, arith, ⊎_elim, append_assoc, append-nil, map, ◌==◌}
 use Rattle.std.specs.Prelude.{codes}
 use Rattle.std.specs.List.{slice_range, list_all, onto_first}
 use Rattle.std.proofs.lemmas.Bool.{cases_Bool, cond-true, cond-false, eqb-true, eq-eqb, and_parts, and_from, lt-ltb}
-use Rattle.std.proofs.lemmas.List.{take-append-le, take_all, drop-append-le, drop_all, get_or-append-add, length-drop}
+use Rattle.std.proofs.lemmas.List.{take-append-le, take_all, drop-append-le, drop_all, get_or-append-add, length-drop, length_push}
 use Rattle.std.proofs.Math.Seq.{take-append_seam, drop-append_seam, get_or-append_seam}
 use Rattle.std.specs.Char.{to_ascii_lowercase}
+use Rattle.std.proofs.Math.Bool.{and-false, and_assoc}
 use Rattle.bib_spec.specs.Text.{Text, is_space, same}
 use Rattle.bib_names.specs.Places.{is_level, places_from, between, Stretch}
 use Rattle.bib_names.specs.NameList.{is_and, is_cut, cuts, names_of}
@@ -20,9 +21,6 @@ use Rattle.ris_format.proofs.KeywordLaws.{front-onto}
 
 level-here : (pre t : Text) → is_level (pre ++ t) (length pre) ≡ eqb (opens pre) (closes pre)
 level-here pre t = ap (λ (u : Text). eqb (opens u) (closes u)) (take-append_seam pre t)
-
-length-more : (pre : Text) (b : ℕ) → length (pre ++ b ∷ []) ≡ length pre + 1
-length-more pre b = length-append pre (b ∷ [])
 
 opens-more : (pre : Text) (b : ℕ) → opens (pre ++ b ∷ []) ≡ opens pre + one 123 b
 opens-more pre b = count-append (λ x. eqb x 123) pre (b ∷ []) ∙ omega (arith, count-cons (λ x. eqb x 123) b [])
@@ -53,7 +51,7 @@ pieces-between pre (b ∷ t) at le =
     let total : Text = pre ++ (b ∷ t) in
     let next : Text = pre ++ (b ∷ []) in
     let whole : next ++ t ≡ total = append_assoc pre (b ∷ []) t in
-    let len : length next ≡ length pre + 1 = length-more pre b in
+    let len : length next ≡ length pre + 1 = length_push pre b in
     let ps = places_from (is_comma total) (length pre + 1) (length t) in
     let later = λ (from : ℕ) (low : from ≤ length next).
     ap (λ n. texts_between total from (places_from (is_comma total) n (length t))) (sym len)
@@ -176,7 +174,7 @@ cuts-free pre (b ∷ t) s e =
     let total : Text = pre ++ (b ∷ t) in
     let next : Text = pre ++ (b ∷ []) in
     let whole : next ++ t ≡ total = append_assoc pre (b ∷ []) t in
-    let len : length next ≡ length pre + 1 = length-more pre b in
+    let len : length next ≡ length pre + 1 = length_push pre b in
     let test : is_cut total (length pre) ≡ (eqb (opens pre) (closes pre) && and_at s (b ∷ t)) =
     ap (λ x. x && is_and total (length pre)) (level-here pre (b ∷ t))
     ∙ ap (λ x. eqb (opens pre) (closes pre) && (x && same (take 3 (drop (length pre) total)) (codes "and") && is_space (get_or total (length pre + 3) 0))) (sym e)
@@ -221,15 +219,11 @@ free-shift s k o c (b ∷ t) =
     ap (λ e. not (e && and_at s (b ∷ t)) && free (is_space b) (k + o + one 123 b) (k + c + one 125 b) t) (eqb-shift k o c)
     ∙ ap (λ e. not (eqb o c && and_at s (b ∷ t)) && e) (ap (λ n. free (is_space b) n (k + c + one 125 b) t) x ∙ ap (λ n. free (is_space b) (k + (o + one 123 b)) n t) y ∙ free-shift (is_space b) k (o + one 123 b) (c + one 125 b) t)
 
-and-false : (a : Bool) → (a && false) ≡ false
-and-false true = refl
-and-false false = refl
-
 and-comma : (s : Bool) (y : Text) → and_at s (44 ∷ y) ≡ false
 and-comma true y = refl
 and-comma false y = refl
 
-comma-plain : is_space 44 ≡ false
+pub comma-plain : is_space 44 ≡ false
 unfolding is_space
 comma-plain = refl
 
@@ -250,10 +244,6 @@ and-front s b (d ∷ []) y = ap (λ e. e && is_space (get_or (b ∷ d ∷ 44 ∷
 and-front s b (d ∷ e ∷ []) y = ap (λ z. s && same (b ∷ d ∷ e ∷ []) (codes "and") && z) (comma-plain ∙ sym zero-plain)
 and-front s b (d ∷ e ∷ f ∷ x) y = refl
 
-and-assoc : (a b c : Bool) → ((a && b) && c) ≡ (a && (b && c))
-and-assoc true b c = refl
-and-assoc false b c = refl
-
 free-part : (s : Bool) (o c : ℕ) (x y : Text) → free s o c (x ++ (44 ∷ y)) ≡ (free s o c x && free false (o + opens x) (c + closes x) y)
 free-part s o c [] y =
     ap (λ e. not e && free (is_space 44) (o + 0) (c + 0) y) (ap (λ e. eqb o c && e) (and-comma s y) ∙ and-false (eqb o c))
@@ -265,7 +255,7 @@ free-part s o c (b ∷ x) y =
     let d : cc' + closes x ≡ c + closes (b ∷ x) = omega (arith, count-cons (λ n. eqb n 125) b x) in
     ap (λ e. not (eqb o c && e) && free (is_space b) oo cc' (x ++ (44 ∷ y))) (and-front s b x y)
     ∙ ap (λ e. not (eqb o c && and_at s (b ∷ x)) && e) (free-part (is_space b) oo cc' x y)
-    ∙ sym (and-assoc (not (eqb o c && and_at s (b ∷ x))) (free (is_space b) oo cc' x) (free false (oo + opens x) (cc' + closes x) y))
+    ∙ sym (and_assoc (not (eqb o c && and_at s (b ∷ x))) (free (is_space b) oo cc' x) (free false (oo + opens x) (cc' + closes x) y))
     ∙ ap (λ n. free s o c (b ∷ x) && free false n (cc' + closes x) y) a ∙ ap (λ n. free s o c (b ∷ x) && free false (o + opens (b ∷ x)) n y) d
 
 free-space : (y : Text) → free false 0 0 (32 ∷ y) ≡ free true 0 0 y

@@ -1,6 +1,6 @@
 -- Field texts are neat, and so are parts of neat texts.
 use Rattle.std.proofs.Common.{◌≡◌, ℕ, Bool, true, false, not, [], ◌∷◌, ◌++◌, refl, sym, ap, ◌∙◌, ⊎_elim}
-use Rattle.std.proofs.lemmas.Bool.{cases_Bool, cond-true}
+use Rattle.std.proofs.lemmas.Bool.{cases_Bool, cond-true, not-true}
 use Rattle.bib_spec.specs.Text.{Text, is_space}
 use Rattle.bib_spec.specs.Texts.{field_text}
 use Rattle.bib_value.specs.Spacing.{neat}
@@ -53,10 +53,6 @@ ends_plain [] = false
 ends_plain (b ∷ []) = not (is_space b)
 ends_plain (b ∷ c ∷ t) = ends_plain (c ∷ t)
 
-not_is : (c : Bool) → not c ≡ true → c ≡ false
-not_is true e = sym e
-not_is false e = refl
-
 -- after a neat text the rest is neat if it is neat inside a word
 pub neat-append : (apart : Bool) (x y : Text) → neat apart x ≡ true → neat apart (x ++ y) ≡ neat false y
 neat-append true [] y n = absurd (cc)
@@ -71,7 +67,7 @@ neat-append apart (b ∷ x) y n =
 pub neat-after : (apart : Bool) (x z : Text) → neat apart (x ++ z) ≡ true → begins_plain z ≡ true → neat true z ≡ true
 neat-after apart [] [] n p = absurd (cc)
 neat-after apart [] (b ∷ z) n p =
-    let h = not_is (is_space b) p in
+    let h = not-true (is_space b) p in
     neat-word true b z h ∙ sym (neat-word apart b z h) ∙ n
 neat-after apart (b ∷ x) z n p =
     ⊎_elim
@@ -82,7 +78,7 @@ neat-after apart (b ∷ x) z n p =
 -- a front of a neat text that ends with no white space is neat
 pub neat-front : (apart : Bool) (v y : Text) → neat apart (v ++ y) ≡ true → ends_plain v ≡ true → neat apart v ≡ true
 neat-front apart [] y n p = absurd (cc)
-neat-front apart (b ∷ []) y n p = neat-word apart b [] (not_is (is_space b) p)
+neat-front apart (b ∷ []) y n p = neat-word apart b [] (not-true (is_space b) p)
 neat-front apart (b ∷ c ∷ v) y n p =
     ⊎_elim
     (λ h. let s = neat-space apart b ((c ∷ v) ++ y) h n in rw (h, s.0, s.1) (neat-front true (c ∷ v) y s.2 p))

@@ -2,7 +2,7 @@
 use Rattle.std.proofs.Common.{◌≡◌, ℕ, zero, suc, ◌+◌, ◌-◌, ◌≤◌, ◌<◌, Bool, true, false, cond, not, ◌||◌, eqb, List, [], ◌∷◌, ◌++◌, length, take, drop, get_or, refl, sym, ap, subst, ◌∙◌, arith, ⊎_elim, append_assoc, map, inl, inr, ◌⊎◌}
 use Rattle.std.specs.Prelude.{Some}
 use Rattle.std.specs.List.{slice_range, range_with_len, prefix_len, AllByRecursion}
-use Rattle.std.proofs.lemmas.Bool.{cases_Bool, cond-true, cond-false, eqb-true, eq-eqb, and_parts, and_from, not-true, not-false, or_cases, or_left, both_ways, cases_lt, false_from_ne_true}
+use Rattle.std.proofs.lemmas.Bool.{cases_Bool, cond-true, cond-false, eqb-true, eq-eqb, and_parts, and_from, not-true, not-false, or_cases, or_left, both_ways, cases_lt, false_from_ne_true, not_from_false}
 use Rattle.std.proofs.lemmas.List.{take-append-drop, take-append-le, take_all, drop-append-le, get_or-drop, get_or-take, length-drop, length-take-le}
 use Rattle.std.proofs.lemmas.List.Sums.{prefix_len-le-length, prefix_len_passes, prefix_len_stops}
 use Rattle.std.proofs.lemmas.List.FromFn.{length-range_with_len, get_or-range_with_len}
@@ -117,7 +117,7 @@ word-in at text place end lt h =
     ap (λ m. length (take m (drop place text))) (minus place n) ∙ length-take-le n (drop place text) (omega (arith, length-drop place text, le, len)) in
     let gap : is_gap text place ≡ false = not-true (is_gap text place) (and_parts (not (is_gap text place)) _ h).0 in
     let level = word-level text place lt h in
-    let some : 0 < n = first-passes test place (length text - place) (omega arith) (not_from_false' (is_gap text place) gap) in
+    let some : 0 < n = first-passes test place (length text - place) (omega arith) (not_from_false (is_gap text place) gap) in
     let level_end : is_level text (place + n) ≡ true =
     ⊎_elim
     (λ (short : n < length rest).
@@ -151,10 +151,6 @@ word-in at text place end lt h =
   where
     minus : (a b : ℕ) → a + b - a ≡ b
     minus a b = omega arith
-
-    not_from_false' : (c : Bool) → c ≡ false → not c ≡ true
-    not_from_false' true e = sym e
-    not_from_false' false e = refl
 
     first-passes : (test : ℕ → Bool) (at n : ℕ) → 0 < n → test at ≡ true → 0 < prefix_len test (range_with_len at n)
     first-passes test at zero lt h = absurd (omega arith)

@@ -1,14 +1,14 @@
 -- Names of the profile are read back.
-use Rattle.std.proofs.Common.{◌≡◌, ℕ, zero, suc, ◌+◌, ◌-◌, ◌≤◌, ◌<◌, Bool, true, false, cond, not, ◌&&◌, ◌||◌, eqb, ltb, List, [], ◌∷◌, ◌++◌, length, take, refl, sym, ap, ◌∙◌, arith, ⊎_elim, append_assoc, append-nil, map}
+use Rattle.std.proofs.Common.{◌≡◌, ℕ, zero, suc, ◌≤◌, Bool, true, false, cond, not, ◌&&◌, ◌||◌, ltb, List, [], ◌∷◌, ◌++◌, length, take, refl, sym, ap, ◌∙◌, arith, append_assoc, append-nil, map}
 use Rattle.std.specs.Prelude.{Option, Some, None, is_none}
 use Rattle.std.specs.List.{flat_map, list_any, list_all, onto_first, AllByRecursion}
 use Rattle.std.specs.Option.{option_map_or}
 use Rattle.std.specs.Str.{bytes_eq}
-use Rattle.std.proofs.lemmas.Bool.{cond-true, cond-false, and_parts, and_from, or_from, le-ltb, cases_lt}
-use Rattle.std.proofs.lemmas.List.{take-append-le, take_all}
-use Rattle.std.proofs.Math.Seq.{take-append-add}
+use Rattle.std.proofs.lemmas.Bool.{cond-true, cond-false, and_parts, and_from, or_from, le-ltb}
+use Rattle.std.proofs.lemmas.List.{take_all}
 use Rattle.bib_spec.specs.Text.{Text, is_space, opened_before, closed_before, IsBalanced}
 use Rattle.bib_spec.proofs.Names.{eq-true}
+use Rattle.bib_spec.proofs.Balance.{balanced-append}
 use Rattle.bib_text.specs.Trimming.{before_run, trimmed}
 use Rattle.bib_names.specs.Places.{between, Stretch}
 use Rattle.bib_names.specs.NameList.{names_of}
@@ -19,14 +19,14 @@ use Rattle.bib_names.proofs.BalanceLaws.{balances-yes, IsBalanced-from_test}
 use Rattle.bib_value.specs.Spacing.{neat}
 use Rattle.ris_format.specs.Lines.{has_bytes}
 use Rattle.ris_format.specs.People.{Person, person, with_comma, ris_name, is_somebody, taken_apart, is_broken, is_refused, written_person, written_name, written_people, name_pieces, in_braces, or_braces, bib_name, person_of, is_opaque, read_name, name_list, read_people, is_plain_person, is_plain_name, are_plain_names}
-use Rattle.bib_value.proofs.NeatTexts.{neat-word, neat-gap}
+use Rattle.bib_value.proofs.NeatTexts.{neat-word, neat-gap, space_is}
 use Rattle.ris_format.proofs.Neat.{neat-append, neat-slice}
 use Rattle.ris_format.proofs.Trims.{trimmed-neat, after_run-yes}
 use Rattle.ris_format.proofs.Values.{are_neat}
-use Rattle.ris_format.proofs.Levels.{opens, closes, count-append}
+use Rattle.ris_format.proofs.Levels.{opens, closes}
 use Rattle.ris_format.proofs.PartLaws.{IsPart, name-parts}
 use Rattle.ris_format.specs.Pieces.{pieces_from}
-use Rattle.ris_format.proofs.NameScans.{pieces-are, pieces-alone, pieces-comma, commas-count, free, free-is, free-one, free-comma, is_nil}
+use Rattle.ris_format.proofs.NameScans.{pieces-are, pieces-alone, pieces-comma, commas-count, free, free-is, free-one, free-comma, is_nil, comma-plain}
 use Rattle.ris_format.proofs.ListLaws.{IsListed, names-listed}
 
 -- ---- balanced texts
@@ -35,28 +35,6 @@ pub level-of : (text : Text) → IsBalanced text → opens text ≡ closes text
 level-of text is =
     let whole : take (length text) text ≡ text = take_all (length text) text (omega arith) in
     sym (ap opens whole) ∙ sym is.all_closed ∙ ap closes whole
-
-balanced-append : (x y : Text) → IsBalanced x → IsBalanced y → IsBalanced (x ++ y)
-balanced-append x y a b = record {
-  never_negative = λ n. ⊎_elim (λ (lt : n < length x). short n lt) (λ (le : length x ≤ n). long n le) (cases_lt n (length x));
-  all_closed =
-      let o = ap opens (take_all (length (x ++ y)) (x ++ y) (omega arith)) ∙ count-append (λ c. eqb c 123) x y in
-      let c = ap closes (take_all (length (x ++ y)) (x ++ y) (omega arith)) ∙ count-append (λ c. eqb c 125) x y in
-      omega (arith, o, c, level-of x a, level-of y b);
-}
-  where
-    short : (n : ℕ) → n < length x → closed_before (x ++ y) n ≤ opened_before (x ++ y) n
-    short n lt =
-        let e = take-append-le n x y (omega arith) in
-        omega (arith, ap opens e, ap closes e, a.never_negative n)
-
-    long : (n : ℕ) → length x ≤ n → closed_before (x ++ y) n ≤ opened_before (x ++ y) n
-    long n le =
-        let m : length x + (n - length x) ≡ n = omega arith in
-        let e : take n (x ++ y) ≡ x ++ take (n - length x) y = ap (λ k. take k (x ++ y)) (sym m) ∙ take-append-add x y (n - length x) in
-        let o = ap opens e ∙ count-append (λ c. eqb c 123) x (take (n - length x) y) in
-        let c = ap closes e ∙ count-append (λ c. eqb c 125) x (take (n - length x) y) in
-        omega (arith, o, c, level-of x a, b.never_negative (n - length x))
 
 balanced-comma : IsBalanced (44 ∷ 32 ∷ [])
 balanced-comma = record { never_negative = none; all_closed = refl }
@@ -95,19 +73,11 @@ plain-neat : (x : Text) → (has_bytes x ≡ true → neat true x ≡ true) → 
 plain-neat [] fit = refl
 plain-neat (b ∷ x) fit = trimmed-neat (b ∷ x) (fit refl)
 
-space-true : is_space 32 ≡ true
-unfolding is_space
-space-true = refl
-
-comma-false : is_space 44 ≡ false
-unfolding is_space
-comma-false = refl
-
 spaced-trimmed : (x : Text) → (has_bytes x ≡ true → neat true x ≡ true) → trimmed (32 ∷ x) ≡ x
-spaced-trimmed x fit = ap (before_run is_space) (after_run-yes is_space 32 x space-true) ∙ plain-neat x fit
+spaced-trimmed x fit = ap (before_run is_space) (after_run-yes is_space 32 x space_is) ∙ plain-neat x fit
 
 pub neat-comma : (apart : Bool) (z : Text) → neat apart (44 ∷ 32 ∷ z) ≡ neat true z
-neat-comma apart z = neat-word apart 44 (32 ∷ z) comma-false ∙ neat-gap z
+neat-comma apart z = neat-word apart 44 (32 ∷ z) comma-plain ∙ neat-gap z
 
 -- ---- a person of the profile
 

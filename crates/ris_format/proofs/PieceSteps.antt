@@ -1,9 +1,8 @@
 -- The pieces between commas that are found after some places are passed.
-use Rattle.std.proofs.Common.{◌≡◌, ℕ, ◌+◌, ◌-◌, ◌≤◌, ◌<◌, Bool, true, false, cond, ◌&&◌, eqb, List, [], ◌∷◌, ◌++◌, length, take, drop, get_or, refl, sym, ap, ◌∙◌, arith, append_assoc, append-nil, map, add-one}
+use Rattle.std.proofs.Common.{◌≡◌, ℕ, ◌+◌, ◌-◌, ◌≤◌, ◌<◌, Bool, true, false, cond, ◌&&◌, eqb, List, [], ◌∷◌, ◌++◌, length, take, drop, get_or, refl, sym, ap, ◌∙◌, arith, append_assoc, append-nil, map}
 use Rattle.std.specs.List.{slice_range, slice_split, onto_first}
 use Rattle.std.proofs.lemmas.Bool.{cond-true, cond-false, and_parts, eqb-true}
-use Rattle.std.proofs.lemmas.List.{take_all, drop_all, take_more, get_or-drop, length-drop}
-use Rattle.std.proofs.Math.Seq.{drop-cons}
+use Rattle.std.proofs.lemmas.List.{take_all, drop_all, take_more, get_or-drop, length-drop, drop_more}
 use Rattle.bib_spec.specs.Text.{Text}
 use Rattle.bib_text.specs.Trimming.{trimmed}
 use Rattle.ris_format.specs.Pieces.{one, pieces_from, with_front}
@@ -12,9 +11,6 @@ use Rattle.ris_format.specs.Keywords.{is_comma_byte, keyword_pieces}
 use Rattle.ris_format.proofs.KeywordLaws.{front-onto, front-split}
 use Rattle.ris_format.proofs.NameScans.{pieces-front}
 use Rattle.ris_format.proofs.PeopleLaws.{name-pieces_are}
-
-here : (text : Text) (place : ℕ) → place < length text → drop place text ≡ get_or text place 0 ∷ drop (place + 1) text
-here text place lt = drop-cons text place 0 lt ∙ ap (λ n. get_or text place 0 ∷ drop n text) (sym (add-one place))
 
 nothing : (text : Text) (place : ℕ) → slice_range text place place ≡ []
 nothing text place = let e : place - place ≡ 0 = omega arith in ap (λ n. take n (drop place text)) e
@@ -63,7 +59,7 @@ pieces_cut value pieces start place o c o' c' lt far h eo ec =
     let s = slice_range value start place in
     let t = drop (place + 1) value in
     let split : pieces_from o c (drop place value) ≡ [] ∷ pieces_from o' c' t =
-    ap (pieces_from o c) (here value place lt) ∙ cond-true (eqb o c && eqb b 44) ([] ∷ pieces_from o c t) _ h ∙ ap (λ n. [] ∷ pieces_from n c t) same_o ∙ ap (λ n. [] ∷ pieces_from o' n t) same_c in
+    ap (pieces_from o c) (drop_more value place 0 lt) ∙ cond-true (eqb o c && eqb b 44) ([] ∷ pieces_from o c t) _ h ∙ ap (λ n. [] ∷ pieces_from n c t) same_o ∙ ap (λ n. [] ∷ pieces_from o' n t) same_c in
     let told : pieces ++ (trimmed s ∷ map trimmed (pieces_from o' c' t)) ≡ name_pieces value =
     ap (λ (u : Text). pieces ++ (trimmed u ∷ map trimmed (pieces_from o' c' t))) (sym (append-nil s))
     ∙ ap (λ (ps : List Text). pieces ++ map trimmed (with_front s ps)) (sym split) ∙ far.told in
@@ -83,7 +79,7 @@ pieces_on value pieces start place o c o' c' lt far h eo ec =
     let s = slice_range value start place in
     let t = drop (place + 1) value in
     let split : pieces_from o c (drop place value) ≡ onto_first b (pieces_from o' c' t) =
-    ap (pieces_from o c) (here value place lt) ∙ cond-false (eqb o c && eqb b 44) ([] ∷ pieces_from o c t) _ h
+    ap (pieces_from o c) (drop_more value place 0 lt) ∙ cond-false (eqb o c && eqb b 44) ([] ∷ pieces_from o c t) _ h
     ∙ ap (λ n. onto_first b (pieces_from n (c + one 125 b) t)) (sym eo) ∙ ap (λ n. onto_first b (pieces_from o' n t)) (sym ec) in
     record {
       within = omega (arith, far.within);
@@ -114,7 +110,7 @@ words_cut text pieces start place lt far h =
     let s = slice_range text start place in
     let t = drop (place + 1) text in
     let split : slice_split is_comma_byte (drop place text) ≡ [] ∷ slice_split is_comma_byte t =
-    ap (slice_split is_comma_byte) (here text place lt) ∙ cond-true (is_comma_byte (get_or text place 0)) ([] ∷ slice_split is_comma_byte t) _ h in
+    ap (slice_split is_comma_byte) (drop_more text place 0 lt) ∙ cond-true (is_comma_byte (get_or text place 0)) ([] ∷ slice_split is_comma_byte t) _ h in
     record {
       within = omega arith;
       told = append_assoc pieces (trimmed s ∷ []) _
@@ -130,7 +126,7 @@ words_on text pieces start place lt far h =
     let s = slice_range text start place in
     let t = drop (place + 1) text in
     let split : slice_split is_comma_byte (drop place text) ≡ onto_first b (slice_split is_comma_byte t) =
-    ap (slice_split is_comma_byte) (here text place lt) ∙ cond-false (is_comma_byte b) ([] ∷ slice_split is_comma_byte t) _ h in
+    ap (slice_split is_comma_byte) (drop_more text place 0 lt) ∙ cond-false (is_comma_byte b) ([] ∷ slice_split is_comma_byte t) _ h in
     record {
       within = omega (arith, far.within);
       told = ap (λ (u : Text). pieces ++ map trimmed (with_front u (slice_split is_comma_byte t))) (one_more text start place far.within lt)

@@ -1,36 +1,9 @@
 -- Slices that are cut where the text ends.
-use Rattle.std.proofs.Common.{◌≡◌, ℕ, ◌-◌, ◌≤◌, ◌<◌, List, [], ◌∷◌, ◌++◌, length, take, drop, get_or, refl, sym, ap, ◌∙◌, arith, ⊎_elim}
-use Rattle.std.specs.Prelude.{min}
+use Rattle.std.proofs.Common.{◌≡◌, ℕ, ◌-◌, ◌<◌, List, [], ◌∷◌, ◌++◌, length, get_or, refl, sym, ap, ◌∙◌, arith}
 use Rattle.std.specs.List.{slice_range}
-use Rattle.std.proofs.lemmas.Bool.{cases_lt}
-use Rattle.std.proofs.lemmas.List.{take_all, drop_all, length-drop}
 use Rattle.bib_spec.specs.Text.{Text}
 use Rattle.bib_names.specs.Words.{NameWord}
 use Rattle.ris_format.specs.People.{word_end, words_end, to_last_end, part_text, family}
-
-pub drop-min : (text : Text) (n : ℕ) → drop (min n (length text)) text ≡ drop n text
-drop-min text n =
-    ⊎_elim
-    (λ (lt : n < length text). let e : min n (length text) ≡ n = omega arith in ap (λ k. drop k text) e)
-    (λ (le : length text ≤ n). let e : min n (length text) ≡ length text = omega arith in ap (λ k. drop k text) e ∙ drop_all (length text) text (omega arith) ∙ sym (drop_all n text le))
-    (cases_lt n (length text))
-
-pub take-min : (text : Text) (n : ℕ) → take (min n (length text)) text ≡ take n text
-take-min text n =
-    ⊎_elim
-    (λ (lt : n < length text). let e : min n (length text) ≡ n = omega arith in ap (λ k. take k text) e)
-    (λ (le : length text ≤ n). let e : min n (length text) ≡ length text = omega arith in ap (λ k. take k text) e ∙ take_all (length text) text (omega arith) ∙ sym (take_all n text le))
-    (cases_lt n (length text))
-
--- an end after the text's own is no other
-pub range-min : (text : Text) (start end most : ℕ) → length text ≤ most → slice_range text start (min end most) ≡ slice_range text start end
-range-min text start end most le =
-    ⊎_elim
-    (λ (lt : end < most). let e : min end most ≡ end = omega arith in ap (slice_range text start) e)
-    (λ (over : most ≤ end).
-    let e : min end most ≡ most = omega arith in
-    ap (slice_range text start) e ∙ take_all (most - start) (drop start text) (omega (arith, length-drop start text)) ∙ sym (take_all (end - start) (drop start text) (omega (arith, length-drop start text))))
-    (cases_lt end most)
 
 -- where words end, by the last of them
 pub words_end-last : (word : NameWord) (words : List NameWord) (d : NameWord) → words_end word words ≡ word_end (get_or (word ∷ words) (length words) d)
@@ -60,8 +33,3 @@ family-part name [] words first some is = absurd (omega arith)
 family-part name (word ∷ von) [] first some is = refl
 family-part name (word ∷ von) (next ∷ words) first some is =
     ap (λ (w : NameWord). to_last_end name w.at (next ∷ words)) is ∙ ap (slice_range name word.at) (sym (words_end-append word von next words))
-
--- without von words, Last alone
-pub last-part : (name : Text) (words : List NameWord) → part_text name words ≡ part_text name (family [] words)
-last-part name [] = refl
-last-part name (word ∷ words) = refl

@@ -1,6 +1,6 @@
 -- Texts without some bytes at their ends, as parts of the whole.
 use Rattle.std.proofs.Common.{◌≡◌, ℕ, suc, ◌+◌, Bool, true, false, cond, not, ◌||◌, [], ◌∷◌, ◌++◌, take, drop, refl, sym, ap, ◌∙◌, arith, ⊎_elim, append_assoc}
-use Rattle.std.proofs.lemmas.Bool.{cases_Bool, both_ways, not-true}
+use Rattle.std.proofs.lemmas.Bool.{cases_Bool, both_ways, not-true, or_right}
 use Rattle.std.proofs.lemmas.List.{take-append-drop}
 use Rattle.std.specs.List.{prefix_len, list_any}
 use Rattle.bib_spec.specs.Text.{Text, is_space, after_run}
@@ -39,11 +39,7 @@ after_run-begins test (b ∷ t) =
 -- a text whose first byte fails the test is as it was
 pub after_run-same : (test : ℕ → Bool) (t : Text) → begins_not test t ≡ true → after_run test t ≡ t
 after_run-same test [] h = refl
-after_run-same test (b ∷ t) h = after_run-no test b t (not_is (test b) h)
-  where
-    not_is : (c : Bool) → not c ≡ true → c ≡ false
-    not_is true e = sym e
-    not_is false e = refl
+after_run-same test (b ∷ t) h = after_run-no test b t (not-true (test b) h)
 
 -- ---- the end
 
@@ -93,16 +89,12 @@ pub before_run-same : (test : ℕ → Bool) (t : Text) → ends_not test t ≡ t
 before_run-same test [] h = refl
 before_run-same test (b ∷ []) h = before_run-cons test b [] (ap (λ c. c || false) h)
 before_run-same test (b ∷ c ∷ t) h =
-    before_run-cons test b (c ∷ t) (either (fails test b) (list_any (fails test) (c ∷ t)) (some test c t h))
+    before_run-cons test b (c ∷ t) (or_right (fails test b) (list_any (fails test) (c ∷ t)) (some test c t h))
     ∙ ap (λ (u : Text). b ∷ u) (before_run-same test (c ∷ t) h)
   where
-    either : (x y : Bool) → y ≡ true → (x || y) ≡ true
-    either true y h = refl
-    either false y h = h
-
     some : (test : ℕ → Bool) (c : ℕ) (t : Text) → ends_not test (c ∷ t) ≡ true → list_any (fails test) (c ∷ t) ≡ true
     some test c [] h = ap (λ d. d || false) h
-    some test c (e ∷ t) h = either (fails test c) (list_any (fails test) (e ∷ t)) (some test e t h)
+    some test c (e ∷ t) h = or_right (fails test c) (list_any (fails test) (e ∷ t)) (some test e t h)
 
 -- ---- both ends
 

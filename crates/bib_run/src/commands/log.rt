@@ -116,7 +116,7 @@ pub fn answer_forget(alloc: Global, file: Vec<u8>) -> Result<Answer, AllocError>
 {
     match Session::start(alloc, file.as_slice(), Paged::new(alloc)) {
         Ok(session) => {
-            let answer = forget(alloc, &session);
+            let answer = new_journal(alloc, &session);
             session.close();
             answer
         }
@@ -125,7 +125,7 @@ pub fn answer_forget(alloc: Global, file: Vec<u8>) -> Result<Answer, AllocError>
 }
 
 /// The new journal of a session without steps.
-fn forget(alloc: Global, session: &Session<Paged>) -> Result<Answer, AllocError>
+fn new_journal(alloc: Global, session: &Session<Paged>) -> Result<Answer, AllocError>
     requires { session.now ≡ idle (started session.now.steps.present) }
     ensures { IfOk result (IsForgetAnswer session.now.steps.present) }
 {

@@ -13,19 +13,19 @@ use Rattle.bib_answers.proofs.findings.add_field_findings.Goals as goal
 
 pub fields-init : goal.fields-init
 fields-init g c =
-    subst (λ (fields : List Field). IsFinding (defined_in c.args.item.now.kind) (g.M.MacroTable.macros c.args.macros.now) (crossref_findings c.args.crossref.n (option_copied c.args.crossref.text) c.args.crossref.target c.args.crossref.grandparent) c.args.item.now.fields c.args.lines.now c.args.lines.now (λ names. IsAt c.clear.new.self (names_of c.args.item.now.fields) names (names_of fields)) fields) (sym c.fields-fields.ensures.fields)
-    (finding_start (defined_in c.args.item.now.kind) (g.M.MacroTable.macros c.args.macros.now) (crossref_findings c.args.crossref.n (option_copied c.args.crossref.text) c.args.crossref.target c.args.crossref.grandparent) c.args.item.now.fields c.args.lines.now
-    (λ names. IsAt c.clear.new.self (names_of c.args.item.now.fields) names (names_of c.args.item.now.fields)) c.requires (c.clear.ensures (names_of c.args.item.now.fields)))
+    subst (λ (fields : List Field). IsFinding (defined_in c.args.it.view.now.kind) (g.M.MacroTable.macros c.args.macros.now) (crossref_findings c.args.it.crossref.n (option_copied c.args.it.crossref.text) c.args.it.crossref.target c.args.it.crossref.grandparent) c.args.it.view.now.fields c.args.lines.now c.args.lines.now (λ names. IsAt c.clear.new.self (names_of c.args.it.view.now.fields) names (names_of fields)) fields) (sym c.fields-fields.ensures.fields)
+    (finding_start (defined_in c.args.it.view.now.kind) (g.M.MacroTable.macros c.args.macros.now) (crossref_findings c.args.it.crossref.n (option_copied c.args.it.crossref.text) c.args.it.crossref.target c.args.it.crossref.grandparent) c.args.it.view.now.fields c.args.lines.now
+    (λ names. IsAt c.clear.new.self (names_of c.args.it.view.now.fields) names (names_of c.args.it.view.now.fields)) c.requires (c.clear.ensures (names_of c.args.it.view.now.fields)))
 
 pub fields-preserved : goal.fields-preserved
 fields-preserved g c =
-    let filled : (names : List Text) → IsAt c.fields.earlier (names_of c.args.item.now.fields) names (c.in-Some.field.name.now ∷ names_of c.next.new.self)
-    → IsAt c.fill_filter.new.self (names_of c.args.item.now.fields) names (c.in-Some.field.name.now ∷ names_of c.next.new.self)
+    let filled : (names : List Text) → IsAt c.fields.earlier (names_of c.args.it.view.now.fields) names (c.in-Some.field.name.now ∷ names_of c.next.new.self)
+    → IsAt c.fill_filter.new.self (names_of c.args.it.view.now.fields) names (c.in-Some.field.name.now ∷ names_of c.next.new.self)
     = λ names is. c.in_ok-fill_filter.ensures names (c.in-Some.field.name.now ∷ names_of c.next.new.self) is in
-    finding_more (defined_in c.args.item.now.kind) (g.M.MacroTable.macros c.args.macros.now) (crossref_findings c.args.crossref.n (option_copied c.args.crossref.text) c.args.crossref.target c.args.crossref.grandparent) c.args.item.now.fields c.args.lines.now
+    finding_more (defined_in c.args.it.view.now.kind) (g.M.MacroTable.macros c.args.macros.now) (crossref_findings c.args.it.crossref.n (option_copied c.args.it.crossref.text) c.args.it.crossref.target c.args.it.crossref.grandparent) c.args.it.view.now.fields c.args.lines.now
     c.fields.lines c.add_name.new.lines c.add_uses.new.lines
-    (λ names. IsAt c.fields.earlier (names_of c.args.item.now.fields) names (c.in-Some.field.name.now ∷ names_of c.next.new.self))
-    (λ names. IsAt c.add.new.self (names_of c.args.item.now.fields) names (names_of c.next.new.self))
+    (λ names. IsAt c.fields.earlier (names_of c.args.it.view.now.fields) names (c.in-Some.field.name.now ∷ names_of c.next.new.self))
+    (λ names. IsAt c.add.new.self (names_of c.args.it.view.now.fields) names (names_of c.next.new.self))
     (field_seen c.in-Some.field) c.next.new.self
     (λ names is. let at = filled names is in c.in_ok-add_name.ensures names (names_of c.next.new.self) at.have at.told)
     (λ x ok same. c.in_ok-add_uses.ensures x ok same ∙ ap (λ o. with_findings c.add_name.new.lines (value_findings o (g.M.MacroTable.macros c.args.macros.now) c.in-Some.field.value_at x)) (c.defined_in.ensures ∙ ap (λ k. defined_in k c.in-Some.field.name.now) c.kind.ensures))
@@ -34,10 +34,10 @@ fields-preserved g c =
       told = subst (λ (filter : Option NameFilter). AreTold filter (c.in-Some.field.name.now ∷ names) (names_of c.next.new.self)) (sym c.add.ensures.filter) at.told.1;
       joined = at.joined;
     })
-    (subst (λ (fields : List Field). IsFinding (defined_in c.args.item.now.kind) (g.M.MacroTable.macros c.args.macros.now) (crossref_findings c.args.crossref.n (option_copied c.args.crossref.text) c.args.crossref.target c.args.crossref.grandparent) c.args.item.now.fields c.args.lines.now c.fields.lines (λ names. IsAt c.fields.earlier (names_of c.args.item.now.fields) names (names_of fields)) fields) c.in-Some.ensures.steps c.fields.invariant)
+    (subst (λ (fields : List Field). IsFinding (defined_in c.args.it.view.now.kind) (g.M.MacroTable.macros c.args.macros.now) (crossref_findings c.args.it.crossref.n (option_copied c.args.it.crossref.text) c.args.it.crossref.target c.args.it.crossref.grandparent) c.args.it.view.now.fields c.args.lines.now c.fields.lines (λ names. IsAt c.fields.earlier (names_of c.args.it.view.now.fields) names (names_of fields)) fields) c.in-Some.ensures.steps c.fields.invariant)
 
 pub returns : goal.returns
 returns g c values are =
-    finding_all (defined_in c.args.item.now.kind) (g.M.MacroTable.macros c.args.macros.now) (crossref_findings c.args.crossref.n (option_copied c.args.crossref.text) c.args.crossref.target c.args.crossref.grandparent) c.args.item.now.fields c.args.lines.now c.fields.lines (λ names. IsAt c.fields.earlier (names_of c.args.item.now.fields) names [])
-    (subst (λ (fields : List Field). IsFinding (defined_in c.args.item.now.kind) (g.M.MacroTable.macros c.args.macros.now) (crossref_findings c.args.crossref.n (option_copied c.args.crossref.text) c.args.crossref.target c.args.crossref.grandparent) c.args.item.now.fields c.args.lines.now c.fields.lines (λ names. IsAt c.fields.earlier (names_of c.args.item.now.fields) names (names_of fields)) fields) c.in_default.ensures.steps.0 c.fields.invariant)
+    finding_all (defined_in c.args.it.view.now.kind) (g.M.MacroTable.macros c.args.macros.now) (crossref_findings c.args.it.crossref.n (option_copied c.args.it.crossref.text) c.args.it.crossref.target c.args.it.crossref.grandparent) c.args.it.view.now.fields c.args.lines.now c.fields.lines (λ names. IsAt c.fields.earlier (names_of c.args.it.view.now.fields) names [])
+    (subst (λ (fields : List Field). IsFinding (defined_in c.args.it.view.now.kind) (g.M.MacroTable.macros c.args.macros.now) (crossref_findings c.args.it.crossref.n (option_copied c.args.it.crossref.text) c.args.it.crossref.target c.args.it.crossref.grandparent) c.args.it.view.now.fields c.args.lines.now c.fields.lines (λ names. IsAt c.fields.earlier (names_of c.args.it.view.now.fields) names (names_of fields)) fields) c.in_default.ensures.steps.0 c.fields.invariant)
     values are

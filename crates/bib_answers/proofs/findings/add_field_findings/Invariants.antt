@@ -8,8 +8,8 @@ use Rattle.bib_answers.proofs.FindingSteps.{IsFinding}
 use Rattle.bib_answers.proofs.findings.add_field_findings.Given as goal
 
 abbrev pub invariant-fields : goal.invariant-fields
-invariant-fields g l = IsFinding (defined_in l.item.kind) (g.M.MacroTable.macros l.macros) (crossref_findings l.crossref.n (option_copied l.crossref.text) l.crossref.target l.crossref.grandparent) l.item.fields l.initial.lines l.lines
-    (λ names. IsAt l.earlier (names_of l.item.fields) names (names_of l.fields)) l.fields
+invariant-fields g l = IsFinding (defined_in l.it.view.now.kind) (g.M.MacroTable.macros l.macros) (crossref_findings l.it.crossref.n (option_copied l.it.crossref.text) l.it.crossref.target l.it.crossref.grandparent) l.it.view.now.fields l.initial.lines l.lines
+    (λ names. IsAt l.earlier (names_of l.it.view.now.fields) names (names_of l.fields)) l.fields
 
 abbrev pub decreases-fields : goal.decreases-fields
 decreases-fields g l = length l.fields

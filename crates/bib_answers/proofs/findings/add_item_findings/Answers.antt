@@ -11,15 +11,15 @@ use Rattle.bib_answers.proofs.findings.add_item_findings.Goals as goal
 pub add_field_findings-requires : goal.add_field_findings-requires
 add_field_findings-requires c =
     let opened = c.opens.ensures in
-    viewed_sound opened.0 c.args.n c.args.item.now (viewed c.args.db.now opened.0 c.args.n c.args.item.now opened.1.reads (c.requires.item opened.0 opened.1.reads) (c.requires.seen opened.0 opened.1.reads))
+    viewed_sound opened.0 c.args.it.n c.args.it.view.now (viewed c.args.db.now opened.0 c.args.it.n c.args.it.view.now opened.1.reads (c.requires.item opened.0 opened.1.reads) (c.requires.seen opened.0 opened.1.reads))
 
 pub returns-then-not-is_same_kind : goal.returns-then-not-is_same_kind
 returns-then-not-is_same_kind c = on_ok_weaker c.add_field_findings.result (λ h r reads.
-    let is : IsViewed r c.args.n c.args.item.now = viewed c.args.db.now r c.args.n c.args.item.now reads (c.requires.item r reads) (c.requires.seen r reads) in
+    let is : IsViewed r c.args.it.n c.args.it.view.now = viewed c.args.db.now r c.args.it.n c.args.it.view.now reads (c.requires.item r reads) (c.requires.seen r reads) in
     let told : c.is_same_kind.result ≡ false = search rules in
-    other_written r c.args.n c.args.item.now is (crossref_findings c.none.result.n (option_copied c.none.result.text) c.none.result.target c.none.result.grandparent) _
+    other_written r c.args.it.n c.args.it.view.now is (crossref_findings c.none.result.n (option_copied c.none.result.text) c.none.result.target c.none.result.grandparent) _
     c.args.lines.now c.begin_item.new.self c.add_field_findings.new.lines c.item_place.result
-    (sym (told_entry r c.args.n c.args.item.now c.kind.result c.is_same_kind.result is c.kind.ensures c.is_same_kind.ensures) ∙ told)
+    (sym (told_entry r c.args.it.n c.args.it.view.now c.kind.result c.is_same_kind.result is c.kind.ensures c.is_same_kind.ensures) ∙ told)
     (λ at. ap (λ t. crossref_findings c.none.result.n (option_copied t) c.none.result.target c.none.result.grandparent at) c.none.ensures)
     (c.macros_at-macros.ensures r reads) c.begin_item.ensures (c.item_place.ensures r reads)
     (h (assigned is.item.tree) is.fields))
@@ -27,28 +27,28 @@ returns-then-not-is_same_kind c = on_ok_weaker c.add_field_findings.result (λ h
 
 pub is_repeated-repeated-requires : goal.is_repeated-repeated-requires
 is_repeated-repeated-requires c r reads =
-    let is : IsViewed r c.args.n c.args.item.now = viewed c.args.db.now r c.args.n c.args.item.now reads (c.requires.item r reads) (c.requires.seen r reads) in
+    let is : IsViewed r c.args.it.n c.args.it.view.now = viewed c.args.db.now r c.args.it.n c.args.it.view.now reads (c.requires.item r reads) (c.requires.seen r reads) in
     let told : c.is_same_kind.result ≡ true = search rules in
-    entry_key r c.args.n c.args.item.now c.args.entries is (sym (told_entry r c.args.n c.args.item.now c.kind.result c.is_same_kind.result is c.kind.ensures c.is_same_kind.ensures) ∙ told) (c.requires.entries r reads) c.key.result.now c.key.ensures
+    entry_key r c.args.it.n c.args.it.view.now c.args.it.entries is (sym (told_entry r c.args.it.n c.args.it.view.now c.kind.result c.is_same_kind.result is c.kind.ensures c.is_same_kind.ensures) ∙ told) (c.requires.entries r reads) c.key.result.now c.key.ensures
 
 pub crossref_of-requires : goal.crossref_of-requires
 crossref_of-requires c r reads =
-    let is : IsViewed r c.args.n c.args.item.now = viewed c.args.db.now r c.args.n c.args.item.now reads (c.requires.item r reads) (c.requires.seen r reads) in
+    let is : IsViewed r c.args.it.n c.args.it.view.now = viewed c.args.db.now r c.args.it.n c.args.it.view.now reads (c.requires.item r reads) (c.requires.seen r reads) in
     let told : c.is_same_kind.result ≡ true = search rules in
-    entry_within r c.args.n c.args.item.now c.args.entries is (sym (told_entry r c.args.n c.args.item.now c.kind.result c.is_same_kind.result is c.kind.ensures c.is_same_kind.ensures) ∙ told) (c.requires.entries r reads)
+    entry_within r c.args.it.n c.args.it.view.now c.args.it.entries is (sym (told_entry r c.args.it.n c.args.it.view.now c.kind.result c.is_same_kind.result is c.kind.ensures c.is_same_kind.ensures) ∙ told) (c.requires.entries r reads)
 
 pub add_field_findings-requires-2 : goal.add_field_findings-requires-2
 add_field_findings-requires-2 c =
     let opened = c.opens.ensures in
-    viewed_sound opened.0 c.args.n c.args.item.now (viewed c.args.db.now opened.0 c.args.n c.args.item.now opened.1.reads (c.requires.item opened.0 opened.1.reads) (c.requires.seen opened.0 opened.1.reads))
+    viewed_sound opened.0 c.args.it.n c.args.it.view.now (viewed c.args.db.now opened.0 c.args.it.n c.args.it.view.now opened.1.reads (c.requires.item opened.0 opened.1.reads) (c.requires.seen opened.0 opened.1.reads))
 
 pub returns : goal.returns
 returns c = on_ok_weaker c.add_field_findings-2.result (λ h r reads.
-    let is : IsViewed r c.args.n c.args.item.now = viewed c.args.db.now r c.args.n c.args.item.now reads (c.requires.item r reads) (c.requires.seen r reads) in
+    let is : IsViewed r c.args.it.n c.args.it.view.now = viewed c.args.db.now r c.args.it.n c.args.it.view.now reads (c.requires.item r reads) (c.requires.seen r reads) in
     let told : c.is_same_kind.result ≡ true = search rules in
-    entry_written r c.args.n c.args.item.now is (crossref_findings c.crossref_of.result.n (option_copied c.crossref_of.result.text) c.crossref_of.result.target c.crossref_of.result.grandparent) _
+    entry_written r c.args.it.n c.args.it.view.now is (crossref_findings c.crossref_of.result.n (option_copied c.crossref_of.result.text) c.crossref_of.result.target c.crossref_of.result.grandparent) _
     c.args.lines.now c.begin_item.new.self c.add_key_findings.new.lines c.add_field_findings-2.new.lines c.item_place.result c.key_at.result c.is_repeated-repeated.result c.key-2.result.now
-    (sym (told_entry r c.args.n c.args.item.now c.kind.result c.is_same_kind.result is c.kind.ensures c.is_same_kind.ensures) ∙ told)
+    (sym (told_entry r c.args.it.n c.args.it.view.now c.kind.result c.is_same_kind.result is c.kind.ensures c.is_same_kind.ensures) ∙ told)
     (λ at. c.crossref_of.ensures r reads at ∙ ap (λ (e : ℕ). crossrefs_of (entries_of r) e at) (c.requires.entries r reads))
     (c.macros_at-macros.ensures r reads) c.begin_item.ensures (c.item_place.ensures r reads)
     c.key_at.ensures (c.is_repeated-repeated.ensures r reads ∙ ap (is_repeated (entries_of r)) (c.requires.entries r reads)) c.key-2.ensures

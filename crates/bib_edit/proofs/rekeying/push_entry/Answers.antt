@@ -11,4 +11,4 @@ push_entry_at-requires-clause-place g c db reads i at =
     c.item_place-start.ensures db reads ∙ ap (start_of db) (same_Some c.entry_item.result i (sym (c.entry_item.ensures db reads) ∙ at))
 
 pub push_entry_at-requires-clause-view : goal.push_entry_at-requires-clause-view
-push_entry_at-requires-clause-view g c = c.entry.ensures
+push_entry_at-requires-clause-view g c = c.entry-view.ensures

@@ -15,8 +15,8 @@ push_referrers-requires-clause-end g c db reads =
 pub push_entry-requires : goal.push_entry-requires
 push_entry-requires g c db reads = named_within (entries_of db) c.args.key.now c.args.n (c.requires.named db reads)
 
-pub skip_self-after-requires : goal.skip_self-after-requires
-skip_self-after-requires g c =
+pub skip_self-requires : goal.skip_self-requires
+skip_self-requires g c =
     key-short c.args.db.now c.opens.ensures.0 c.opens.ensures.1.reads c.args.key.now c.args.n (c.requires.named c.opens.ensures.0 c.opens.ensures.1.reads)
 
 pub push_referrers-requires-2-clause-short : goal.push_referrers-requires-2-clause-short
@@ -32,9 +32,9 @@ returns-clause-pieces g c db reads =
     let none : HavePieces new db key 0 0 c.new-pieces.result.items = record { pieces = first-pieces new db c.new-pieces.result.items c.new-pieces.ensures.items; passed = none-passed db key } in
     let before : HavePieces new db key c.in_ok-before.before c.args.n c.push_referrers.new.pieces.items
     = c.in_ok-before.ensures.pieces db reads 0 (omega arith) (quiet-before new db key c.args.n named c.requires.alone) none in
-    let its : HavePieces new db key c.skip_self-after.result (c.args.n + 1) c.push_entry.new.pieces.items = record {
+    let its : HavePieces new db key c.skip_self.result (c.args.n + 1) c.push_entry.new.pieces.items = record {
       pieces = next-pieces new db c.args.n c.push_referrers.new.pieces.items c.push_entry.new.pieces.items low before.pieces (c.in_ok-push_entry.ensures.pieces db reads);
-      passed = c.skip_self-after.ensures db reads before.passed;
+      passed = c.skip_self.ensures db reads before.passed;
     } in
     let count : c.entry_count.result ≡ length (entries_of db) = c.entry_count.ensures db reads in
     let high : c.args.n + 1 ≤ c.entry_count.result = omega (arith, low, count) in

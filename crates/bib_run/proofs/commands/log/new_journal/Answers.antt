@@ -2,7 +2,7 @@ use Rattle.std.proofs.Common.{rules, subst}
 use Rattle.bib_journal.specs.OpenSteps.{SessionState}
 use Rattle.bib_journal.specs.Loading.{Saves}
 use Rattle.bib_run.specs.Log.{forgot}
-use Rattle.bib_run.proofs.commands.log.forget.Goals as goal
+use Rattle.bib_run.proofs.commands.log.new_journal.Goals as goal
 
 pub returns : goal.returns
 returns c = forgot c.in-Ok.saved c.is_sound.ensures.present (subst (λ (s : SessionState). Saves s.steps c.in-Ok.saved) c.requires c.in-Ok.ensures.saved) (search rules)
