@@ -160,6 +160,11 @@ def inlinings(count):
     return b"".join(b"inline\tm%d\n" % n for n in range(count))
 
 
+def inlinings_from_the_end(count):
+    """The same from the last macro to the first."""
+    return b"".join(reversed(inlinings(count).splitlines(True)))
+
+
 def introductions(count):
     """A script of so many edits: each gives a publisher of a file by rule a name."""
     return b"".join(b"introduce\tp%d\tPublisher %d\n" % (n, n) for n in range(count))
