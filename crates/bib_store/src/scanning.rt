@@ -7,16 +7,18 @@ ghost use Rattle.bib_items.specs.Items.{kept_bytes};
 ghost use Rattle.bib_store.specs.Stored.{file_of};
 
 use crate::touching::touched;
+use crate::window::Window;
 use bib_data::Piece;
 use bib_items::ItemList;
 use std::alloc::{AllocError, Global};
 
-/// Neighbouring items that pieces touch: the bytes from place `start` of the old file up to place `end`. In the new file they
-/// begin at `begun`.
+/// Neighbouring items that pieces touch: the bytes from place `start` of the old file up to place `end`, where item `next`
+/// begins. In the new file they begin at `begun`.
 #[derive(Clone, Copy)]
 struct Stretch {
     start: usize,
     end: usize,
+    next: usize,
     begun: usize,
 }
 
@@ -54,37 +56,42 @@ impl Scan {
         let mut open = None;
         'pieces: for k in 0..pieces.len() {
             let piece = &pieces[k];
-            if !lies_in(piece, open) {
-                let window = touched(front, items, file_len, &pieces[k..k + 1]);
-                let end = front.len().saturating_add(items.start(window.to));
-                open = Some(scan.opened(open, window.place, end)?);
-            }
+            open = match widened(items, open, piece) {
+                Some(stretch) => Some(stretch),
+                None => {
+                    let window = touched(front, items, file_len, &pieces[k..k + 1]);
+                    let end = front.len().saturating_add(items.start(window.to));
+                    Some(scan.opened(open, window, end)?)
+                }
+            };
             scan.count(piece);
         }
         scan.close(open)?;
         Ok(scan)
     }
 
-    /// The stretch from `start` up to `end`, joined to the one before if that touches it. Otherwise that one is closed.
+    /// The stretch of a window that ends at `end`, joined to the one before if that touches it. Otherwise that one is closed.
     fn opened(
         &mut self,
         before: Option<Stretch>,
-        start: usize,
+        window: Window,
         end: usize,
     ) -> Result<Stretch, AllocError> {
         if let Some(last) = before {
-            if start <= last.end {
+            if window.place <= last.end {
                 return Ok(Stretch {
                     end: last.end.max(end),
+                    next: last.next.max(window.to),
                     ..last
                 });
             }
         }
         self.close(before)?;
         Ok(Stretch {
-            start,
+            start: window.place,
             end,
-            begun: self.moved(start),
+            next: window.to,
+            begun: self.moved(window.place),
         })
     }
 
@@ -130,14 +137,31 @@ impl Scan {
     }
 }
 
-/// Whether the piece touches no more than this stretch.
-fn lies_in(piece: &Piece, stretch: Option<Stretch>) -> bool {
+/// The stretch with what the piece touches, if that is no more than the stretch and the item after it. This is quick, and is
+/// what most pieces touch if there are many.
+fn widened<L: ItemList>(items: &L, stretch: Option<Stretch>, piece: &Piece) -> Option<Stretch> {
+    let stretch = stretch?;
     let start = piece.place as usize;
     let end = start.saturating_add(piece.old.as_slice().len());
-    match stretch {
-        Some(stretch) => stretch.start < start && end <= stretch.end,
-        None => false,
+    if stretch.start < start && end <= stretch.end {
+        return Some(stretch);
     }
+    if start <= stretch.end || stretch.next >= items.count() {
+        return None;
+    }
+    let (body, trail) = items.texts(stretch.next);
+    let item_end = stretch
+        .end
+        .saturating_add(body.len())
+        .saturating_add(trail.len());
+    if end > item_end || start > item_end {
+        return None;
+    }
+    Some(Stretch {
+        end: item_end,
+        next: stretch.next.saturating_add(1),
+        ..stretch
+    })
 }
 
 /// Whether an item begins at this place of the file, or the file ends there.
