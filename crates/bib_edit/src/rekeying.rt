@@ -115,7 +115,13 @@ fn push_entry_at<L: ItemList>(
 {
     db.opens();
     push_key(alloc, pieces, entry.start, entry.view, new.of(entry.n))?;
-    push_crossref(alloc, pieces, entry.start, entry.view, new_target(db, new, entry.n))
+    push_crossref(
+        alloc,
+        pieces,
+        entry.start,
+        entry.view,
+        new_target(db, new, entry.n),
+    )
 }
 
 /// Adds the pieces of entry `n`.
