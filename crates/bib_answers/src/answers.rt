@@ -6,12 +6,9 @@ ghost use Rattle.bib_answers.specs.Messages.{no_such_entry_line, refusal_line};
 ghost use Rattle.bib_answers.specs.Outcome.{outcome_of, answer_of};
 
 use crate::messages::{NO_SUCH_ENTRY, refusal_line};
-use bib_scan::{FILE_LIMIT, ReadFault, Text};
+use bib_scan::{ReadFault, Text};
 use bib_words::status;
 use std::alloc::{AllocError, Global};
-
-/// The number of the fault that memory ran out.
-pub const MEMORY: u8 = 10;
 
 /// What the program writes besides its output, and its exit status.
 #[derive(Drop)]
@@ -73,18 +70,14 @@ pub fn no_such_entry(alloc: Global) -> Result<Answer, AllocError>
 pub fn too_long(alloc: Global) -> Result<Answer, AllocError>
     ensures { IfOk result (λ answer. answer ≡ answer_of [] (refusal_line 9 file_limit) 1) }
 {
-    let fault = ReadFault {
-        kind: 9,
-        place: FILE_LIMIT,
-    };
-    Ok(refused(alloc, refusal_line(alloc, fault)?))
+    Ok(refused(alloc, refusal_line(alloc, ReadFault::TOO_LONG)?))
 }
 
 /// The answer whose message says why the file is not read. If memory ran out, there is no answer.
 pub fn unread(alloc: Global, fault: ReadFault) -> Result<Answer, AllocError>
     ensures { IfOk result (λ answer. (fault.kind ≢ 10) × (answer ≡ answer_of [] (refusal_line fault.kind fault.place) 1)) }
 {
-    if fault.kind == MEMORY {
+    if fault.is_memory() {
         return Err(AllocError);
     }
     Ok(refused(alloc, refusal_line(alloc, fault)?))

@@ -19,7 +19,6 @@ ghost use Rattle.bib_answers.specs.FindingLines.{at_item, with_findings};
 ghost use Rattle.bib_answers.specs.Recurring.{AreTold};
 ghost use Rattle.bib_answers.specs.Seen.{HaveSeen};
 
-use crate::answers::MEMORY;
 use crate::finding_lines::FindingLines;
 use crate::kinds::is_same_kind;
 use crate::numbered::NumberedItem;
@@ -325,7 +324,7 @@ fn add_each_use<M: MacroTable>(
 {
     match read_value(alloc, value.bytes) {
         Ok(parts) => add_part_uses(lines, macros, value, &parts),
-        Err(fault) if fault.kind == MEMORY => Err(AllocError),
+        Err(fault) if fault.is_memory() => Err(AllocError),
         Err(_) => unreachable!(),
     }
 }

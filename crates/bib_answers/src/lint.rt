@@ -8,7 +8,7 @@ ghost use Rattle.bib_answers.specs.Positions.{position_of};
 ghost use Rattle.bib_answers.specs.Lint.{error_line};
 ghost use Rattle.bib_store.specs.Meaning.{OfReading, IsItemNumber};
 
-use crate::answers::{Answer, MEMORY, outcome_of};
+use crate::answers::{Answer, outcome_of};
 use crate::check::counted;
 use crate::finding_lines::{FindingLines, error_line};
 use crate::findings::add_item_findings;
@@ -35,7 +35,7 @@ pub fn answer_lint(alloc: Global, name: &[u8], file: &[u8]) -> Result<Answer, Al
 fn unread(alloc: Global, name: &[u8], file: &[u8], fault: ReadFault) -> Result<Answer, AllocError>
     ensures { IfOk result (λ answer. (fault.kind ≢ 10) × (answer ≡ answer_of (error_line name.now (position_of file.now fault.place) fault.kind) [] 1)) }
 {
-    if fault.kind == MEMORY {
+    if fault.is_memory() {
         return Err(AllocError);
     }
     let at = known_at(file, first_known(), fault.place).at;

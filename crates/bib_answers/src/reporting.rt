@@ -16,7 +16,6 @@ ghost use Rattle.bib_answers.specs.Fields.{Views, IsKeyOf, AreFieldsOf, AreSound
 ghost use Rattle.bib_answers.specs.Recurring.{AreTold};
 ghost use Rattle.bib_answers.specs.Seen.{HaveSeen};
 
-use crate::answers::MEMORY;
 use crate::kinds::is_same_kind;
 use crate::lines::add_all;
 use crate::numbered::NumberedItem;
@@ -149,7 +148,7 @@ fn add_each_use<M: MacroTable>(
 {
     match read_value(alloc, value) {
         Ok(parts) => add_part_uses(out, macros, own, value, &parts),
-        Err(fault) if fault.kind == MEMORY => Err(AllocError),
+        Err(fault) if fault.is_memory() => Err(AllocError),
         Err(_) => unreachable!(),
     }
 }

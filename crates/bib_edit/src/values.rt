@@ -9,9 +9,6 @@ ghost use Rattle.bib_scan.specs.ValueParts.{IsPartsOf};
 use bib_scan::{Parts, is_balanced, read_value};
 use std::alloc::{AllocError, Global};
 
-/// The number of the reading fault that is want of memory.
-const WANT_OF_MEMORY: u8 = 10;
-
 /// The parts of a text that is one value and nothing else, if it is.
 pub(crate) fn value_parts(alloc: Global, text: &[u8]) -> Result<Option<Parts>, AllocError>
     ensures parts { IfOk result (λ found. IfSome found (IsPartsOf text.now)) }
@@ -19,7 +16,7 @@ pub(crate) fn value_parts(alloc: Global, text: &[u8]) -> Result<Option<Parts>, A
 {
     match read_value(alloc, text) {
         Ok(parts) => Ok(Some(parts)),
-        Err(fault) if fault.kind == WANT_OF_MEMORY => Err(AllocError),
+        Err(fault) if fault.is_memory() => Err(AllocError),
         Err(_) => Ok(None),
     }
 }

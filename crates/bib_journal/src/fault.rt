@@ -108,7 +108,7 @@ pub(crate) fn unopened(fault: ReadFault) -> SessionFault
     ensures start { (file : FileText) → IsOpenFault file fault.kind fault.place → RefusesStart result file }
     ensures load { (file text : FileText) → IsOpenFault file fault.kind fault.place → RefusesLoad result file text }
 {
-    if fault.kind == 10 {
+    if fault.is_memory() {
         SessionFault::Memory
     } else {
         SessionFault::Unopened(fault)

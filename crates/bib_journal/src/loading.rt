@@ -22,10 +22,7 @@ pub(crate) fn digest_within(alloc: Global, file: &[u8]) -> Result<Text, SessionF
     ensures refused { IfErr result (λ fault. (text : FileText) → RefusesLoad fault file.now text) }
 {
     if file.len() > FILE_LIMIT {
-        return Err(SessionFault::Unopened(ReadFault {
-            kind: 9,
-            place: FILE_LIMIT,
-        }));
+        return Err(SessionFault::Unopened(ReadFault::TOO_LONG));
     }
     Ok(digest(alloc, file)?)
 }

@@ -5,6 +5,7 @@ ghost use Rattle.bib_spec.specs.Fault.{fault_number};
 ghost use Rattle.bib_scan.specs.LeftToRight.{expected};
 ghost use Rattle.bib_scan.specs.Code.{fault_of, halt_of};
 
+use crate::reader::FILE_LIMIT;
 use std::alloc::AllocFailed;
 use thiserror::Error;
 
@@ -96,6 +97,21 @@ pub struct ReadFault {
 }
 
 impl ReadFault {
+    /// More than `FILE_LIMIT` bytes: 9, at the first byte too many.
+    pub const TOO_LONG: ReadFault = ReadFault {
+        kind: 9,
+        place: FILE_LIMIT,
+    };
+    /// Out of memory: 10, without a place.
+    pub const MEMORY: ReadFault = ReadFault { kind: 10, place: 0 };
+
+    /// Whether memory ran out.
+    pub fn is_memory(&self) -> bool
+        ensures { result ≡ (self.now.kind == 10) }
+    {
+        self.kind == ReadFault::MEMORY.kind
+    }
+
     /// The fault's number, as docs/FAULTS.md lists them.
     pub fn number(&self) -> u16
         ensures { result ≡ self.now.kind }
@@ -107,7 +123,7 @@ impl ReadFault {
     pub fn place(&self) -> Option<usize>
         ensures { result ≡ (if self.now.kind == 10 then None else Some self.now.place) }
     {
-        if self.kind == 10 {
+        if self.is_memory() {
             None
         } else {
             Some(self.place)

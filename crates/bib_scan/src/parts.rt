@@ -154,7 +154,7 @@ pub fn read_value(alloc: Global, bytes: &[u8]) -> Result<Parts, ReadFault>
 {
     match spans(alloc, bytes) {
         Ok(spans) => Ok(Parts { spans }),
-        Err(Refusal::Memory) => Err(ReadFault { kind: 10, place: 0 }),
+        Err(Refusal::Memory) => Err(ReadFault::MEMORY),
         Err(Refusal::Fault(stop)) => Err(ReadFault {
             kind: stop.fault.number(),
             place: bytes.len() - stop.rest.len(),

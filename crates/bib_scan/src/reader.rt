@@ -63,10 +63,7 @@ impl<'a> Reader<'a> {
         ensures fault { IfErr result (λ fault. IsReadFault bytes.now fault.kind fault.place) }
     {
         if bytes.len() > FILE_LIMIT {
-            return Err(ReadFault {
-                kind: 9,
-                place: FILE_LIMIT,
-            });
+            return Err(ReadFault::TOO_LONG);
         }
         let front_len = next_command(bytes);
         Ok(Reader {
@@ -106,7 +103,7 @@ impl<'a> Reader<'a> {
         let body = self.rest.split_at(self.rest.len() - after.len()).0;
         match keep(&mut self.spans, &mut self.notes, span, note) {
             Ok(()) => {}
-            Err(_) => return Err(ReadFault { kind: 10, place: 0 }),
+            Err(_) => return Err(ReadFault::MEMORY),
         }
         self.rest = text_from(after, next_command(after));
         Ok(Some(ItemRead {

@@ -45,7 +45,7 @@ fn read_part(alloc: Global, text: &[u8], with_front: bool) -> Result<Option<Layo
             Ok(None)
         }
         Err(fault) => {
-            if fault.kind == 10 {
+            if fault.is_memory() {
                 return Err(StoreFault::Memory);
             }
             Ok(None)

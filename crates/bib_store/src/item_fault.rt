@@ -54,7 +54,7 @@ impl ItemFault {
                 kind: 8,
                 place: start.saturating_add(at),
             },
-            ItemFault::Memory | ItemFault::Unsettled => ReadFault { kind: 10, place: 0 },
+            ItemFault::Memory | ItemFault::Unsettled => ReadFault::MEMORY,
         }
     }
 }

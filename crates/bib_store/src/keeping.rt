@@ -57,7 +57,7 @@ pub(crate) fn take_in<L: ItemList>(
 {
     match keep_all(alloc, &layout, bytes, empty) {
         Ok((front, items)) => Ok((front, items, layout.into_notes())),
-        Err(_) => Err(ReadFault { kind: 10, place: 0 }),
+        Err(_) => Err(ReadFault::MEMORY),
     }
 }
 
@@ -95,6 +95,6 @@ pub(crate) fn take_file<L: ItemList>(
 {
     match keep_file(alloc, &layout, file, empty) {
         Ok((front, items)) => Ok((front, items, layout.into_notes())),
-        Err(_) => Err(ReadFault { kind: 10, place: 0 }),
+        Err(_) => Err(ReadFault::MEMORY),
     }
 }
