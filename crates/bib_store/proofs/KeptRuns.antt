@@ -45,19 +45,19 @@ measured_of front items t k =
     record { len = len; short = omega (arith, len, short) }
 
 -- with the same front, others that are followed and measured are kept
-pub kept_again : (front : Text) (items new : List Item) (t u : Tables) → IsKept front items t → AreFollowed new u → IsMeasured front new u → IsKept front new u
-kept_again front items new t u k f m =
-    let db : Reading = record { front = front; items = f.all } in
-    let bytes : bytes_of db ≡ file_of front new = sym (file-stored db) ∙ ap (file_of front) (sym f.same) in
+pub kept_again : (front new_front : Text) (items new : List Item) (t u : Tables) → IsKept front items t → (IsClean front → IsClean new_front) → AreFollowed new u → IsMeasured new_front new u → IsKept new_front new u
+kept_again front new_front items new t u k clean f m =
+    let db : Reading = record { front = new_front; items = f.all } in
+    let bytes : bytes_of db ≡ file_of new_front new = sym (file-stored db) ∙ ap (file_of new_front) (sym f.same) in
     let len = m.len in
     let short = m.short in
     record {
       db = db;
       is = record {
         opens = record {
-          reads = record { bytes = bytes; front = subst IsClean (sym k.is.front) k.is.opens.reads.front; items = f.good };
+          reads = record { bytes = bytes; front = clean (subst IsClean (sym k.is.front) k.is.opens.reads.front); items = f.good };
           short = omega (arith, len, short);
-          texts = fit_alike 0 (length front) months f.all f.all refl f.texts;
+          texts = fit_alike 0 (length new_front) months f.all f.all refl f.texts;
         };
         front = refl;
         items = f.same;
@@ -87,14 +87,14 @@ come_len front old now new from put =
       length-append mid last,
     )
 
--- measured with a text more
+-- measured with the items of a text more
 pub come_measured : (front : Text) (old now : List Item) (t u : Tables) (inner : Reading) (from : ℕ) (text : Text) → IsMeasured front old t → now ≡ take from old ++ (all_stored inner.items ++ drop from old)
-    → Reads text inner → inner.front ≡ [] → u.file_len ≡ t.file_len + length text → u.file_len ≤ file_limit → IsMeasured front now u
-come_measured front old now t u inner from text m put reads begins len short =
-    let bytes : flat_map kept_bytes (all_stored inner.items) ≡ text
-    = bytes-stored inner.items ∙ ap (λ (x : Text). x ++ flat_map item_bytes inner.items) (sym begins) ∙ reads.bytes in
+    → Reads text inner → u.file_len ≡ t.file_len + (length text - length inner.front) → u.file_len ≤ file_limit → IsMeasured front now u
+come_measured front old now t u inner from text m put reads len short =
+    let bytes : inner.front ++ flat_map kept_bytes (all_stored inner.items) ≡ text
+    = ap (λ (x : Text). inner.front ++ x) (bytes-stored inner.items) ∙ reads.bytes in
     let was = m.len in
-    record { len = omega (arith, len, was, come_len front old now inner.items from put, ap (length {A = ℕ}) bytes); short = short }
+    record { len = omega (arith, len, was, come_len front old now inner.items from put, ap (length {A = ℕ}) bytes, length-append inner.front (flat_map kept_bytes (all_stored inner.items))); short = short }
 
 -- the bytes of the items before a number are no more than the file's
 pub len-within : (front : Text) (items : List Item) (to : ℕ) → length (flat_map kept_bytes (take to items)) ≤ length (file_of front items)

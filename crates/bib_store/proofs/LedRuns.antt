@@ -1,5 +1,5 @@
 -- Runs of pieces: the last run is inserted first and removed last.
-use Rattle.std.proofs.Common.{◌≡◌, ℕ, ◌+◌, ◌-◌, ◌≤◌, Bool, List, [], ◌∷◌, ◌++◌, length, take, drop, refl, sym, subst, ◌∙◌, ap, ap₂, arith, append_assoc, length-append, length-drop, take-append-drop}
+use Rattle.std.proofs.Common.{◌≡◌, ℕ, ◌+◌, ◌-◌, ◌≤◌, Bool, false, List, [], ◌∷◌, ◌++◌, length, take, drop, refl, sym, subst, ◌∙◌, ap, ap₂, arith, append_assoc, length-append, length-drop, take-append-drop}
 use Rattle.std.specs.List.{between, flat_map}
 use Rattle.std.proofs.lemmas.List.{take_all, take_at, drop_at, drop-drop, append-nil, drop-append-le, length-take-le, take-take, drop-take}
 use Rattle.std.proofs.lemmas.List.Concat.{flat_map-append}
@@ -25,7 +25,7 @@ use Rattle.bib_store.proofs.RunPieces.{both_fit, both_applied}
 use Rattle.bib_store.proofs.WindowLaws.{file-around}
 
 -- between two numbers among the first n stands what stands between them among all
-between-first : (items : List Item) (from to n : ℕ) → from ≤ to → to ≤ n → between from to (take n items) ≡ between from to items
+pub between-first : (items : List Item) (from to n : ℕ) → from ≤ to → to ≤ n → between from to (take n items) ≡ between from to items
 between-first items from to n order within =
     let whole : from + (n - from) ≡ n = omega arith in
     let low : to - from ≤ n - from = omega arith in
@@ -34,10 +34,11 @@ between-first items from to n order within =
     ∙ take-take (to - from) (n - from) (drop from items) low
 
 -- an empty list of pieces leads from what is there to itself
-pub none_lead : (ps : List Piece) (front : Text) (n : ℕ) (items : List Item) (t : Tables) → length ps ≡ 0 → LeadWithin ps front n items t items t
+pub none_lead : (ps : List Piece) (front : Text) (n : ℕ) (items : List Item) (t : Tables) → length ps ≡ 0 → LeadWithin ps n front items t front items t
 none_lead [] front n items t none = record {
   first = take n items;
   stay = sym (take-append-drop n items);
+  clean = λ clean. clean;
   fit = record { ascending = tt; standing = tt };
   made = refl;
   followed = λ rest room f. f;
@@ -45,14 +46,14 @@ none_lead [] front n items t none = record {
 none_lead (p ∷ ps) front n items t none = absurd (omega (arith, none))
 
 -- among all items, they lead from the file to the file, which the tables follow
-pub all_led : (ps : List Piece) (front : Text) (n : ℕ) (old new : List Item) (t new_t : Tables) → n ≡ length old → LeadWithin ps front n old t new new_t
-    → Fit ps (file_of front old) × (file_of front new ≡ applied ps (file_of front old)) × (AreFollowed old t → AreFollowed new new_t)
-all_led ps front n old new t new_t e led =
+pub all_led : (ps : List Piece) (front new_front : Text) (n : ℕ) (old new : List Item) (t new_t : Tables) → n ≡ length old → LeadWithin ps n front old t new_front new new_t
+    → Fit ps (file_of front old) × (file_of new_front new ≡ applied ps (file_of front old)) × (AreFollowed old t → AreFollowed new new_t)
+all_led ps front new_front n old new t new_t e led =
     let all : take n old ≡ old = ap (λ m. take m old) e ∙ take_whole old in
     let none : drop n old ≡ [] = ap (λ m. drop m old) e ∙ drop_whole old in
     let new_is : new ≡ led.first = led.stay ∙ ap (λ l. led.first ++ l) none ∙ append-nil led.first in (
       subst (λ (l : List Item). Fit ps (file_of front l)) all led.fit,
-      ap (file_of front) new_is ∙ led.made ∙ ap (λ l. applied ps (file_of front l)) all,
+      ap (file_of new_front) new_is ∙ led.made ∙ ap (λ l. applied ps (file_of front l)) all,
       λ f. subst (λ (l : List Item). AreFollowed l new_t) (append-nil led.first ∙ sym new_is)
           (led.followed [] (omega arith) (subst (λ (l : List Item). AreFollowed l t) (sym (append-nil (take n old) ∙ all)) f)),
     )
@@ -84,8 +85,8 @@ longer_back old t u to n order within back rest room f =
 
 -- ---- a run, and those before it
 
-module _ (front : Text) (old put led_items : List Item) (t put_t led_t : Tables) (n count lead : ℕ) (ps run : List Piece) (c : Change) (r : IsRunChange run front old n c) (inner : Reading) (reads : Reads c.text inner)
-    (within : n ≤ length old) (brought : AreBroughtIn c t old put count lead) (led : LeadWithin ps front c.window.from put put_t led_items led_t) where
+module _ (front new_front : Text) (old put led_items : List Item) (t put_t led_t : Tables) (n count lead : ℕ) (ps run : List Piece) (c : Change) (r : IsRunChange run front old n c) (after_front : c.window.with_front ≡ false) (inner : Reading) (reads : Reads c.text inner)
+    (within : n ≤ length old) (brought : AreBroughtIn c t old put count lead) (led : LeadWithin ps c.window.from front put put_t new_front led_items led_t) where
   abbrev from : ℕ
   from = c.window.from
 
@@ -221,7 +222,7 @@ module _ (front : Text) (old put led_items : List Item) (t put_t led_t : Tables)
   first_bytes = file_of front (take from old)
 
   before_is : bytes_before c.window front old ≡ first_bytes
-  before_is = ap (λ (b : Bool). file_of (front_before b front) (take from old)) r.after_front
+  before_is = ap (λ (b : Bool). file_of (front_before b front) (take from old)) after_front
 
   abbrev run_bytes : Text
   run_bytes = bytes_within c.window front old
@@ -236,7 +237,7 @@ module _ (front : Text) (old put led_items : List Item) (t put_t led_t : Tables)
       let low : from ≤ n = omega (arith, o, h) in
       file-around c.window front prefix prefix_window
       ∙ ap₂ (λ (x y : Text). x ++ (y ++ rest_bytes))
-      (ap₂ (λ (b : Bool) (l : List Item). file_of (front_before b front) l) r.after_front (take-take from n old low))
+      (ap₂ (λ (b : Bool) (l : List Item). file_of (front_before b front) l) after_front (take-take from n old low))
       (ap (file_of (front_within c.window.with_front front)) (between-first old from to n o h))
 
   first_fit : Fit ps first_bytes
@@ -248,7 +249,7 @@ module _ (front : Text) (old put led_items : List Item) (t put_t led_t : Tables)
   text_is : flat_map kept_bytes new ≡ applied (all_moved_back (length first_bytes) run) run_bytes
   text_is =
       bytes-stored inner.items
-      ∙ ap (λ (x : Text). x ++ flat_map item_bytes inner.items) (sym (r.change.begins r.after_front inner reads))
+      ∙ ap (λ (x : Text). x ++ flat_map item_bytes inner.items) (sym (r.change.begins after_front inner reads))
       ∙ reads.bytes
       ∙ r.lie.text
       ∙ ap (λ (x : Text). applied (all_moved_back (length x) run) run_bytes) before_is
@@ -256,17 +257,18 @@ module _ (front : Text) (old put led_items : List Item) (t put_t led_t : Tables)
   pub run_led : (all : List Piece) (after : List Item) (new_t : Tables) (at end : ℕ) → all ≡ ps ++ run → at ≡ length led.first + length new → end ≡ at + (to - from) → after ≡ without_range at end led_items
       → FollowBroughtIn c lead old t put_t
       → ((before : List Item) → length before ≡ at → StayFollowed (length led_items - end) (before ++ between (at + lead) end led_items) led_t before new_t)
-      → LeadWithin all front n old t after new_t
+      → LeadWithin all n front old t new_front after new_t
   run_led all after new_t at end pieces is ends out brought_t taken =
-      subst (λ (qs : List Piece). LeadWithin qs front n old t after new_t) (sym pieces)
+      subst (λ (qs : List Piece). LeadWithin qs n front old t new_front after new_t) (sym pieces)
       (record {
         first = led.first ++ (new ++ drop to prefix);
         stay = out ∙ left_parts at end is ends;
+        clean = led.clean;
         fit = subst (λ (x : Text). Fit (ps ++ run) x) (sym prefix_parts) (both_fit first_bytes run_bytes rest_bytes ps run first_fit run_fit);
         made =
-            ap (λ l. front ++ l)
+            ap (λ l. new_front ++ l)
             (flat_map-append kept_bytes led.first (new ++ drop to prefix) ∙ ap (λ l. flat_map kept_bytes led.first ++ l) (flat_map-append kept_bytes new (drop to prefix)))
-            ∙ sym (append_assoc front (flat_map kept_bytes led.first) (flat_map kept_bytes new ++ rest_bytes))
+            ∙ sym (append_assoc new_front (flat_map kept_bytes led.first) (flat_map kept_bytes new ++ rest_bytes))
             ∙ ap₂ (λ (x y : Text). x ++ (y ++ rest_bytes)) (led.made ∙ ap (λ (l : List Item). applied ps (file_of front l)) put_before) text_is
             ∙ sym (both_applied first_bytes run_bytes rest_bytes ps run first_fit run_fit)
             ∙ ap (applied (ps ++ run)) (sym prefix_parts);

@@ -52,3 +52,4 @@ pub mod PlacedFiles
 pub mod KeptRuns
 pub mod BroughtIn
 pub mod LedRuns
+mod FrontRuns

@@ -1,8 +1,9 @@
 -- Pieces whose runs lie apart: what each run touches is replaced, and what is between runs is unchanged.
-use Rattle.std.specs.Prelude.{ℕ, ◌≡◌, ◌+◌, ◌-◌, ◌≤◌, false, None, List, ◌++◌, length, take, drop, All}
+use Rattle.std.specs.Prelude.{ℕ, ◌≡◌, ◌+◌, ◌-◌, ◌≤◌, None, List, ◌++◌, length, take, drop, All}
 use Rattle.std.specs.List.{between}
 use Rattle.bib_spec.specs.Bytes.{name_limit, file_limit}
 use Rattle.bib_spec.specs.Text.{Text}
+use Rattle.bib_spec.specs.Clean.{IsClean}
 use Rattle.bib_spec.specs.Reading as reading
 use Rattle.bib_spec.specs.Reading.{Reading, Reads, IsItem}
 use Rattle.bib_spec.specs.Texts.{months, raw_texts_from}
@@ -23,11 +24,10 @@ pub record LieIn (pieces : List Piece) (front : Text) (items : List Item) (c : C
   pub fit : FitAfter (length (bytes_before c.window front items)) pieces (bytes_within c.window front items)
   pub text : c.text ≡ applied (all_moved_back (length (bytes_before c.window front items)) pieces) (bytes_within c.window front items)
 
--- The change that a run of pieces makes: they lie in its window, among the first n items and after the front.
+-- The change that a run of pieces makes: they lie in its window, which ends among the first n items.
 pub record IsRunChange (run : List Piece) (front : Text) (items : List Item) (n : ℕ) (c : Change) : Type 0 where
   pub change : IsChange run front items c
   pub lie : LieIn run front items c
-  pub after_front : c.window.with_front ≡ false
   pub to : c.window.to ≤ n
 
 -- The `count` items of the change are in the list before those of its window. The first `lead` items of each are the
@@ -77,11 +77,12 @@ ComesBack c lead old = (inner : Reading) → Reads c.text inner → (rest : List
 
 -- ---- where the pieces lead
 
--- The pieces lead from the front and the first n items to the front and other items, which the tables follow. The items
+-- The pieces lead from the front and the first n items to another front and other items, which the tables follow. The items
 -- after the first n stay.
-pub record LeadWithin (pieces : List Piece) (front : Text) (n : ℕ) (old : List Item) (t : Tables) (new : List Item) (new_t : Tables) : Type 0 where
+pub record LeadWithin (pieces : List Piece) (n : ℕ) (front : Text) (old : List Item) (t : Tables) (new_front : Text) (new : List Item) (new_t : Tables) : Type 0 where
   pub first : List Item
   pub stay : new ≡ first ++ drop n old
+  pub clean : IsClean front → IsClean new_front
   pub fit : Fit pieces (file_of front (take n old))
-  pub made : file_of front first ≡ applied pieces (file_of front (take n old))
+  pub made : file_of new_front first ≡ applied pieces (file_of front (take n old))
   pub followed : StayFollowed (length old - n) (take n old) t first new_t

@@ -1,18 +1,18 @@
 //! Runs of pieces that lie apart. The items that they touch come and go run by run; what is between runs is unchanged.
 
-ghost use Rattle.std.specs.Prelude.{◌≡◌, ◌+◌, ◌-◌, ◌≤◌, ◌<◌, ◌++◌, [], length, take, List, Some, None, IfOk, OnOk, OnErr};
+ghost use Rattle.std.specs.Prelude.{◌≡◌, ◌+◌, ◌-◌, ◌≤◌, ◌<◌, ◌++◌, length, take, List, Some, None, IfOk, OnOk, OnErr};
 ghost use Rattle.std.specs.List.{between};
 ghost use Rattle.bib_spec.specs.Text.{Text as Bytes};
 ghost use Rattle.bib_spec.specs.Reading.{Reading, Reads};
 ghost use Rattle.bib_scan.specs.Layout.{IsLayoutOf};
 ghost use Rattle.bib_items.specs.declared.list.Item.{Item};
-ghost use Rattle.bib_items.specs.Items.{without_range};
+ghost use Rattle.bib_items.specs.Items.{all_stored, without_range};
 ghost use Rattle.bib_store.specs.Firm.{IsFirm};
 ghost use Rattle.bib_store.specs.Following.{MayPassBetween};
 ghost use Rattle.bib_store.specs.Runs.{IsRunChange, AreBroughtIn, IsMeasured, StaysMeasured, StayFollowed, FollowBroughtIn, ComesBack, LeadWithin};
 ghost use Rattle.bib_spec.specs.Pieces.{Fit, applied};
 ghost use Rattle.bib_store.specs.Stored.{file_of, IsKept};
-ghost use Rattle.bib_store.specs.Windows.{IsWindow, HasLead, IsLead, ArePut};
+ghost use Rattle.bib_store.specs.Windows.{IsWindow, HasLead, IsLead, ArePut, exchanged};
 
 use crate::change::{Change, change_near};
 use crate::exchanging::{can_follow, unchanged_first};
@@ -21,14 +21,14 @@ use crate::tables::Tables;
 use crate::touching::touched;
 use bib_data::Piece;
 use bib_items::{ItemList, StoreFault};
-use bib_scan::{FILE_LIMIT, ItemView};
+use bib_scan::{FILE_LIMIT, Text};
 use std::alloc::Global;
 
-/// The change that a run of pieces makes. It touches only the first `n` items. It is refused if the pieces don't serve
-/// there.
+/// The change that a run of pieces makes. It touches only the front and the first `n` items. It is refused if the pieces
+/// don't serve there.
 fn run_change<L: ItemList>(
     alloc: Global,
-    front: &[u8],
+    front: &Text,
     items: &L,
     tables: &Tables,
     n: usize,
@@ -37,11 +37,12 @@ fn run_change<L: ItemList>(
     requires measured { IsMeasured front.now (L.items items.now) tables.now }
     ensures { IfOk result (IsRunChange run.now front.now (L.items items.now) n) }
 {
+    let front = front.as_slice();
     let window = touched(front, items, tables.file_len, run);
     let Some(change) = change_near(alloc, front, items, tables.file_len, window, run)? else {
         return Err(StoreFault::BadSplice);
     };
-    if change.window.with_front || change.window.to > n {
+    if change.window.to > n {
         return Err(StoreFault::BadSplice);
     }
     Ok(change)
@@ -99,7 +100,6 @@ fn bring_in<L: ItemList>(
 ) -> Result<Brought, StoreFault>
     requires window { IsWindow (L.items items.old) change.now.window }
     requires layout { IsLayoutOf change.now.text change.now.layout }
-    requires begins { (inner : Reading) → Reads change.now.text inner → inner.front ≡ [] }
     ensures brought { IfOk result (λ b. AreBroughtIn change.now tables.old (L.items items.old) (L.items items.new) b.count b.lead) }
     ensures measured { StaysMeasured (L.items items.old) tables.old (L.items items.new) tables.new }
     ensures followed { IfOk result (λ b. FollowBroughtIn change.now b.lead (L.items items.old) tables.old tables.new) }
@@ -110,7 +110,8 @@ fn bring_in<L: ItemList>(
 {
     let from = change.window.from;
     let text = change.text.as_slice();
-    let file_len = tables.file_len.saturating_add(text.len());
+    let front_len = change.layout.front(text).len();
+    let file_len = tables.file_len.saturating_add(text.len() - front_len);
     if file_len > FILE_LIMIT {
         return Err(StoreFault::BadSplice);
     }
@@ -158,25 +159,60 @@ fn take_out<L: ItemList>(
     tables.file_len -= len;
 }
 
-/// Replaces what pieces touch among the first `n` items, run by run, from the last to the first. `starts` has the number of
-/// the piece with which each run begins. The new items of a run are inserted before its old items, which are removed only
-/// after the earlier runs are done. If an earlier run is refused, the new items are removed again, and nothing has changed.
+/// Replaces the front and the first items by those of a change. It is refused if the items are many, if one has a text that
+/// is too long or may not come, or if memory runs out; nothing has changed then.
+fn replace_front<L: ItemList>(
+    alloc: Global,
+    front: &mut Text,
+    items: &mut L,
+    tables: &mut Tables,
+    change: &Change,
+) -> Result<(), StoreFault>
+    requires window { IsWindow (L.items items.old) change.now.window }
+    requires layout { IsLayoutOf change.now.text change.now.layout }
+    requires measured { IsMeasured front.old (L.items items.old) tables.old }
+    ensures front { OnOk result ((inner : Reading) → Reads change.now.text inner → front.new ≡ inner.front) }
+    ensures items { OnOk result ((inner : Reading) → Reads change.now.text inner → L.items items.new ≡ exchanged change.now.window inner.items (L.items items.old)) }
+    ensures followed { OnOk result ((inner : Reading) → Reads change.now.text inner
+        → StayFollowed (length (L.items items.old) - change.now.window.to) (take change.now.window.to (L.items items.old)) tables.old (take change.now.window.from (L.items items.old) ++ all_stored inner.items) tables.new) }
+    ensures len { OnOk result (tables.new.file_len ≡ change.now.file_len) }
+    ensures firm { IsFirm tables.old → IsFirm tables.new }
+    ensures measured { OnErr result (StaysMeasured (L.items items.old) tables.old (L.items items.new) tables.new) }
+    ensures back { OnErr result (StayFollowed (length (L.items items.old) - change.now.window.to) (take change.now.window.to (L.items items.old)) tables.old (take change.now.window.to (L.items items.old)) tables.new) }
+    ensures err { OnErr result ((front.new ≡ front.old) × (L.items items.new ≡ L.items items.old)) }
+{
+    let new_front = change.layout.front(change.text.as_slice()).to_vec(alloc)?;
+    let brought = bring_in(alloc, items, tables, change)?;
+    // for the proof: the count fits a usize
+    let _ = items.count();
+    let first_old = change.window.from + brought.count;
+    let end = change.window.to + brought.count;
+    take_out(items, tables, first_old, first_old, brought.lead, end);
+    tables.file_len = change.file_len;
+    *front = Text::from_vec(new_front);
+    Ok(())
+}
+
+/// Replaces what pieces touch of the front and the first `n` items, run by run, from the last to the first. `starts` has the
+/// number of the piece with which each run begins. The new items of a run are inserted before its old items, which are
+/// removed only after the earlier runs are done. If an earlier run is refused, the new items are removed again, and nothing
+/// has changed. Only the first run may change the front.
 fn follow_runs<L: ItemList>(
     alloc: Global,
-    front: &[u8],
+    front: &mut Text,
     items: &mut L,
     tables: &mut Tables,
     n: usize,
     starts: &[usize],
     pieces: &[Piece],
 ) -> Result<(), StoreFault>
-    requires measured { IsMeasured front.now (L.items items.old) tables.old }
+    requires measured { IsMeasured front.old (L.items items.old) tables.old }
     requires within { n ≤ length (L.items items.old) }
-    ensures measured { IsMeasured front.now (L.items items.new) tables.new }
-    ensures led { OnOk result (LeadWithin pieces.now front.now n (L.items items.old) tables.old (L.items items.new) tables.new) }
+    ensures measured { IsMeasured front.new (L.items items.new) tables.new }
+    ensures led { OnOk result (LeadWithin pieces.now n front.old (L.items items.old) tables.old front.new (L.items items.new) tables.new) }
     ensures firm { IsFirm tables.old → IsFirm tables.new }
     ensures back { OnErr result (StayFollowed (length (L.items items.old) - n) (take n (L.items items.old)) tables.old (take n (L.items items.old)) tables.new) }
-    ensures err { OnErr result (L.items items.new ≡ L.items items.old) }
+    ensures err { OnErr result ((front.new ≡ front.old) × (L.items items.new ≡ L.items items.old)) }
 {
     let Some((start, starts)) = starts.split_last() else {
         if pieces.is_empty() {
@@ -185,7 +221,14 @@ fn follow_runs<L: ItemList>(
         return Err(StoreFault::BadSplice);
     };
     let (earlier, run) = pieces.split_at(pieces.len().min(*start));
-    let change = run_change(alloc, front, &*items, tables, n, run)?;
+    let change = run_change(alloc, &*front, &*items, tables, n, run)?;
+    if change.window.with_front {
+        if !earlier.is_empty() {
+            return Err(StoreFault::BadSplice);
+        }
+        replace_front(alloc, front, items, tables, &change)?;
+        return Ok(());
+    }
     let from = change.window.from;
     let touched = change.window.to - from;
     let old_count = items.count();
@@ -223,17 +266,17 @@ fn follow_runs<L: ItemList>(
 /// nothing has changed.
 pub(crate) fn replace_runs<L: ItemList>(
     alloc: Global,
-    front: &[u8],
+    front: &mut Text,
     items: &mut L,
     tables: &mut Tables,
     starts: &[usize],
     pieces: &[Piece],
 ) -> Result<(), StoreFault>
-    requires kept { IsKept front.now (L.items items.old) tables.old }
-    ensures kept { IsKept front.now (L.items items.new) tables.new }
-    ensures fit { OnOk result (Fit pieces.now (file_of front.now (L.items items.old))) }
-    ensures made { OnOk result (file_of front.now (L.items items.new) ≡ applied pieces.now (file_of front.now (L.items items.old))) }
-    ensures err { OnErr result (L.items items.new ≡ L.items items.old) }
+    requires kept { IsKept front.old (L.items items.old) tables.old }
+    ensures kept { IsKept front.new (L.items items.new) tables.new }
+    ensures fit { OnOk result (Fit pieces.now (file_of front.old (L.items items.old))) }
+    ensures made { OnOk result (file_of front.new (L.items items.new) ≡ applied pieces.now (file_of front.old (L.items items.old))) }
+    ensures err { OnErr result ((front.new ≡ front.old) × (L.items items.new ≡ L.items items.old)) }
 {
     let count = items.count();
     match follow_runs(alloc, front, items, tables, count, starts, pieces) {

@@ -17,8 +17,8 @@ const PIECES_LIMIT: usize = 256;
 const RUNS_LIMIT: usize = 64;
 
 /// The number of the first piece of each run. The pieces of a run touch neighbouring items; between two runs there is an
-/// item that no piece touches. It is refused if runs are not to be read apart: there is only one, there are more than 64, or
-/// one of them changes the front. Only time depends on where runs begin.
+/// item that no piece touches. It is refused if runs are not to be read apart: there is only one, or there are more than 64.
+/// Only time depends on where runs begin.
 pub(crate) fn run_starts<L: ItemList>(
     alloc: Global,
     front: &[u8],
@@ -36,8 +36,7 @@ pub(crate) fn run_starts<L: ItemList>(
     let mut starts = Vec::new(alloc);
     let mut end = 0;
     'pass: for k in 0..pieces.len() {
-        let piece = &pieces[k];
-        if (piece.place as usize) < front.len() || starts.len() > RUNS_LIMIT {
+        if starts.len() > RUNS_LIMIT {
             return Err(StoreFault::BadSplice);
         }
         let window = touched(front, items, file_len, &pieces[k..k + 1]);

@@ -109,7 +109,7 @@ impl<L: ItemList> Database<L> {
         self.notes = Seq::from_vec(Vec::new(self.alloc));
         replace_runs(
             self.alloc,
-            self.front.as_slice(),
+            &mut self.front,
             &mut self.items,
             &mut self.tables,
             &starts,

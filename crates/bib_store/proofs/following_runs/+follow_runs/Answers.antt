@@ -6,6 +6,7 @@ use Rattle.bib_items.proofs.Filled.{without-put}
 use Rattle.bib_spec.proofs.Results.{err_always}
 use Rattle.bib_store.proofs.BroughtIn.{long_new, long_now}
 use Rattle.bib_store.proofs.FollowedFiles.{still_between}
+use Rattle.bib_store.proofs.FrontRuns.{front_led, front_measured}
 use Rattle.bib_store.proofs.LedRuns.{none_lead, longer_back, long_led, old_place, old_may, run_led, run_back}
 use Rattle.bib_store.proofs.following_runs.+follow_runs.Goals as goal
 
@@ -30,58 +31,58 @@ follow_runs-requires g t c =
 pub overflow_sub-first_old-in-Ok : goal.overflow_sub-first_old-in-Ok
 overflow_sub-first_old-in-Ok g t c =
     let r = c.in_ok-change.ensures in
-    let long = long_led c.args.front.now (g.L.ItemList.items c.args.items.now) (g.L.ItemList.items c.bring_in.new.items) (g.L.ItemList.items c.follow_runs.new.items)
-    c.args.tables.now c.bring_in.new.tables c.follow_runs.new.tables c.args.n c.in_ok-brought.brought.count c.in_ok-brought.brought.lead c.split_at.result.0.now c.split_at.result.1.now c.in_ok-change.change r r.change.layout.0 r.change.layout.1
+    let long = long_led c.args.front.now c.follow_runs.new.front (g.L.ItemList.items c.args.items.now) (g.L.ItemList.items c.bring_in.new.items) (g.L.ItemList.items c.follow_runs.new.items)
+    c.args.tables.now c.bring_in.new.tables c.follow_runs.new.tables c.args.n c.in_ok-brought.brought.count c.in_ok-brought.brought.lead c.split_at.result.0.now c.split_at.result.1.now c.in_ok-change.change r c.if-change.false r.change.layout.0 r.change.layout.1
     c.requires.within c.in_ok-brought.ensures.brought c.in-Ok.ensures.led in
     omega (arith, long, c.count-old_count.ensures, c.count-in-Ok.ensures)
 
 pub overflow_add-first_old : goal.overflow_add-first_old
 overflow_add-first_old g t c =
     let r = c.in_ok-change.ensures in
-    let place = old_place c.args.front.now (g.L.ItemList.items c.args.items.now) (g.L.ItemList.items c.bring_in.new.items) (g.L.ItemList.items c.follow_runs.new.items)
-    c.args.tables.now c.bring_in.new.tables c.follow_runs.new.tables c.args.n c.in_ok-brought.brought.count c.in_ok-brought.brought.lead c.split_at.result.0.now c.split_at.result.1.now c.in_ok-change.change r r.change.layout.0 r.change.layout.1
+    let place = old_place c.args.front.now c.follow_runs.new.front (g.L.ItemList.items c.args.items.now) (g.L.ItemList.items c.bring_in.new.items) (g.L.ItemList.items c.follow_runs.new.items)
+    c.args.tables.now c.bring_in.new.tables c.follow_runs.new.tables c.args.n c.in_ok-brought.brought.count c.in_ok-brought.brought.lead c.split_at.result.0.now c.split_at.result.1.now c.in_ok-change.change r c.if-change.false r.change.layout.0 r.change.layout.1
     c.requires.within c.in_ok-brought.ensures.brought c.in-Ok.ensures.led in
-    let long = long_led c.args.front.now (g.L.ItemList.items c.args.items.now) (g.L.ItemList.items c.bring_in.new.items) (g.L.ItemList.items c.follow_runs.new.items)
-    c.args.tables.now c.bring_in.new.tables c.follow_runs.new.tables c.args.n c.in_ok-brought.brought.count c.in_ok-brought.brought.lead c.split_at.result.0.now c.split_at.result.1.now c.in_ok-change.change r r.change.layout.0 r.change.layout.1
+    let long = long_led c.args.front.now c.follow_runs.new.front (g.L.ItemList.items c.args.items.now) (g.L.ItemList.items c.bring_in.new.items) (g.L.ItemList.items c.follow_runs.new.items)
+    c.args.tables.now c.bring_in.new.tables c.follow_runs.new.tables c.args.n c.in_ok-brought.brought.count c.in_ok-brought.brought.lead c.split_at.result.0.now c.split_at.result.1.now c.in_ok-change.change r c.if-change.false r.change.layout.0 r.change.layout.1
     c.requires.within c.in_ok-brought.ensures.brought c.in-Ok.ensures.led in
     omega (arith, place, long, r.change.window.within, c.count-old_count.ensures, c.count-in-Ok.ensures, c.count-in-Ok.type_inv)
 
 pub take_out-requires-clause-within : goal.take_out-requires-clause-within
 take_out-requires-clause-within g t c =
     let r = c.in_ok-change.ensures in
-    let place = old_place c.args.front.now (g.L.ItemList.items c.args.items.now) (g.L.ItemList.items c.bring_in.new.items) (g.L.ItemList.items c.follow_runs.new.items)
-    c.args.tables.now c.bring_in.new.tables c.follow_runs.new.tables c.args.n c.in_ok-brought.brought.count c.in_ok-brought.brought.lead c.split_at.result.0.now c.split_at.result.1.now c.in_ok-change.change r r.change.layout.0 r.change.layout.1
+    let place = old_place c.args.front.now c.follow_runs.new.front (g.L.ItemList.items c.args.items.now) (g.L.ItemList.items c.bring_in.new.items) (g.L.ItemList.items c.follow_runs.new.items)
+    c.args.tables.now c.bring_in.new.tables c.follow_runs.new.tables c.args.n c.in_ok-brought.brought.count c.in_ok-brought.brought.lead c.split_at.result.0.now c.split_at.result.1.now c.in_ok-change.change r c.if-change.false r.change.layout.0 r.change.layout.1
     c.requires.within c.in_ok-brought.ensures.brought c.in-Ok.ensures.led in
-    let long = long_led c.args.front.now (g.L.ItemList.items c.args.items.now) (g.L.ItemList.items c.bring_in.new.items) (g.L.ItemList.items c.follow_runs.new.items)
-    c.args.tables.now c.bring_in.new.tables c.follow_runs.new.tables c.args.n c.in_ok-brought.brought.count c.in_ok-brought.brought.lead c.split_at.result.0.now c.split_at.result.1.now c.in_ok-change.change r r.change.layout.0 r.change.layout.1
+    let long = long_led c.args.front.now c.follow_runs.new.front (g.L.ItemList.items c.args.items.now) (g.L.ItemList.items c.bring_in.new.items) (g.L.ItemList.items c.follow_runs.new.items)
+    c.args.tables.now c.bring_in.new.tables c.follow_runs.new.tables c.args.n c.in_ok-brought.brought.count c.in_ok-brought.brought.lead c.split_at.result.0.now c.split_at.result.1.now c.in_ok-change.change r c.if-change.false r.change.layout.0 r.change.layout.1
     c.requires.within c.in_ok-brought.ensures.brought c.in-Ok.ensures.led in
     omega (arith, place, long, r.change.window.within, r.change.window.ordered, c.count-old_count.ensures, c.count-in-Ok.ensures)
 
 pub take_out-requires-clause-others : goal.take_out-requires-clause-others
 take_out-requires-clause-others g t c =
     let r = c.in_ok-change.ensures in
-    let place = old_place c.args.front.now (g.L.ItemList.items c.args.items.now) (g.L.ItemList.items c.bring_in.new.items) (g.L.ItemList.items c.follow_runs.new.items)
-    c.args.tables.now c.bring_in.new.tables c.follow_runs.new.tables c.args.n c.in_ok-brought.brought.count c.in_ok-brought.brought.lead c.split_at.result.0.now c.split_at.result.1.now c.in_ok-change.change r r.change.layout.0 r.change.layout.1
+    let place = old_place c.args.front.now c.follow_runs.new.front (g.L.ItemList.items c.args.items.now) (g.L.ItemList.items c.bring_in.new.items) (g.L.ItemList.items c.follow_runs.new.items)
+    c.args.tables.now c.bring_in.new.tables c.follow_runs.new.tables c.args.n c.in_ok-brought.brought.count c.in_ok-brought.brought.lead c.split_at.result.0.now c.split_at.result.1.now c.in_ok-change.change r c.if-change.false r.change.layout.0 r.change.layout.1
     c.requires.within c.in_ok-brought.ensures.brought c.in-Ok.ensures.led in
-    old_may c.args.front.now (g.L.ItemList.items c.args.items.now) (g.L.ItemList.items c.bring_in.new.items) (g.L.ItemList.items c.follow_runs.new.items)
-    c.args.tables.now c.bring_in.new.tables c.follow_runs.new.tables c.args.n c.in_ok-brought.brought.count c.in_ok-brought.brought.lead c.split_at.result.0.now c.split_at.result.1.now c.in_ok-change.change r r.change.layout.0 r.change.layout.1
+    old_may c.args.front.now c.follow_runs.new.front (g.L.ItemList.items c.args.items.now) (g.L.ItemList.items c.bring_in.new.items) (g.L.ItemList.items c.follow_runs.new.items)
+    c.args.tables.now c.bring_in.new.tables c.follow_runs.new.tables c.args.n c.in_ok-brought.brought.count c.in_ok-brought.brought.lead c.split_at.result.0.now c.split_at.result.1.now c.in_ok-change.change r c.if-change.false r.change.layout.0 r.change.layout.1
     c.requires.within c.in_ok-brought.ensures.brought c.in-Ok.ensures.led
     _ _ (omega (arith, place, c.count-old_count.ensures, c.count-in-Ok.ensures)) refl (λ firm. c.follow_runs.ensures.firm (c.bring_in.ensures.firm firm))
 
 pub returns-in-Ok-clause-led : goal.returns-in-Ok-clause-led
 returns-in-Ok-clause-led g t c =
     let r = c.in_ok-change.ensures in
-    let place = old_place c.args.front.now (g.L.ItemList.items c.args.items.now) (g.L.ItemList.items c.bring_in.new.items) (g.L.ItemList.items c.follow_runs.new.items)
-    c.args.tables.now c.bring_in.new.tables c.follow_runs.new.tables c.args.n c.in_ok-brought.brought.count c.in_ok-brought.brought.lead c.split_at.result.0.now c.split_at.result.1.now c.in_ok-change.change r r.change.layout.0 r.change.layout.1
+    let place = old_place c.args.front.now c.follow_runs.new.front (g.L.ItemList.items c.args.items.now) (g.L.ItemList.items c.bring_in.new.items) (g.L.ItemList.items c.follow_runs.new.items)
+    c.args.tables.now c.bring_in.new.tables c.follow_runs.new.tables c.args.n c.in_ok-brought.brought.count c.in_ok-brought.brought.lead c.split_at.result.0.now c.split_at.result.1.now c.in_ok-change.change r c.if-change.false r.change.layout.0 r.change.layout.1
     c.requires.within c.in_ok-brought.ensures.brought c.in-Ok.ensures.led in
-    run_led c.args.front.now (g.L.ItemList.items c.args.items.now) (g.L.ItemList.items c.bring_in.new.items) (g.L.ItemList.items c.follow_runs.new.items)
-    c.args.tables.now c.bring_in.new.tables c.follow_runs.new.tables c.args.n c.in_ok-brought.brought.count c.in_ok-brought.brought.lead c.split_at.result.0.now c.split_at.result.1.now c.in_ok-change.change r r.change.layout.0 r.change.layout.1
+    run_led c.args.front.now c.follow_runs.new.front (g.L.ItemList.items c.args.items.now) (g.L.ItemList.items c.bring_in.new.items) (g.L.ItemList.items c.follow_runs.new.items)
+    c.args.tables.now c.bring_in.new.tables c.follow_runs.new.tables c.args.n c.in_ok-brought.brought.count c.in_ok-brought.brought.lead c.split_at.result.0.now c.split_at.result.1.now c.in_ok-change.change r c.if-change.false r.change.layout.0 r.change.layout.1
     c.requires.within c.in_ok-brought.ensures.brought c.in-Ok.ensures.led
     c.args.pieces.now (g.L.ItemList.items c.take_out.new.items) c.take_out.new.tables _ _ c.split_at.ensures.by_index.0
     (omega (arith, place, c.count-old_count.ensures, c.count-in-Ok.ensures)) refl c.take_out.ensures.items c.in_ok-brought.ensures.followed c.take_out.ensures.followed
 
 pub returns-in-Ok-clause-measured : goal.returns-in-Ok-clause-measured
-returns-in-Ok-clause-measured g t c = c.take_out.ensures.measured c.args.front.now c.follow_runs.ensures.measured
+returns-in-Ok-clause-measured g t c = c.take_out.ensures.measured c.follow_runs.new.front c.follow_runs.ensures.measured
 
 pub overflow_add-from-in-Err : goal.overflow_add-from-in-Err
 overflow_add-from-in-Err g t c =
@@ -95,14 +96,14 @@ take_out-requires-in-Err-clause-within g t c =
     let r = c.in_ok-change.ensures in
     let b = c.in_ok-brought.ensures.brought in
     let long = long_now c.in_ok-change.change (g.L.ItemList.items c.args.items.now) (g.L.ItemList.items c.bring_in.new.items) c.in_ok-brought.brought.count c.in_ok-brought.brought.lead b.put b.leads r.change.layout.0 r.change.layout.1 in
-    omega (arith, long, r.change.window.ordered, r.change.window.within, ap (length {A = Item}) c.in-Err.ensures.err)
+    omega (arith, long, r.change.window.ordered, r.change.window.within, ap (length {A = Item}) c.in-Err.ensures.err.1)
 
 pub returns-clause-back : goal.returns-clause-back
 returns-clause-back g t c =
     let r = c.in_ok-change.ensures in
     run_back c.args.front.now (g.L.ItemList.items c.args.items.now) (g.L.ItemList.items c.bring_in.new.items) (g.L.ItemList.items c.follow_runs.new.items)
     c.args.tables.now c.bring_in.new.tables c.follow_runs.new.tables c.take_out-in-Err.new.tables c.args.n c.in_ok-brought.brought.count c.in_ok-brought.brought.lead c.split_at.result.1.now c.in_ok-change.change r r.change.layout.0 r.change.layout.1
-    c.requires.within c.in_ok-brought.ensures.brought c.in-Err.ensures.err c.in_ok-brought.ensures.followed c.in-Err.ensures.back c.take_out-in-Err.ensures.followed c.in_ok-brought.ensures.comes
+    c.requires.within c.in_ok-brought.ensures.brought c.in-Err.ensures.err.1 c.in_ok-brought.ensures.followed c.in-Err.ensures.back c.take_out-in-Err.ensures.followed c.in_ok-brought.ensures.comes
 
 pub returns-clause-err : goal.returns-clause-err
 returns-clause-err g t c =
@@ -111,16 +112,46 @@ returns-clause-err g t c =
     let inner = r.change.layout.0 in
     let from : ℕ = c.in_ok-change.change.window.from in
     let old = g.L.ItemList.items c.args.items.now in
-    let low : from ≤ length old = omega (arith, r.change.window.ordered, r.change.window.within) in
-    c.take_out-in-Err.ensures.items
-    ∙ ap (without_range from (from + c.in_ok-brought.brought.count)) (c.in-Err.ensures.err ∙ b.put.put inner r.change.layout.1)
-    ∙ without-put old (all_stored inner.items) from c.in_ok-brought.brought.count low (sym (long_new c.in_ok-change.change (g.L.ItemList.items c.args.items.now) (g.L.ItemList.items c.bring_in.new.items) c.in_ok-brought.brought.count c.in_ok-brought.brought.lead b.put b.leads r.change.layout.0 r.change.layout.1))
+    let low : from ≤ length old = omega (arith, r.change.window.ordered, r.change.window.within) in (
+      c.in-Err.ensures.err.0,
+      c.take_out-in-Err.ensures.items
+          ∙ ap (without_range from (from + c.in_ok-brought.brought.count)) (c.in-Err.ensures.err.1 ∙ b.put.put inner r.change.layout.1)
+          ∙ without-put old (all_stored inner.items) from c.in_ok-brought.brought.count low (sym (long_new c.in_ok-change.change (g.L.ItemList.items c.args.items.now) (g.L.ItemList.items c.bring_in.new.items) c.in_ok-brought.brought.count c.in_ok-brought.brought.lead b.put b.leads r.change.layout.0 r.change.layout.1)),
+    )
 
 pub take_out-requires-in-Err-clause-others : goal.take_out-requires-in-Err-clause-others
 take_out-requires-in-Err-clause-others g t c =
     let from : ℕ = c.in_ok-change.change.window.from in
     still_between c.args.tables.now c.follow_runs.new.tables (from + c.in_ok-brought.brought.lead) (from + c.in_ok-brought.brought.count) (g.L.ItemList.items c.bring_in.new.items) (g.L.ItemList.items c.follow_runs.new.items)
-    (λ firm. c.follow_runs.ensures.firm (c.bring_in.ensures.firm firm)) c.in-Err.ensures.err c.in_ok-brought.ensures.brought.come
+    (λ firm. c.follow_runs.ensures.firm (c.bring_in.ensures.firm firm)) c.in-Err.ensures.err.1 c.in_ok-brought.ensures.brought.come
 
 pub returns-clause-measured : goal.returns-clause-measured
-returns-clause-measured g t c = c.take_out-in-Err.ensures.measured c.args.front.now c.follow_runs.ensures.measured
+returns-clause-measured g t c = c.take_out-in-Err.ensures.measured c.follow_runs.new.front c.follow_runs.ensures.measured
+
+-- ---- the first run, if it changes the front
+
+pub returns-then-change-clause-led : goal.returns-then-change-clause-led
+returns-then-change-clause-led g t c =
+    let r = c.in_ok-change.ensures in
+    let inner = r.change.layout.0 in
+    let reads = r.change.layout.1 in
+    let done = c.in_ok-replace_front.ensures in
+    front_led c.args.front.now c.replace_front.new.front (g.L.ItemList.items c.args.items.now) (g.L.ItemList.items c.replace_front.new.items) c.args.tables.now c.replace_front.new.tables c.args.n
+    c.split_at.result.1.now c.in_ok-change.change r c.if-change.true inner reads c.requires.within
+    c.args.pieces.now c.split_at.result.0.now c.split_at.ensures.by_index.0 (eqb-true _ _ (sym c.is_empty-then-change.ensures ∙ c.if-not-is_empty.false))
+    (done.front inner reads) (done.items inner reads) (done.followed inner reads)
+
+pub returns-then-change-clause-measured : goal.returns-then-change-clause-measured
+returns-then-change-clause-measured g t c =
+    let r = c.in_ok-change.ensures in
+    let inner = r.change.layout.0 in
+    let reads = r.change.layout.1 in
+    let done = c.in_ok-replace_front.ensures in
+    front_measured c.args.front.now c.replace_front.new.front (g.L.ItemList.items c.args.items.now) (g.L.ItemList.items c.replace_front.new.items) c.args.tables.now c.replace_front.new.tables c.args.n
+    c.split_at.result.1.now c.in_ok-change.change r c.if-change.true inner reads c.requires.within
+    (done.front inner reads) (done.items inner reads) done.len
+
+pub returns-in_err-replace_front-clause-back : goal.returns-in_err-replace_front-clause-back
+returns-in_err-replace_front-clause-back g t c =
+    err_always c.from_residual-in_err-replace_front.result
+    (longer_back (g.L.ItemList.items c.args.items.now) c.args.tables.now c.replace_front.new.tables c.in_ok-change.change.window.to c.args.n c.in_ok-change.ensures.to c.requires.within c.in_err-replace_front.ensures.back)

@@ -1,4 +1,6 @@
-use Rattle.std.proofs.Common.{◌∙◌, ℕ, List, length, refl, sym, ap, arith}
+use Rattle.std.proofs.Common.{◌≡◌, ◌∙◌, ℕ, List, length, refl, sym, subst, ap, arith}
+use Rattle.bib_spec.specs.Text.{Text}
+use Rattle.bib_spec.specs.Reading.{Reading, Reads}
 use Rattle.bib_items.specs.declared.list.Item.{Item}
 use Rattle.bib_store.specs.Stored.{file_of}
 use Rattle.bib_store.proofs.Exchanges.{put_of, are_put, taken-new}
@@ -20,9 +22,9 @@ returns-in-Ok-clause-measured g c = λ front m.
     let old = g.L.ItemList.items c.args.items.now in
     let now = g.L.ItemList.items c.insert_all.new.self in
     let are = are_put c.args.change.now old now _ _ _ c.requires.window c.as_slice-text.ensures c.in_ok-insert_all.ensures.ok c.count-old_count.ensures c.count.ensures in
+    let own_front : (inner : Reading) → Reads c.args.change.now.text inner → c.front-front_len.result.now ≡ inner.front = λ inner reads. c.front-front_len.ensures inner (subst (λ (t : Text). Reads t inner) (sym c.as_slice-text.ensures) reads) in
     come_measured front old now c.args.tables.now _ c.requires.layout.0 c.args.change.now.window.from c.args.change.now.text m (are.put c.requires.layout.0 c.requires.layout.1) c.requires.layout.1
-    (c.requires.begins c.requires.layout.0 c.requires.layout.1)
-    (omega (arith, c.saturating_add-file_len.ensures, c.if-file_len-gt-FILE_LIMIT.false, ap (length {A = ℕ}) c.as_slice-text.ensures))
+    (omega (arith, c.saturating_add-file_len.ensures, c.if-file_len-gt-FILE_LIMIT.false, ap (length {A = ℕ}) c.as_slice-text.ensures, ap (length {A = ℕ}) (own_front c.requires.layout.0 c.requires.layout.1)))
     (omega (arith, c.if-file_len-gt-FILE_LIMIT.false))
 
 pub returns-in-Ok-clause-followed : goal.returns-in-Ok-clause-followed
