@@ -17,10 +17,11 @@ ghost use Rattle.bib_store.specs.Windows.{IsWindow, HasLead, IsLead, ArePut, exc
 use crate::change::{Change, change_near};
 use crate::exchanging::{can_follow, unchanged_first};
 use crate::following::{forget, learn};
+use crate::runs::RunFault;
 use crate::tables::Tables;
 use crate::touching::touched;
 use bib_data::Piece;
-use bib_items::{ItemList, StoreFault};
+use bib_items::ItemList;
 use bib_scan::{FILE_LIMIT, Text};
 use std::alloc::Global;
 
@@ -33,17 +34,17 @@ fn run_change<L: ItemList>(
     tables: &Tables,
     n: usize,
     run: &[Piece],
-) -> Result<Change, StoreFault>
+) -> Result<Change, RunFault>
     requires measured { IsMeasured front.now (L.items items.now) tables.now }
     ensures { IfOk result (IsRunChange run.now front.now (L.items items.now) n) }
 {
     let front = front.as_slice();
     let window = touched(front, items, tables.file_len, run);
     let Some(change) = change_near(alloc, front, items, tables.file_len, window, run)? else {
-        return Err(StoreFault::BadSplice);
+        return Err(RunFault::NotApart);
     };
     if change.window.to > n {
-        return Err(StoreFault::BadSplice);
+        return Err(RunFault::NotApart);
     }
     Ok(change)
 }
@@ -66,7 +67,7 @@ fn learn_few<L: ItemList>(
     items: &L,
     change: &Change,
     count: usize,
-) -> Result<usize, StoreFault>
+) -> Result<usize, RunFault>
     requires ordered { change.now.window.from ≤ change.now.window.to }
     requires within { change.now.window.to + count ≤ length (L.items items.now) }
     ensures lead { IfOk result (HasLead change.now.window count) }
@@ -83,7 +84,7 @@ fn learn_few<L: ItemList>(
     let _ = items.count();
     let lead = unchanged_first(items, window, count);
     if !can_follow(items, tables, window, count, lead) {
-        return Err(StoreFault::BadSplice);
+        return Err(RunFault::NotApart);
     }
     let first = window.from + lead;
     learn(alloc, tables, items, first, first, window.from + count)?;
@@ -97,7 +98,7 @@ fn bring_in<L: ItemList>(
     items: &mut L,
     tables: &mut Tables,
     change: &Change,
-) -> Result<Brought, StoreFault>
+) -> Result<Brought, RunFault>
     requires window { IsWindow (L.items items.old) change.now.window }
     requires layout { IsLayoutOf change.now.text change.now.layout }
     ensures brought { IfOk result (λ b. AreBroughtIn change.now tables.old (L.items items.old) (L.items items.new) b.count b.lead) }
@@ -113,7 +114,7 @@ fn bring_in<L: ItemList>(
     let front_len = change.layout.front(text).len();
     let file_len = tables.file_len.saturating_add(text.len() - front_len);
     if file_len > FILE_LIMIT {
-        return Err(StoreFault::BadSplice);
+        return Err(RunFault::NotApart);
     }
     let old_count = items.count();
     items.insert_all(from, text, &change.layout)?;
@@ -167,7 +168,7 @@ fn replace_front<L: ItemList>(
     items: &mut L,
     tables: &mut Tables,
     change: &Change,
-) -> Result<(), StoreFault>
+) -> Result<(), RunFault>
     requires window { IsWindow (L.items items.old) change.now.window }
     requires layout { IsLayoutOf change.now.text change.now.layout }
     requires measured { IsMeasured front.old (L.items items.old) tables.old }
@@ -205,7 +206,7 @@ fn follow_runs<L: ItemList>(
     n: usize,
     starts: &[usize],
     pieces: &[Piece],
-) -> Result<(), StoreFault>
+) -> Result<(), RunFault>
     requires measured { IsMeasured front.old (L.items items.old) tables.old }
     requires within { n ≤ length (L.items items.old) }
     ensures measured { IsMeasured front.new (L.items items.new) tables.new }
@@ -218,13 +219,13 @@ fn follow_runs<L: ItemList>(
         if pieces.is_empty() {
             return Ok(());
         }
-        return Err(StoreFault::BadSplice);
+        return Err(RunFault::NotApart);
     };
     let (earlier, run) = pieces.split_at(pieces.len().min(*start));
     let change = run_change(alloc, &*front, &*items, tables, n, run)?;
     if change.window.with_front {
         if !earlier.is_empty() {
-            return Err(StoreFault::BadSplice);
+            return Err(RunFault::NotApart);
         }
         replace_front(alloc, front, items, tables, &change)?;
         return Ok(());
@@ -271,7 +272,7 @@ pub(crate) fn replace_runs<L: ItemList>(
     tables: &mut Tables,
     starts: &[usize],
     pieces: &[Piece],
-) -> Result<(), StoreFault>
+) -> Result<(), RunFault>
     requires kept { IsKept front.old (L.items items.old) tables.old }
     ensures kept { IsKept front.new (L.items items.new) tables.new }
     ensures fit { OnOk result (Fit pieces.now (file_of front.old (L.items items.old))) }

@@ -7,7 +7,37 @@ ghost use Rattle.bib_store.specs.Stored.{file_of};
 use crate::touching::touched;
 use bib_data::Piece;
 use bib_items::{ItemList, StoreFault};
-use std::alloc::Global;
+use std::alloc::{AllocError, AllocFailed, Global};
+
+/// Why pieces are not put in run by run. Nothing has changed then.
+#[derive(Clone, Copy, Debug, PartialEq, Eq)]
+pub(crate) enum RunFault {
+    /// A request for memory was refused.
+    Memory,
+    /// The runs are not to be read apart, or one of them does not come and go alone. Whether the pieces serve is open.
+    NotApart,
+}
+
+impl From<StoreFault> for RunFault {
+    fn from(fault: StoreFault) -> Self {
+        match fault {
+            StoreFault::Memory => RunFault::Memory,
+            StoreFault::NoSuchEntry | StoreFault::BadSplice => RunFault::NotApart,
+        }
+    }
+}
+
+impl From<AllocError> for RunFault {
+    fn from(_error: AllocError) -> Self {
+        RunFault::Memory
+    }
+}
+
+impl<T: Drop> From<AllocFailed<T>> for RunFault {
+    fn from(_failed: AllocFailed<T>) -> Self {
+        RunFault::Memory
+    }
+}
 
 /// At most this many pieces are split into runs. Each piece takes a few steps for each page of items, so that with more
 /// pieces it costs less to read what is between them.
@@ -25,19 +55,19 @@ pub(crate) fn run_starts<L: ItemList>(
     items: &L,
     file_len: usize,
     pieces: &[Piece],
-) -> Result<Vec<usize>, StoreFault>
+) -> Result<Vec<usize>, RunFault>
     requires len { file_len ≡ length (file_of front.now (L.items items.now)) }
     requires short { file_len ≤ file_limit }
 {
     // one piece makes one run
     if pieces.len() < 2 || pieces.len() > PIECES_LIMIT {
-        return Err(StoreFault::BadSplice);
+        return Err(RunFault::NotApart);
     }
     let mut starts = Vec::new(alloc);
     let mut end = 0;
     'pass: for k in 0..pieces.len() {
         if starts.len() > RUNS_LIMIT {
-            return Err(StoreFault::BadSplice);
+            return Err(RunFault::NotApart);
         }
         let window = touched(front, items, file_len, &pieces[k..k + 1]);
         if starts.is_empty() || end < window.from {
@@ -46,7 +76,7 @@ pub(crate) fn run_starts<L: ItemList>(
         end = window.to;
     }
     if starts.len() < 2 || starts.len() > RUNS_LIMIT {
-        return Err(StoreFault::BadSplice);
+        return Err(RunFault::NotApart);
     }
     Ok(starts)
 }

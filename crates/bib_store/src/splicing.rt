@@ -4,7 +4,7 @@ use crate::change::{find_change, front_len, new_front, put_front};
 use crate::database::Database;
 use crate::exchanging::exchange;
 use crate::following_runs::replace_runs;
-use crate::runs::run_starts;
+use crate::runs::{RunFault, run_starts};
 use crate::scanning::Scan;
 use crate::touching::touched;
 use bib_data::Piece;
@@ -69,8 +69,8 @@ impl<L: ItemList> Database<L> {
     {
         match self.splice_runs(pieces) {
             Ok(()) => Ok(()),
-            Err(StoreFault::Memory) => Err(StoreFault::Memory),
-            Err(_) => self.splice_window(pieces),
+            Err(RunFault::Memory) => Err(StoreFault::Memory),
+            Err(RunFault::NotApart) => self.splice_window(pieces),
         }
     }
 
@@ -91,9 +91,8 @@ impl<L: ItemList> Database<L> {
         }
     }
 
-    /// Replaces pieces that touch several runs of items, each run read alone. A refusal means that this can't be done, not
-    /// that the pieces lead to no file.
-    fn splice_runs(&mut self, pieces: &[Piece]) -> Result<(), StoreFault>
+    /// Replaces pieces that touch several runs of items, each run read alone.
+    fn splice_runs(&mut self, pieces: &[Piece]) -> Result<(), RunFault>
         ensures fit { OnOk result (Fit pieces.now self.old) }
         ensures spliced { OnOk result (self.new ≡ applied pieces.now self.old) }
         ensures file { OnOk result (IsOpenable self.new) }
