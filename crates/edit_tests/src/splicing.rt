@@ -158,6 +158,51 @@ const FAR_APART: &[Splice] = &[
     },
 ];
 
+const FRONT_AND_LATER: &[Splice] = &[
+    Splice {
+        name: "the first entry goes and leaves a front, and one far after it changes",
+        file: FOUR,
+        changes: &[(0, b"@misc{a}", b""), (24, b"c", b"C")],
+        refusal: 0,
+        left: b"\n@misc{b}\n@misc{C}\n@misc{d}\n",
+    },
+    Splice {
+        name: "a front comes, and an entry far after it changes",
+        file: FOUR,
+        changes: &[(0, b"", b"x"), (24, b"c", b"C")],
+        refusal: 0,
+        left: b"x@misc{a}\n@misc{b}\n@misc{C}\n@misc{d}\n",
+    },
+    Splice {
+        name: "a front goes, and an entry far after it changes",
+        file: b"x\n@misc{a}\n@misc{b}\n@misc{c}\n",
+        changes: &[(0, b"x\n", b""), (26, b"c", b"C")],
+        refusal: 0,
+        left: b"@misc{a}\n@misc{b}\n@misc{C}\n",
+    },
+    Splice {
+        name: "a front and what comes after it make one item, and an entry far after it changes",
+        file: b"@x\n@misc{b}\n@misc{c}\n@misc{d}\n",
+        changes: &[(3, b"", b"{q}"), (27, b"d", b"D")],
+        refusal: 0,
+        left: b"@x\n{q}@misc{b}\n@misc{c}\n@misc{D}\n",
+    },
+    Splice {
+        name: "a definition before all entries goes, and its use far after it gives way",
+        file: b"@string{m = {1}}\n@misc{a}\n@misc{b, t = m}\n",
+        changes: &[(0, b"@string{m = {1}}", b""), (39, b"m", b"{1}")],
+        refusal: 0,
+        left: b"\n@misc{a}\n@misc{b, t = {1}}\n",
+    },
+    Splice {
+        name: "the first entry stays where an entry far after it leads to no file",
+        file: FOUR,
+        changes: &[(0, b"@misc{a}", b""), (25, b"}", b"")],
+        refusal: 12,
+        left: FOUR,
+    },
+];
+
 /// A file, pieces that are put into it at once, and how many bytes were read last.
 struct Scan {
     name: &'static str,
@@ -362,4 +407,9 @@ fn pieces_are_put_between_items(rt: HostRuntime) -> Result<(), Fail> {
 #[test]
 fn pieces_far_apart_are_put_into_a_file(rt: HostRuntime) -> Result<(), Fail> {
     all_hold(rt.alloc(), FAR_APART)
+}
+
+#[test]
+fn pieces_change_the_front_and_a_later_entry(rt: HostRuntime) -> Result<(), Fail> {
+    all_hold(rt.alloc(), FRONT_AND_LATER)
 }
