@@ -48,6 +48,7 @@ pub mod Appended
 pub mod Placed
 pub mod PlacedItems
 pub mod PlacedFiles
+pub mod BehindFirst
 -- ---- tables that follow runs of pieces
 pub mod KeptRuns
 pub mod BroughtIn

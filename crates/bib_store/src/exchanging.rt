@@ -15,7 +15,7 @@ ghost use Rattle.bib_items.specs.declared.fault.StoreFault.TheVariants.{Memory, 
 
 use crate::change::Change;
 use crate::following::{are_others, forget, learn};
-use crate::in_place::put_in_place;
+use crate::in_place::{put_behind_first, put_in_place};
 use crate::tables::Tables;
 use crate::window::Window;
 use bib_items::{ItemList, StoreFault};
@@ -140,8 +140,9 @@ fn exchange_all<L: ItemList>(
 
 /// Updates the tables for a change whose `count` items are in the list, before the items of the window that they replace.
 /// If few items come and go, and none is a definition or nothing depends on definitions, the tables are updated item by item.
-/// Otherwise they are built again, once the list is prepared for look-ups of all items. An item that only gets another trail neither comes nor goes. If it
-/// is refused, the tables say what they said. No item changes.
+/// If many do, but all except the first each replace one of their kind, the first alone comes and goes. Otherwise the tables
+/// are built again, once the list is prepared for look-ups of all items. An item that only gets another trail neither comes
+/// nor goes. If it is refused, the tables say what they said. No item changes.
 fn renew<L: ItemList>(
     alloc: Global,
     front_len: usize,
@@ -152,6 +153,7 @@ fn renew<L: ItemList>(
 ) -> Result<(), StoreFault>
     requires ordered { change.now.window.from ≤ change.now.window.to }
     requires within { change.now.window.to + count ≤ length (L.items items.old) }
+    requires layout { IsLayoutOf change.now.text change.now.layout }
     ensures items { L.items items.new ≡ L.items items.old }
     ensures tables { OnOk result ((old : List Item) → ArePut change.now old (L.items items.old) count → OfJoined change.now front_len old tables.old (λ db. AreTables db tables.new × (too_long_at db ≡ None))) }
     ensures len { OnOk result (tables.new.file_len ≡ change.now.file_len) }
@@ -170,6 +172,8 @@ fn renew<L: ItemList>(
                 }
             }
         }
+    } else if put_behind_first(alloc, tables, &*items, change, count) {
+        return Ok(());
     }
     items.prepare(usize::MAX);
     *tables = remake(alloc, front_len, &*items, change, count)?;

@@ -1,6 +1,6 @@
 //! Items that each replace one of their kind, in tables that are unchanged except for their bounds.
 
-ghost use Rattle.std.specs.Prelude.{◌≡◌, ◌+◌, ◌∷◌, [], ℕ, true, Option, None, map, length, IsTrue, IfSome, IfOk, OnOk};
+ghost use Rattle.std.specs.Prelude.{◌≡◌, ◌+◌, ◌-◌, ◌≤◌, ◌<◌, ◌^◌, ◌∷◌, [], ℕ, List, true, Option, None, map, length, drop, IsTrue, IsFalse, IfSome, IfOk, OnOk};
 ghost use Rattle.bib_spec.specs.Bytes.{name_limit};
 ghost use Rattle.bib_spec.specs.Tree.{IsTree};
 ghost use Rattle.bib_spec.specs.Reading.{Reading, Reads, Item};
@@ -8,17 +8,21 @@ ghost use Rattle.bib_spec.specs.Records.{entry_in, crossref_text};
 ghost use Rattle.bib_scan.specs.Layout.{IsLayoutOf};
 ghost use Rattle.bib_scan.specs.View.{view_of};
 ghost use Rattle.bib_definitions.specs.Definitions.{texts_at};
-ghost use Rattle.bib_store.specs.Beside.{TakesPlace};
+ghost use Rattle.bib_store.specs.Beside.{AreTables, TakesPlace};
 ghost use Rattle.bib_store.specs.Bounds.{IsSettledEntry};
 ghost use Rattle.bib_store.specs.Following.{bodies_between};
 ghost use Rattle.bib_store.specs.InPlace.{HaveOneKey, TakePlaces, with_bounds};
 ghost use Rattle.bib_store.specs.ItemTexts.{first_too_long, placed_texts};
 ghost use Rattle.bib_store.specs.Meaning.{is_entry_tree};
-ghost use Rattle.bib_store.specs.Windows.{IsWindow};
+ghost use Rattle.bib_store.specs.Stored.{SayTheSameOf};
+ghost use Rattle.bib_store.specs.Windows.{IsWindow, ArePut, OfJoined};
+ghost use Rattle.bib_items.specs.declared.list.Item.{Item as StoredItem};
+ghost use Rattle.bib_spec.specs.Texts.{too_long_at};
 
 use crate::bounds::Bounds;
 use crate::change::Change;
 use crate::crossrefs::{CrossrefText, crossref_within};
+use crate::following::{forget, learn};
 use crate::item_fault::ItemFault;
 use crate::tables::Tables;
 use bib_definitions::Definitions;
@@ -155,22 +159,39 @@ fn put(alloc: Global, tables: &mut Tables, n: usize, old: &ItemView<'_>, new: &I
     }
 }
 
-/// Replaces each item of a change's window in the tables by the item of the change at the same place, and returns whether
-/// it could for all. Window and change have equally many items.
-fn put_each<L: ItemList>(alloc: Global, tables: &mut Tables, items: &L, change: &Change) -> bool
-    requires window { IsWindow (L.items items.now) change.now.window }
+/// Which items take the places of others: those of a change from item `first` on, of items that the list has from number
+/// `old` on, and the tables from number `at` on.
+#[derive(Clone, Copy)]
+struct Places {
+    first: usize,
+    old: usize,
+    at: usize,
+}
+
+/// Replaces items in the tables by those of the change that take their places, each by one, and returns whether it could for
+/// all.
+fn put_each<L: ItemList>(
+    alloc: Global,
+    tables: &mut Tables,
+    items: &L,
+    change: &Change,
+    places: Places,
+) -> bool
     requires layout { IsLayoutOf change.now.text change.now.layout }
-    requires one_for_one { change.now.window.from + length change.now.layout.items ≡ change.now.window.to }
-    ensures placed { IsTrue result → (inner : Reading) → Reads change.now.text inner → TakePlaces change.now.window.from (bodies_between change.now.window.from change.now.window.to (L.items items.now)) inner.items tables.old tables.new }
+    requires first { places.first ≤ length change.now.layout.items }
+    requires within { places.old + (length change.now.layout.items - places.first) ≤ length (L.items items.now) }
+    requires room { places.at + (length change.now.layout.items - places.first) < 2 ^ 64 }
+    ensures placed { IsTrue result → (inner : Reading) → Reads change.now.text inner
+        → TakePlaces places.at (bodies_between places.old (places.old + (length change.now.layout.items - places.first)) (L.items items.now)) (drop places.first inner.items) tables.old tables.new }
     ensures rest { tables.new ≡ with_bounds tables.new.bounds tables.old }
 {
     // for the proof: the count fits a usize
     let _ = items.count();
-    'each: for k in 0..change.layout.len() {
-        let n = change.window.from + k;
-        let old = ItemView::of(items.body(n), b"");
-        let new = ItemView::of(change.layout.body(change.text.as_slice(), k), b"");
-        if !put(alloc, tables, n, &old, &new) {
+    'each: for k in 0..change.layout.len() - places.first {
+        let old = ItemView::of(items.body(places.old + k), b"");
+        let text = change.text.as_slice();
+        let new = ItemView::of(change.layout.body(text, places.first + k), b"");
+        if !put(alloc, tables, places.at + k, &old, &new) {
             return false;
         }
     }
@@ -197,10 +218,61 @@ pub(crate) fn put_in_place<L: ItemList>(
     if change.window.to - change.window.from != change.layout.len() {
         return None;
     }
+    // for the proof: the count fits a usize
+    let _ = items.count();
     let bounds = tables.bounds;
-    if put_each(alloc, tables, items, change) {
+    let places = Places {
+        first: 0,
+        old: change.window.from,
+        at: change.window.from,
+    };
+    if put_each(alloc, tables, items, change, places) {
         return Some(bounds);
     }
     tables.bounds = bounds;
     None
+}
+
+/// Updates firm tables for a change whose first item comes and goes, as a definition with another name does, and whose other
+/// items each replace one of their kind. The change's `count` items are in the list before those of its window. It returns
+/// whether it could; if not, the tables say what they said. It takes time in the length of these items.
+pub(crate) fn put_behind_first<L: ItemList>(
+    alloc: Global,
+    tables: &mut Tables,
+    items: &L,
+    change: &Change,
+    count: usize,
+) -> bool
+    requires ordered { change.now.window.from ≤ change.now.window.to }
+    requires within { change.now.window.to + count ≤ length (L.items items.now) }
+    requires layout { IsLayoutOf change.now.text change.now.layout }
+    ensures tables { IsTrue result → (old : List StoredItem) → (front_len : ℕ) → ArePut change.now old (L.items items.now) count → OfJoined change.now front_len old tables.old (λ db. AreTables db tables.new × (too_long_at db ≡ None)) }
+    ensures len { IsTrue result → tables.new.file_len ≡ change.now.file_len }
+    ensures same { IsFalse result → (old : List StoredItem) → (inner : Reading) → Reads change.now.text inner → ArePut change.now old (L.items items.now) count → SayTheSameOf old tables.old tables.new }
+{
+    let from = change.window.from;
+    let touched = change.window.to - from;
+    if touched == 0 || touched != count || count != change.layout.len() || !tables.is_firm() {
+        return false;
+    }
+    // for the proof: the count fits a usize
+    let _ = items.count();
+    match learn(alloc, tables, items, from, from, from + 1) {
+        Ok(()) => {}
+        Err(_) => return false,
+    }
+    let bounds = tables.bounds;
+    let places = Places {
+        first: 1,
+        old: from + count + 1,
+        at: from + 2,
+    };
+    if put_each(alloc, tables, items, change, places) && tables.is_firm() {
+        forget(tables, items, from + 1, from + count, from + count + 1);
+        tables.file_len = change.file_len;
+        return true;
+    }
+    tables.bounds = bounds;
+    forget(tables, items, from, from, from + 1);
+    false
 }

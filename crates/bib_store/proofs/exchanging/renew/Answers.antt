@@ -1,4 +1,4 @@
-use Rattle.std.proofs.Common.{List, ◌+◌, sym, subst}
+use Rattle.std.proofs.Common.{List, ◌+◌, refl, sym, subst}
 use Rattle.std.proofs.lemmas.Result.{err_from_is_err_and}
 use Rattle.bib_items.specs.declared.list.Item.{Item}
 use Rattle.bib_items.specs.Items.{without_range}
@@ -24,3 +24,6 @@ pub returns-clause-tables : goal.returns-clause-tables
 returns-clause-tables g c = λ old put front db inner k reads has.
     c.in_ok-tables.ensures.tables (joined c.args.change.now.window db inner) (subst (λ (l : List Item). HasItems c.args.front_len (without_range (c.args.change.now.window.from + c.args.count) (c.args.change.now.window.to + c.args.count) l) (joined c.args.change.now.window db inner)) (sym c.prepare.ensures)
     (subst (λ (l : List Item). HasItems c.args.front_len l (joined c.args.change.now.window db inner)) (sym (put_without c.args.change.now old (g.L.ItemList.items c.args.items.now) c.args.count put inner reads)) has))
+
+pub returns-then-put_behind_first-clause-tables : goal.returns-then-put_behind_first-clause-tables
+returns-then-put_behind_first-clause-tables g c = λ old put front db inner k reads has. c.if-put_behind_first.ensures.tables refl old c.args.front_len put front db inner k reads has

@@ -1,4 +1,4 @@
-use Rattle.std.proofs.Common.{◌≡◌}
+use Rattle.std.proofs.Common.{◌≡◌, ◌+◌, ◌-◌, length, drop}
 use Rattle.bib_spec.specs.Reading.{Reading, Reads}
 use Rattle.bib_store.specs.Following.{bodies_between}
 use Rattle.bib_store.specs.InPlace.{with_bounds}
@@ -7,5 +7,6 @@ use Rattle.bib_store.proofs.in_place.put_each.Given as goal
 
 abbrev pub invariant-each : goal.invariant-each
 invariant-each g l =
-    ((inner : Reading) → Reads l.change.text inner → PlacedSoFar l.k l.change.window.from (bodies_between l.change.window.from l.change.window.to (g.L.ItemList.items l.items)) inner.items l.initial.tables l.tables)
+    ((inner : Reading) → Reads l.change.text inner
+    → PlacedSoFar l.k l.places.at (bodies_between l.places.old (l.places.old + (length l.change.layout.items - l.places.first)) (g.L.ItemList.items l.items)) (drop l.places.first inner.items) l.initial.tables l.tables)
     × (l.tables ≡ with_bounds l.tables.bounds l.initial.tables)
