@@ -6,7 +6,7 @@ use Rattle.bib_spec.specs.Text.{Text}
 use Rattle.bib_spec.specs.Pieces.{Piece, IsAscending, applied}
 use Rattle.bib_spec.specs.Texts.{IsOpenable}
 use Rattle.history_spec.specs.Steps.{Step, KeptSteps, BelongTo}
-use Rattle.bib_store.specs.Reversing.{new_bytes_limit}
+use Rattle.bib_pieces.specs.Reversing.{new_bytes_limit}
 use Rattle.journal_format.specs.Contents.{Contents, digest_of}
 use Rattle.journal_format.specs.Faults.{IsTextOf, IsJournalOf}
 use Rattle.bib_journal.specs.declared.saving.Saved.{Saved}

@@ -2,13 +2,11 @@
 use Rattle.std.proofs.Common.{⊎_elim, zero, suc, ◌≡◌, ℕ, get_or, set, ◌+◌, ◌-◌, ◌<◌, ◌≤◌, nat_le, List, [], ◌∷◌, ◌++◌, length, take, drop, refl, sym, subst, ◌∙◌, ap, ap₂, arith, append-nil, append_assoc, length-append, length-set, length-drop, take-append-drop}
 use Rattle.std.proofs.lemmas.Bool.{le-leb, cond-true, cases_lt}
 use Rattle.std.proofs.lemmas.List.{take_at, drop_at, drop_all, take-append-le, drop-append-le, length-take-le, set_split}
-use Rattle.std.specs.List.{AllByRecursion, between}
-use Rattle.bib_spec.specs.Bytes.{file_limit}
+use Rattle.std.specs.List.{between}
 use Rattle.bib_spec.specs.Text.{Text}
-use Rattle.bib_spec.specs.Pieces.{Piece, Stands, AscendFrom, reversed_from}
+use Rattle.bib_spec.specs.Pieces.{Piece, AscendFrom}
 use Rattle.history_spec.specs.Composing.{Back, On, in_order, put_in, Group, group_end, with_member, alone, groups_from, groups, group_old, group_new, composed_from, composed_at, composed_after, IsComposable, IsComposableAt, StandApart, old_end, new_end, ends_of}
-use Rattle.history_spec.proofs.Near.{ends_inside}
-use Rattle.bib_steps.specs.Amending.{IsNear, next_end, edited, BeginsInside, HasSpot, edited_at, LiesInside, WereEnds}
+use Rattle.bib_steps.specs.Amending.{IsNear, edited, BeginsInside, HasSpot, edited_at, LiesInside, WereEnds}
 use Rattle.bib_steps.proofs.Positions.{near_value, near_composable, composable_as, composed_as, same_front_ends}
 use Rattle.bib_steps.proofs.MovedEnds.{ReplacedLast, replaced_last}
 

@@ -1,6 +1,6 @@
 -- Pieces by their positions, and what an edit lies near.
 use Rattle.std.proofs.Common.{zero, suc, ◌≡◌, ℕ, ◌+◌, ◌-◌, ◌<◌, ◌≤◌, get_or, List, [], ◌∷◌, ◌++◌, length, map, take, drop, Some, None, refl, sym, subst, ◌∙◌, ap, ap₂, arith, take-append-drop, length-append}
-use Rattle.std.proofs.lemmas.List.{drop-drop, drop_all, length-take-le, take_at, take-take, take-append-le, get_or-take, map-append}
+use Rattle.std.proofs.lemmas.List.{drop-drop, length-take-le, take_at, take-take, take-append-le, get_or-take, map-append}
 use Rattle.std.proofs.lemmas.Option.{get_or_from_slice_get}
 use Rattle.std.specs.List.{slice_get}
 use Rattle.std.proofs.Math.Seq.{take-add}

@@ -10,7 +10,8 @@ use crate::amendment::{Amendment, Replacement};
 use crate::near::{Span, ends_before, near};
 use crate::spans::{end_before, end_of};
 use bib_data::Piece;
-use bib_store::{StoreFault, compose_at};
+use bib_items::StoreFault;
+use bib_pieces::compose_at;
 use std::alloc::Global;
 
 /// What a part of an edit replaces. It is near the pieces of the span.

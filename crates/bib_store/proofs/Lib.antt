@@ -4,13 +4,8 @@ pub mod Filters
 pub mod GatheredFields
 pub mod ChosenFields
 pub mod Inherited
--- ---- pieces that fit a text, and what they make of it
-pub mod PieceTests
-pub mod PieceLoops
+-- ---- pieces in two parts
 pub mod RunPieces
--- ---- pieces of two edits in turn
-pub mod Growing
-pub mod Advancing
 -- ---- windows: the items that a change touches, and the file around them
 pub mod WalkedFiles
 pub mod WindowLaws

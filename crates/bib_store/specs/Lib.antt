@@ -1,4 +1,3 @@
-pub mod Reversing
 pub mod Meaning
 pub mod Tables
 pub mod Citing

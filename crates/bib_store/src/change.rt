@@ -11,12 +11,11 @@ ghost use Rattle.bib_store.specs.Stored.{file_of};
 ghost use Rattle.bib_store.specs.Windows.{IsWindow, IsWhole, IsChange, Serve, front_after, bytes_before};
 ghost use Rattle.bib_items.specs.declared.fault.StoreFault.TheVariants.{Memory, BadSplice};
 
-use crate::applying::apply;
-use crate::fitting::fits;
 use crate::touching::without_first;
 use crate::window::{Window, text_of};
 use bib_data::Piece;
 use bib_items::{ItemList, StoreFault};
+use bib_pieces::{apply, fits};
 use bib_scan::{FILE_LIMIT, Layout, Seq, Text, read};
 use std::alloc::{AllocError, Global};
 

@@ -6,9 +6,6 @@ ghost use Rattle.bib_spec.specs.Pieces.{Fit, applied};
 ghost use Rattle.bib_items.specs.declared.fault.StoreFault.TheVariants.{Memory};
 ghost use Rattle.history_spec.specs.Composing.{IsComposable, IsComposableAt, composed, composed_at};
 
-use crate::applying::apply;
-use crate::grouping::first_group;
-use crate::reversing::reverse_from;
 use bib_data::Piece;
 use bib_items::StoreFault;
 use bib_scan::Seq;
@@ -44,29 +41,5 @@ pub fn compose_at(
     ensures value { IfOk result (λ pieces. pieces ≡ composed_at from middle_from first.now second.now) }
     ensures only { IfErr result (λ fault. fault ≡ Memory) }
 {
-    let back = reverse_from(alloc, first, from, middle_from)?;
-    let mut pieces = Vec::new(alloc);
-    let mut backs = back.as_slice();
-    let mut ons = second;
-    let mut end = from;
-    let mut middle_end = middle_from;
-    'groups: while !backs.is_empty() || !ons.is_empty() {
-        let group = first_group(alloc, backs, ons)?;
-        let covered = group.covered.as_slice();
-        let (members_back, next_backs) = backs.split_at(group.backs);
-        let (members_on, next_ons) = ons.split_at(group.ons);
-        let old = apply(alloc, covered, group.place as usize, members_back)?;
-        let new = apply(alloc, covered, group.place as usize, members_on)?;
-        let place = end + (group.place - middle_end);
-        end = place + old.len() as u64;
-        middle_end = group.place + covered.len() as u64;
-        backs = next_backs;
-        ons = next_ons;
-        pieces.push(Piece {
-            place,
-            old: Seq::from_vec(old),
-            new: Seq::from_vec(new),
-        })?;
-    }
-    Ok(Seq::from_vec(pieces))
+    Ok(bib_pieces::compose_at(alloc, from, middle_from, first, second)?)
 }

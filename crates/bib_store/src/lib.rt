@@ -3,7 +3,6 @@
 //! the reading of the new bytes.
 #![tactic(auto)]
 
-mod applying;
 mod bounds;
 mod change;
 mod choosing;
@@ -13,18 +12,15 @@ mod crossrefs;
 mod database;
 mod exchanging;
 mod expanding;
-mod fitting;
 mod following;
 mod following_runs;
 mod gathering;
 mod glancing;
-mod grouping;
 mod in_place;
 mod item_fault;
 mod joining;
 mod keeping;
 mod measuring;
-mod ordering;
 mod preambles;
 mod record;
 mod reversing;

@@ -3,46 +3,15 @@
 ghost use Rattle.std.specs.Prelude.{◌≡◌, ◌+◌, ◌<◌, ◌≤◌, length, sum_by, All, IfOk, IfErr};
 ghost use Rattle.bib_spec.specs.Bytes.{file_limit};
 ghost use Rattle.bib_spec.specs.Text.{Text};
-ghost use Rattle.bib_spec.specs.Pieces.{AscendFrom, Fit, IsAscending, applied, reversed_from, reversed};
-ghost use Rattle.bib_store.specs.Reversing.{new_bytes_limit};
+ghost use Rattle.bib_spec.specs.Pieces.{Fit, IsAscending, applied, reversed};
+ghost use Rattle.bib_pieces.specs.Reversing.{new_bytes_limit};
 ghost use Rattle.bib_items.specs.declared.fault.StoreFault.TheVariants.{Memory};
 
 use bib_data::Piece;
 use bib_items::StoreFault;
+use bib_pieces::reverse_from;
 use bib_scan::Seq;
 use std::alloc::Global;
-
-/// The pieces that lead back, if the piece before them ends at `from` in the old text and at `new_from` in the new.
-pub(crate) fn reverse_from(
-    alloc: Global,
-    pieces: &[Piece],
-    from: u64,
-    new_from: u64,
-) -> Result<Seq<Piece>, StoreFault>
-    requires ascending { AscendFrom from pieces.now }
-    requires from { from ≤ file_limit }
-    requires places { All (λ p. p.place ≤ file_limit) pieces.now }
-    requires new_bytes { new_from + sum_by (λ p. length p.new) pieces.now < new_bytes_limit }
-    ensures value { IfOk result (λ back. back ≡ reversed_from from new_from pieces.now) }
-    ensures only { IfErr result (λ fault. fault ≡ Memory) }
-{
-    let mut back = Vec::new(alloc);
-    let mut end = from;
-    let mut new_end = new_from;
-    for piece in pieces {
-        let place = new_end + (piece.place - end);
-        back.push(Piece {
-            place,
-            old: Seq::from_vec(piece.new.as_slice().to_vec(alloc)?),
-            new: Seq::from_vec(piece.old.as_slice().to_vec(alloc)?),
-        })?;
-        end = piece
-            .place
-            .saturating_add(piece.old.as_slice().len() as u64);
-        new_end = place + piece.new.as_slice().len() as u64;
-    }
-    Ok(Seq::from_vec(back))
-}
 
 /// The pieces that lead back from the text that these pieces make: old and new bytes exchanged, at the places of that
 /// text. The pieces ascend without overlap, begin within the longest file (16,777,216 bytes), and have fewer than
@@ -56,5 +25,5 @@ pub fn reverse(alloc: Global, pieces: &[Piece]) -> Result<Seq<Piece>, StoreFault
     ensures back { IfOk result (λ back. (text : Text) → Fit pieces.now text → applied back (applied pieces.now text) ≡ text) }
     ensures only { IfErr result (λ fault. fault ≡ Memory) }
 {
-    reverse_from(alloc, pieces, 0, 0)
+    Ok(reverse_from(alloc, pieces, 0, 0)?)
 }

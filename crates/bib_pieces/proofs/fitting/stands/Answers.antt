@@ -1,8 +1,8 @@
 use Rattle.std.proofs.Common.{◌≤◌, arith}
 use Rattle.bib_spec.specs.Pieces.{Piece}
 use Rattle.history_spec.specs.Shifting.{moved_back}
-use Rattle.bib_store.proofs.PieceTests.{stands_tested}
-use Rattle.bib_store.proofs.fitting.stands.Goals as goal
+use Rattle.bib_pieces.proofs.PieceTests.{stands_tested}
+use Rattle.bib_pieces.proofs.fitting.stands.Goals as goal
 
 pub returns-then-place-bytes : goal.returns-then-place-bytes
 returns-then-place-bytes c =

@@ -5,7 +5,7 @@ use Rattle.std.proofs.lemmas.List.{drop_all, take_more}
 use Rattle.bib_spec.specs.Bytes.{file_limit}
 use Rattle.bib_spec.specs.Text.{Text}
 use Rattle.bib_spec.specs.Pieces.{Piece, end_of, EndBy}
-use Rattle.bib_store.proofs.PieceLoops.{drop-next}
+use Rattle.bib_pieces.proofs.PieceLoops.{drop-next}
 use Rattle.history_spec.specs.Composing.{Member, Back, On, piece_of, in_order, back_is_first, first_place, Group, group_end, covered_with, with_member, begun_at, alone, groups_from, groups}
 use Rattle.history_spec.proofs.Ordered.{next_back, next_on, on_there}
 

@@ -5,14 +5,13 @@ use Rattle.std.proofs.lemmas.List.Sums.{sum_by-cons}
 use Rattle.std.specs.List.{AllByRecursion}
 use Rattle.bib_spec.specs.Bytes.{file_limit}
 use Rattle.bib_spec.specs.Text.{Text}
-use Rattle.bib_spec.specs.Pieces.{Piece, end_of, Stands, Fit, applied, reversed_from, EndBy}
-use Rattle.bib_store.specs.Reversing.{new_bytes_limit}
-use Rattle.history_spec.proofs.Shifts.{none-moved}
-use Rattle.history_spec.specs.Shifting.{all_moved_back, FitAfter}
-use Rattle.history_spec.specs.Composing.{IsComposable, IsComposableAt, in_order, Group, groups, group_old, group_new, composed_from, composed_at}
+use Rattle.bib_spec.specs.Pieces.{Piece, end_of, Stands, reversed_from, EndBy}
+use Rattle.bib_pieces.specs.Reversing.{new_bytes_limit}
+use Rattle.history_spec.specs.Shifting.{FitAfter}
+use Rattle.history_spec.specs.Composing.{IsComposableAt, in_order, Group, groups, group_old, group_new, composed_from, composed_at}
 use Rattle.history_spec.proofs.Grouped.{AreGroups}
 use Rattle.history_spec.proofs.Near.{are_groups_at, ends_inside}
-use Rattle.bib_store.proofs.Growing.{IsFirstGroup, ends_after}
+use Rattle.bib_pieces.proofs.Growing.{IsFirstGroup, ends_after}
 
 -- ---- the conditions of the way back
 
@@ -120,21 +119,3 @@ composing_same all backs more_backs ons more_ons pieces more_pieces end more_end
     (subst (λ (ps : List Piece). IsComposing all backs ons ps more_end more_middle) (sym p)
     (subst (λ (n : ℕ). IsComposing all backs ons pieces n more_middle) (sym e)
     (subst (λ (n : ℕ). IsComposing all backs ons pieces end n) (sym m) w))))
-
--- ---- where the texts are at hand
-
-whole_fit : (ps : List Piece) (text : Text) → FitAfter 0 ps text → Fit ps text
-whole_fit ps text f = subst (λ (qs : List Piece). Fit qs text) (none-moved ps) f.fit
-
-pub composable : (first second : List Piece) (text middle : Text) → FitAfter 0 first text → middle ≡ applied (all_moved_back 0 first) text → FitAfter 0 second middle → length text ≤ file_limit
-    → length middle ≤ file_limit → IsComposable first second
-composable first second text middle f e s h k =
-    let is : middle ≡ applied first text = e ∙ ap (λ ps. applied ps text) (none-moved first) in (
-      text,
-      record {
-        first_fit = whole_fit first text f;
-        second_fit = subst (λ (t : Text). Fit second t) is (whole_fit second middle s);
-        short = h;
-        short_middle = omega (arith, k, ap length is);
-      },
-    )

@@ -6,7 +6,7 @@ use Rattle.std.specs.List.{AllByRecursion}
 use Rattle.bib_spec.specs.Bytes.{file_limit}
 use Rattle.bib_spec.specs.Text.{Text}
 use Rattle.bib_spec.specs.Pieces.{Piece, end_of, Stands, AscendFrom, BeginFrom, applied_from, applied, reversed_from}
-use Rattle.bib_store.specs.Reversing.{new_bytes_limit}
+use Rattle.bib_pieces.specs.Reversing.{new_bytes_limit}
 use Rattle.history_spec.specs.Shifting.{moved_back, all_moved_back, FitAfter}
 
 -- what is left begins with the piece at i

@@ -4,9 +4,9 @@ use Rattle.std.proofs.lemmas.List.{take_rest}
 use Rattle.bib_spec.specs.Bytes.{file_limit}
 use Rattle.bib_spec.specs.Text.{Text}
 use Rattle.history_spec.specs.Composing.{back_is_first}
-use Rattle.bib_store.proofs.Growing.{IsGrowing, growing_start, growing_on, end_at, on_left}
-use Rattle.bib_store.proofs.grouping.first_group.Goals as goal
-use Rattle.bib_store.proofs.grouping.first_group.Goals.{then-i-backs, else-i-backs+then-j-ons}
+use Rattle.bib_pieces.proofs.Growing.{IsGrowing, growing_start, growing_on, end_at, on_left}
+use Rattle.bib_pieces.proofs.grouping.first_group.Goals as goal
+use Rattle.bib_pieces.proofs.grouping.first_group.Goals.{then-i-backs, else-i-backs+then-j-ons}
 
 pub members-init : goal.members-init
 members-init c =

@@ -2,17 +2,17 @@ use Rattle.std.proofs.Common.{rules, ◌≡◌, ◌+◌, ◌-◌, length, take, 
 use Rattle.bib_spec.specs.Pieces.{applied}
 use Rattle.history_spec.specs.Shifting.{all_moved_back}
 use Rattle.history_spec.specs.Composing.{composed_at, group_old, group_new}
-use Rattle.bib_store.proofs.Advancing.{first_new_bytes, composing_start, composing_more, composing_same}
-use Rattle.bib_store.proofs.composing.compose_at.Goals as goal
+use Rattle.bib_pieces.proofs.Advancing.{first_new_bytes, composing_start, composing_more, composing_same}
+use Rattle.bib_pieces.proofs.composing.compose_at.Goals as goal
 
 pub reverse_from-requires-clause-new_bytes : goal.reverse_from-requires-clause-new_bytes
-reverse_from-requires-clause-new_bytes c = first_new_bytes c.args.from c.args.middle_from c.args.first.now c.args.second.now c.requires.composable
+reverse_from-requires-clause-new_bytes c = first_new_bytes c.args.from c.args.middle_from c.args.first.now c.args.second.now c.requires
 
 pub groups-init : goal.groups-init
 groups-init c =
     composing_same (composed_at c.args.from c.args.middle_from c.args.first.now c.args.second.now) _ c.as_slice-backs.result.now _ c.args.second.now _ c.new-pieces.result.items c.args.from _ c.args.middle_from _
-    (c.as_slice-backs.ensures ∙ c.in_ok-back.ensures.value) refl c.new-pieces.ensures.items refl refl
-    (composing_start c.args.from c.args.middle_from c.args.first.now c.args.second.now c.requires.composable)
+    (c.as_slice-backs.ensures ∙ c.in_ok-back.ensures) refl c.new-pieces.ensures.items refl refl
+    (composing_start c.args.from c.args.middle_from c.args.first.now c.args.second.now c.requires)
 
 pub groups-preserved : goal.groups-preserved
 groups-preserved c =
