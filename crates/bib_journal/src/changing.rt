@@ -1,28 +1,26 @@
 //! The changes of a file and its journal, listed, taken back or made again, where no session stays open.
 
-ghost use Rattle.std.specs.Prelude.{◌≡◌, ◌-◌, ◌<◌, ◌≤◌, ◌↔◌, [], Some, None, drop, length, option_map, IsTrue, IfOk, IfErr, IfSome};
-ghost use Rattle.history_spec.specs.Steps.{AreSteps, first_of};
+ghost use Rattle.std.specs.Prelude.{◌≡◌, ◌<◌, ◌≤◌, [], Some, None, option_map, IfOk, IfErr};
 ghost use Rattle.bib_data.specs.Depths.{AsksWithDepth};
-ghost use Rattle.journal_format.specs.Contents.{digest_of};
 ghost use Rattle.bib_data.specs.declared.request.Request.TheVariants.{Undo, Redo};
 ghost use Rattle.bib_journal.specs.Kept.{kept};
-ghost use Rattle.bib_journal.specs.Loading.{FitFile, Loads};
+ghost use Rattle.bib_journal.specs.Loading.{Loads};
 ghost use Rattle.bib_journal.specs.Session.{Opens, RefusesStart, RefusesLoad, RefusesOpen};
 ghost use Rattle.bib_journal.specs.Turns.{Turns, HasTurned};
 ghost use Rattle.bib_journal.specs.declared.fault.SessionFault.TheVariants.{NothingToUndo, Memory};
 
 use crate::closing::close;
 use crate::fault::{SessionFault, unopened};
-use crate::loading::{digest_within, said_with};
+use crate::loading::opened_with;
 use crate::performing::{Performed, repeat};
 use crate::replay::{belong_once, file_before};
 use crate::saving::{Saved, saved_back};
 use crate::session::Session;
 use bib_data::Request;
-use bib_scan::{Seq, Text};
+use bib_scan::Seq;
 use bib_store::{Database, ItemList};
-use journal_format::{Journal, Step};
-use std::alloc::{AllocError, Global};
+use journal_format::Step;
+use std::alloc::Global;
 
 /// The changes that a journal keeps: those that can be undone, from the oldest, and those that can be redone, from the next.
 #[derive(Debug, Drop)]
@@ -88,59 +86,16 @@ fn changes_in<L: ItemList>(
     ensures loaded { IfOk result (λ changes. Loads file.items journal.now (kept changes.past file.items changes.future)) }
     ensures refused { IfErr result (λ fault. RefusesLoad fault file.items journal.now) }
 {
-    let digest = digest_within(alloc, file.as_slice())?;
-    match Database::open_file(alloc, file, empty) {
-        Ok(mut db) => {
-            let changes = changes_of(alloc, &mut db, digest.as_slice(), journal);
-            close(db);
-            changes
-        }
-        Err(fault) => Err(unopened(fault)),
+    let (mut db, said) = opened_with(alloc, file, journal, empty)?;
+    let fit = belong_once(alloc, &mut db, said.past.as_slice(), said.future.as_slice());
+    close(db);
+    if !fit? {
+        return Err(SessionFault::JournalMismatch);
     }
-}
-
-/// The changes that the journal says of the open file, which has this digest.
-fn changes_of<L: ItemList>(
-    alloc: Global,
-    db: &mut Database<L>,
-    digest: &[u8],
-    journal: &[u8],
-) -> Result<Changes, SessionFault>
-    requires { digest.now ≡ digest_of db.old }
-    ensures loaded { IfOk result (λ changes. Loads db.old journal.now (kept changes.past db.old changes.future)) }
-    ensures refused { IfErr result (λ fault. RefusesLoad fault db.old journal.now) }
-{
-    db.opens();
-    let said = said_with(alloc, digest, journal)?;
-    if fit_once(alloc, db, &said)? {
-        Ok(changes_said(said))
-    } else {
-        Err(SessionFault::JournalMismatch)
-    }
-}
-
-/// The changes that the journal says.
-fn changes_said(said: Journal) -> Changes
-    ensures { result ≡ record { past = said.past; future = said.future } }
-{
-    Changes {
+    Ok(Changes {
         past: said.past,
         future: said.future,
-    }
-}
-
-/// Whether the steps that the journal says belong to the open file, which has its digest. It ends where the past begins.
-fn fit_once<L: ItemList>(
-    alloc: Global,
-    db: &mut Database<L>,
-    said: &Journal,
-) -> Result<bool, AllocError>
-    requires digest { said.now.digest ≡ digest_of db.old }
-    requires steps { AreSteps said.now.past said.now.future }
-    ensures { IfOk result (λ yes. IsTrue yes ↔ FitFile said.now db.old) }
-{
-    db.opens();
-    belong_once(alloc, db, said.past.as_slice(), said.future.as_slice())
+    })
 }
 
 // ---- turning
@@ -235,33 +190,17 @@ fn undo_in<L: ItemList>(
     ensures turned { IfOk result (Turns Undo n file.items (Some journal.now)) }
     ensures refused { IfErr result (λ fault. RefusesLoad fault file.items journal.now) }
 {
-    let digest = digest_within(alloc, file.as_slice())?;
-    match Database::open_file(alloc, file, empty) {
-        Ok(mut db) => {
-            let turned = undo_of(alloc, &mut db, digest.as_slice(), journal, n);
-            close(db);
-            turned
-        }
-        Err(fault) => Err(unopened(fault)),
-    }
-}
-
-/// The same, of the open file, which has this digest.
-fn undo_of<L: ItemList>(
-    alloc: Global,
-    db: &mut Database<L>,
-    digest: &[u8],
-    journal: &[u8],
-    n: usize,
-) -> Result<Turned, SessionFault>
-    requires { digest.now ≡ digest_of db.old }
-    ensures turned { IfOk result (Turns Undo n db.old (Some journal.now)) }
-    ensures refused { IfErr result (λ fault. RefusesLoad fault db.old journal.now) }
-{
-    db.opens();
-    let said = said_with(alloc, digest, journal)?;
+    let (mut db, said) = opened_with(alloc, file, journal, empty)?;
     let done = n.min(said.past.as_slice().len());
-    match file_back(alloc, db, &said, done)? {
+    let file = file_before(
+        alloc,
+        &mut db,
+        said.past.as_slice(),
+        said.future.as_slice(),
+        done,
+    );
+    close(db);
+    match file? {
         Some(file) => Ok(Turned {
             performed: undone(done, n),
             saved: saved_back(alloc, said, done, file)?,
@@ -284,22 +223,4 @@ fn undone(done: usize, n: usize) -> Performed
             None
         },
     }
-}
-
-/// The file before the last `n` past steps that the journal says, if they belong to the open file, which has its digest. It
-/// ends where the past begins.
-fn file_back<L: ItemList>(
-    alloc: Global,
-    db: &mut Database<L>,
-    said: &Journal,
-    n: usize,
-) -> Result<Option<Text>, AllocError>
-    requires digest { said.now.digest ≡ digest_of db.old }
-    requires steps { AreSteps said.now.past said.now.future }
-    requires within { n ≤ length said.now.past }
-    ensures file { IfOk result (λ file. IfSome file (λ file. FitFile said.now db.old × (file ≡ first_of (drop (length said.now.past - n) said.now.past) db.old))) }
-    ensures none { IfOk result (λ file. file ≡ None → FitFile said.now db.old → ⊥) }
-{
-    db.opens();
-    file_before(alloc, db, said.past.as_slice(), said.future.as_slice(), n)
 }

@@ -141,7 +141,8 @@ pub(crate) fn belong_once<L: ItemList>(
 ) -> Result<bool, AllocError>
     requires past { AreTurnable past.now }
     requires future { AreTurnable future.now }
-    ensures { IfOk result (λ yes. IsTrue yes ↔ BelongTo past.now future.now db.old) }
+    ensures yes { IfOk result (λ yes. IsTrue yes ↔ BelongTo past.now future.now db.old) }
+    ensures back { IfOk result (λ yes. IsTrue yes → db.new ≡ first_of past.now db.old) }
 {
     if !lead_on(alloc, db, future)? {
         return Ok(false);
@@ -159,31 +160,6 @@ fn bytes_of<L: ItemList>(db: &Database<L>) -> Result<Text, AllocError>
     }
 }
 
-/// The file before the last `n` of the steps, if all of them lead to this file. It ends where they begin.
-fn back_to<L: ItemList>(
-    alloc: Global,
-    db: &mut Database<L>,
-    steps: &[Step],
-    n: usize,
-) -> Result<Option<Text>, AllocError>
-    requires turnable { AreTurnable steps.now }
-    requires within { n ≤ length steps.now }
-    ensures file { IfOk result (λ file. IfSome file (λ file. LeadTo steps.now db.old × (file ≡ first_of (drop (length steps.now - n) steps.now) db.old))) }
-    ensures none { IfOk result (λ file. file ≡ None → LeadTo steps.now db.old → ⊥) }
-{
-    let (first, last) = steps.split_at(steps.len() - n);
-    if !go_back_over(alloc, db, last)? {
-        return Ok(None);
-    }
-    // all items are looked up
-    db.settle();
-    let file = bytes_of(&*db)?;
-    if !go_back_over(alloc, db, first)? {
-        return Ok(None);
-    }
-    Ok(Some(file))
-}
-
 /// The file before the last `n` past steps, if the steps belong to this file. It ends where the past begins, and takes time
 /// as `belong_once` does, and in the file's length.
 pub(crate) fn file_before<L: ItemList>(
@@ -199,8 +175,15 @@ pub(crate) fn file_before<L: ItemList>(
     ensures file { IfOk result (λ file. IfSome file (λ file. BelongTo past.now future.now db.old × (file ≡ first_of (drop (length past.now - n) past.now) db.old))) }
     ensures none { IfOk result (λ file. file ≡ None → BelongTo past.now future.now db.old → ⊥) }
 {
-    if !lead_on(alloc, db, future)? {
+    let (first, last) = past.split_at(past.len() - n);
+    if !belong_once(alloc, db, last, future)? {
         return Ok(None);
     }
-    back_to(alloc, db, past, n)
+    // all items are looked up
+    db.settle();
+    let file = bytes_of(&*db)?;
+    if !go_back_over(alloc, db, first)? {
+        return Ok(None);
+    }
+    Ok(Some(file))
 }

@@ -5,7 +5,6 @@ ghost use Rattle.bib_spec.specs.Texts.{IsOpenable};
 ghost use Rattle.bib_spec.specs.Pieces.{Piece as FilePiece, applied};
 ghost use Rattle.history_spec.specs.Steps.{IsSound, AreSteps, IsLabel, IsAllowed};
 ghost use Rattle.bib_data.specs.Depths.{HasDepth};
-ghost use Rattle.journal_format.specs.Contents.{digest_of};
 ghost use Rattle.journal_format.specs.Faults.{IsTextOf};
 ghost use Rattle.bib_journal.specs.Loading.{Loads, Saves, FitFile, contents_of};
 ghost use Rattle.bib_journal.specs.OpenSteps.{idle, after_edit, MakesSteps, LacksRoom};
@@ -16,7 +15,7 @@ ghost use Rattle.bib_journal.specs.declared.open_step.OpenStep.TheVariants.{NoSt
 use crate::closing::close;
 use crate::fault::{SessionFault, refused, unopened};
 use crate::growing::grow;
-use crate::loading::{digest_within, said_of};
+use crate::loading::{copied, fit, opened_with};
 use crate::open_step::{OpenStep, next_label, take_label};
 use crate::saving::{Saved, journal_of};
 use crate::stepping::{forget, go_back, go_on, push_within_capacity};
@@ -85,28 +84,6 @@ fn with_steps<L: ItemList>(alloc: Global, database: Database<L>, said: Journal) 
     }
 }
 
-/// A session of the open file, which has this digest, with the steps that its journal says.
-fn loaded<L: ItemList>(
-    alloc: Global,
-    database: Database<L>,
-    digest: &[u8],
-    journal: &[u8],
-) -> Result<Session<L>, SessionFault>
-    requires { digest.now ≡ digest_of database }
-    ensures loaded { IfOk result (λ session. Loads database journal.now session.steps) }
-    ensures closed { IfOk result (λ session. session.current ≡ NoStep) }
-    ensures refused { IfErr result (λ fault. RefusesLoad fault database journal.now) }
-{
-    let mut database = database;
-    match said_of(alloc, &mut database, digest, journal) {
-        Ok(said) => Ok(with_steps(alloc, database, said)),
-        Err(fault) => {
-            close(database);
-            Err(fault)
-        }
-    }
-}
-
 impl<L: ItemList> Session<L> {
     /// Opens the file that these bytes are, to which nothing was done yet. The list that is handed in holds no item.
     pub fn start(alloc: Global, bytes: &[u8], empty: L) -> Result<Session<L>, SessionFault>
@@ -115,13 +92,8 @@ impl<L: ItemList> Session<L> {
         ensures opens { OnOk result (IsOpenable bytes.now) }
         ensures refused { IfErr result (λ fault. RefusesStart fault bytes.now) }
     {
-        match Database::open_bytes(alloc, bytes, empty) {
-            Ok(database) => {
-                database.opens();
-                Ok(Session::begun(alloc, database))
-            }
-            Err(fault) => Err(unopened(fault)),
-        }
+        let file = copied(alloc, bytes)?;
+        Session::start_file(alloc, file, empty)
     }
 
     /// Closes the file, and forgets its steps, as dropping the session does. Nothing is left that a clause could be about, so it
@@ -139,22 +111,6 @@ impl<L: ItemList> Session<L> {
         close(database);
     }
 
-    /// The session of an open file, to which nothing was done yet.
-    fn begun(alloc: Global, database: Database<L>) -> Session<L>
-        ensures { result ≡ idle (started database) }
-    {
-        database.opens();
-        Session {
-            alloc,
-            database,
-            past: Vec::new(alloc),
-            undone: Vec::new(alloc),
-            past_len: 0,
-            current: OpenStep::NoStep,
-            ends: Vec::new(alloc),
-        }
-    }
-
     /// Opens the file as `start` does. The list may keep the file's memory in place of copies of its items.
     fn start_file(alloc: Global, file: Vec<u8>, empty: L) -> Result<Session<L>, SessionFault>
         requires { L.items empty ≡ [] }
@@ -165,7 +121,15 @@ impl<L: ItemList> Session<L> {
         match Database::open_file(alloc, file, empty) {
             Ok(database) => {
                 database.opens();
-                Ok(Session::begun(alloc, database))
+                Ok(Session {
+                    alloc,
+                    database,
+                    past: Vec::new(alloc),
+                    undone: Vec::new(alloc),
+                    past_len: 0,
+                    current: OpenStep::NoStep,
+                    ends: Vec::new(alloc),
+                })
             }
             Err(fault) => Err(unopened(fault)),
         }
@@ -185,11 +149,8 @@ impl<L: ItemList> Session<L> {
         ensures closed { IfOk result (λ session. session.current ≡ NoStep) }
         ensures refused { IfErr result (λ fault. RefusesLoad fault bytes.now journal.now) }
     {
-        let digest = digest_within(alloc, bytes)?;
-        match Database::open_bytes(alloc, bytes, empty) {
-            Ok(database) => loaded(alloc, database, digest.as_slice(), journal),
-            Err(fault) => Err(unopened(fault)),
-        }
+        let file = copied(alloc, bytes)?;
+        Session::load_file(alloc, file, journal, empty)
     }
 
     /// Opens the file with its journal, as `load` does. The list may keep the file's memory in place of copies of its items.
@@ -204,10 +165,13 @@ impl<L: ItemList> Session<L> {
         ensures closed { IfOk result (λ session. session.current ≡ NoStep) }
         ensures refused { IfErr result (λ fault. RefusesLoad fault file.items journal.now) }
     {
-        let digest = digest_within(alloc, file.as_slice())?;
-        match Database::open_file(alloc, file, empty) {
-            Ok(database) => loaded(alloc, database, digest.as_slice(), journal),
-            Err(fault) => Err(unopened(fault)),
+        let (mut database, said) = opened_with(alloc, file, journal, empty)?;
+        match fit(alloc, &mut database, &said) {
+            Ok(()) => Ok(with_steps(alloc, database, said)),
+            Err(fault) => {
+                close(database);
+                Err(fault)
+            }
         }
     }
 

@@ -3,7 +3,7 @@
 ghost use Rattle.std.specs.Prelude.{◌≡◌, ◌⊎◌, [], slice_get};
 
 use crate::joining::join;
-use crate::keeping::{take_file, take_in};
+use crate::keeping::{copied, take_file};
 use crate::measuring::short_text;
 use crate::preambles::preamble_value;
 use crate::tables::Tables;
@@ -48,7 +48,7 @@ impl<L: ItemList> Model for Database<L> {
 
 impl<L: ItemList> Database<L> {
     ghost use Rattle.std.specs.List.{between};
-    ghost use Rattle.std.specs.Prelude.{◌≡◌, ◌≤◌, false, [], Some, None, Err, length, slice_get, option_and_then, count_by, IsTrue, IfOk, IfErr, IfSome, OnOk};
+    ghost use Rattle.std.specs.Prelude.{◌≡◌, ◌≤◌, false, [], Some, None, length, slice_get, option_and_then, count_by, IsTrue, IfOk, IfErr, IfSome, OnOk};
     ghost use Rattle.std.specs.Option.{option_copied, option_map};
     ghost use Rattle.bib_spec.specs.Bytes.{name_limit};
     ghost use Rattle.bib_spec.specs.Texts.{IsOpenable};
@@ -68,20 +68,21 @@ impl<L: ItemList> Database<L> {
     ghost use Rattle.bib_store.specs.Meaning.{OfReading, IsItemNumber, IsItemPlace, IsEntryNumber, IsPreambleNumber, entry_items, entry_numbers, IsOpenFault};
     ghost use Rattle.bib_items.specs.declared.fault.StoreFault.TheVariants.{Memory, NoSuchEntry};
 
-    /// Opens the file with these bytes. `empty` is a list without items, which keeps the file's items from now on. It takes
-    /// time and memory in the file's length and the number of items. It is refused as reading is refused (1 to 7, 9), with
-    /// 8 at the first value whose raw text is longer than 1,048,576 bytes, and with 10 if memory runs out.
+    /// Opens the file with these bytes, which it copies. `empty` is a list without items, which keeps the file's items from now
+    /// on. It takes time and memory in the file's length and the number of items. It is refused as reading is refused (1 to 7,
+    /// 9), with 8 at the first value whose raw text is longer than 1,048,576 bytes, and with 10 if memory runs out.
     pub fn open_bytes(alloc: Global, bytes: &[u8], empty: L) -> Result<Database<L>, ReadFault>
         requires { L.items empty ≡ [] }
         ensures opened { IfOk result (λ db. db ≡ bytes.now) }
         ensures file { OnOk result (IsOpenable bytes.now) }
         ensures fault { IfErr result (λ fault. IsOpenFault bytes.now fault.kind fault.place) }
     {
-        let (tables, layout) = Tables::read(alloc, bytes)?;
-        Database::of_taken(alloc, take_in(alloc, layout, bytes, empty), tables)
+        let file = copied(alloc, bytes)?;
+        Database::open_file(alloc, file, empty)
     }
 
-    /// Opens this file as `open_bytes` does. The list may keep the file's memory instead of copies of its items.
+    /// Opens this file as `open_bytes` does, without that copy. The list may keep the file's memory instead of copies of its
+    /// items.
     pub fn open_file(alloc: Global, file: Vec<u8>, empty: L) -> Result<Database<L>, ReadFault>
         requires { L.items empty ≡ [] }
         ensures opened { IfOk result (λ db. db ≡ file.items) }
@@ -89,24 +90,8 @@ impl<L: ItemList> Database<L> {
         ensures fault { IfErr result (λ fault. IsOpenFault file.items fault.kind fault.place) }
     {
         let (tables, layout) = Tables::read(alloc, file.as_slice())?;
-        Database::of_taken(alloc, take_file(alloc, layout, file, empty), tables)
-    }
-
-    /// Builds the database from what was taken in of a file and the file's tables, or returns the fault of taking it in.
-    fn of_taken(
-        alloc: Global,
-        taken: Result<(Text, L, Seq<Note>), ReadFault>,
-        tables: Tables,
-    ) -> Result<Database<L>, ReadFault>
-        requires { (bytes : Bytes) × IfOk taken (λ kept. IsTaken bytes kept.0 (L.items kept.1) kept.2) × AreTablesOfFile bytes tables }
-        ensures opened { (bytes : Bytes) → IfOk taken (λ kept. IsTaken bytes kept.0 (L.items kept.1) kept.2) → IfOk result (λ db. db ≡ bytes) }
-        ensures file { (bytes : Bytes) → IfOk taken (λ kept. IsTaken bytes kept.0 (L.items kept.1) kept.2) → AreTablesOfFile bytes tables → OnOk result (IsOpenable bytes) }
-        ensures fault { IfErr result (λ fault. taken ≡ Err fault) }
-    {
-        match taken {
-            Ok((front, items, notes)) => Ok(Database::of_items(alloc, front, items, notes, tables)),
-            Err(fault) => Err(fault),
-        }
+        let (front, items, notes) = take_file(alloc, layout, file, empty)?;
+        Ok(Database::of_items(alloc, front, items, notes, tables))
     }
 
     /// Builds the database from its parts: the front, the items, their notes and the tables.

@@ -1,8 +1,28 @@
-use Rattle.std.proofs.Common.{IfErr, subst}
+use Rattle.std.proofs.Common.{◌≡◌, ◌-◌, drop, length, min, List, Option, IfSome, refl, ap, ◌∙◌, subst}
 use Rattle.bib_spec.specs.Text.{Text}
-use Rattle.bib_journal.specs.Session.{RefusesLoad}
+use Rattle.history_spec.specs.Steps.{Step, BelongTo, first_of}
+use Rattle.journal_format.specs.Contents.{Contents}
+use Rattle.bib_journal.specs.Loading.{SaysOf}
+use Rattle.bib_journal.proofs.TakenBack.{undos_leave}
 use Rattle.bib_journal.proofs.changing.undo_in.Goals as goal
 
-pub returns-in-Ok-clause-refused : goal.returns-in-Ok-clause-refused
-returns-in-Ok-clause-refused g c =
-    subst (λ (file : Text). IfErr c.undo_of-turned.result (λ fault. RefusesLoad fault file c.args.journal.now)) c.in-Ok.ensures.opened c.undo_of-turned.ensures.refused
+pub returns-in_ok-saved_back-in-Some-clause-turned : goal.returns-in_ok-saved_back-in-Some-clause-turned
+returns-in_ok-saved_back-in-Some-clause-turned g c =
+    let file = c.args.file.items in
+    let said = c.in_ok-db.said in
+    let done = c.min-done.result in
+    let past : c.as_slice-2.result.now ≡ said.past = cc (c.as_slice-2.ensures, ap (λ (s : Contents). s.past) c.said.view_is) in
+    let future : c.as_slice-3.result.now ≡ said.future = cc (c.as_slice-3.ensures, ap (λ (s : Contents). s.future) c.said.view_is) in
+    let before : BelongTo c.as_slice-2.result.now c.as_slice-3.result.now c.in_ok-db.db × (c.in-Some.file ≡ first_of (drop (length c.as_slice-2.result.now - done) c.as_slice-2.result.now) c.in_ok-db.db) =
+    subst
+    (λ (found : Option Text). IfSome found (λ f. BelongTo c.as_slice-2.result.now c.as_slice-3.result.now c.in_ok-db.db × (f ≡ first_of (drop (length c.as_slice-2.result.now - done) c.as_slice-2.result.now) c.in_ok-db.db)))
+    c.in-Some.is c.in_ok-file.ensures.file in
+    let found : BelongTo said.past said.future file × (c.in-Some.file ≡ first_of (drop (length said.past - done) said.past) file) =
+    rw (← past, ← future, ← c.in_ok-db.ensures.file) before in
+    let says : SaysOf file c.args.journal.now said = record {
+      journal = c.in_ok-db.ensures.said;
+      fit = record { opens = c.in_ok-db.ensures.opens; digest = c.in_ok-db.ensures.digest; belong = found.0 };
+    } in
+    let least : done ≡ min c.args.n (length said.past) = cc (c.min-done.ensures, c.as_slice.ensures, ap (λ (s : Contents). s.past) c.said.view_is) in
+    undos_leave file c.args.journal.now c.in-Some.file said c.args.n done c.undone.result.fault _ says
+    found.1 least c.undone.ensures.all c.undone.ensures.stopped c.undone.ensures.done refl c.in_ok-saved_back-in-Some.ensures.file c.in_ok-saved_back-in-Some.ensures.digest c.in_ok-saved_back-in-Some.ensures.journal

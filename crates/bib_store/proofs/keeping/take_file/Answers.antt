@@ -1,3 +1,4 @@
+use Rattle.std.proofs.Common.{inl}
 use Rattle.bib_spec.specs.Fault.{no_memory}
 use Rattle.bib_store.proofs.OpenedFiles.{taken}
 use Rattle.bib_store.proofs.keeping.take_file.Goals as goal
@@ -7,4 +8,4 @@ returns-in-Ok-clause-taken g c =
     taken c.args.file.items c.in-Ok.front (g.L.ItemList.items c.in-Ok.items) c.args.layout c.into_notes.result c.requires.layout c.in-Ok.ensures.front c.in-Ok.ensures.items c.into_notes.ensures
 
 pub returns-in-Err-clause-fault : goal.returns-in-Err-clause-fault
-returns-in-Err-clause-fault g c = no_memory c.requires.layout.0
+returns-in-Err-clause-fault g c = inl (no_memory c.requires.layout.0)
