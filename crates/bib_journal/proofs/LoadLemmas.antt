@@ -1,21 +1,16 @@
 -- Contents, held against a file.
-use Rattle.std.proofs.Common.{◌≡◌, ℕ, ◌≤◌, List, length, Option, Some, None, reverse, refl, sym, subst, ◌∙◌, ap, sum_by, min, ◌^◌, ◌-◌, arith}
+use Rattle.std.proofs.Common.{◌≡◌, ◌≤◌, List, length, Option, Some, None, reverse, refl, sym, subst, ◌∙◌, ap}
 use Rattle.std.proofs.lemmas.List.{reverse-reverse}
 use Rattle.bib_spec.specs.Bytes.{file_limit}
 use Rattle.bib_spec.specs.Text.{Text}
-use Rattle.bib_spec.specs.Texts.{IsOpenable}
-use Rattle.history_spec.specs.Steps.{Step, KeptSteps, IsSound, AreSteps, step_text_len}
+use Rattle.history_spec.specs.Steps.{Step, KeptSteps}
 use Rattle.journal_format.specs.Contents.{Contents, digest_of}
-use Rattle.journal_format.specs.Faults.{IsJournalOf, Refuses}
-use Rattle.journal_format.specs.declared.fault.JournalFault.{JournalFault}
-use Rattle.journal_format.specs.declared.fault.JournalFault.TheVariants as journal_fault
-use Rattle.bib_journal.specs.Faults.{unread}
-use Rattle.bib_journal.specs.Session.{Opens, RefusesLoad, RefusesOpen}
+use Rattle.journal_format.specs.Faults.{IsJournalOf}
+use Rattle.bib_journal.specs.Session.{Opens, RefusesOpen}
 use Rattle.bib_journal.specs.declared.fault.SessionFault.{SessionFault}
 use Rattle.bib_journal.specs.declared.fault.SessionFault.TheVariants.{Memory}
-use Rattle.bib_journal.specs.Kept.{kept, IsKept}
-use Rattle.bib_journal.specs.OpenSteps.{idle}
-use Rattle.bib_journal.specs.Loading.{FitFile, Loads, SaysOf, IsMismatch}
+use Rattle.bib_journal.specs.Kept.{kept}
+use Rattle.bib_journal.specs.Loading.{FitFile, Loads, SaysOf}
 
 -- the steps of the contents, undone ones last first
 pub contents_kept : (c : Contents) (file : Text) (stack : List Step) → stack ≡ reverse c.future → kept c.past file (reverse stack) ≡ kept c.past file c.future

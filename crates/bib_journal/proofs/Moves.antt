@@ -26,7 +26,7 @@ use Rattle.bib_edit.proofs.KeyBases.{has_key_base}
 use Rattle.history_spec.specs.Composing.{AreEnds}
 use Rattle.bib_journal.specs.Kept.{kept, KnowsEnds}
 use Rattle.bib_journal.specs.OpenSteps.{SessionState, IsOpenIn, after_edit, new_step, JoinsLast, MakesSteps, LacksRoom, MovesTo}
-use Rattle.bib_journal.specs.Session.{MakesEdit, IsOverfull, TakesBack, MakesAgain}
+use Rattle.bib_journal.specs.Session.{MakesEdit, TakesBack, MakesAgain}
 use Rattle.bib_journal.specs.declared.open_step.OpenStep.{OpenStep}
 use Rattle.bib_journal.specs.declared.open_step.OpenStep.TheVariants.{NoStep, NewStep, LastStep}
 

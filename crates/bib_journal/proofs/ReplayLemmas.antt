@@ -1,12 +1,12 @@
 -- Steps of a journal, gone over one by one.
-use Rattle.std.proofs.Common.{◌≡◌, ℕ, ◌+◌, ◌<◌, ◌≤◌, List, [], ◌∷◌, ◌++◌, length, drop, get_or, sym, ◌∙◌, ap, subst, refl}
-use Rattle.std.proofs.lemmas.List.{drop_more, drop_all}
+use Rattle.std.proofs.Common.{◌≡◌, ℕ, ◌+◌, ◌<◌, List, [], ◌∷◌, ◌++◌, length, drop, get_or, sym, ◌∙◌, ap, subst, refl}
+use Rattle.std.proofs.lemmas.List.{drop_more}
 use Rattle.bib_spec.specs.Text.{Text}
 use Rattle.bib_spec.specs.Pieces.{Piece, Fit, IsAscending, applied, reversed}
 use Rattle.bib_spec.specs.Texts.{IsOpenable}
 use Rattle.history_spec.specs.Steps.{Step, before, first_of, IsAllowed, Leads, LeadTo, LeadOn}
 use Rattle.bib_spec.proofs.WayBack.{fit_back, applied-reversed, reversed-reversed}
-use Rattle.history_spec.proofs.StepLemmas.{first_of-push, lead_to_push, lead_to_pop, before-made, steps-lead-back, leads_from}
+use Rattle.history_spec.proofs.StepLemmas.{first_of-push, lead_to_push, lead_to_pop, before-made, steps-lead-back}
 use Rattle.bib_journal.specs.Loading.{last_of}
 
 -- ---- back
