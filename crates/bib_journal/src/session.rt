@@ -85,7 +85,7 @@ fn with_steps<L: ItemList>(alloc: Global, database: Database<L>, said: Journal) 
 }
 
 impl<L: ItemList> Session<L> {
-    /// Opens the file that these bytes are, to which nothing was done yet. The list that is handed in holds no item.
+    /// Opens a copy of the file that these bytes are, to which nothing was done yet. The list that is handed in holds no item.
     pub fn start(alloc: Global, bytes: &[u8], empty: L) -> Result<Session<L>, SessionFault>
         requires { L.items empty ≡ [] }
         ensures started { IfOk result (λ session. session ≡ idle (started bytes.now)) }

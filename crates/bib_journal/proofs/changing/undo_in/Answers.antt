@@ -1,6 +1,6 @@
-use Rattle.std.proofs.Common.{◌≡◌, ◌-◌, drop, length, min, List, Option, IfSome, refl, ap, ◌∙◌, subst}
+use Rattle.std.proofs.Common.{◌≡◌, ◌-◌, drop, length, min, Option, IfSome, refl, ap, subst}
 use Rattle.bib_spec.specs.Text.{Text}
-use Rattle.history_spec.specs.Steps.{Step, BelongTo, first_of}
+use Rattle.history_spec.specs.Steps.{BelongTo, first_of}
 use Rattle.journal_format.specs.Contents.{Contents}
 use Rattle.bib_journal.specs.Loading.{SaysOf}
 use Rattle.bib_journal.proofs.TakenBack.{undos_leave}
