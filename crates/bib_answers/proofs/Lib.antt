@@ -6,13 +6,11 @@ pub mod ItemFields
 pub mod EntryNumbers
 pub mod Shown
 pub mod Recurrences
-pub mod SeenSteps
 pub mod ReportSteps
 pub mod PositionSteps
 pub mod FindingSteps
 pub mod ItemFindings
 -- ---- cited lists, labels and names
-pub mod MarkSteps
 pub mod CitedNumbers
 pub mod LabelLines
 pub mod NewKeyLines

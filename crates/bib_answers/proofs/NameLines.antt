@@ -1,6 +1,6 @@
 -- The names of lists, their lines, and why they are refused.
-use Rattle.std.proofs.Common.{◌≡◌, ◌≢◌, ◌∙◌, ℕ, ◌+◌, ◌<◌, ◌≤◌, Bool, true, false, cond, List, ◌++◌, length, drop, get_or, Option, None, Some, Result, Ok, Err, IfOk, IfErr, OnOk, refl, sym, ap, append-nil, append_assoc}
-use Rattle.std.proofs.lemmas.List.{drop_more, drop_all}
+use Rattle.std.proofs.Common.{◌≡◌, ◌≢◌, ◌∙◌, ℕ, ◌+◌, ◌<◌, ◌≤◌, Bool, true, false, cond, List, ◌++◌, length, drop, get_or, Option, None, Some, Result, Ok, Err, IfOk, IfErr, OnOk, refl, sym, ap, append_assoc}
+use Rattle.std.proofs.lemmas.List.{drop_more}
 use Rattle.bib_spec.specs.Text.{Text, IsBalanced}
 use Rattle.bib_names.specs.NameList.{names_of}
 use Rattle.bib_names.specs.Name.{commas, without_end, parts_of}

@@ -1,6 +1,6 @@
 -- Positions, from one place to a later one.
 use Rattle.std.proofs.Common.{⊎_elim, ◌≡◌, ◌∙◌, ℕ, zero, suc, ◌+◌, ◌-◌, ◌≤◌, ◌<◌, ◌^◌, ◌==◌, false, [], ◌∷◌, length, take, drop, get_or, fold, min, count_by, add-one, sym, ap, subst, arith, le_refl}
-use Rattle.std.proofs.lemmas.Bool.{cases_Bool, cond-true, cond-false, cases_lt}
+use Rattle.std.proofs.lemmas.Bool.{cases_Bool, cond-true, cond-false}
 use Rattle.std.proofs.lemmas.List.{length-take, take_all, take_min, take_more, length-drop}
 use Rattle.std.proofs.lemmas.List.Sums.{fold-append, count_by_more_yes, count_by_more_no}
 use Rattle.std.proofs.Math.Seq.{take-add}
@@ -126,7 +126,3 @@ numbers_fit file known end is le within small =
       omega (arith, close.0, line, before, part, rest, le, within, small),
       omega (arith, close.1, column, before, part, rest, le, within, small),
     )
-
--- after the end of the file all places have one position
-position_past : (file : Text) (a b : ℕ) → length file ≤ a → length file ≤ b → position_of file a ≡ position_of file b
-position_past file a b long longer = ap (fold position_after (position 1 1)) (take_all a file long ∙ sym (take_all b file longer))

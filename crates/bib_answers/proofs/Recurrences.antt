@@ -1,12 +1,12 @@
 -- Which names an item may have twice.
-use Rattle.std.proofs.Common.{◌≡◌, ◌∙◌, ◌==◌, ◌||◌, ℕ, suc, ◌+◌, ◌%◌, ◌<◌, ◌≤◌, Bool, true, false, cond, List, [], ◌∷◌, length, get_or, set, replicate, Option, None, Some, refl, zero-add, sym, ap, subst, ⊎_elim, arith}
+use Rattle.std.proofs.Common.{◌≡◌, ◌∙◌, ◌==◌, ◌||◌, ℕ, suc, ◌+◌, ◌%◌, ◌<◌, ◌≤◌, Bool, true, false, cond, List, [], ◌∷◌, length, get_or, set, Option, None, Some, refl, zero-add, sym, ap, subst, ⊎_elim, arith}
 use Rattle.std.specs.List.{list_any}
 use Rattle.std.proofs.Math.Nat.{mod-lt}
 use Rattle.std.proofs.lemmas.Bool.{cases_Bool, eq-eqb, eqb-true, both_ways}
-use Rattle.std.proofs.lemmas.List.{get_or-set_same, get_or-set_other, get_or-replicate, length-set, length-replicate}
+use Rattle.std.proofs.lemmas.List.{get_or-set_same, get_or-set_other, length-set}
 use Rattle.bib_spec.specs.Text.{Text, folded, same}
 use Rattle.bib_spec.proofs.Names.{same-true}
-use Rattle.bib_answers.specs.Recurring.{hash_from, bucket_of, one_more, with_one_more, is_shared, may_recur, AreTold, unrolled}
+use Rattle.bib_answers.specs.Recurring.{hash_from, bucket_of, one_more, with_one_more, is_shared, AreTold, unrolled}
 use Rattle.bib_answers.specs.declared.name_filter.NameFilter.{NameFilter}
 
 -- how many of the names fall into bucket m of n
@@ -157,15 +157,6 @@ told_counted filter all n are = told_all filter all counted [] all refl
 pub told_none : (earlier rest : List Text) → AreTold None earlier rest
 told_none earlier [] = tt
 told_none earlier (name ∷ rest) = ((λ again. refl), told_none (name ∷ earlier) rest)
-
--- of two names that are the same, both may recur or neither
-pub recur_same : (filter : Option NameFilter) (a b : Text) → same a b ≡ true → may_recur filter a ≡ may_recur filter b
-recur_same None a b h = refl
-recur_same (Some filter) a b h = of_counts filter.counts.items
-  where
-    of_counts : (counts : List ℕ) → is_shared counts a ≡ is_shared counts b
-    of_counts [] = refl
-    of_counts (x ∷ xs) = ap (λ m. get_or (x ∷ xs) m 0 == 2) (bucket_of_same (length (x ∷ xs)) a b h)
 
 -- what a filter tells of all names, it tells of the names left
 pub told_at : (filter : Option NameFilter) (earlier rest : List Text) → AreTold filter [] (unrolled earlier rest) → AreTold filter earlier rest

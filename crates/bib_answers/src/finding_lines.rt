@@ -75,7 +75,7 @@ impl<'a> FindingLines<'a> {
         add_all(&mut self.text, &[b"warning: ", before, name, after, b"\n"])
     }
 
-    /// The same at a place in the item.
+    /// Adds the line of a finding at a place in the item.
     pub fn add(
         &mut self,
         at: usize,

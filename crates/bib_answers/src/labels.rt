@@ -13,7 +13,7 @@ use crate::answers::{Answer, done, no_such_entry};
 use crate::citing::all_cited;
 use crate::lines::add_all;
 use crate::opening::answer_file;
-use bib_keys::Parents;
+use bib_keys::{LabelRecords, Parents};
 use bib_names::{label_names, labels_of};
 use bib_scan::Text;
 use bib_store::{Database, Paged};
@@ -96,10 +96,15 @@ fn label_rows(
     ensures { IfOk result (λ rows. OfReading db.now (λ r. AreLabelRows (records_at depth (entries_of r) list.now) rows.bases.items rows.keys.items)) }
 {
     let names = label_names(alloc)?;
+    let records = LabelRecords {
+        db,
+        depth,
+        names: names.as_slice(),
+    };
     let mut parents = Parents::none(alloc);
     let mut rows = LabelRows::with_room(alloc, list.len())?;
     'rows: for n in list {
-        let base = parents.label_base(alloc, db, *n, depth, names.as_slice())?;
+        let base = parents.label_base(alloc, &records, *n)?;
         add_label_row(alloc, &mut rows, base, db.entry(*n).key())?;
     }
     Ok(rows)

@@ -12,6 +12,15 @@ use bib_scan::Text;
 use bib_store::{Database, ItemList};
 use std::alloc::{AllocError, Global};
 
+/// The records of a file's entries at a depth, as labels need them: of each entry, only the fields with these names are
+/// read. They are the names of the fields that labels are made of.
+#[derive(Drop)]
+pub struct LabelRecords<'d, L: ItemList> {
+    pub db: &'d Database<L>,
+    pub depth: u8,
+    pub names: &'d [&'d [u8]],
+}
+
 /// What the own fields of parents give to the labels of their descendants, by the parents' numbers, for all parents
 /// that were needed so far. So the fields of a parent are read once, however many descendants it has, at whatever
 /// depth, and in whatever order.
@@ -36,15 +45,14 @@ fn make_room(known: &mut Vec<Option<Box<LabelParts>>>, n: usize) -> Result<(), A
 /// What the own fields of entry `n` give to a label.
 fn parts_of<L: ItemList>(
     alloc: Global,
-    db: &Database<L>,
+    records: &LabelRecords<'_, L>,
     n: usize,
-    names: &[&[u8]],
 ) -> Result<LabelParts, AllocError>
-    requires number { IsEntryNumber db.now n }
-    requires names { map (λ name. name.now) names.now ≡ label_names }
-    ensures { IfOk result (λ parts. OfReading db.now (λ r. parts ≡ parts_of (label_fields (entries_of r) n))) }
+    requires number { IsEntryNumber records.now.db.now n }
+    requires names { map (λ name. name.now) records.now.names.now ≡ label_names }
+    ensures { IfOk result (λ parts. OfReading records.now.db.now (λ r. parts ≡ parts_of (label_fields (entries_of r) n))) }
 {
-    let Ok(fields) = db.own_fields_with(n, names) else {
+    let Ok(fields) = records.db.own_fields_with(n, records.names) else {
         return Err(AllocError);
     };
     match label_parts(alloc, fields.as_slice()) {
@@ -101,14 +109,13 @@ impl Parents {
     fn learn<L: ItemList>(
         &mut self,
         alloc: Global,
-        db: &Database<L>,
+        records: &LabelRecords<'_, L>,
         n: usize,
-        names: &[&[u8]],
     ) -> Result<(), AllocError>
-        requires number { IsEntryNumber db.now n }
-        requires names { map (λ name. name.now) names.now ≡ label_names }
-        requires parents { AreParents db.now self.old }
-        ensures parents { AreParents db.now self.new }
+        requires number { IsEntryNumber records.now.db.now n }
+        requires names { map (λ name. name.now) records.now.names.now ≡ label_names }
+        requires parents { AreParents records.now.db.now self.old }
+        ensures parents { AreParents records.now.db.now self.new }
         ensures known { OnOk result (IsSome (kept_of self.new.known.items n)) }
         ensures kept { (m : ℕ) → IsSome (kept_of self.old.known.items m) → IsSome (kept_of self.new.known.items m) }
         ensures line { self.new.line ≡ self.old.line }
@@ -117,34 +124,32 @@ impl Parents {
         if self.known[n].is_some() {
             return Ok(());
         }
-        let parts = parts_of(alloc, db, n, names)?;
+        let parts = parts_of(alloc, records, n)?;
         self.known[n] = Some(Box::new(alloc, parts)?);
         Ok(())
     }
 
-    /// Finds from which entries entry `n` inherits at this depth, and what they give. A refusal keeps what is known.
+    /// Finds from which entries entry `n` inherits, and what they give. A refusal keeps what is known.
     fn find_line<L: ItemList>(
         &mut self,
         alloc: Global,
-        db: &Database<L>,
+        records: &LabelRecords<'_, L>,
         n: usize,
-        depth: u8,
-        names: &[&[u8]],
     ) -> Result<(), AllocError>
-        requires number { IsEntryNumber db.now n }
-        requires names { map (λ name. name.now) names.now ≡ label_names }
-        requires parents { AreParents db.now self.old }
-        ensures parents { AreParents db.now self.new }
-        ensures line { OnOk result (OfReading db.now (λ r. self.new.line.items ≡ lineage (parent (entries_of r)) depth n)) }
+        requires number { IsEntryNumber records.now.db.now n }
+        requires names { map (λ name. name.now) records.now.names.now ≡ label_names }
+        requires parents { AreParents records.now.db.now self.old }
+        ensures parents { AreParents records.now.db.now self.new }
+        ensures line { OnOk result (OfReading records.now.db.now (λ r. self.new.line.items ≡ lineage (parent (entries_of r)) records.now.depth n)) }
         ensures known { OnOk result (AreKnown self.new.known.items self.new.line.items) }
     {
         self.line.clear();
         let mut heir = n;
-        'find: for _ in 0..depth {
-            let Some(parent) = db.parent(heir) else {
+        'find: for _ in 0..records.depth {
+            let Some(parent) = records.db.parent(heir) else {
                 return Ok(());
             };
-            self.learn(alloc, db, parent, names)?;
+            self.learn(alloc, records, parent)?;
             self.line.push(parent)?;
             heir = parent;
         }
@@ -166,29 +171,26 @@ impl Parents {
         inherited
     }
 
-    /// The label base of entry `n`, which is the label base of its record at this depth. It gathers only the fields of
-    /// these names, from which all labels are made. It takes time in the bytes of these fields, and in the bytes of
-    /// each ancestor that is read for the first time; memory for the letters and digits that parents give, and a word
-    /// for each entry up to the last parent. The one refusal is want of memory.
+    /// The label base of entry `n`, which is the label base of its record. It takes time in the bytes of the fields that
+    /// are read, and in the bytes of each ancestor that is read for the first time; memory for the letters and digits
+    /// that parents give, and a word for each entry up to the last parent. The one refusal is want of memory.
     pub fn label_base<L: ItemList>(
         &mut self,
         alloc: Global,
-        db: &Database<L>,
+        records: &LabelRecords<'_, L>,
         n: usize,
-        depth: u8,
-        names: &[&[u8]],
     ) -> Result<Text, AllocError>
-        requires number { IsEntryNumber db.now n }
-        requires depth { IsDepth depth }
-        requires names { map (λ name. name.now) names.now ≡ label_names }
-        requires parents { AreParents db.now self.old }
-        ensures parents { AreParents db.now self.new }
-        ensures base { IfOk result (λ base. OfReading db.now (λ r. (entry : EntryTexts) → slice_get (entries_of r) n ≡ Some entry → base ≡ label_base (record_of depth (entries_of r) n entry).fields)) }
+        requires number { IsEntryNumber records.now.db.now n }
+        requires depth { IsDepth records.now.depth }
+        requires names { map (λ name. name.now) records.now.names.now ≡ label_names }
+        requires parents { AreParents records.now.db.now self.old }
+        ensures parents { AreParents records.now.db.now self.new }
+        ensures base { IfOk result (λ base. OfReading records.now.db.now (λ r. (entry : EntryTexts) → slice_get (entries_of r) n ≡ Some entry → base ≡ label_base (record_of records.now.depth (entries_of r) n entry).fields)) }
     {
-        let Ok(fields) = db.own_fields_with(n, names) else {
+        let Ok(fields) = records.db.own_fields_with(n, records.names) else {
             return Err(AllocError);
         };
-        self.find_line(alloc, db, n, depth, names)?;
+        self.find_line(alloc, records, n)?;
         base_with(alloc, fields.as_slice(), &self.inherited())
     }
 }

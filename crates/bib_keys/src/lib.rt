@@ -8,5 +8,5 @@ mod label_bases;
 mod making;
 mod taken_keys;
 
-pub use label_bases::Parents;
+pub use label_bases::{LabelRecords, Parents};
 pub use making::{free_key, free_keys, made_keys};

@@ -12,56 +12,52 @@ ghost use Rattle.bib_keys.specs.MadeBase.{made_base};
 ghost use Rattle.bib_keys.specs.Parents.{AreParents};
 ghost use Rattle.bib_keys.specs.TakenKeys.{AreTaken, taken_in};
 
-use crate::label_bases::Parents;
+use crate::label_bases::{LabelRecords, Parents};
 use crate::taken_keys::TakenKeys;
 use bib_names::{key_letters, label_names};
 use bib_scan::{Seq, Text};
 use bib_store::{Database, ItemList};
 use std::alloc::{AllocError, Global};
 
-/// The base of the key that is made for entry `n` from its record at this depth.
+/// The base of the key that is made for entry `n` from its record.
 fn base_of<L: ItemList>(
     alloc: Global,
-    db: &Database<L>,
+    records: &LabelRecords<'_, L>,
     n: usize,
-    depth: u8,
-    names: &[&[u8]],
     parents: &mut Parents,
 ) -> Result<Text, AllocError>
-    requires number { IsEntryNumber db.now n }
-    requires depth { IsDepth depth }
-    requires names { map (λ name. name.now) names.now ≡ label_names }
-    requires parents { AreParents db.now parents.old }
-    ensures parents { OnOk result (AreParents db.now parents.new) }
-    ensures base { IfOk result (λ base. OfReading db.now (λ r. (entry : EntryTexts) → slice_get (entries_of r) n ≡ Some entry → base ≡ made_base (record_of depth (entries_of r) n entry))) }
+    requires number { IsEntryNumber records.now.db.now n }
+    requires depth { IsDepth records.now.depth }
+    requires names { map (λ name. name.now) records.now.names.now ≡ label_names }
+    requires parents { AreParents records.now.db.now parents.old }
+    ensures parents { OnOk result (AreParents records.now.db.now parents.new) }
+    ensures base { IfOk result (λ base. OfReading records.now.db.now (λ r. (entry : EntryTexts) → slice_get (entries_of r) n ≡ Some entry → base ≡ made_base (record_of records.now.depth (entries_of r) n entry))) }
     ensures short { IfOk result (λ base. length base ≤ base_limit) }
 {
-    let label_base = parents.label_base(alloc, db, n, depth, names)?;
+    let label_base = parents.label_base(alloc, records, n)?;
     key_letters(alloc, label_base.as_slice())
 }
 
 /// The key that is made for entry `n`: the first candidate of its base that is not taken. The key is taken then.
 fn make_key<L: ItemList>(
     alloc: Global,
-    db: &Database<L>,
+    records: &LabelRecords<'_, L>,
     n: usize,
-    depth: u8,
-    names: &[&[u8]],
     taken: &mut TakenKeys,
     parents: &mut Parents,
 ) -> Result<Text, AllocError>
-    requires number { IsEntryNumber db.now n }
-    requires depth { IsDepth depth }
-    requires names { map (λ name. name.now) names.now ≡ label_names }
-    requires parents { AreParents db.now parents.old }
+    requires number { IsEntryNumber records.now.db.now n }
+    requires depth { IsDepth records.now.depth }
+    requires names { map (λ name. name.now) records.now.names.now ≡ label_names }
+    requires parents { AreParents records.now.db.now parents.old }
     requires count { taken.old.count + 1 < 2 ^ 64 }
-    ensures parents { OnOk result (AreParents db.now parents.new) }
-    ensures key { IfOk result (λ key. OfReading db.now (λ r. (entry : EntryTexts) → slice_get (entries_of r) n ≡ Some entry → (keys : List Bytes) → AreTaken keys taken.old → key ≡ free_key keys (made_base (record_of depth (entries_of r) n entry)))) }
+    ensures parents { OnOk result (AreParents records.now.db.now parents.new) }
+    ensures key { IfOk result (λ key. OfReading records.now.db.now (λ r. (entry : EntryTexts) → slice_get (entries_of r) n ≡ Some entry → (keys : List Bytes) → AreTaken keys taken.old → key ≡ free_key keys (made_base (record_of records.now.depth (entries_of r) n entry)))) }
     ensures taken { IfOk result (λ key. (keys : List Bytes) → AreTaken keys taken.old → AreTaken (key ∷ keys) taken.new) }
     ensures count { OnOk result (taken.new.count ≡ taken.old.count + 1) }
     ensures short { IfOk result (λ key. length key ≤ name_limit) }
 {
-    let base = base_of(alloc, db, n, depth, names, parents)?;
+    let base = base_of(alloc, records, n, parents)?;
     taken.take_free(base.as_slice())
 }
 
@@ -88,14 +84,18 @@ pub fn made_keys<L: ItemList>(
 {
     db.opens();
     let mut taken = TakenKeys::of_dangling(alloc, db)?;
-    let label_names = label_names(alloc)?;
-    let names = label_names.as_slice();
+    let names = label_names(alloc)?;
+    let records = LabelRecords {
+        db,
+        depth,
+        names: names.as_slice(),
+    };
     let mut parents = Parents::none(alloc);
     let mut keys = Vec::new(alloc);
     'entries: for n in 0..db.entry_count() {
         push_made(
             &mut keys,
-            make_key(alloc, db, n, depth, names, &mut taken, &mut parents),
+            make_key(alloc, &records, n, &mut taken, &mut parents),
         )?;
     }
     Ok(Seq::from_vec(keys))

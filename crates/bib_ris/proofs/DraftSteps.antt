@@ -1,7 +1,7 @@
 -- Drafts of the records that a RIS text says, one after another.
-use Rattle.std.proofs.Common.{◌≡◌, ◌∙◌, ◌≤◌, ◌+◌, ℕ, Bool, true, false, List, [], ◌∷◌, ◌++◌, length, map, filter, not, inl, inr, refl, sym, ap, ap₂, subst, append-nil, zero-add}
+use Rattle.std.proofs.Common.{◌≡◌, ◌∙◌, ◌≤◌, ◌+◌, ℕ, Bool, true, false, List, [], ◌∷◌, ◌++◌, length, map, filter, not, refl, sym, ap, ap₂, subst, append-nil, zero-add}
 use Rattle.std.specs.List.{list_all, AllByRecursion}
-use Rattle.std.specs.Prelude.{◌&&◌, ◌⊎◌, Ok, Err}
+use Rattle.std.specs.Prelude.{◌&&◌, Ok, Err}
 use Rattle.std.proofs.Math.Bool.{and-false}
 use Rattle.std.proofs.lemmas.Bool.{and_from}
 use Rattle.std.proofs.lemmas.List.{map-append}
@@ -15,7 +15,6 @@ use Rattle.bib_keys.specs.MadeBase.{made_base}
 use Rattle.ris_text.specs.declared.records.RisRecord.{RisRecord}
 use Rattle.ris_text.specs.declared.records.RisFile.{RisFile}
 use Rattle.ris_text.specs.declared.fault.RisFault.{RisFault}
-use Rattle.ris_text.specs.declared.fault.RisFault.TheVariants as text_fault
 use Rattle.ris_text.specs.Code.{ris_file, with_record, with_front}
 use Rattle.ris_text.specs.Rest.{Rest, IsLeft}
 use Rattle.ris_text.proofs.RestLaws.{left-more}
@@ -23,8 +22,7 @@ use Rattle.ris_format.specs.Mapping.{back}
 use Rattle.ris_format.specs.Entry.{entry_of, are_balanced}
 use Rattle.ris_format.proofs.PartLaws.{all-append}
 use Rattle.bib_ris.specs.declared.drafts.Drafts.{Drafts}
-use Rattle.bib_ris.specs.Faults.{unread}
-use Rattle.bib_ris.specs.Import.{records_of, HasUnbalanced, RefusesImport}
+use Rattle.bib_ris.specs.Import.{records_of, HasUnbalanced}
 use Rattle.bib_ris.specs.Drafts.{bases_of, AreDraftsOf, AreSaidBy}
 
 -- ---- drafts
@@ -55,9 +53,6 @@ pub record AreSaid (text : Text) (rest : Rest) (d : Drafts) : Type 0 where
   pub left : IsLeft text done rest
   pub drafts : AreDraftsOf (records_of done) d
 
-pub said-none : (text : Text) (rest : Rest) (d : Drafts) → IsLeft text [] rest → AreDraftsOf [] d → AreSaid text rest d
-said-none text rest d left none = record { done = []; left = left; drafts = none }
-
 -- one more record
 pub said-more : (text : Text) (rest after : Rest) (d e : Drafts) (r : RisRecord) → AreSaid text rest d → rest.says ≡ with_record r after.says
     → ((so_far : List Record) → AreDraftsOf so_far d → AreDraftsOf (so_far ++ back r ∷ []) e) → AreSaid text after e
@@ -76,19 +71,6 @@ said-all text rest d skipped so ends = record {
   drafts = so.drafts;
   skipped = refl;
 }
-
--- ---- faults
-
--- if what is left goes wrong, the text goes wrong
-pub fault-left : (text : Text) (records : List RisRecord) (rest : Rest) (fault : RisFault) → IsLeft text records rest
-    → (fault ≡ text_fault.Memory) ⊎ (rest.says ≡ Err fault) → RefusesImport (unread fault) text
-fault-left text records rest text_fault.Memory left why = tt
-fault-left text records rest (text_fault.NoStart place) left (inl memory) = absurd (cc)
-fault-left text records rest (text_fault.NoStart place) left (inr wrong) = ((λ e. absurd (cc)), left.wrong (text_fault.NoStart place) wrong)
-fault-left text records rest (text_fault.NoEnd place) left (inl memory) = absurd (cc)
-fault-left text records rest (text_fault.NoEnd place) left (inr wrong) = ((λ e. absurd (cc)), left.wrong (text_fault.NoEnd place) wrong)
-fault-left text records rest (text_fault.EmptyType place) left (inl memory) = absurd (cc)
-fault-left text records rest (text_fault.EmptyType place) left (inr wrong) = ((λ e. absurd (cc)), left.wrong (text_fault.EmptyType place) wrong)
 
 all_of : (xs ys : List RisRecord) → list_all are_balanced (records_of (xs ++ ys)) ≡ (list_all are_balanced (records_of xs) && list_all are_balanced (records_of ys))
 all_of xs ys = ap (list_all are_balanced) (map-append back xs ys) ∙ list_all-append are_balanced (records_of xs) (records_of ys)
@@ -120,13 +102,3 @@ said-unbalanced text rest after d r others so says unbalanced ends = record {
 pub record LeadsTo (first later : Rest) : Type 0 where
   pub ends : (said : RisFile) → later.says ≡ Ok said → (whole : RisFile) × (first.says ≡ Ok whole)
   pub wrong : (fault : RisFault) → later.says ≡ Err fault → first.says ≡ Err fault
-
-pub leads-none : (rest : Rest) → LeadsTo rest rest
-leads-none rest = record { ends = λ said says. (said, says); wrong = λ fault says. says }
-
--- one more record
-pub leads-more : (first rest after : Rest) (r : RisRecord) → LeadsTo first rest → rest.says ≡ with_record r after.says → LeadsTo first after
-leads-more first rest after r so is = record {
-  ends = λ said says. so.ends (ris_file (r ∷ said.records) said.skipped) (is ∙ ap (with_record r) says);
-  wrong = λ fault says. so.wrong fault (is ∙ ap (with_record r) says);
-}

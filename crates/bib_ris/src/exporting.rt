@@ -1,11 +1,11 @@
 //! Entries of a file as RIS.
 
-ghost use Rattle.std.specs.Prelude.{◌≡◌, ◌<◌, ◌++◌, [], length, map, All, IfOk, IfErr, OnOk};
+ghost use Rattle.std.specs.Prelude.{◌≡◌, ◌<◌, ◌++◌, [], length, All, IfOk, IfErr, OnOk};
 ghost use Rattle.std.specs.Option.{option_map_or};
 ghost use Rattle.bib_spec.specs.Records.{entries_of, expanded, IsDepth};
 ghost use Rattle.bib_store.specs.Meaning.{OfReading, IsEntryNumber};
 ghost use Rattle.ris_text.specs.Writing.{record_text};
-ghost use Rattle.ris_format.specs.Mapping.{ris, ris_names};
+ghost use Rattle.ris_format.specs.Mapping.{ris};
 ghost use Rattle.ris_format.specs.declared.fault.MappingFault.TheVariants.{Memory};
 ghost use Rattle.bib_ris.specs.Export.{entries_ris};
 
@@ -14,25 +14,24 @@ use bib_store::{Database, ItemList};
 use ris_format::{MappingFault, given_records_fit, ris_names, write_entry};
 use std::alloc::Global;
 
-/// Adds the RIS text of entry `n`, with what it inherits at this depth, to a text. Only its fields with these names are
-/// gathered.
+/// Adds the RIS text of entry `n`, with what it inherits at this depth, to a text. It gathers only the fields that RIS
+/// has a place for.
 fn add_entry<L: ItemList>(
     alloc: Global,
     text: &mut Vec<u8>,
     db: &Database<L>,
-    names: &[&[u8]],
     n: usize,
     depth: u8,
 ) -> Result<(), MappingFault>
     requires number { IsEntryNumber db.now n }
     requires depth { IsDepth depth }
-    requires names { map (λ name. name.now) names.now ≡ ris_names }
     ensures text { OnOk result (OfReading db.now (λ r. text.new.items ≡ text.old.items ++ option_map_or (λ entry. record_text (ris entry)) (expanded depth (entries_of r) n) [])) }
     ensures memory { IfErr result (λ fault. fault ≡ Memory) }
 {
     db.opens();
     given_records_fit();
-    let Ok(entry) = db.expanded_with(n, depth, names) else {
+    let names = ris_names();
+    let Ok(entry) = db.expanded_with(n, depth, &names) else {
         return Err(MappingFault::Memory);
     };
     write_entry(alloc, text, &entry)?;
@@ -52,10 +51,9 @@ pub fn entries_ris<L: ItemList>(
     ensures text { IfOk result (λ text. OfReading db.now (λ r. text ≡ entries_ris depth (entries_of r) list.now)) }
     ensures memory { IfErr result (λ fault. fault ≡ Memory) }
 {
-    let names = ris_names();
     let mut text = Vec::new(alloc);
     'entries: for n in list {
-        add_entry(alloc, &mut text, db, &names, *n, depth)?;
+        add_entry(alloc, &mut text, db, *n, depth)?;
     }
     Ok(Seq::from_vec(text))
 }

@@ -27,8 +27,8 @@ find-init g c = (
   c.requires.parents,
   All-same (λ (n : ℕ). IsSome (kept_of c.args.self.now.known.items n)) _ [] c.clear.ensures.items (All-nil (λ (n : ℕ). IsSome (kept_of c.args.self.now.known.items n))),
   λ r reads.
-      let all : c.args.depth - 0 ≡ c.args.depth = omega arith in
-      ap (λ (l : List ℕ). l ++ lineage (parent (entries_of r)) (c.args.depth - 0) c.args.n) c.clear.ensures.items ∙ ap (λ (d : ℕ). lineage (parent (entries_of r)) d c.args.n) all,
+      let all : c.args.records.now.depth - 0 ≡ c.args.records.now.depth = omega arith in
+      ap (λ (l : List ℕ). l ++ lineage (parent (entries_of r)) (c.args.records.now.depth - 0) c.args.n) c.clear.ensures.items ∙ ap (λ (d : ℕ). lineage (parent (entries_of r)) d c.args.n) all,
 )
 
 pub find-preserved : goal.find-preserved
@@ -38,20 +38,20 @@ find-preserved g c = (
   known-more c.find.self.known.items c.learn.new.self.known.items c.find.self.line.items c.learn.new.self.line.items c.push.new.self.items c.in-Some.parent
       c.find.invariant.2 c.in_ok-learn.ensures.kept c.in_ok-learn.ensures.known (ap (λ v. v.items) c.in_ok-learn.ensures.line) c.in_ok-push.ensures.items,
   λ r reads.
-      line-more (parent (entries_of r)) c.args.depth c.find.counter c.find.heir c.in-Some.parent c.find.self.line.items c.learn.new.self.line.items c.push.new.self.items
-      (lineage (parent (entries_of r)) c.args.depth c.args.n)
-      (lineage_more (parent (entries_of r)) c.args.depth c.find.counter c.find.heir c.in-Some.parent c.find-test.true (sym (c.parent.ensures.parent r reads) ∙ c.in-Some.is))
+      line-more (parent (entries_of r)) c.args.records.now.depth c.find.counter c.find.heir c.in-Some.parent c.find.self.line.items c.learn.new.self.line.items c.push.new.self.items
+      (lineage (parent (entries_of r)) c.args.records.now.depth c.args.n)
+      (lineage_more (parent (entries_of r)) c.args.records.now.depth c.find.counter c.find.heir c.in-Some.parent c.find-test.true (sym (c.parent.ensures.parent r reads) ∙ c.in-Some.is))
       (ap (λ v. v.items) c.in_ok-learn.ensures.line) c.in_ok-push.ensures.items (c.find.invariant.3 r reads),
 )
 
 pub returns-in_default-clause-line : goal.returns-in_default-clause-line
 returns-in_default-clause-line g c = λ r reads.
     sym (append-nil c.find.self.line.items)
-    ∙ ap (λ (l : List ℕ). c.find.self.line.items ++ l) (sym (lineage_none (parent (entries_of r)) (c.args.depth - c.find.counter) c.find.heir (sym (c.parent.ensures.parent r reads) ∙ c.in_default.is)))
+    ∙ ap (λ (l : List ℕ). c.find.self.line.items ++ l) (sym (lineage_none (parent (entries_of r)) (c.args.records.now.depth - c.find.counter) c.find.heir (sym (c.parent.ensures.parent r reads) ∙ c.in_default.is)))
     ∙ c.find.invariant.3 r reads
 
 pub returns-clause-line : goal.returns-clause-line
 returns-clause-line g c = λ r reads.
     sym (append-nil c.find.self.line.items)
-    ∙ ap (λ (l : List ℕ). c.find.self.line.items ++ l) (sym (lineage_done (parent (entries_of r)) c.args.depth c.find.counter c.find.heir c.find-test.false))
+    ∙ ap (λ (l : List ℕ). c.find.self.line.items ++ l) (sym (lineage_done (parent (entries_of r)) c.args.records.now.depth c.find.counter c.find.heir c.find-test.false))
     ∙ c.find.invariant.3 r reads

@@ -7,5 +7,5 @@ use Rattle.bib_keys.proofs.label_bases.Parents.find_line.Given as goal
 
 abbrev pub invariant-find : goal.invariant-find
 invariant-find g l =
-    IsEntryNumber l.db l.heir × AreParents l.db l.self × AreKnown l.self.known.items l.self.line.items
-    × OfReading l.db (λ r. l.self.line.items ++ lineage (parent (entries_of r)) (l.depth - l.counter) l.heir ≡ lineage (parent (entries_of r)) l.depth l.n)
+    IsEntryNumber l.records.db.now l.heir × AreParents l.records.db.now l.self × AreKnown l.self.known.items l.self.line.items
+    × OfReading l.records.db.now (λ r. l.self.line.items ++ lineage (parent (entries_of r)) (l.records.depth - l.counter) l.heir ≡ lineage (parent (entries_of r)) l.records.depth l.n)

@@ -12,6 +12,6 @@ returns-clause-base g c = IfOk-weaker c.base_with.result _ _
     (λ base h r reads entry at.
     h
     ∙ ap (λ (parts : LabelParts). base_from (parts_with (parts_of c.as_slice.result.now) parts))
-    (c.inherited.ensures c.args.db.now c.in_ok-find_line.ensures.parents r reads ∙ ap (parts_along (entries_of r)) (c.in_ok-find_line.ensures.line r reads))
-    ∙ base_along _ (entries_of r) c.args.depth c.args.n entry c.as_slice.result.now c.requires.names at (c.as_slice.ensures ∙ c.in-Ok.ensures.fields r reads))
+    (c.inherited.ensures c.args.records.now.db.now c.in_ok-find_line.ensures.parents r reads ∙ ap (parts_along (entries_of r)) (c.in_ok-find_line.ensures.line r reads))
+    ∙ base_along _ (entries_of r) c.args.records.now.depth c.args.n entry c.as_slice.result.now c.requires.names at (c.as_slice.ensures ∙ c.in-Ok.ensures.fields r reads))
     c.base_with.ensures
