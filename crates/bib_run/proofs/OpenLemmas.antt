@@ -1,5 +1,5 @@
--- A journal that is unfit, and a file that is.
-use Rattle.std.proofs.Common.{◌≡◌, true, false, Option, Some, None, refl}
+-- A journal that is unfit.
+use Rattle.std.proofs.Common.{◌≡◌, true, Option, Some, None, refl}
 use Rattle.bib_spec.specs.Text.{Text}
 use Rattle.bib_journal.specs.declared.fault.SessionFault.{SessionFault}
 use Rattle.bib_journal.specs.declared.fault.SessionFault.TheVariants.{Unopened, Refused, JournalFull, NothingToUndo, NothingToRedo, BadJournal, JournalMismatch, StepOpen, NoOpenStep, Memory}
@@ -22,17 +22,3 @@ opens_anew NothingToRedo file journal state is refuses opens = cc
 opens_anew StepOpen file journal state is refuses opens = cc
 opens_anew NoOpenStep file journal state is refuses opens = cc
 opens_anew Memory file journal state is refuses opens = cc
-
--- where it is not, the file is
-pub file_refuses : (fault : SessionFault) (file : Text) (journal : Option Text) → is_of_journal fault ≡ false → RefusesOpen fault file journal → RefusesOpen fault file None
-file_refuses fault file None is refuses = refuses
-file_refuses (BadJournal place) file (Some text) is refuses = cc
-file_refuses JournalMismatch file (Some text) is refuses = cc
-file_refuses (Unopened fault) file (Some text) is refuses = refuses
-file_refuses (Refused fault) file (Some text) is refuses = refuses
-file_refuses JournalFull file (Some text) is refuses = refuses
-file_refuses NothingToUndo file (Some text) is refuses = refuses
-file_refuses NothingToRedo file (Some text) is refuses = refuses
-file_refuses StepOpen file (Some text) is refuses = refuses
-file_refuses NoOpenStep file (Some text) is refuses = refuses
-file_refuses Memory file (Some text) is refuses = refuses

@@ -54,8 +54,8 @@ pub fn run<F: Read, J: Read, I: Read, W: Write>(
     ensures input { ¬ TakesInput command.now → input.new ≡ input.old }
 {
     match journal {
-        Some(journal) => perform(alloc, command, file, true, journal, input, out),
-        None => perform(
+        Some(journal) => run_command(alloc, command, file, true, journal, input, out),
+        None => run_command(
             alloc,
             command,
             file,
@@ -68,7 +68,7 @@ pub fn run<F: Read, J: Read, I: Read, W: Write>(
 }
 
 /// The run of a command. If there is no journal, no call is made on the tap in its place.
-fn perform<F: Read, J: Read, I: Read, W: Write>(
+fn run_command<F: Read, J: Read, I: Read, W: Write>(
     alloc: Global,
     command: &Command,
     file: &mut Tap<F>,
@@ -84,14 +84,14 @@ fn perform<F: Read, J: Read, I: Read, W: Write>(
     ensures unread { ¬ ReadsJournal command.now → journal.new ≡ journal.old }
     ensures input { ¬ TakesInput command.now → input.new ≡ input.old }
 {
-    match try_perform(alloc, command, file, has_journal, journal, input, out) {
+    match try_run(alloc, command, file, has_journal, journal, input, out) {
         Ok(outcome) => outcome,
         Err(AllocError) => outcome_of(Text::from_vec(Vec::new(alloc)), status::MEMORY),
     }
 }
 
 /// The run of a command, or want of memory, which comes before anything is written and never after a fault.
-fn try_perform<F: Read, J: Read, I: Read, W: Write>(
+fn try_run<F: Read, J: Read, I: Read, W: Write>(
     alloc: Global,
     command: &Command,
     file: &mut Tap<F>,

@@ -59,9 +59,6 @@ level-past text k lt a b =
     let c : closed_before text (k + 1) ≡ closed_before text k = closed_more text k lt ∙ omega (arith, ap {B = ℕ} (λ c. cond c 1 0) b) in
     ap (λ n. eqb n (closed_before text (k + 1))) o ∙ ap (eqb (opened_before text k)) c
 
-is_literal : (a b k : ℕ) → eqb a k ≡ true → eqb b k ≡ false → a ≡ b → ⊥
-is_literal a b k e f same = both_ways (eqb b k) f (ap (λ n. eqb n k) (sym same) ∙ e)
-
 separator-no_brace : (b k : ℕ) → (k ≡ 123) ⊎ (k ≡ 125) → is_separator b ≡ true → eqb b k ≡ false
 separator-no_brace b k which h =
     ⊎_elim

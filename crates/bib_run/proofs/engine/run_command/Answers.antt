@@ -1,7 +1,7 @@
 use Rattle.std.proofs.Common.{refl}
 use Rattle.bib_run.specs.Runs.{no_memory}
 use Rattle.bib_run.proofs.Endings.{held-sound}
-use Rattle.bib_run.proofs.engine.perform.Goals as goal
+use Rattle.bib_run.proofs.engine.run_command.Goals as goal
 
 pub returns-in-Err-clause-ran : goal.returns-in-Err-clause-ran
 returns-in-Err-clause-ran g c =

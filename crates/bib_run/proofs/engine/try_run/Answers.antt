@@ -3,7 +3,7 @@ use Rattle.std.proofs.lemmas.Result.{IfOk-weaker}
 use Rattle.bib_spec.proofs.Results.{err_always}
 use Rattle.bib_run.specs.Runs.{read_fault}
 use Rattle.bib_run.proofs.Endings.{no_tap, input_sound}
-use Rattle.bib_run.proofs.engine.try_perform.Goals as goal
+use Rattle.bib_run.proofs.engine.try_run.Goals as goal
 
 pub returns-in-Ok-clause-ran : goal.returns-in-Ok-clause-ran
 returns-in-Ok-clause-ran g c =
