@@ -4,10 +4,9 @@ ghost use Rattle.std.specs.Prelude.{◌≡◌, ◌+◌, ◌≤◌, ◌⊎◌, �
 ghost use Rattle.bib_spec.specs.Reading.{Reading, Reads};
 ghost use Rattle.bib_spec.specs.Texts.{too_long_at};
 ghost use Rattle.bib_scan.specs.Layout.{IsLayoutOf};
-ghost use Rattle.bib_store.specs.Beside.{AreTables, HasItems};
+ghost use Rattle.bib_store.specs.Beside.{AreTables};
 ghost use Rattle.bib_store.specs.Following.{MayPassBetween};
 ghost use Rattle.bib_store.specs.Firm.{IsFirm};
-ghost use Rattle.bib_items.specs.Items.{without_range};
 ghost use Rattle.bib_store.specs.Stored.{SayTheSameOf};
 ghost use Rattle.bib_items.specs.declared.list.Item.{Item};
 ghost use Rattle.bib_store.specs.Windows.{IsWindow, IsLead, ArePut, OfJoined, exchanged};
@@ -140,9 +139,8 @@ fn exchange_all<L: ItemList>(
 
 /// Updates the tables for a change whose `count` items are in the list, before the items of the window that they replace.
 /// If few items come and go, and none is a definition or nothing depends on definitions, the tables are updated item by item.
-/// If many do, but all except the first each replace one of their kind, the first alone comes and goes. Otherwise the tables
-/// are built again, once the list is prepared for look-ups of all items. An item that only gets another trail neither comes
-/// nor goes. If it is refused, the tables say what they said. No item changes.
+/// An item that only gets another trail neither comes nor goes. If it is refused, the tables say what they said. No item
+/// changes.
 fn renew<L: ItemList>(
     alloc: Global,
     front_len: usize,
@@ -162,21 +160,47 @@ fn renew<L: ItemList>(
     ensures err { OnErr result ((old : List Item) → (inner : Reading) → Reads change.now.text inner → ArePut change.now old (L.items items.old) count → SayTheSameOf old tables.old tables.new) }
 {
     let lead = unchanged_first(&*items, change.window, count);
-    if can_follow(&*items, &*tables, change.window, count, lead) {
-        match follow(alloc, &*items, tables, change, count, lead) {
-            Ok(()) => return Ok(()),
-            // firm tables refuse items with which they would not be firm
-            Err(fault) => {
-                if !tables.is_firm() {
-                    return Err(fault);
-                }
+    if !can_follow(&*items, &*tables, change.window, count, lead) {
+        return renew_many(alloc, front_len, items, tables, change, count);
+    }
+    match follow(alloc, &*items, tables, change, count, lead) {
+        Ok(()) => return Ok(()),
+        // firm tables refuse items with which they would not be firm
+        Err(fault) => {
+            if !tables.is_firm() {
+                return Err(fault);
             }
         }
-    } else if put_behind_first(alloc, tables, &*items, change, count) {
+    }
+    *tables = remake(alloc, front_len, items, change, count)?;
+    Ok(())
+}
+
+/// Updates the tables as `renew` does, where many items come and go. If all except the first each replace one of their kind,
+/// the first alone comes and goes. Otherwise the tables are built again.
+fn renew_many<L: ItemList>(
+    alloc: Global,
+    front_len: usize,
+    items: &mut L,
+    tables: &mut Tables,
+    change: &Change,
+    count: usize,
+) -> Result<(), StoreFault>
+    requires ordered { change.now.window.from ≤ change.now.window.to }
+    requires within { change.now.window.to + count ≤ length (L.items items.old) }
+    requires layout { IsLayoutOf change.now.text change.now.layout }
+    ensures items { L.items items.new ≡ L.items items.old }
+    ensures tables { OnOk result ((old : List Item) → ArePut change.now old (L.items items.old) count → OfJoined change.now front_len old tables.old (λ db. AreTables db tables.new × (too_long_at db ≡ None))) }
+    ensures len { OnOk result (tables.new.file_len ≡ change.now.file_len) }
+    ensures refused { IfErr result (λ fault. fault ≡ BadSplice → (old : List Item) → ArePut change.now old (L.items items.old) count → OfJoined change.now front_len old tables.old (λ db. too_long_at db ≡ None → ⊥)) }
+    ensures only { IfErr result (λ fault. (fault ≡ BadSplice) ⊎ (fault ≡ Memory)) }
+    ensures err { OnErr result ((old : List Item) → (inner : Reading) → Reads change.now.text inner → ArePut change.now old (L.items items.old) count → SayTheSameOf old tables.old tables.new) }
+{
+    items.prepare(usize::MAX);
+    if put_behind_first(alloc, tables, &*items, change, count) {
         return Ok(());
     }
-    items.prepare(usize::MAX);
-    *tables = remake(alloc, front_len, &*items, change, count)?;
+    *tables = remake(alloc, front_len, items, change, count)?;
     Ok(())
 }
 
@@ -267,21 +291,24 @@ fn follow<L: ItemList>(
     }
 }
 
-/// The tables of all items except those of a change's window, before which the change's `count` items are in the list.
+/// The tables of all items except those of a change's window, before which the change's `count` items are in the list. The
+/// list is prepared for look-ups of all items first. No item changes.
 fn remake<L: ItemList>(
     alloc: Global,
     front_len: usize,
-    items: &L,
+    items: &mut L,
     change: &Change,
     count: usize,
 ) -> Result<Tables, StoreFault>
     requires ordered { change.now.window.from ≤ change.now.window.to }
-    requires within { change.now.window.to + count ≤ length (L.items items.now) }
-    ensures tables { IfOk result (λ tables. (db : Reading) → HasItems front_len (without_range (change.now.window.from + count) (change.now.window.to + count) (L.items items.now)) db → AreTables db tables × (too_long_at db ≡ None)) }
+    requires within { change.now.window.to + count ≤ length (L.items items.old) }
+    ensures items { L.items items.new ≡ L.items items.old }
+    ensures tables { IfOk result (λ tables. (old : List Item) → (t : Tables) → ArePut change.now old (L.items items.old) count → OfJoined change.now front_len old t (λ db. AreTables db tables × (too_long_at db ≡ None))) }
     ensures len { IfOk result (λ tables. tables.file_len ≡ change.now.file_len) }
-    ensures refused { IfErr result (λ fault. fault ≡ BadSplice → (db : Reading) → HasItems front_len (without_range (change.now.window.from + count) (change.now.window.to + count) (L.items items.now)) db → too_long_at db ≡ None → ⊥) }
+    ensures refused { IfErr result (λ fault. fault ≡ BadSplice → (old : List Item) → (t : Tables) → ArePut change.now old (L.items items.old) count → OfJoined change.now front_len old t (λ db. too_long_at db ≡ None → ⊥)) }
     ensures only { IfErr result (λ fault. (fault ≡ BadSplice) ⊎ (fault ≡ Memory)) }
 {
+    items.prepare(usize::MAX);
     let window = change.window;
     // for the proof: the count fits a usize
     let _ = items.count();
@@ -290,7 +317,7 @@ fn remake<L: ItemList>(
         alloc,
         change.file_len,
         front_len,
-        items,
+        &*items,
         first_old,
         window.to + count,
     ) {
