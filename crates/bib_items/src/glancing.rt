@@ -1,12 +1,13 @@
 //! Quick looks for a word in an item's bytes, which spare taking the item apart.
 
 ghost use Rattle.std.specs.Prelude.{◌≡◌, ◌++◌, ◌<◌, length, true};
+ghost use Rattle.memchr.specs.Find.{IsFirstByte, is_byte2};
 ghost use Rattle.bib_spec.specs.Text.{Text as Bytes, same};
 ghost use Rattle.bib_items.specs.Glancing.{LacksWord};
 
 use bib_scan::same_folded;
 use memchr::arch::all::packedpair::Pair;
-use memchr::memchr2;
+use memchr::{memchr, memchr2};
 
 /// The number of the word's byte that is rarest in most texts. Only time depends on it.
 pub(crate) fn rarest(word: &[u8]) -> usize
@@ -25,6 +26,16 @@ fn begins_with(text: &[u8], word: &[u8]) -> bool
     text.len() >= word.len() && same_folded(text.split_at(word.len()).0, word)
 }
 
+/// The first place of either byte.
+fn find_either(low: u8, high: u8, text: &[u8]) -> Option<usize>
+    ensures { IsFirstByte (is_byte2 low high) text.now result }
+{
+    if low == high {
+        return memchr(low, text);
+    }
+    memchr2(low, high, text)
+}
+
 /// Whether the word is nowhere in the text, in any case. It looks for the word's byte number `rare` first, and takes no
 /// memory. The time is in the length of the text, times that of the word if all bytes are alike.
 pub fn lacks_word(text: &[u8], word: &[u8], rare: usize) -> bool
@@ -37,7 +48,7 @@ pub fn lacks_word(text: &[u8], word: &[u8], rare: usize) -> bool
     let low = word[rare].to_ascii_lowercase();
     let high = low.to_ascii_uppercase();
     let mut at = rare;
-    'search: while let Some(found) = memchr2(low, high, text.split_at(at).1) {
+    'search: while let Some(found) = find_either(low, high, text.split_at(at).1) {
         let place = at + found;
         if begins_with(text.split_at(place - rare).1, word) {
             return false;

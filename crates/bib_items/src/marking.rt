@@ -112,7 +112,8 @@ impl<T: Drop> From<AllocFailed<T>> for Unmarked {
     }
 }
 
-/// Whether the mark is among these, which are in ascending order.
+/// Whether the mark is among these, which are in ascending order. It is seldom called.
+#[inline(never)]
 fn is_among(marks: &[u32], mark: u32) -> bool
     requires { IsNonDecreasing marks.now }
     ensures { result ≡ false → Contains marks.now mark → ⊥ }

@@ -9,10 +9,10 @@ use std::alloc::{AllocError, Global};
 use std::marker::Model;
 
 /// How far from the label before it a label is that comes after all others.
-const GAP: usize = 1 << 40;
+const GAP: usize = 1 << 42;
 
-/// How far from the label that came last a label is that comes beside it.
-const STEP: usize = 1 << 16;
+/// A label that comes beside the one that came last leaves all but one in this many of the free numbers to the other side.
+const SHARE: usize = 1 << 12;
 
 /// The labels of things in order. A label is a number, greater than the labels before it; it stays the same when others
 /// come or go. A label that comes or goes takes a few steps for each page of up to 512 labels.
@@ -121,7 +121,8 @@ impl Labels {
 }
 
 /// A label from `low` on and below `high`. A label after all others comes `GAP` after them. Labels often come one after
-/// another, or each before the one that came last: so that many can, these come `STEP` from it. Only time depends on it.
+/// another, or each before the one that came last: so that many can, and others between them later, these leave most
+/// numbers free on one side, and a share on the other. Only time depends on it.
 fn between(low: usize, high: usize, last: usize) -> usize
     requires { low < high }
     ensures low { low ≤ result }
@@ -131,13 +132,11 @@ fn between(low: usize, high: usize, last: usize) -> usize
     if high == usize::MAX && room > GAP {
         return low + GAP;
     }
-    if room > STEP {
-        if low > 0 && low - 1 == last {
-            return low + STEP;
-        }
-        if high == last {
-            return high - STEP;
-        }
+    if low > 0 && low - 1 == last {
+        return low + room / SHARE;
+    }
+    if high == last {
+        return high - 1 - room / SHARE;
     }
     low + room / 2
 }

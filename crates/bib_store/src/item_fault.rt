@@ -11,7 +11,8 @@ use bib_value::ValueFault;
 use std::alloc::{AllocError, AllocFailed};
 
 /// Why an item is not kept: the raw text of the value at this place of the body is too long, a request for memory was
-/// refused, or what other items say would depend on macros, where that was ruled out.
+/// refused, or tables that are firm can't take it and stay so, though tables made again may: what other items say would
+/// depend on macros, or no label is left for a definition.
 #[derive(Clone, Copy, Debug, PartialEq, Eq)]
 pub(crate) enum ItemFault {
     TooLong(usize),

@@ -380,12 +380,24 @@ impl Tables {
         let longest = self.definitions.longest().max(text.as_slice().len());
         let bounds = self.widened(len, settled, longest, stay_firm)?;
         if !self.definitions.insert(n, field.name, text)? {
-            return Err(ItemFault::Memory);
+            return Err(self.out_of_labels());
         }
         self.entries.make_way(n);
         self.preambles.make_way(n);
         self.bounds = bounds;
         Ok(())
+    }
+
+    /// The fault of tables that have no label left for a definition. Firm ones can be made again.
+    fn out_of_labels(&self) -> ItemFault
+        ensures unsettled { result ≡ ItemUnsettled → IsFirm self.now }
+        ensures other { (place : ℕ) → result ≡ ItemTooLong place → ⊥ }
+    {
+        if self.is_firm() {
+            ItemFault::Unsettled
+        } else {
+            ItemFault::Memory
+        }
     }
 
     /// What the name of the definition that is item `n` stands for after it.

@@ -2,7 +2,7 @@ use Rattle.std.proofs.Common.{◌<◌, length, arith}
 use Rattle.bib_items.specs.declared.list.Item.{Item}
 use Rattle.bib_items.specs.Seeking.{LacksPart}
 use Rattle.bib_items.proofs.Passed.{lack-more}
-use Rattle.bib_items.proofs.page.Page.next_with.Goals as goal
+use Rattle.bib_items.proofs.page.Page.look_from.Goals as goal
 
 pub pass-preserved : goal.pass-preserved
 pass-preserved c =

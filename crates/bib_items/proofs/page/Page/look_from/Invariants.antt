@@ -1,6 +1,6 @@
 use Rattle.std.specs.List.{between}
 use Rattle.bib_items.specs.Seeking.{LackPart}
-use Rattle.bib_items.proofs.page.Page.next_with.Given as goal
+use Rattle.bib_items.proofs.page.Page.look_from.Given as goal
 
 abbrev pub invariant-pass : goal.invariant-pass
 invariant-pass l = LackPart l.sought (between l.k l.n l.self) × LackPart l.other (between l.k l.n l.self)
