@@ -145,6 +145,13 @@ def moves(count):
     return b"".join(b"move\tkey%d\t%d\n" % (keys[n % len(keys)], n * 53 % 5000) for n in range(count))
 
 
+def moves_in_turn(count):
+    """A script of so many edits: the first entry of a library is moved to place 0, the second to place 1, and so on."""
+    numbers = (n for n in itertools.count() if n % 97 and (n % 50 == 0 or n % 31 and n % 11))
+    keys = (("key%d" if n % 50 else "proc%d") % n for n in numbers)
+    return b"".join(b"move\t%s\t%d\n" % (key.encode(), place) for place, key in enumerate(itertools.islice(keys, count)))
+
+
 def removes(count):
     """A script of so many edits: each removes an article."""
     return b"".join(b"remove\tkey%d\n" % n for n in articles(count))

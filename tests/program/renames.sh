@@ -125,6 +125,24 @@ edit; ends_with 0; writes wanted; says_nothing
 when_shell_runs 'sed -n "1p;27p;28p;100000p" edited.bib'; given wanted '@misc{anon}\n@misc{anonz}\n@misc{anonaa}\n@misc{anoneqxc}\n'; writes wanted
 when_shell_runs 'sort -u edited.bib | wc -l | tr -d " "'; given wanted '100000\n'; writes wanted
 
+# Many macros come by turns to two places between definitions, and each is used by two entries that are far apart.
+texts() { # KEY LETTER
+    printf '@misc{%s' "$1"
+    for n in $numbers; do printf ',f%s={%s%s}' "$n" "$2" "$n"; done
+    printf '}@misc{%s1}@misc{%s2}' "$1" "$1"
+}
+numbers=$(i=1; while [ "$i" -le 150 ]; do echo "$i"; i=$((i + 1)); done)
+{ printf '@string{a={A}}'; texts k T; texts l T; printf '@string{b={B}}'; texts m U; texts n U; printf '@string{c={C}}'; } >before.bib
+for order in 'sort -n' 'sort -rn'; do
+    cp before.bib edited.bib
+    rm -f edited.bib.bibkeep
+    for n in $(echo "$numbers" | $order); do printf 'introduce\tt%s\tT%s\nintroduce\tu%s\tU%s\n' "$n" "$n" "$n" "$n"; done >script
+    edit; ends_with 0; prints 'applied 300\n'; says_nothing
+    when check edited.bib; ends_with 0; prints 'items 315\nentries 12\nmacros 303\npreambles 0\ncomments 0\n'; says_nothing
+    when undo edited.bib --steps 300; ends_with 0; prints 'undone 300\n'; says_nothing
+    when_shell_runs 'cmp before.bib edited.bib'; ends_with 0
+done
+
 # A result of gigabytes is refused, and not built.
 given_edit '' 'inline\tm\n'
 { printf '@string{m={'; head -c 1000000 /dev/zero | tr '\0' x; printf '}}@misc{k'; yes ',t=m' | head -n 100000; printf '}'; } >edited.bib
