@@ -9,7 +9,7 @@ use Rattle.bib_spec.specs.Reading.{Item, Reading}
 use Rattle.bib_spec.specs.Texts.{Macros, months, macros_after, gathered}
 use Rattle.bib_spec.specs.Records.{EntryTexts, entry_in, entries_of, keys_of}
 use Rattle.bib_scan.specs.View.{View, view_of, key_of}
-use Rattle.bib_store.specs.Meaning.{entry_items}
+use Rattle.bib_store.specs.Readings.{entry_items}
 use Rattle.bib_answers.specs.Entries.{key_at}
 
 -- ---- keys

@@ -10,7 +10,7 @@ use Rattle.bib_spec.specs.Texts.{months, macros_at}
 use Rattle.bib_spec.specs.Records.{texts_of, entries_of, crossref_text, target, is_repeated}
 use Rattle.bib_scan.specs.View.{View, Field, view_of, fields_of, fields_after, kind_of, key_of}
 use Rattle.bib_scan.specs.declared.view.Kind.{Kind}
-use Rattle.bib_store.specs.Meaning.{is_entry_tree, entry_items}
+use Rattle.bib_store.specs.Readings.{is_entry_tree, entry_items}
 use Rattle.folded_map.proofs.Entries.{name_short}
 use Rattle.bib_answers.specs.Check.{Assigned, row_assigned, assigned, defined_in, field_reports, of_entry, repeated_report, crossref_report, item_reports, reports_on, entries_before}
 use Rattle.bib_answers.proofs.ItemCounts.{number_within, among_passing}

@@ -8,7 +8,7 @@ use Rattle.bib_spec.specs.Reading.{Reading}
 use Rattle.bib_spec.specs.Texts.{Macros, months, macros_at}
 use Rattle.bib_spec.specs.Records.{entries_of, is_repeated}
 use Rattle.bib_scan.specs.View.{View, fields_of, kind_of, key_of, key_place}
-use Rattle.bib_store.specs.Meaning.{is_entry_tree}
+use Rattle.bib_store.specs.Readings.{is_entry_tree}
 use Rattle.bib_answers.specs.Check.{assigned, defined_in, entries_before}
 use Rattle.bib_answers.specs.Lint.{Finding, key_findings, field_findings, crossrefs_of, for_entry, item_findings, findings_on}
 use Rattle.bib_scan.specs.Layout.{start_of}

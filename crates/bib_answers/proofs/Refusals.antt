@@ -4,7 +4,7 @@ use Rattle.bib_spec.specs.Text.{Text}
 use Rattle.bib_spec.specs.Reading.{Reading}
 use Rattle.bib_spec.specs.Fault.{IsReadFault}
 use Rattle.bib_spec.specs.Texts.{IsOpenable}
-use Rattle.bib_store.specs.Meaning.{IsOpenFault, OfReading}
+use Rattle.bib_store.specs.Readings.{IsOpenFault, OfReading}
 use Rattle.bib_answers.specs.declared.answers.Answer.{Answer}
 use Rattle.bib_answers.specs.Messages.{refusal_line}
 use Rattle.bib_answers.specs.Outcome.{answer_of}

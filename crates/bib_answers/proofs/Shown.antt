@@ -4,7 +4,7 @@ use Rattle.std.specs.Option.{IfSome}
 use Rattle.bib_spec.specs.Text.{Text}
 use Rattle.bib_spec.specs.Records.{EntryTexts, Record, crossref, entries_of, parent, expanded}
 use Rattle.bib_spec.proofs.Parents.{parent_within}
-use Rattle.bib_store.specs.Meaning.{OfReading, IsEntryNumber}
+use Rattle.bib_store.specs.Readings.{OfReading, IsEntryNumber}
 use Rattle.bib_answers.specs.Entries.{key_at}
 use Rattle.bib_answers.specs.Show.{record_lines, shown_field, parent_line, shown}
 

@@ -18,7 +18,7 @@ use Rattle.bib_edit.specs.Faults.{reason_of}
 use Rattle.bib_edit.specs.Asking.{AsksFor, OfEdit}
 use Rattle.bib_edit.specs.Planning.{IsAllowedEdit}
 use Rattle.bib_edit.proofs.AskedEdits.{asked_for}
-use Rattle.bib_store.specs.Meaning.{OfReading}
+use Rattle.bib_store.specs.Readings.{OfReading}
 use Rattle.bib_journal.specs.declared.fault.SessionFault.{SessionFault}
 use Rattle.bib_journal.specs.declared.fault.SessionFault.TheVariants.{Unopened, Refused, JournalFull, NothingToUndo, NothingToRedo, BadJournal, JournalMismatch, StepOpen, NoOpenStep, Memory}
 use Rattle.bib_journal.specs.declared.saving.Saved.{Saved}

@@ -6,7 +6,7 @@ use Rattle.bib_spec.specs.Fault.{IsReadFault, too_long, no_reading, no_memory}
 use Rattle.bib_spec.specs.Texts.{IsOpenable, too_long_at}
 use Rattle.bib_scan.proofs.OneReading.{one_reading}
 use Rattle.history_spec.specs.Steps.{KeptSteps}
-use Rattle.bib_store.specs.Meaning.{IsOpenFault}
+use Rattle.bib_store.specs.Readings.{IsOpenFault}
 use Rattle.journal_format.proofs.JournalLaws.{one-contents}
 use Rattle.bib_journal.specs.declared.fault.SessionFault.{SessionFault}
 use Rattle.bib_journal.specs.declared.fault.SessionFault.TheVariants.{Unopened, Refused, JournalFull, NothingToUndo, NothingToRedo, BadJournal, JournalMismatch, StepOpen, NoOpenStep, Memory}

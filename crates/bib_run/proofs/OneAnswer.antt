@@ -10,7 +10,7 @@ use Rattle.bib_spec.specs.Texts.{IsOpenable, too_long_at}
 use Rattle.bib_spec.specs.Fault.{IsReadFault, IsFaultAt, fault_number, too_long, no_reading, no_memory}
 use Rattle.bib_scan.proofs.OneReading.{one_reading}
 use Rattle.bib_scan.proofs.PlaceLaws.{one_place, one_fault}
-use Rattle.bib_store.specs.Meaning.{IsOpenFault}
+use Rattle.bib_store.specs.Readings.{IsOpenFault}
 use Rattle.history_spec.specs.Steps.{KeptSteps}
 use Rattle.bib_data.specs.declared.edit.NewEntry.{NewEntry}
 use Rattle.bib_data.specs.declared.edit.Edit.TheVariants.{AddMany}

@@ -2,7 +2,7 @@
 use Rattle.std.proofs.Common.{◌≡◌, ◌≢◌, ℕ, [], Option, Some, None}
 use Rattle.bib_spec.specs.Text.{Text}
 use Rattle.bib_scan.specs.declared.fault.ReadFault.{ReadFault}
-use Rattle.bib_store.specs.Meaning.{IsOpenFault}
+use Rattle.bib_store.specs.Readings.{IsOpenFault}
 use Rattle.bib_journal.specs.declared.fault.SessionFault.{SessionFault}
 use Rattle.bib_journal.specs.declared.fault.SessionFault.TheVariants.{Unopened, BadJournal, JournalMismatch}
 use Rattle.bib_journal.specs.Session.{RefusesOpen}

@@ -11,7 +11,7 @@ use Rattle.bib_spec.specs.Reading.{Reading}
 use Rattle.bib_spec.specs.Texts.{IsOpenable, is_empty}
 use Rattle.bib_spec.proofs.Names.{eq-true}
 use Rattle.bib_scan.specs.declared.fault.ReadFault.{ReadFault}
-use Rattle.bib_store.specs.Meaning.{IsOpenFault}
+use Rattle.bib_store.specs.Readings.{IsOpenFault}
 use Rattle.history_spec.specs.Steps.{KeptSteps, IsSound, label_of, history_of}
 use Rattle.bib_data.specs.declared.edit.Edit.{Edit}
 use Rattle.bib_data.specs.declared.edit.Edit.TheVariants.{AddMany}

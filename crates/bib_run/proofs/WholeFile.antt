@@ -17,7 +17,7 @@ use Rattle.bib_data.specs.declared.request.Request.TheVariants.{Undo, Redo}
 use Rattle.bib_journal.specs.OpenSteps.{SessionState}
 use Rattle.bib_journal.specs.Session.{Opens}
 use Rattle.bib_journal.proofs.LoadLemmas.{opened_short}
-use Rattle.bib_store.specs.Meaning.{IsOpenFault}
+use Rattle.bib_store.specs.Readings.{IsOpenFault}
 use Rattle.bib_answers.specs.Opened as opening
 use Rattle.bib_answers.specs.Opened.{AnswersFile, opened}
 use Rattle.bib_answers.specs.Cat.{IsCatAnswer, copied, refused}

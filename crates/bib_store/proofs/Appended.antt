@@ -13,7 +13,7 @@ use Rattle.bib_spec.specs.Texts.{Macros, months, macros_after, macros_at, gather
 use Rattle.bib_spec.specs.Records.{EntryTexts, entry_in, keys_of, crossref_text}
 use Rattle.bib_scan.proofs.OneReading.{tree_unique}
 use Rattle.bib_store.specs.declared.tables.Tables.{Tables}
-use Rattle.bib_store.specs.Meaning.{is_entry_tree}
+use Rattle.bib_store.specs.Readings.{is_entry_tree}
 use Rattle.bib_definitions.proofs.AlikeDefinitions.{definitions_alike}
 use Rattle.bib_definitions.specs.Definitions.{is_definition_tree, defined_by}
 use Rattle.bib_store.specs.declared.bounds.Bounds.{Bounds}
@@ -21,7 +21,7 @@ use Rattle.bib_store.specs.Bounds.{IsBounded, AreBounded}
 use Rattle.bib_store.specs.Tables.{is_preamble_tree}
 use Rattle.bib_entries.specs.EntryTable.{IsTableOf}
 use Rattle.bib_store.specs.ItemTexts.{first_too_long, placed_texts}
-use Rattle.bib_store.specs.Beside.{AreTablesOf}
+use Rattle.bib_store.specs.TablesOf.{AreTablesOf}
 use Rattle.bib_numbers.specs.Numbers.{numbered, numbers}
 use Rattle.bib_store.proofs.RowTexts.{cons_parts}
 use Rattle.bib_store.proofs.OneItemMore.{raw_texts-append, first-append}

@@ -12,14 +12,14 @@ use Rattle.bib_items.specs.declared.list.Item.{Item}
 use Rattle.bib_items.specs.Items.{stored, all_stored}
 use Rattle.bib_store.specs.declared.change.Change.{Change}
 use Rattle.bib_store.specs.declared.tables.Tables.{Tables}
-use Rattle.bib_store.specs.Beside.{AreTables, AreTablesOf}
+use Rattle.bib_store.specs.TablesOf.{AreTables, AreTablesOf}
 use Rattle.bib_store.specs.Firm.{IsFirm}
 use Rattle.bib_store.specs.Following.{bodies_between, AreItemsOf, MayPass}
 use Rattle.bib_store.specs.InPlace.{TakePlaces}
 use Rattle.bib_store.specs.Stored.{IsKeptAs}
 use Rattle.bib_store.specs.Windows.{ArePut, HasLead, joined}
 use Rattle.bib_store.proofs.Appended.{fit_alike}
-use Rattle.bib_store.proofs.BroughtIn.{again_put, stay_put, gone_put, long_now, long_new}
+use Rattle.bib_store.proofs.InsertedRuns.{again_put, stay_put, gone_put, long_now, long_new}
 use Rattle.bib_store.proofs.FirmTables.{firm_short}
 use Rattle.bib_store.proofs.Followed.{between_later}
 use Rattle.bib_store.proofs.FollowedFiles.{bodies-stored}

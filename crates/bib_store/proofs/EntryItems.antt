@@ -8,7 +8,7 @@ use Rattle.bib_spec.specs.Reading.{Item, Reading}
 use Rattle.bib_spec.specs.Texts.{Macros, months, macros_at, raw_text}
 use Rattle.bib_spec.specs.Records.{EntryTexts, texts_of, entry_in, preamble_in, entries_of, preambles_of, keys_of}
 use Rattle.bib_scan.specs.View.{View, view_of, key_of}
-use Rattle.bib_store.specs.Meaning.{is_entry_tree, entry_items, entry_numbers}
+use Rattle.bib_store.specs.Readings.{is_entry_tree, entry_items, entry_numbers}
 use Rattle.bib_store.specs.Tables.{is_preamble_tree, preamble_numbers}
 use Rattle.bib_store.proofs.Numbered.{StandsAt, length-numbers, length-those, stands_at}
 

@@ -10,7 +10,7 @@ use Rattle.bib_definitions.specs.Definitions.{AreAtMost}
 use Rattle.bib_definitions.proofs.LongestTexts.{texts_within}
 use Rattle.bib_store.specs.declared.bounds.Bounds.{Bounds}
 use Rattle.bib_store.specs.declared.tables.Tables.{Tables}
-use Rattle.bib_store.specs.Beside.{AreTablesOf}
+use Rattle.bib_store.specs.TablesOf.{AreTablesOf}
 use Rattle.bib_store.specs.Bounds.{AreBounded}
 use Rattle.bib_store.specs.Firm.{IsFirm}
 use Rattle.bib_store.specs.ItemTexts.{first_too_long}

@@ -16,7 +16,7 @@ use Rattle.bib_spec.specs.Records.{crossref, crossref_text, entry_in}
 use Rattle.bib_scan.specs.View.{View, Field, field_after, fields_after, fields_of, view_of}
 use Rattle.bib_scan.specs.Note.{is_crossref, crossref_field}
 use Rattle.bib_value.specs.Raw.{OfValue}
-use Rattle.bib_store.specs.Meaning.{is_entry_tree}
+use Rattle.bib_store.specs.Readings.{is_entry_tree}
 use Rattle.bib_store.specs.ItemTexts.{crossref_in, OfRows}
 use Rattle.bib_items.specs.Glancing.{LacksWord}
 use Rattle.bib_store.proofs.EntryItems.{entry_tree}

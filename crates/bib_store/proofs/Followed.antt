@@ -16,7 +16,7 @@ use Rattle.bib_entries.proofs.Tables.{heads}
 use Rattle.bib_store.specs.declared.tables.Tables.{Tables}
 use Rattle.bib_definitions.specs.Definitions.{texts_at}
 use Rattle.bib_store.specs.ItemTexts.{first_too_long, placed_texts}
-use Rattle.bib_store.specs.Beside.{AreTablesOf, IsInsertion, IsRemoval, IsTooLongAt, OfSeen, SayTheSame, item_with}
+use Rattle.bib_store.specs.TablesOf.{AreTablesOf, IsInsertion, IsRemoval, IsTooLongAt, OfSeen, SayTheSame, item_with}
 use Rattle.bib_store.specs.Bounds.{AreAllSettled}
 use Rattle.bib_store.specs.Firm.{IsFirm}
 use Rattle.bib_store.specs.Following.{bodies_between, AreItemsOf, AreOthersOf, DefineNothing, HaveShortTexts, MayPass}

@@ -19,7 +19,7 @@ use Rattle.bib_store.specs.declared.tables.Tables.{Tables}
 use Rattle.bib_definitions.specs.Definitions.{texts_at}
 use Rattle.bib_store.specs.Firm.{IsFirm}
 use Rattle.bib_store.specs.ItemTexts.{first_too_long}
-use Rattle.bib_store.specs.Beside.{AreTablesOf}
+use Rattle.bib_store.specs.TablesOf.{AreTablesOf}
 use Rattle.bib_store.specs.Stored.{IsKeptAs}
 use Rattle.bib_store.specs.Windows.{IsLead, ArePut, joined}
 use Rattle.bib_store.specs.Following.{bodies_between, AreOthersOf, DefineNothing, HaveShortTexts, MayPass, MayPassBetween}
@@ -359,11 +359,11 @@ module _ (c : Change) (old now : List Item) (count lead : ℕ) (put : ArePut c o
       → ((before gone after : List reading.Item) → length before ≡ from + count → MayPass learnt (bodies_between (from + count + lead) (to + count) now) gone → from + count + (length gone + length after) < 2 ^ 64 →
       AreTablesOf (before ++ (gone ++ after)) learnt → AreTablesOf (before ++ after) forgot)
       → AreTablesOf (before ++ (inner.items ++ after)) forgot
-  followed_tables learnt forgot firm learn forget =
+  followed_tables learnt forgot firm add_to_tables remove_from_tables =
       let low = is.come in
-      let first = learn kept come (gone ++ after) long_kept come_here all_fit old_tables in
+      let first = add_to_tables kept come (gone ++ after) long_kept come_here all_fit old_tables in
       let far : length (kept ++ come) ≡ from + count = omega (arith, low, length-append kept come, long_kept, long_come) in
-      let second = forget (kept ++ come) gone after far (still_pass t learnt _ gone firm gone_here) rest_fit (subst (λ (l : List reading.Item). AreTablesOf l learnt) (sym (append_assoc kept come (gone ++ after))) first) in
+      let second = remove_from_tables (kept ++ come) gone after far (still_pass t learnt _ gone firm gone_here) rest_fit (subst (λ (l : List reading.Item). AreTablesOf l learnt) (sym (append_assoc kept come (gone ++ after))) first) in
       tables_alike (kept ++ (come ++ after)) (before ++ (inner.items ++ after)) forgot same_file (subst (λ (l : List reading.Item). AreTablesOf l forgot) (append_assoc kept come after) second)
 
   pub followed_fits : (forgot : Tables) → (IsFirm t → IsFirm forgot) → All (IsItem name_limit) (before ++ (inner.items ++ after)) → AreTablesOf (before ++ (inner.items ++ after)) forgot

@@ -46,6 +46,6 @@ pub mod PlacedFiles
 pub mod BehindFirst
 -- ---- tables that follow runs of pieces
 pub mod KeptRuns
-pub mod BroughtIn
+pub mod InsertedRuns
 pub mod LedRuns
 mod FrontRuns

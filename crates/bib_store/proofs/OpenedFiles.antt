@@ -15,8 +15,8 @@ use Rattle.bib_scan.proofs.NoteLaws.{same_note}
 use Rattle.bib_items.specs.declared.list.Item.{Item}
 use Rattle.bib_store.specs.declared.tables.Tables.{Tables}
 use Rattle.bib_items.specs.Items.{stored, all_stored}
-use Rattle.bib_store.specs.Meaning.{OfReading}
-use Rattle.bib_store.specs.Beside.{AreNotesOf}
+use Rattle.bib_store.specs.Readings.{OfReading}
+use Rattle.bib_store.specs.TablesOf.{AreNotesOf}
 use Rattle.bib_store.specs.Stored.{file_of, IsTaken, AreTablesOfFile, IsKeptAs, IsKept}
 use Rattle.bib_store.proofs.KeptItems.{file-stored}
 

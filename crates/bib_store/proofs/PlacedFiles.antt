@@ -16,7 +16,7 @@ use Rattle.bib_items.specs.declared.list.Item.{Item}
 use Rattle.bib_items.specs.Items.{item, stored, all_stored}
 use Rattle.bib_store.specs.declared.change.Change.{Change}
 use Rattle.bib_store.specs.declared.tables.Tables.{Tables}
-use Rattle.bib_store.specs.Beside.{AreTables, AreTablesOf}
+use Rattle.bib_store.specs.TablesOf.{AreTables, AreTablesOf}
 use Rattle.bib_store.specs.Following.{bodies_between, AreItemsOf}
 use Rattle.bib_store.specs.InPlace.{TakePlaces}
 use Rattle.bib_store.specs.ItemTexts.{first_too_long}

@@ -18,12 +18,12 @@ use Rattle.bib_definitions.proofs.AlikeDefinitions.{definitions_alike}
 use Rattle.bib_definitions.proofs.MacrosAfter.{macros_in_front, gathered-append}
 use Rattle.bib_store.specs.declared.bounds.Bounds.{Bounds}
 use Rattle.bib_store.specs.declared.tables.Tables.{Tables}
-use Rattle.bib_store.specs.Beside.{AreTablesOf, AreSeen, TakesPlace, OfView, item_with}
+use Rattle.bib_store.specs.TablesOf.{AreTablesOf, AreSeen, TakesPlace, OfView, item_with}
 use Rattle.bib_store.specs.Bounds.{IsSettled, IsSettledEntry, Admits}
 use Rattle.bib_store.specs.Following.{AreItemsOf}
 use Rattle.bib_store.specs.InPlace.{HaveOneKey, TakePlaces, with_bounds}
 use Rattle.bib_store.specs.ItemTexts.{first_too_long, placed_texts}
-use Rattle.bib_store.specs.Meaning.{is_entry_tree}
+use Rattle.bib_store.specs.Readings.{is_entry_tree}
 use Rattle.bib_store.specs.Tables.{is_preamble_tree}
 use Rattle.bib_store.proofs.Placed.{placed_tables, numbers_same, macros_same, still_fits}
 use Rattle.bib_store.proofs.Appended.{trees, trees_between, tables_alike, fit_alike}

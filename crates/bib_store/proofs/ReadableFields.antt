@@ -17,7 +17,7 @@ use Rattle.bib_definitions.specs.declared.macros_at.MacrosAt.{MacrosAt}
 use Rattle.bib_definitions.specs.MacrosSeen.{macros_seen}
 use Rattle.bib_store.specs.Gathering.{IsReadable, IsFieldOf, with_fields}
 use Rattle.bib_store.proofs.GatheredFields.{gathered_missing}
-use Rattle.bib_store.specs.Meaning.{entry_numbers}
+use Rattle.bib_store.specs.Readings.{entry_numbers}
 use Rattle.bib_store.proofs.EntryItems.{IsEntryAt}
 use Rattle.bib_store.proofs.ShortTexts.{IsShort, texts_short}
 

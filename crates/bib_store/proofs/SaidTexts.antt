@@ -11,7 +11,7 @@ use Rattle.bib_spec.specs.Records.{entry_in, crossref_text}
 use Rattle.bib_scan.specs.View.{View, Field, view_of, fields_of}
 use Rattle.bib_store.specs.declared.item_fault.ItemFault.{ItemFault}
 use Rattle.bib_store.specs.declared.item_fault.ItemFault.TheVariants.{TooLong}
-use Rattle.bib_store.specs.Meaning.{is_entry_tree}
+use Rattle.bib_store.specs.Readings.{is_entry_tree}
 use Rattle.bib_store.specs.ItemTexts.{first_too_long, placed_texts, row_texts, crossref_in, OfRows}
 use Rattle.bib_store.proofs.EntryItems.{entry_tree}
 

@@ -10,7 +10,7 @@ use Rattle.bib_definitions.specs.Definitions.{AreSettled}
 use Rattle.bib_definitions.proofs.MacrosAfter.{gathered-append}
 use Rattle.bib_store.specs.declared.bounds.Bounds.{Bounds}
 use Rattle.bib_store.specs.Bounds.{AreAllSettled, AreBounded}
-use Rattle.bib_store.specs.Beside.{item_with}
+use Rattle.bib_store.specs.TablesOf.{item_with}
 
 -- ---- items that are settled
 

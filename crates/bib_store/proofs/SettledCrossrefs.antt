@@ -15,7 +15,7 @@ use Rattle.bib_scan.specs.View.{View, view_of}
 use Rattle.bib_scan.specs.declared.parts.PartSpan.{PartSpan}
 use Rattle.bib_scan.proofs.TakenApart.{one_value}
 use Rattle.bib_definitions.specs.Definitions.{defined_by}
-use Rattle.bib_store.specs.Meaning.{is_entry_tree}
+use Rattle.bib_store.specs.Readings.{is_entry_tree}
 use Rattle.bib_value.specs.Raw.{OfValue}
 use Rattle.bib_store.specs.Bounds.{is_literal, AreLiteral, IsSettled}
 use Rattle.bib_store.specs.ItemTexts.{crossref_in, OfRows}

@@ -15,7 +15,7 @@ use Rattle.bib_spec.specs.Texts.{Macros, updated, macros_after, macros_at, part_
 use Rattle.bib_scan.specs.View.{View, view_of}
 use Rattle.bib_scan.proofs.PartLaws.{name_parts}
 use Rattle.bib_definitions.specs.Definitions.{AreAtMost}
-use Rattle.bib_store.specs.Meaning.{is_entry_tree}
+use Rattle.bib_store.specs.Readings.{is_entry_tree}
 use Rattle.bib_store.specs.ItemTexts.{first_too_long, placed_texts, row_texts}
 use Rattle.bib_store.proofs.EntryItems.{entry_tree}
 use Rattle.bib_store.proofs.RowTexts.{first_fits}

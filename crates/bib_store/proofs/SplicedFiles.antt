@@ -17,7 +17,7 @@ use Rattle.bib_store.specs.declared.window.Window.{Window}
 use Rattle.bib_store.specs.declared.change.Change.{Change}
 use Rattle.bib_store.specs.declared.tables.Tables.{Tables}
 use Rattle.bib_items.specs.Items.{stored, all_stored, kept_bytes}
-use Rattle.bib_store.specs.Beside.{HasItems, AreTables}
+use Rattle.bib_store.specs.TablesOf.{HasItems, AreTables}
 use Rattle.bib_store.specs.Stored.{file_of, IsKept}
 use Rattle.bib_store.specs.Windows.{IsWindow, IsChange, Serve, front_before, front_after, bytes_before, bytes_after, exchanged, joined, OfJoined}
 use Rattle.bib_store.proofs.KeptItems.{bytes-stored, file-stored}

@@ -16,11 +16,11 @@ use Rattle.bib_numbers.specs.Numbers.{PartAt, HaveNext}
 use Rattle.bib_entries.specs.EntryTable.{Kept, IsTableOf}
 use Rattle.bib_numbers.proofs.MovedNumbers.{part_with}
 use Rattle.bib_store.specs.declared.tables.Tables.{Tables}
-use Rattle.bib_store.specs.Meaning.{is_entry_tree}
+use Rattle.bib_store.specs.Readings.{is_entry_tree}
 use Rattle.bib_definitions.specs.Definitions.{Known, texts_at, is_definition_of, is_definition_tree, AreDefinitionsOf, AreSettled, Defines}
 use Rattle.bib_store.specs.Tables.{is_preamble_tree}
 use Rattle.bib_store.specs.ItemTexts.{first_too_long, placed_texts, own_text}
-use Rattle.bib_store.specs.Beside.{AreTablesOf, IsStep, IsInsertion, IsMovedFor, IsRemoval, IsTooLongAt, SayTheSame, OfView, item_with}
+use Rattle.bib_store.specs.TablesOf.{AreTablesOf, IsStep, IsInsertion, IsMovedFor, IsRemoval, IsTooLongAt, SayTheSame, OfView, item_with}
 use Rattle.bib_store.proofs.RowTexts.{cons_parts, first_fits, first_over}
 use Rattle.bib_numbers.specs.Numbers.{numbers}
 use Rattle.bib_numbers.proofs.ItemNumbers.{numbers-parts, numbers-with, parts_at, put_numbers, moved_numbers, taken_numbers, closed_numbers}

@@ -22,7 +22,7 @@ use Rattle.bib_store.specs.declared.tables.Tables.{Tables}
 use Rattle.bib_items.specs.Items.{item, item_at, stored, without_range}
 use Rattle.bib_definitions.specs.Definitions.{texts_at}
 use Rattle.bib_store.specs.ItemTexts.{first_too_long, placed_texts, OfTree}
-use Rattle.bib_store.specs.Beside.{AreTablesOf, AreTables, SayTheSame, HasItems, IsStep, IsTooLongAt}
+use Rattle.bib_store.specs.TablesOf.{AreTablesOf, AreTables, SayTheSame, HasItems, IsStep, IsTooLongAt}
 use Rattle.bib_store.proofs.OneItemMore.{first-append, first-shift, raw_texts-append, too_long_within}
 
 -- ---- lists

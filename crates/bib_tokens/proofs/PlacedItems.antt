@@ -14,7 +14,7 @@ use Rattle.part_spec.specs.Parts.{any_part}
 use Rattle.bib_scan.specs.View.{View, Field, view_of}
 use Rattle.bib_scan.specs.Layout.{start_of}
 use Rattle.bib_scan.proofs.ReadingLaws.{start_more}
-use Rattle.bib_store.specs.Meaning.{OfReading, IsItemNumber}
+use Rattle.bib_store.specs.Readings.{OfReading, IsItemNumber}
 use Rattle.bib_tokens.specs.PlacedParts.{tree_placed, items_placed, tokens_of, ArePlacedFields, AreFieldTokens}
 use Rattle.bib_tokens.proofs.PlacedFields.{tokens-append, fields-tokens, fields-within, tree-has}
 use Rattle.bib_tokens.proofs.Elements.{slice_get-within, drop-next}

@@ -1,5 +1,5 @@
 use Rattle.std.proofs.Common.{◌≡◌, ◌≤◌, ◌-◌, length, take}
-use Rattle.bib_store.specs.Meaning.{OfReading}
+use Rattle.bib_store.specs.Readings.{OfReading}
 use Rattle.bib_items.specs.Seeking.{test_of}
 use Rattle.bib_tokens.specs.PlacedParts.{tokens_seen}
 use Rattle.bib_tokens.proofs.PlacedItems.{AreTokensTo}

@@ -1,7 +1,7 @@
 use Rattle.std.proofs.Common.{◌≡◌, ◌-◌, ◌++◌}
 use Rattle.bib_spec.specs.Records.{entries_of, parent}
 use Rattle.bib_spec.specs.Lineages.{lineage}
-use Rattle.bib_store.specs.Meaning.{OfReading, IsEntryNumber}
+use Rattle.bib_store.specs.Readings.{OfReading, IsEntryNumber}
 use Rattle.bib_keys.specs.Parents.{AreParents, AreKnown}
 use Rattle.bib_keys.proofs.label_bases.Parents.find_line.Given as goal
 

@@ -1,7 +1,7 @@
 use Rattle.std.proofs.Common.{◌≡◌, ◌+◌, ◌++◌, List, drop}
 use Rattle.bib_spec.specs.Text.{Text}
 use Rattle.bib_spec.specs.Records.{entries_of, keys_of}
-use Rattle.bib_store.specs.Meaning.{OfReading}
+use Rattle.bib_store.specs.Readings.{OfReading}
 use Rattle.bib_keys.specs.TakenKeys.{AreTaken}
 use Rattle.bib_keys.proofs.TakenLists.{AreTakenBut}
 use Rattle.bib_keys.proofs.taken_keys.TakenKeys.add_entries.Given as goal

@@ -4,7 +4,7 @@ use Rattle.bib_spec.specs.Text.{Text}
 use Rattle.bib_spec.proofs.Results.{ok_always}
 use Rattle.bib_scan.specs.Layout.{IsLayoutOf}
 use Rattle.bib_scan.specs.Progress.{IsItemOf, AreAllOf}
-use Rattle.bib_store.specs.Meaning.{IsTextFault}
+use Rattle.bib_store.specs.Readings.{IsTextFault}
 use Rattle.bib_store.proofs.WalkedFiles.{read_same, read_more, read_over, read_all, with_len, fault_cases}
 use Rattle.bib_store.proofs.tables.Tables.fill.Goals as goal
 
