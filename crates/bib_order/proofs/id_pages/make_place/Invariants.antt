@@ -1,5 +1,4 @@
-use Rattle.std.proofs.Common.{◌≡◌, length}
-use Rattle.bib_order.specs.Orders.{IsTold}
+use Rattle.bib_order.proofs.Words.{◌≡◌, length, IsTold}
 use Rattle.bib_order.proofs.id_pages.make_place.Given as goal
 
 abbrev pub invariant-grow : goal.invariant-grow

@@ -1,6 +1,5 @@
-use Rattle.std.proofs.Common.{◌≡◌, ◌∙◌, ℕ, List, [], slice_get, ap, sym, subst}
-use Rattle.std.proofs.lemmas.List.{get_or_read}
-use Rattle.bib_pages.specs.Pages.{page_at, IsPlace}
+use Rattle.bib_numbers.proofs.Words.{◌≡◌, ◌∙◌, ℕ, List, [], ap, sym, subst, get_or_read, page_at, IsPlace}
+use Rattle.std.proofs.Common.{slice_get}
 use Rattle.bib_numbers.proofs.FilledPages.{get_at}
 use Rattle.bib_numbers.proofs.number_pages.NumberPages.get.Goals as goal
 

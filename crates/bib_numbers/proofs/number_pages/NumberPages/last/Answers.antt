@@ -1,7 +1,5 @@
-use Rattle.std.proofs.Common.{◌≡◌, ◌-◌, ◌∙◌, ℕ, List, [], Some, length, slice_get, ap, sym, subst, arith}
-use Rattle.std.specs.Option.{option_copied}
-use Rattle.std.proofs.lemmas.Option.{slice_get_within, get_or_from_slice_get}
-use Rattle.bib_pages.specs.Pages.{joined, page_at, IsPlace}
+use Rattle.bib_numbers.proofs.Words.{◌≡◌, ◌-◌, ◌∙◌, ℕ, List, [], Some, length, ap, sym, subst, arith, option_copied, slice_get_within, get_or_from_slice_get, joined, page_at, IsPlace}
+use Rattle.std.proofs.Common.{slice_get}
 use Rattle.bib_numbers.proofs.FilledPages.{get_at, last_gap}
 use Rattle.bib_numbers.proofs.number_pages.NumberPages.last.Goals as goal
 

@@ -1,6 +1,5 @@
-use Rattle.std.proofs.Common.{◌≡◌, ◌<◌, ◌∙◌, ℕ, List, length, ap, sym, subst, arith}
-use Rattle.bib_pages.specs.Pages.{joined, page_at, IsPlace}
-use Rattle.bib_numbers.specs.Moves.{plus, moved_from, shifted, starts, AreFilled, IsKept}
+use Rattle.bib_numbers.proofs.Words.{◌≡◌, ◌<◌, ◌∙◌, ℕ, List, length, ap, sym, subst, arith, joined, page_at, IsPlace, plus, moved_from, shifted, starts, AreFilled}
+use Rattle.bib_numbers.specs.Moves.{IsKept}
 use Rattle.bib_numbers.proofs.Moves.{joined-shifted, length-moved_from, written_shifted}
 use Rattle.bib_numbers.proofs.FilledPages.{starts-shifted, filled_shifted}
 use Rattle.bib_numbers.proofs.number_pages.NumberPages.shift_from.Goals as goal

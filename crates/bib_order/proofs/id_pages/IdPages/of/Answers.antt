@@ -1,5 +1,4 @@
-use Rattle.std.proofs.Common.{◌<◌, ℕ, List, get_or, subst, sym}
-use Rattle.bib_order.specs.Orders.{Lacks}
+use Rattle.bib_order.proofs.Words.{◌<◌, ℕ, List, get_or, subst, sym, Lacks}
 use Rattle.bib_order.proofs.Ascending.{later_lacks}
 use Rattle.bib_order.proofs.id_pages.IdPages.of.Goals as goal
 

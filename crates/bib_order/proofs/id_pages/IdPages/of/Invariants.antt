@@ -1,4 +1,4 @@
-use Rattle.std.proofs.Common.{◌≡◌, take}
+use Rattle.bib_order.proofs.Words.{◌≡◌, take}
 use Rattle.bib_order.proofs.id_pages.IdPages.of.Given as goal
 
 abbrev pub invariant-fill : goal.invariant-fill

@@ -1,5 +1,4 @@
-use Rattle.std.proofs.Common.{◌<◌, ℕ, length, ap, arith}
-use Rattle.bib_pages.specs.Pages.{joined}
+use Rattle.bib_order.proofs.Words.{◌<◌, ℕ, length, ap, arith, joined}
 use Rattle.bib_order.proofs.Ordering.{ordered_remove}
 use Rattle.bib_order.proofs.id_pages.IdPages.remove.Goals as goal
 

@@ -1,6 +1,4 @@
-use Rattle.std.proofs.Common.{◌≡◌, ◌≤◌, ◌<◌, ◌+◌, ◌^◌, ℕ, List, Some, length, set, ap, sym, subst, arith}
-use Rattle.bib_pages.specs.Pages.{joined}
-use Rattle.bib_order.specs.Orders.{Lacks, IsOrdered}
+use Rattle.bib_order.proofs.Words.{◌≡◌, ◌≤◌, ◌<◌, ◌+◌, ◌^◌, ℕ, List, Some, length, set, ap, sym, subst, arith, joined, Lacks, IsOrdered}
 use Rattle.bib_order.proofs.Ordering.{ordered_insert}
 use Rattle.bib_order.proofs.id_pages.IdPages.take_in.Goals as goal
 
