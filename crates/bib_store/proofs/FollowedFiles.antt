@@ -1,34 +1,17 @@
 -- The file of a change whose items come and go: its tables, and its raw texts.
-use Rattle.std.proofs.Common.{◌≡◌, ◌≢◌, ◌⊎◌, ⊎_elim, inl, inr, ℕ, ◌+◌, ◌-◌, ◌≤◌, ◌<◌, ◌^◌, List, [], ◌∷◌, ◌++◌, length, map, take, drop, None, sym, subst, ◌∙◌, ap, ap₂, refl, arith, append_assoc, length-append, take-append-drop}
-use Rattle.std.specs.List.{AllByRecursion, All, flat_map}
-use Rattle.std.specs.Option.{option_or}
-use Rattle.std.proofs.lemmas.List.{map-append, length-map, take-map, drop-map, drop_at, length-take-le, length-drop, drop-drop}
-use Rattle.std.proofs.lemmas.List.Elements.{All-take, All-drop}
-use Rattle.bib_spec.specs.Bytes.{name_limit}
-use Rattle.bib_spec.specs.Text.{Text}
-use Rattle.bib_spec.specs.Tree.{Tree, IsTree, CommentTree, DefinitionTree, PreambleTree, EntryTree, tree_bytes}
+use Rattle.bib_store.proofs.Words.{◌≡◌, ◌≢◌, ◌⊎◌, ⊎_elim, inl, inr, ℕ, ◌+◌, ◌-◌, ◌≤◌, ◌<◌, ◌^◌, List, [], ◌∷◌, ◌++◌, length, map, take, drop, None, sym, subst, ◌∙◌, ap, ap₂, refl, arith, append_assoc, length-append, take-append-drop, AllByRecursion, flat_map, option_or, map-append, length-map}
+use Rattle.bib_store.proofs.Words.{take-map, drop-map, drop_at, drop-drop, All-take, All-drop, name_limit, Text, Tree, IsTree, CommentTree, DefinitionTree, PreambleTree, EntryTree, tree_bytes, Reading, Reads, IsItem, item_bytes, Macros, months, macros_after, macros_at, raw_texts_from, too_long_at}
+use Rattle.bib_store.proofs.Words.{kind_of, stored, all_stored, Change, Tables, texts_at, IsFirm, first_too_long, AreTablesOf, IsKeptAs, IsLead, ArePut, joined, bodies_between, AreOthersOf, DefineNothing, HaveShortTexts, MayPass, MayPassBetween, macros_in_front}
+use Rattle.std.specs.List.{All}
+use Rattle.std.proofs.lemmas.List.{length-take-le, length-drop}
 use Rattle.bib_spec.specs.Reading as reading
-use Rattle.bib_spec.specs.Reading.{Reading, Reads, IsItem, item_bytes}
-use Rattle.bib_spec.specs.Texts.{Macros, months, macros_after, macros_at, raw_texts_from, too_long_at}
-use Rattle.bib_scan.specs.View.{kind_of}
 use Rattle.bib_scan.specs.declared.view.Kind.TheVariants as kind
 use Rattle.bib_items.specs.declared.list.Item.{Item}
-use Rattle.bib_items.specs.Items.{stored, all_stored}
-use Rattle.bib_store.specs.declared.change.Change.{Change}
-use Rattle.bib_store.specs.declared.tables.Tables.{Tables}
-use Rattle.bib_definitions.specs.Definitions.{texts_at}
-use Rattle.bib_store.specs.Firm.{IsFirm}
-use Rattle.bib_store.specs.ItemTexts.{first_too_long}
-use Rattle.bib_store.specs.TablesOf.{AreTablesOf}
-use Rattle.bib_store.specs.Stored.{IsKeptAs}
-use Rattle.bib_store.specs.Windows.{IsLead, ArePut, joined}
-use Rattle.bib_store.specs.Following.{bodies_between, AreOthersOf, DefineNothing, HaveShortTexts, MayPass, MayPassBetween}
 use Rattle.bib_store.proofs.FirmTables.{firm_short}
 use Rattle.bib_store.proofs.KeptItems.{count_kept, trees_good}
 use Rattle.bib_store.proofs.OneItemMore.{raw_texts-append, first-append}
 use Rattle.bib_store.proofs.Placed.{none_both, fit_parts, fit_joined}
 use Rattle.bib_store.proofs.Appended.{trees, trees_of, trees_between, tables_alike, fit_alike}
-use Rattle.bib_definitions.proofs.MacrosAfter.{macros_in_front}
 
 -- ---- items
 

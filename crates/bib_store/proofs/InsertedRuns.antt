@@ -1,20 +1,10 @@
 -- The items of a change before those of its window: which of them come, which go, and which stay with other trails.
-use Rattle.std.proofs.Common.{◌≡◌, ℕ, ◌+◌, ◌-◌, ◌≤◌, ◌<◌, ◌^◌, List, ◌++◌, length, take, drop, sym, subst, ◌∙◌, ap, ap₂, arith, append_assoc, length-append, length-drop, take-append-drop}
-use Rattle.std.specs.List.{between}
-use Rattle.std.proofs.lemmas.List.{take_at, drop_at, drop-drop, take-take, drop-take, take-append-le, drop-append-le, length-take-le}
+use Rattle.bib_store.proofs.Words.{◌≡◌, ℕ, ◌+◌, ◌-◌, ◌≤◌, ◌<◌, ◌^◌, List, ◌++◌, length, take, drop, sym, subst, ◌∙◌, ap, ap₂, arith, append_assoc, length-append, take-append-drop, between, take_at, drop_at, drop-drop, take-take, drop-take, drop-append-le, Reading, Reads, IsItem, all_stored, Change}
+use Rattle.bib_store.proofs.Words.{Tables, Window, AreTablesOf, texts_at, IsFirm, bodies_between, AreOthersOf, HaveShortTexts, MayPass, MayPassBetween, AreFollowed, ArePut, HasLead, IsLead}
+use Rattle.std.proofs.Common.{length-drop}
+use Rattle.std.proofs.lemmas.List.{take-append-le, length-take-le}
 use Rattle.bib_spec.specs.Reading as reading
-use Rattle.bib_spec.specs.Reading.{Reading, Reads, IsItem}
 use Rattle.bib_items.specs.declared.list.Item.{Item}
-use Rattle.bib_items.specs.Items.{all_stored}
-use Rattle.bib_store.specs.declared.change.Change.{Change}
-use Rattle.bib_store.specs.declared.tables.Tables.{Tables}
-use Rattle.bib_store.specs.declared.window.Window.{Window}
-use Rattle.bib_store.specs.TablesOf.{AreTablesOf}
-use Rattle.bib_definitions.specs.Definitions.{texts_at}
-use Rattle.bib_store.specs.Firm.{IsFirm}
-use Rattle.bib_store.specs.Following.{bodies_between, AreOthersOf, HaveShortTexts, MayPass, MayPassBetween}
-use Rattle.bib_store.specs.Runs.{AreFollowed}
-use Rattle.bib_store.specs.Windows.{ArePut, HasLead, IsLead}
 use Rattle.bib_store.proofs.KeptItems.{length-stored}
 use Rattle.bib_store.proofs.KeptRuns.{bodies_in, parts_of, good_first, good_last, come_followed, come_back, followed_alike}
 

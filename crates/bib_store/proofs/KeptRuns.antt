@@ -1,28 +1,14 @@
 -- Tables that follow while items come into a list, or go from it.
-use Rattle.std.proofs.Common.{◌≡◌, inl, ℕ, ◌+◌, ◌-◌, ◌≤◌, ◌<◌, ◌^◌, List, [], ◌++◌, length, map, take, drop, None, refl, sym, subst, ◌∙◌, ap, ap₂, arith, append_assoc, length-append, length-drop, take-append-drop}
-use Rattle.std.specs.List.{All, flat_map}
-use Rattle.std.proofs.lemmas.List.{map-append, take-map, drop-map, take_at, drop_at, take-take}
+use Rattle.bib_store.proofs.Words.{◌≡◌, inl, ℕ, ◌+◌, ◌-◌, ◌≤◌, ◌<◌, ◌^◌, List, [], ◌++◌, length, map, take, drop, None, refl, sym, subst, ◌∙◌, ap, ap₂, arith, append_assoc, length-append, take-append-drop, flat_map, map-append, take-map, drop-map, take_at, drop_at, take-take, All-append, All-take}
+use Rattle.bib_store.proofs.Words.{All-drop, name_limit, file_limit, Text, IsClean, Reading, Reads, IsItem, item_bytes, bytes_of, Macros, months, macros_at, raw_texts_from, kept_bytes, stored, all_stored, without_range, Tables, AreTablesOf, texts_at, first_too_long, IsFirm, AreItemsOf, AreOthersOf}
+use Rattle.bib_store.proofs.Words.{HaveShortTexts, MayPass, IsMeasured, AreFollowed, file_of, IsKept, macros_in_front}
+use Rattle.std.proofs.Common.{length-drop}
+use Rattle.std.specs.List.{All}
 use Rattle.std.proofs.lemmas.List.Concat.{flat_map-append}
-use Rattle.std.proofs.lemmas.List.Elements.{All-append, All-take, All-drop}
-use Rattle.bib_spec.specs.Bytes.{name_limit, file_limit}
-use Rattle.bib_spec.specs.Text.{Text}
-use Rattle.bib_spec.specs.Clean.{IsClean}
 use Rattle.bib_spec.specs.Reading as reading
-use Rattle.bib_spec.specs.Reading.{Reading, Reads, IsItem, item_bytes, bytes_of}
-use Rattle.bib_spec.specs.Texts.{Macros, months, macros_at, raw_texts_from}
 use Rattle.bib_items.specs.declared.list.Item.{Item}
-use Rattle.bib_items.specs.Items.{kept_bytes, stored, all_stored, without_range}
-use Rattle.bib_store.specs.declared.tables.Tables.{Tables}
-use Rattle.bib_store.specs.TablesOf.{AreTablesOf}
-use Rattle.bib_definitions.specs.Definitions.{texts_at}
-use Rattle.bib_store.specs.ItemTexts.{first_too_long}
-use Rattle.bib_store.specs.Firm.{IsFirm}
-use Rattle.bib_store.specs.Following.{AreItemsOf, AreOthersOf, HaveShortTexts, MayPass}
-use Rattle.bib_store.specs.Runs.{IsMeasured, AreFollowed}
-use Rattle.bib_store.specs.Stored.{file_of, IsKept}
 use Rattle.bib_store.proofs.Appended.{trees, trees_of, trees_between, tables_alike, fit_alike}
 use Rattle.bib_store.proofs.FollowedFiles.{bodies-stored, moved_fits}
-use Rattle.bib_definitions.proofs.MacrosAfter.{macros_in_front}
 use Rattle.bib_store.proofs.KeptItems.{length-stored, file-stored, bytes-stored, trees_good}
 use Rattle.bib_store.proofs.WindowLaws.{bytes-split}
 

@@ -1,21 +1,12 @@
 -- Runs of pieces: the last run is inserted first and removed last.
-use Rattle.std.proofs.Common.{◌≡◌, ℕ, ◌+◌, ◌-◌, ◌≤◌, Bool, false, List, [], ◌∷◌, ◌++◌, length, take, drop, refl, sym, subst, ◌∙◌, ap, ap₂, arith, append_assoc, length-append, length-drop, take-append-drop}
-use Rattle.std.specs.List.{between, flat_map}
-use Rattle.std.proofs.lemmas.List.{take_all, take_at, drop_at, drop-drop, append-nil, drop-append-le, length-take-le, take-take, drop-take}
+use Rattle.bib_store.proofs.Words.{◌≡◌, ℕ, ◌+◌, ◌-◌, ◌≤◌, Bool, false, List, [], ◌∷◌, ◌++◌, length, take, drop, refl, sym, subst, ◌∙◌, ap, ap₂, arith, append_assoc, length-append, take-append-drop, between, flat_map, take_at, drop_at, drop-drop, drop-append-le, take-take, drop-take, Text, Reading}
+use Rattle.bib_store.proofs.Words.{Reads, item_bytes, Piece, Fit, applied, kept_bytes, all_stored, without_range, Change, Tables, IsFirm, AreItemsOf, MayPassBetween, IsRunChange, AreFollowed, StayFollowed, LeadWithin, all_moved_back, FitAfter, file_of, IsWindow, front_before, front_within}
+use Rattle.bib_store.proofs.Words.{bytes_before, bytes_within, bytes_after}
+use Rattle.std.proofs.Common.{length-drop}
+use Rattle.std.proofs.lemmas.List.{take_all, append-nil, length-take-le}
 use Rattle.std.proofs.lemmas.List.Concat.{flat_map-append}
-use Rattle.bib_spec.specs.Text.{Text}
-use Rattle.bib_spec.specs.Reading.{Reading, Reads, item_bytes}
-use Rattle.bib_spec.specs.Pieces.{Piece, Fit, applied}
 use Rattle.bib_items.specs.declared.list.Item.{Item}
-use Rattle.bib_items.specs.Items.{kept_bytes, all_stored, without_range}
-use Rattle.bib_store.specs.declared.change.Change.{Change}
-use Rattle.bib_store.specs.declared.tables.Tables.{Tables}
-use Rattle.bib_store.specs.Firm.{IsFirm}
-use Rattle.bib_store.specs.Following.{AreItemsOf, MayPassBetween}
-use Rattle.bib_store.specs.Runs.{IsRunChange, AreInserted, AreFollowed, StayFollowed, FollowInserted, ComesBack, LeadWithin}
-use Rattle.history_spec.specs.Shifting.{all_moved_back, FitAfter}
-use Rattle.bib_store.specs.Stored.{file_of}
-use Rattle.bib_store.specs.Windows.{IsWindow, front_before, front_within, bytes_before, bytes_within, bytes_after}
+use Rattle.bib_store.specs.Runs.{AreInserted, FollowInserted, ComesBack}
 use Rattle.bib_store.proofs.InsertedRuns as inserted_in
 use Rattle.bib_store.proofs.InsertedRuns.{long_new, long_before, long_gone, long_now, before_put, come_put, gone_at, gone_put}
 use Rattle.bib_store.proofs.FollowedFiles.{still_pass}

@@ -1,4 +1,5 @@
 -- ---- records and cited lists
+pub mod Words
 pub mod Citations
 pub mod Filters
 pub mod GatheredFields

@@ -1,5 +1,4 @@
-use Rattle.std.proofs.Common.{◌<◌, ◌^◌, length, arith}
-use Rattle.bib_store.specs.Windows.{joined}
+use Rattle.bib_store.proofs.Words.{◌<◌, ◌^◌, length, arith, joined}
 use Rattle.bib_store.proofs.FollowedFiles.{followed_tables, followed_fits, followed_refused, followed_back}
 use Rattle.bib_store.proofs.WalkedFiles.{with_len}
 use Rattle.bib_store.proofs.exchanging.follow.Goals as goal

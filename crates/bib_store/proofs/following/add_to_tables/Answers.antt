@@ -1,8 +1,6 @@
-use Rattle.std.proofs.Common.{⊎_elim, ◌≡◌, ◌≤◌, ◌<◌, ◌+◌, ◌-◌, ◌∙◌, ℕ, List, Some, length, slice_get, refl, suc, sym, ap, subst, arith}
-use Rattle.bib_spec.specs.Text.{Text}
+use Rattle.bib_store.proofs.Words.{⊎_elim, ◌≡◌, ◌≤◌, ◌<◌, ◌+◌, ◌-◌, ◌∙◌, ℕ, List, Some, length, refl, suc, sym, ap, subst, arith, Text, item_at, bodies_between}
+use Rattle.std.proofs.Common.{slice_get}
 use Rattle.bib_items.specs.declared.list.Item.{Item}
-use Rattle.bib_items.specs.Items.{item_at}
-use Rattle.bib_store.specs.Following.{bodies_between}
 use Rattle.bib_store.proofs.Followed.{PutSoFar, learn_more, learn_none, learn_over, learn_back, body_between}
 use Rattle.bib_store.proofs.following.add_to_tables.Goals as goal
 

@@ -1,4 +1,4 @@
-use Rattle.std.proofs.Common.{◌≡◌, ◌-◌}
+use Rattle.bib_store.proofs.Words.{◌≡◌, ◌-◌}
 use Rattle.bib_store.proofs.Followed.{PutSoFar}
 use Rattle.bib_store.proofs.following.add_to_tables.Given as goal
 

@@ -1,4 +1,4 @@
-use Rattle.std.proofs.Common.{◌≡◌, ◌+◌, ◌-◌, ◌∙◌, ℕ, suc, subst, arith}
+use Rattle.bib_store.proofs.Words.{◌≡◌, ◌+◌, ◌-◌, ◌∙◌, ℕ, suc, subst, arith}
 use Rattle.bib_store.proofs.Followed.{TakenSoFar, forget_more, forget_all, body_between}
 use Rattle.bib_store.proofs.following.remove_from_tables.Goals as goal
 

@@ -1,4 +1,4 @@
-use Rattle.std.proofs.Common.{◌≡◌, ◌-◌}
+use Rattle.bib_store.proofs.Words.{◌≡◌, ◌-◌}
 use Rattle.bib_store.proofs.Followed.{TakenSoFar}
 use Rattle.bib_store.proofs.following.remove_from_tables.Given as goal
 

@@ -1,9 +1,5 @@
-use Rattle.std.proofs.Common.{◌+◌, ◌≤◌, ◌<◌, ◌∙◌, ℕ, length, refl, sym, ap, arith, rules}
-use Rattle.std.proofs.lemmas.Bool.{eqb-true}
+use Rattle.bib_store.proofs.Words.{◌+◌, ◌≤◌, ◌<◌, ◌∙◌, ℕ, length, refl, sym, ap, arith, rules, eqb-true, all_stored, without_range, without-put, err_always}
 use Rattle.bib_items.specs.declared.list.Item.{Item}
-use Rattle.bib_items.specs.Items.{all_stored, without_range}
-use Rattle.bib_items.proofs.Filled.{without-put}
-use Rattle.bib_spec.proofs.Results.{err_always}
 use Rattle.bib_store.proofs.InsertedRuns.{long_new, long_now}
 use Rattle.bib_store.proofs.FollowedFiles.{still_between}
 use Rattle.bib_store.proofs.FrontRuns.{front_led, front_measured}

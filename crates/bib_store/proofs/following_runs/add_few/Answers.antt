@@ -1,5 +1,4 @@
-use Rattle.std.proofs.Common.{◌<◌, ◌^◌, length, refl, arith}
-use Rattle.bib_spec.proofs.Results.{err_always}
+use Rattle.bib_store.proofs.Words.{◌<◌, ◌^◌, length, refl, arith, err_always}
 use Rattle.bib_store.proofs.InsertedRuns.{inserted_followed, inserted_back, trails_back, has_lead}
 use Rattle.bib_store.proofs.following_runs.add_few.Goals as goal
 

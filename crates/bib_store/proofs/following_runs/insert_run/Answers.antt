@@ -1,8 +1,5 @@
-use Rattle.std.proofs.Common.{◌≡◌, ◌∙◌, ℕ, List, length, refl, sym, subst, ap, arith}
-use Rattle.bib_spec.specs.Text.{Text}
-use Rattle.bib_spec.specs.Reading.{Reading, Reads}
+use Rattle.bib_store.proofs.Words.{◌≡◌, ◌∙◌, ℕ, List, length, refl, sym, subst, ap, arith, Text, Reading, Reads, file_of}
 use Rattle.bib_items.specs.declared.list.Item.{Item}
-use Rattle.bib_store.specs.Stored.{file_of}
 use Rattle.bib_store.proofs.Exchanges.{put_of, are_put, taken-new}
 use Rattle.bib_store.proofs.KeptRuns.{followed_same, come_measured}
 use Rattle.bib_store.proofs.WalkedFiles.{with_len}

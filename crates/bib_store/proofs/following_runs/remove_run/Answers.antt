@@ -1,10 +1,7 @@
-use Rattle.std.proofs.Common.{◌≡◌, ◌+◌, ◌-◌, ◌<◌, ◌≤◌, ◌^◌, ℕ, List, ◌++◌, length, drop, refl, ap, subst, append_assoc, length-drop, arith}
-use Rattle.std.specs.List.{between}
+use Rattle.bib_store.proofs.Words.{◌≡◌, ◌+◌, ◌-◌, ◌<◌, ◌≤◌, ◌^◌, ℕ, List, ◌++◌, length, drop, refl, ap, subst, append_assoc, arith, between, bodies_between, AreFollowed, file_of}
+use Rattle.std.proofs.Common.{length-drop}
 use Rattle.std.proofs.lemmas.List.{length-take-le}
 use Rattle.bib_items.specs.declared.list.Item.{Item}
-use Rattle.bib_store.specs.Following.{bodies_between}
-use Rattle.bib_store.specs.Runs.{AreFollowed}
-use Rattle.bib_store.specs.Stored.{file_of}
 use Rattle.bib_store.proofs.KeptRuns.{followed_same, go_followed, go_len, len-ordered, len-within}
 use Rattle.bib_store.proofs.WalkedFiles.{with_len}
 use Rattle.bib_store.proofs.following_runs.remove_run.Goals as goal

@@ -1,8 +1,5 @@
-use Rattle.std.proofs.Common.{◌≡◌, ◌+◌, ◌-◌, ◌≤◌, ◌∙◌, ℕ, List, ◌++◌, length, take, refl, sym, ap, subst, append_assoc, length-append, arith}
-use Rattle.std.specs.List.{between}
+use Rattle.bib_store.proofs.Words.{◌≡◌, ◌+◌, ◌-◌, ◌≤◌, ◌∙◌, ℕ, List, ◌++◌, length, take, refl, sym, ap, subst, append_assoc, length-append, arith, between, all_stored, AreFollowed}
 use Rattle.bib_items.specs.declared.list.Item.{Item}
-use Rattle.bib_items.specs.Items.{all_stored}
-use Rattle.bib_store.specs.Runs.{AreFollowed}
 use Rattle.bib_store.proofs.InsertedRuns.{long_before, long_new, long_now, gone_put}
 use Rattle.bib_store.proofs.Exchanges.{put_without}
 use Rattle.bib_store.proofs.KeptRuns.{followed_same}

@@ -1,8 +1,4 @@
-use Rattle.std.proofs.Common.{◌≡◌, ◌<◌, ◌+◌, ◌-◌, ◌^◌, ◌∙◌, ℕ, length, drop, refl, ap, subst, arith}
-use Rattle.bib_store.specs.Firm.{IsFirm}
-use Rattle.bib_store.specs.Following.{bodies_between}
-use Rattle.bib_store.specs.InPlace.{TakePlaces, with_bounds}
-use Rattle.bib_store.specs.Windows.{joined}
+use Rattle.bib_store.proofs.Words.{◌≡◌, ◌<◌, ◌+◌, ◌-◌, ◌^◌, ◌∙◌, ℕ, length, drop, refl, ap, subst, arith, IsFirm, bodies_between, TakePlaces, with_bounds, joined}
 use Rattle.bib_store.proofs.BehindFirst.{first_back, first_refused, all_gone, all_fit}
 use Rattle.bib_store.proofs.WalkedFiles.{with_len}
 use Rattle.bib_store.proofs.in_place.put_behind_first.Goals as goal

@@ -1,9 +1,4 @@
-use Rattle.std.proofs.Common.{◌≡◌, ◌-◌, [], ◌∷◌, ◌++◌, reverse, rules, min, ◌^◌, sym, subst, ap, ◌∙◌}
-use Rattle.bib_spec.specs.Pieces.{applied}
-use Rattle.history_spec.specs.Steps.{KeptSteps, IsAllowed, IsFull, Adds, step_text_len}
-use Rattle.bib_journal.specs.Kept.{kept}
-use Rattle.bib_journal.specs.OpenSteps.{SessionState, IsOpenIn, new_step, MakesSteps, LacksRoom}
-use Rattle.bib_journal.specs.declared.open_step.OpenStep.TheVariants.{LastStep}
+use Rattle.bib_journal.proofs.Words.{◌≡◌, ◌-◌, [], ◌∷◌, ◌++◌, reverse, rules, min, ◌^◌, sym, subst, ap, ◌∙◌, applied, KeptSteps, IsAllowed, IsFull, Adds, step_text_len, kept, SessionState, IsOpenIn, new_step, MakesSteps, LacksRoom, LastStep}
 use Rattle.bib_journal.proofs.Moves.{none_known, steps_move, made_open, added_makes, added_room, has_room, counted_on}
 use Rattle.bib_journal.proofs.session.Session.add.Given.{Over}
 use Rattle.bib_journal.proofs.session.Session.add.Goals as goal

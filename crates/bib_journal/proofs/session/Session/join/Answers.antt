@@ -1,11 +1,5 @@
-use Rattle.std.proofs.Common.{rules, ◌≡◌, ◌+◌, ◌-◌, ◌≤◌, inr, List, [], ◌∷◌, ◌++◌, reverse, sum_by, refl, sym, subst, ap, ◌∙◌, arith}
-use Rattle.bib_spec.specs.Pieces.{Piece, applied}
-use Rattle.history_spec.specs.Steps.{Step, KeptSteps, with_edit, IsAllowed, LeadTo, step_text_len}
-use Rattle.history_spec.proofs.StepLemmas.{lead_to_pop}
-use Rattle.bib_journal.specs.Kept.{kept}
-use Rattle.bib_journal.specs.OpenSteps.{SessionState, IsOpenIn, JoinsLast, MakesSteps, LacksRoom}
-use Rattle.bib_journal.specs.declared.open_step.OpenStep.{OpenStep}
-use Rattle.bib_journal.specs.declared.open_step.OpenStep.TheVariants.{LastStep}
+use Rattle.bib_journal.proofs.Words.{rules, ◌≡◌, ◌+◌, ◌-◌, ◌≤◌, inr, List, [], ◌∷◌, ◌++◌, reverse, sum_by, refl, sym, subst, ap, ◌∙◌, arith, Piece, applied, Step, KeptSteps, with_edit, IsAllowed, LeadTo, step_text_len, lead_to_pop, kept, SessionState, IsOpenIn, JoinsLast, MakesSteps, LacksRoom}
+use Rattle.bib_journal.proofs.Words.{OpenStep, LastStep}
 use Rattle.bib_journal.proofs.Moves.{steps_move, made_open, joined_makes, joined_room, counted_split, last_known, last_knows}
 use Rattle.bib_journal.proofs.session.Session.join.Given.{Over}
 use Rattle.bib_journal.proofs.session.Session.join.Goals as goal

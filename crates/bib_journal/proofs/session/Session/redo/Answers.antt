@@ -1,10 +1,5 @@
-use Rattle.std.proofs.Common.{◌≡◌, ◌-◌, List, [], ◌∷◌, ◌++◌, length, reverse, Some, ◌∙◌, ap, subst, sym, arith, min, ◌^◌}
+use Rattle.bib_journal.proofs.Words.{◌≡◌, ◌-◌, List, [], ◌∷◌, ◌++◌, length, reverse, Some, ◌∙◌, ap, subst, sym, arith, min, ◌^◌, Piece, applied, Step, IsAllowed, step_text_len, kept, NoStep, MakesAgain}
 use Rattle.std.specs.List.{slice_get}
-use Rattle.bib_spec.specs.Pieces.{Piece, applied}
-use Rattle.history_spec.specs.Steps.{Step, IsAllowed, step_text_len}
-use Rattle.bib_journal.specs.Kept.{kept}
-use Rattle.bib_journal.specs.declared.open_step.OpenStep.TheVariants.{NoStep}
-use Rattle.bib_journal.specs.Session.{MakesAgain}
 use Rattle.bib_journal.proofs.Moves.{closed_knows, Moves, state, none_open, next_is_allowed, made_again, last-popped, counted_again}
 use Rattle.bib_journal.proofs.session.Session.redo.Given.{Over}
 use Rattle.bib_journal.proofs.session.Session.redo.Goals as goal

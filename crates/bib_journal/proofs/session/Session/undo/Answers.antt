@@ -1,10 +1,5 @@
-use Rattle.std.proofs.Common.{◌≡◌, ◌-◌, List, [], ◌∷◌, ◌++◌, length, reverse, Some, ◌∙◌, ap, subst, sym, arith, min, ◌^◌}
+use Rattle.bib_journal.proofs.Words.{◌≡◌, ◌-◌, List, [], ◌∷◌, ◌++◌, length, reverse, Some, ◌∙◌, ap, subst, sym, arith, min, ◌^◌, Piece, Step, Leads, before, step_text_len, kept, NoStep, TakesBack}
 use Rattle.std.specs.List.{slice_get}
-use Rattle.bib_spec.specs.Pieces.{Piece}
-use Rattle.history_spec.specs.Steps.{Step, Leads, before, step_text_len}
-use Rattle.bib_journal.specs.Kept.{kept}
-use Rattle.bib_journal.specs.declared.open_step.OpenStep.TheVariants.{NoStep}
-use Rattle.bib_journal.specs.Session.{TakesBack}
 use Rattle.bib_journal.proofs.Moves.{closed_knows, Moves, state, none_open, last_leads, taken_back, last-popped, counted_back}
 use Rattle.bib_journal.proofs.session.Session.undo.Given.{Over}
 use Rattle.bib_journal.proofs.session.Session.undo.Goals as goal
